@@ -1,0 +1,49 @@
+ghost use Rattle.std.specs.Prelude.{◌≡◌, IfOk};
+
+use crate::{Span, Time, Value};
+use beam_containers::{Duplicate, NoMemory};
+use std::alloc::Global;
+
+/// When a pane fired, relative to the end of its window.
+#[derive(Clone, Copy, Debug, PartialEq, Eq, PartialOrd, Ord)]
+pub enum Timing {
+    Early,
+    OnTime,
+    Late,
+    Unknown,
+}
+
+/// Which pane of its key and window an element is: its timing, and its index counted from 0.
+#[derive(Clone, Copy, Debug, PartialEq, Eq, PartialOrd, Ord)]
+pub struct PaneTag {
+    pub timing: Timing,
+    pub index: u32,
+}
+
+/// An element of a collection: a value at a time, in one window, with the tag of its pane.
+#[derive(Debug, Drop)]
+pub struct Element {
+    pub value: Value,
+    pub time: Time,
+    pub span: Span,
+    pub pane: PaneTag,
+}
+
+impl Element {
+    pub fn copy(&self, alloc: Global) -> Result<Element, NoMemory>
+        ensures { IfOk result (λ e. e ≡ self.now) }
+    {
+        Ok(Element {
+            value: self.value.copy(alloc)?,
+            time: self.time,
+            span: self.span,
+            pane: self.pane,
+        })
+    }
+}
+
+impl Duplicate for Element {
+    fn duplicate(&self, alloc: Global) -> Result<Element, NoMemory> {
+        self.copy(alloc)
+    }
+}

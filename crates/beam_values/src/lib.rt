@@ -1,0 +1,22 @@
+//! Values, times, windows and elements: the data that every layer of the runner speaks of, and the
+//! base definitions that their contracts cite.
+//!
+//! The types are plain data: a contract sees a [`Time`] as a number of milliseconds, a [`Span`] and a
+//! [`Range`] as a record of two numbers, a [`Value`] as a tree. The folder `specs/` has the
+//! definitions, each in the words of the Beam Programming Guide with the section that it restates.
+//! The layer above may rely on what the contracts say and on these definitions; it never needs how a
+//! value lies in memory. Read `value.rt` and `element.rt` first.
+#![tactic(auto)]
+
+mod element;
+mod range;
+mod span;
+mod time;
+mod value;
+
+pub use beam_containers::{Boxed, Bytes, Duplicate, List, NoMemory, RoomyList};
+pub use element::{Element, PaneTag, Timing};
+pub use range::Range;
+pub use span::Span;
+pub use time::{Mark, Time};
+pub use value::Value;

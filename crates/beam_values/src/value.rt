@@ -1,0 +1,50 @@
+ghost use Rattle.std.specs.Prelude.{◌≡◌, IfOk};
+
+use beam_containers::{Boxed, Bytes, Duplicate, List, NoMemory};
+use std::alloc::Global;
+
+/// The data of an element: a tree of whole numbers and byte strings.
+#[derive(Debug, Drop)]
+pub enum Value {
+    Null,
+    Int(i64),
+    Blob(Bytes),
+    Pair(Boxed<Value>, Boxed<Value>),
+    Seq(List<Value>),
+}
+
+impl Value {
+    #[cycle(copies)]
+    pub fn copy(&self, alloc: Global) -> Result<Value, NoMemory>
+        ensures { IfOk result (λ v. v ≡ self.now) }
+    {
+        match self {
+            Value::Null => Ok(Value::Null),
+            Value::Int(n) => Ok(Value::Int(*n)),
+            Value::Blob(bytes) => Ok(Value::Blob(bytes.duplicate(alloc)?)),
+            Value::Pair(key, value) => {
+                let key = Boxed::new(alloc, key.get().copy(alloc)?)?;
+                let value = Boxed::new(alloc, value.get().copy(alloc)?)?;
+                Ok(Value::Pair(key, value))
+            }
+            Value::Seq(items) => Ok(Value::Seq(copy_all(alloc, items.as_slice())?)),
+        }
+    }
+}
+
+#[cycle(copies)]
+fn copy_all(alloc: Global, values: &[Value]) -> Result<List<Value>, NoMemory>
+    ensures { IfOk result (λ copies. copies ≡ values.now) }
+{
+    let mut copies = Vec::with_capacity(alloc, values.len())?;
+    for value in values {
+        copies.push(value.copy(alloc)?)?;
+    }
+    Ok(List::from_vec(copies))
+}
+
+impl Duplicate for Value {
+    fn duplicate(&self, alloc: Global) -> Result<Value, NoMemory> {
+        self.copy(alloc)
+    }
+}
