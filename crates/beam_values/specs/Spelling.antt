@@ -1,0 +1,32 @@
+-- How values are spelled as bytes: varints and nested pairs as in Beam's coders.
+use Rattle.std.specs.Prelude.{ℕ, zero, suc, ◌+◌, ◌/◌, ◌%◌, ◌^◌, ℤ, pos, negsuc, ◌-◌, List, [], ◌∷◌, ◌++◌, length, if◌then◌else◌, nat_lt}
+use Rattle.std.specs.List.{flat_map}
+use Rattle.beam_values.specs.declared.value.Value.{Value}
+use Rattle.beam_values.specs.declared.value.Value.TheOpen as layer
+use Rattle.beam_values.specs.declared.value.Value.TheFolds.{fold-Value}
+
+-- a number in base 128, least group first, a group with 128 added where another follows; `fuel` is more groups than it has
+unfoldable pub groups : ℕ → ℕ → List ℕ
+groups zero n = []
+groups (suc fuel) n = if nat_lt n 128 then n ∷ [] else (128 + n % 128) ∷ groups fuel (n / 128)
+
+-- the varint of a number
+abbrev pub varint : ℕ → List ℕ
+varint n = groups (suc n) n
+
+-- a signed number of 64 bits as the unsigned one with the same bits
+abbrev pub two's_complement : ℤ → ℕ
+two's_complement (pos n) = n
+two's_complement (negsuc n) = 2 ^ 64 - 1 - n
+
+-- one layer of a value, with the spelling of each inner value in its place
+abbrev pub spelling_step : layer.Value-F (List ℕ) → List ℕ
+spelling_step layer.Null = 0 ∷ []
+spelling_step (layer.Int n) = 1 ∷ varint (two's_complement n)
+spelling_step (layer.Blob bytes) = 2 ∷ (varint (length bytes) ++ bytes)
+spelling_step (layer.Pair key value) = 3 ∷ (key ++ value)
+spelling_step (layer.Seq items) = 4 ∷ (varint (length items) ++ flat_map (λ item. item) items)
+
+-- the one spelling of a value
+abbrev pub spelling : Value → List ℕ
+spelling = fold-Value (List ℕ) spelling_step
