@@ -1,5 +1,5 @@
 -- Half-open intervals: of times for windows, of offsets for restrictions.
-use Rattle.std.specs.Prelude.{ℕ, ℤ}
+use Rattle.std.specs.Prelude.{ℕ, ℤ, if◌then◌else◌, ◌&&◌, nat_le, nat_lt}
 
 -- a window `[start, end)` of milliseconds
 pub record Interval : Type 0 where
@@ -10,3 +10,7 @@ pub record Interval : Type 0 where
 pub record Offsets : Type 0 where
   pub from : ℕ
   pub to : ℕ
+
+-- how often an offset lies in a restriction: once or not at all
+abbrev pub times_in : Offsets → ℕ → ℕ
+times_in r p = if nat_le r.from p && nat_lt p r.to then 1 else 0
