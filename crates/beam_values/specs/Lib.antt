@@ -1,4 +1,11 @@
-pub mod Times
+pub mod Bags
+pub mod Functions
+pub mod Grouping
 pub mod Intervals
+pub mod Lines
+pub mod Orders
+pub mod Panes
 pub mod Spelling
+pub mod Texts
+pub mod Times
 pub mod Tracking
