@@ -63,7 +63,7 @@ abbrev pub key_field : List ℕ → Keyed
 key_field text = record { key = before_first is_tab text; part = after_first is_tab text }
 
 -- the fixed window of a time: it starts at the greatest multiple of the size that isn't above the time (Guide, fixed time windows)
-abbrev pub fixed_window : ℕ → ℤ → Interval
+abbrev pub fixed_window : ℤ → ℤ → Interval
 fixed_window size time =
-    let start = time -ℤ int_rem_euclid time (pos size) in
-    record { start = start; end = start +ℤ pos size }
+    let start = time -ℤ int_rem_euclid time size in
+    record { start = start; end = start +ℤ size }

@@ -22,7 +22,7 @@ abbrev pub blob : List ℕ → Value
 blob bytes = roll-Value (layer.Blob bytes)
 
 -- a timed text on its way to the grouping: split at its first TAB, in the fixed window of its time
-abbrev pub keyed_element : ℕ → ℤ → List ℕ → Element
+abbrev pub keyed_element : ℤ → ℤ → List ℕ → Element
 keyed_element size time text =
     let keyed = key_field text in
     record {
@@ -32,21 +32,21 @@ keyed_element size time text =
       pane = record { timing = Unknown; index = 0 };
     }
 
-abbrev pub brought_by : ℕ → TimedLine → List Brought
+abbrev pub brought_by : ℤ → TimedLine → List Brought
 brought_by size (Timed time text) = Came (keyed_element size time text) ∷ []
 brought_by size (Declared mark) = []
 brought_by size Poison = Spoiled ∷ []
 
 -- a position where a line starts brings what the line does; any other position brings nothing
-abbrev pub brought_at : ℕ → List ℕ → ℕ → List Brought
+abbrev pub brought_at : ℤ → List ℕ → ℕ → List Brought
 brought_at size file p = if starts_line file p then brought_by size (timed_line (line_at file p)) else []
 
 -- what all positions of a file bring
-abbrev pub brought : ℕ → List ℕ → List Brought
+abbrev pub brought : ℤ → List ℕ → List Brought
 brought size file = spread (brought_at size file) 0 (length file)
 
 -- the text: nothing of the file is poison, and its panes are printed in ascending order, a line for each
-pub record IsPanesText (size : ℕ) (file text : List ℕ) : Type 0 where
+pub record IsPanesText (size : ℤ) (file text : List ℕ) : Type 0 where
   pub elements : List Element
   pub panes : List Element
   pub clean : brought size file ≡ map Came elements
