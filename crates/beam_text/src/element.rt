@@ -22,16 +22,20 @@ fn push_element(element: &Element, out: &mut Bytes) -> Result<(), NoMemory>
     ensures { OnOk result (out.new ≡ out.old ++ element_line element.now) }
 {
     let mut digits = Buffer::new();
-    out.extend_from_slice(digits.format(element.span.start()).as_bytes())?;
-    out.push(b'\t')?;
-    out.extend_from_slice(digits.format(element.span.end()).as_bytes())?;
-    out.push(b'\t')?;
-    out.extend_from_slice(timing_text(element.pane.timing))?;
-    out.push(b'\t')?;
-    out.extend_from_slice(digits.format(element.pane.index).as_bytes())?;
-    out.push(b'\t')?;
+    push_field(digits.format(element.span.start()).as_bytes(), out)?;
+    push_field(digits.format(element.span.end()).as_bytes(), out)?;
+    push_field(timing_text(element.pane.timing), out)?;
+    push_field(digits.format(element.pane.index).as_bytes(), out)?;
     push_value(&element.value, out)?;
     out.push(b'\n')
+}
+
+// A field and the TAB after it.
+fn push_field(text: &[u8], out: &mut Bytes) -> Result<(), NoMemory>
+    ensures { OnOk result (out.new ≡ out.old ++ (text.now ++ 9 ∷ [])) }
+{
+    out.extend_from_slice(text)?;
+    out.push(b'\t')
 }
 
 fn timing_text(timing: Timing) -> &'static [u8]

@@ -1,4 +1,4 @@
-ghost use Rattle.std.specs.Prelude.{◌≡◌, ◌++◌, ◌∷◌, [], ◌<◌, true, OnOk, map};
+ghost use Rattle.std.specs.Prelude.{◌≡◌, ◌++◌, ◌∷◌, [], ◌<◌, ◌≤◌, length, slice_index, take, true, OnOk, map};
 ghost use Rattle.std.specs.List.{flat_map};
 ghost use Rattle.beam_values.specs.Texts.{value_text, joined, is_escaped, blob_text, byte_text, hex_digit};
 
@@ -49,15 +49,38 @@ fn push_blob(bytes: &[u8], out: &mut Bytes) -> Result<(), NoMemory>
     ensures { OnOk result (out.new ≡ out.old ++ blob_text bytes.now) }
 {
     out.push(b'"')?;
-    let mut rest = bytes;
-    while let Some(at) = rest.iter().position(|byte| is_escaped(*byte)) {
-        let (plain, others) = rest.split_at(at);
-        out.extend_from_slice(plain)?;
-        push_escaped(others[0], out)?;
-        rest = others.split_at(1).1;
-    }
-    out.extend_from_slice(rest)?;
+    push_escaped_bytes(bytes, out)?;
     out.push(b'"')
+}
+
+fn push_escaped_bytes(bytes: &[u8], out: &mut Bytes) -> Result<(), NoMemory>
+    ensures { OnOk result (out.new ≡ out.old ++ flat_map byte_text bytes.now) }
+{
+    let mut rest = bytes;
+    while !rest.is_empty() {
+        let (plain, others) = rest.split_at(plain_len(rest));
+        out.extend_from_slice(plain)?;
+        rest = others;
+        if let Some((byte, after)) = others.split_first() {
+            push_escaped(*byte, out)?;
+            rest = after;
+        }
+    }
+    Ok(())
+}
+
+// How many bytes are printed as they are, up to the first that isn't.
+fn plain_len(bytes: &[u8]) -> usize
+    ensures within { result ≤ length bytes.now }
+    ensures plain { flat_map byte_text (take result bytes.now) ≡ take result bytes.now }
+    ensures next { result < length bytes.now → is_escaped (slice_index bytes.now result) ≡ true }
+{
+    for (i, byte) in bytes.iter().enumerate() {
+        if is_escaped(*byte) {
+            return i;
+        }
+    }
+    bytes.len()
 }
 
 fn is_escaped(byte: u8) -> bool
