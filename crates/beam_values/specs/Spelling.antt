@@ -19,11 +19,15 @@ abbrev pub two's_complement : ℤ → ℕ
 two's_complement (pos n) = n
 two's_complement (negsuc n) = 2 ^ 64 - 1 - n
 
+-- a string of bytes: a tag, its length, and the bytes
+abbrev pub blob_spelling : List ℕ → List ℕ
+blob_spelling bytes = 2 ∷ (varint (length bytes) ++ bytes)
+
 -- one layer of a value, with the spelling of each inner value in its place
 abbrev pub spelling_step : layer.Value-F (List ℕ) → List ℕ
 spelling_step layer.Null = 0 ∷ []
 spelling_step (layer.Int n) = 1 ∷ varint (two's_complement n)
-spelling_step (layer.Blob bytes) = 2 ∷ (varint (length bytes) ++ bytes)
+spelling_step (layer.Blob bytes) = blob_spelling bytes
 spelling_step (layer.Pair key value) = 3 ∷ (key ++ value)
 spelling_step (layer.Seq items) = 4 ∷ (varint (length items) ++ flat_map (λ item. item) items)
 
