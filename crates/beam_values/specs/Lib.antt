@@ -1,3 +1,4 @@
 pub mod Times
 pub mod Intervals
 pub mod Spelling
+pub mod Elements

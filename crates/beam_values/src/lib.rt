@@ -11,6 +11,7 @@
 mod bits;
 mod compare;
 mod element;
+mod element_order;
 mod range;
 mod span;
 mod time;
