@@ -5,7 +5,7 @@ use Rattle.std.specs.List.Sorted.{IsSorted}
 use Rattle.beam_values.specs.Lines.{starts_line, line_at, spread}
 use Rattle.beam_values.specs.Functions.{TimedLine, Timed, Declared, Poison, timed_line, key_field, fixed_window}
 use Rattle.beam_values.specs.Grouping.{IsPlainGrouping}
-use Rattle.beam_values.specs.Orders.{element_cmp}
+use Rattle.beam_values.specs.Elements.{element_cmp}
 use Rattle.beam_values.specs.Texts.{element_line}
 use Rattle.beam_values.specs.declared.value.Value.{Value}
 use Rattle.beam_values.specs.declared.value.Value.TheOpen as layer

@@ -8,13 +8,18 @@
 //! value lies in memory. Read `value.rt` and `element.rt` first.
 #![tactic(auto)]
 
+mod bits;
+mod compare;
 mod element;
+mod element_order;
 mod range;
 mod span;
 mod time;
 mod value;
 
 pub use beam_containers::{Boxed, Bytes, Duplicate, List, NoMemory, RoomyList};
+pub use bits::unsigned_bits;
+pub use compare::{cmp_blobs, cmp_values};
 pub use element::{Element, PaneTag, Timing};
 pub use range::Range;
 pub use span::Span;

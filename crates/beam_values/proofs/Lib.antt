@@ -1,0 +1,5 @@
+pub mod Lexicographic
+pub mod Varints
+pub mod Induction
+pub mod Spellings
+pub mod SignedBits
