@@ -78,12 +78,8 @@ impl Sink for MemorySink {
         let is_listed = self.failing.as_slice().contains(&self.calls);
         self.calls = self.calls.saturating_add(1);
         let count = bytes.len().min(self.most);
-        if is_listed
-            || self
-                .taken
-                .extend_from_slice(bytes.split_at(count).0)
-                .is_err()
-        {
+        let front = bytes.split_at(count).0;
+        if is_listed || self.taken.extend_from_slice(front).is_err() {
             self.faults = self.faults.saturating_add(1);
             return Err(Failed);
         }
