@@ -20,6 +20,7 @@ pub fn len_before(byte: u8, text: &[u8]) -> usize
 }
 
 /// The line that a text begins with, and where the next one would start.
+#[derive(Clone, Copy)]
 pub struct FirstLine<'a> {
     /// Without the LF that ends it, and without a CR directly before that LF.
     pub text: &'a [u8],

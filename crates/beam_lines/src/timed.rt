@@ -10,6 +10,7 @@ const TAB: u8 = b'\t';
 const MOST_DIGITS: usize = 16;
 
 /// A line of timed lines. Times are in milliseconds.
+#[derive(Clone, Copy)]
 pub enum TimedLine<'a> {
     /// A time, a TAB and this text.
     Timed(Time, &'a [u8]),

@@ -1,6 +1,6 @@
 -- What `panes FILE SIZE` prints: plain grouping of a file of timed lines by the field after the time, in fixed windows.
-use Rattle.std.specs.Prelude.{◌≡◌, ℕ, ℤ, List, [], ◌∷◌, length, map, if◌then◌else◌}
-use Rattle.std.specs.List.{flat_map}
+use Rattle.std.specs.Prelude.{◌≡◌, ℕ, ℤ, Bool, true, false, List, [], ◌∷◌, length, map, if◌then◌else◌}
+use Rattle.std.specs.List.{flat_map, list_any}
 use Rattle.std.specs.List.Sorted.{IsSorted}
 use Rattle.beam_values.specs.Lines.{starts_line, line_at, spread}
 use Rattle.beam_values.specs.Functions.{TimedLine, Timed, Declared, Poison, timed_line, key_field, fixed_window}
@@ -17,6 +17,10 @@ use Rattle.beam_values.specs.declared.element.Timing.TheVariants.{Unknown}
 pub data Brought : Type 0 where
   Came : Element → Brought
   Spoiled : Brought
+
+abbrev pub is_spoiled : Brought → Bool
+is_spoiled (Came element) = false
+is_spoiled Spoiled = true
 
 abbrev pub blob : List ℕ → Value
 blob bytes = roll-Value (layer.Blob bytes)
@@ -44,6 +48,10 @@ brought_at size file p = if starts_line file p then brought_by size (timed_line 
 -- what all positions of a file bring
 abbrev pub brought : ℤ → List ℕ → List Brought
 brought size file = spread (brought_at size file) 0 (length file)
+
+-- some line of the file is poison
+abbrev pub HasPoison : ℤ → List ℕ → Type 0
+HasPoison size file = list_any is_spoiled (brought size file) ≡ true
 
 -- the text: nothing of the file is poison, and its panes are printed in ascending order, a line for each
 pub record IsPanesText (size : ℤ) (file text : List ℕ) : Type 0 where
