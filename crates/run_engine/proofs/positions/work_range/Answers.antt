@@ -1,10 +1,10 @@
-use Rattle.std.proofs.Common.{Some, ◌≡◌, ◌<◌, ◌≤◌, ◌++◌, ℤ, true, arith, ap, sym, subst, ◌∙◌, length, map, to_z, of_z, w64}
+use Rattle.std.proofs.Common.{Err, Some, ◌≡◌, ◌<◌, ◌≤◌, arith, ap, sym, subst, ◌∙◌, to_z, of_z, w64}
 use Rattle.std.proofs.lemmas.Int.{ints}
-use Rattle.std.specs.List.{list_any}
 use Rattle.beam_values.specs.Lines.{spread}
-use Rattle.beam_values.specs.Panes.{Came, brought_at, is_spoiled}
+use Rattle.beam_values.specs.Panes.{brought_at}
 use Rattle.beam_values.specs.Tracking.{MayClaim, Tracked}
 use Rattle.beam_values.proofs.Spreads.{next_start-above}
+use Rattle.run_engine.specs.declared.positions.WorkRefusal.TheVariants as refusal
 use Rattle.run_engine.proofs.Working.{came_more, came_all, poison_of_range}
 use Rattle.run_engine.proofs.positions.work_range.Goals as goal
 
@@ -33,4 +33,7 @@ returns-in-Err-clause-poison c = λ is.
     let to : c.lines.tracker.range.to ≡ c.args.tracker.now.range.to = ap (λ r. r.to) c.lines.invariant.range in
     let inside : c.lines.p < c.args.tracker.now.range.to = omega arith in
     let same : to_z w64 (of_z w64 c.args.size) ≡ c.args.size = omega (arith, ints) in
-    rw same at (poison_of_range _ _ _ _ _ _ _ inside c.requires.in_file c.lines.invariant.came (c.in-Err.ensures.poison is))
+    let poison : c.in-Err.refusal ≡ refusal.Poison = cc in
+    let range = c.args.tracker.now.range in
+    let size = to_z w64 (of_z w64 c.args.size) in
+    rw same at (poison_of_range size c.args.file.now c.lines.out c.args.out.now c.lines.p range.to (spread (brought_at size c.args.file.now) range.from range.to) inside c.requires.in_file c.lines.invariant.came (c.in-Err.ensures.poison (ap (λ x. Err x) poison)))

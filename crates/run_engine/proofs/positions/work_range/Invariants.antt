@@ -1,4 +1,4 @@
-use Rattle.std.proofs.Common.{◌≡◌, ◌++◌, ◌-◌, ◌≤◌, ℕ, List, map}
+use Rattle.std.proofs.Common.{◌≡◌, ◌++◌, ◌-◌, map}
 use Rattle.beam_values.specs.Lines.{spread}
 use Rattle.beam_values.specs.Panes.{Came, brought_at}
 use Rattle.beam_values.specs.Tracking.{MayClaim}
