@@ -3,6 +3,7 @@ use Rattle.std.specs.Prelude.{ℕ, zero, suc, ◌+◌, ◌/◌, ◌%◌, ◌^◌
 use Rattle.std.specs.List.{flat_map}
 use Rattle.beam_values.specs.declared.value.Value.{Value}
 use Rattle.beam_values.specs.declared.value.Value.TheOpen as layer
+use Rattle.beam_values.specs.declared.value.Value.TheViews.{out-Value}
 use Rattle.beam_values.specs.declared.value.Value.TheFolds.{fold-Value}
 
 -- a number in base 128, least group first, a group with 128 added where another follows; `fuel` is more groups than it has
@@ -19,13 +20,28 @@ abbrev pub two's_complement : ℤ → ℕ
 two's_complement (pos n) = n
 two's_complement (negsuc n) = 2 ^ 64 - 1 - n
 
+-- a string of bytes: a tag, its length, and the bytes
+abbrev pub blob_spelling : List ℕ → List ℕ
+blob_spelling bytes = 2 ∷ (varint (length bytes) ++ bytes)
+
 -- one layer of a value, with the spelling of each inner value in its place
 abbrev pub spelling_step : layer.Value-F (List ℕ) → List ℕ
 spelling_step layer.Null = 0 ∷ []
 spelling_step (layer.Int n) = 1 ∷ varint (two's_complement n)
-spelling_step (layer.Blob bytes) = 2 ∷ (varint (length bytes) ++ bytes)
+spelling_step (layer.Blob bytes) = blob_spelling bytes
 spelling_step (layer.Pair key value) = 3 ∷ (key ++ value)
 spelling_step (layer.Seq items) = 4 ∷ (varint (length items) ++ flat_map (λ item. item) items)
+
+-- the first byte of a spelling
+abbrev pub tag_step : layer.Value-F Value → ℕ
+tag_step layer.Null = 0
+tag_step (layer.Int n) = 1
+tag_step (layer.Blob bytes) = 2
+tag_step (layer.Pair key value) = 3
+tag_step (layer.Seq items) = 4
+
+abbrev pub tag : Value → ℕ
+tag v = tag_step (out-Value v)
 
 -- the one spelling of a value
 abbrev pub spelling : Value → List ℕ

@@ -8,6 +8,8 @@
 //! value lies in memory. Read `value.rt` and `element.rt` first.
 #![tactic(auto)]
 
+mod bits;
+mod compare;
 mod element;
 mod range;
 mod span;
@@ -15,6 +17,8 @@ mod time;
 mod value;
 
 pub use beam_containers::{Boxed, Bytes, Duplicate, List, NoMemory, RoomyList};
+pub use bits::unsigned_bits;
+pub use compare::{cmp_blobs, cmp_values};
 pub use element::{Element, PaneTag, Timing};
 pub use range::Range;
 pub use span::Span;

@@ -1,0 +1,4 @@
+pub mod Lexicographic
+pub mod Varints
+pub mod Induction
+pub mod Spellings
