@@ -2,3 +2,4 @@ pub mod Lexicographic
 pub mod Varints
 pub mod Induction
 pub mod Spellings
+pub mod Bags
