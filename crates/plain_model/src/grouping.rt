@@ -6,7 +6,7 @@ ghost use Rattle.beam_values.specs.Grouping.{key_of, part_of, last_time, pane_wi
 ghost use Rattle.beam_values.specs.Orders.{element_cmp};
 ghost use Rattle.plain_model.specs.Cells.{cell_cmp, grouped_cmp};
 
-use crate::cell::{cmp_cells, cmp_grouped, part_of};
+use crate::cell::{cmp_cells, cmp_grouped, key_or, part_of};
 use beam_values::{Boxed, Element, List, NoMemory, PaneTag, Span, Time, Timing, Value};
 use std::alloc::Global;
 use std::cmp::Ordering;
@@ -72,10 +72,8 @@ fn pane_of(alloc: Global, first: &Element, group: &[Element]) -> Result<Element,
 fn copy_key(alloc: Global, element: &Element) -> Result<Value, NoMemory>
     ensures { IfOk result (λ key. key ≡ key_of element.now) }
 {
-    match &element.value {
-        Value::Pair(key, _) => key.get().copy(alloc),
-        _ => Ok(Value::Null),
-    }
+    let null = Value::Null;
+    key_or(element, &null).copy(alloc)
 }
 
 fn copy_parts(alloc: Global, elements: &[Element]) -> Result<List<Value>, NoMemory>

@@ -8,6 +8,8 @@
 
 mod cell;
 mod grouping;
+#[cfg(test)]
+mod tests;
 
 pub use cell::{key_or, part_of};
 pub use grouping::plain_panes;
