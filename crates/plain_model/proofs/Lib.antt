@@ -1,0 +1,5 @@
+mod Lists
+mod Cells
+mod Groupings
+mod Runs
+mod Sorts
