@@ -8,4 +8,4 @@ mod element;
 mod value;
 
 pub use element::render_elements;
-pub use value::push_value;
+pub use value::{push_blob, push_value};

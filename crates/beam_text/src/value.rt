@@ -44,8 +44,8 @@ fn push_items(items: &[Value], out: &mut Bytes) -> Result<(), NoMemory>
     Ok(())
 }
 
-// Runs of plain bytes are appended whole.
-fn push_blob(bytes: &[u8], out: &mut Bytes) -> Result<(), NoMemory>
+/// Appends the text of a byte string, quotes included. Runs of plain bytes are appended whole.
+pub fn push_blob(bytes: &[u8], out: &mut Bytes) -> Result<(), NoMemory>
     ensures { OnOk result (out.new ≡ out.old ++ blob_text bytes.now) }
 {
     out.push(b'"')?;

@@ -1,0 +1,84 @@
+ghost use Rattle.std.specs.Prelude.{◌≡◌, ◌++◌, ◌∷◌, [], IfOk, OnOk, IfSome, IfNone, ◌⊎◌, decimal};
+ghost use Rattle.beam_values.specs.Texts.{blob_text};
+ghost use Rattle.beam_run.specs.Notes.{note_line, work_text, place_text, attempt_text, cause_text};
+ghost use Rattle.beam_run.specs.Ends.{IsLongNoted};
+
+use beam_text::push_blob;
+use beam_values::{Bytes, Cause, FaultNote, NoMemory};
+use itoa::Buffer;
+use run_engine::Status;
+use std::alloc::Global;
+
+/// The line of a status whose line has no part of its own, so that it needs no memory.
+pub fn fixed_line(status: &Status) -> Option<&'static [u8]>
+    ensures some { IfSome result (λ line. line.now ≡ note_line status.now) }
+    ensures none { IfNone result ((status.now ≡ Status.Ok) ⊎ IsLongNoted status.now) }
+{
+    match status {
+        Status::Usage => Some(b"usage: see beam_run help\n"),
+        Status::SinkFault => Some(b"sink fault\n"),
+        Status::NoMemory => Some(b"no memory\n"),
+        _ => None,
+    }
+}
+
+/// The line of a status for the notes.
+pub fn note_line(alloc: Global, status: &Status) -> Result<Bytes, NoMemory>
+    ensures { IfOk result (λ line. line ≡ note_line status.now) }
+{
+    let mut line = Bytes::new(alloc);
+    match status {
+        Status::Ok => {}
+        Status::Usage => line.extend_from_slice(b"usage: see beam_run help")?,
+        Status::NoSource(name) => {
+            line.extend_from_slice(b"no source: ")?;
+            push_blob(name.as_slice(), &mut line)?;
+        }
+        Status::SourceFault(kit) => push_number(b"source fault: kit ", *kit, &mut line)?,
+        Status::WorkFault(note) => push_work(note, &mut line)?,
+        Status::SinkFault => line.extend_from_slice(b"sink fault")?,
+        Status::NoMemory => line.extend_from_slice(b"no memory")?,
+    }
+    line.push(b'\n')?;
+    Ok(line)
+}
+
+fn push_work(note: &FaultNote, line: &mut Bytes) -> Result<(), NoMemory>
+    ensures { OnOk result (line.new ≡ line.old ++ work_text note.now) }
+{
+    push_place(note, line)?;
+    push_attempt(note, line)
+}
+
+fn push_place(note: &FaultNote, line: &mut Bytes) -> Result<(), NoMemory>
+    ensures { OnOk result (line.new ≡ line.old ++ place_text note.now) }
+{
+    push_number(b"work fault: node ", note.node, line)?;
+    push_number(b" item ", note.item, line)?;
+    Ok(())
+}
+
+fn push_attempt(note: &FaultNote, line: &mut Bytes) -> Result<(), NoMemory>
+    ensures { OnOk result (line.new ≡ line.old ++ attempt_text note.now) }
+{
+    push_number(b" at ", note.at, line)?;
+    push_number(b" attempt ", note.attempt, line)?;
+    line.push(b' ')?;
+    line.extend_from_slice(cause_text(note.cause))
+}
+
+fn cause_text(cause: Cause) -> &'static [u8]
+    ensures { result.now ≡ cause_text cause }
+{
+    match cause {
+        Cause::Call => b"call",
+        Cause::Read => b"read",
+    }
+}
+
+fn push_number(name: &[u8], number: u32, line: &mut Bytes) -> Result<(), NoMemory>
+    ensures { OnOk result (line.new ≡ line.old ++ (name.now ++ decimal number)) }
+{
+    line.extend_from_slice(name)?;
+    line.extend_from_slice(Buffer::new().format(number).as_bytes())
+}
