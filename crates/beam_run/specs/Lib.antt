@@ -1,3 +1,4 @@
 pub mod Ends
+pub mod Lengths
 pub mod Notes
 pub mod Words

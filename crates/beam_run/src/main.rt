@@ -1,10 +1,41 @@
 //! `beam_run`: runs Beam pipelines on one machine.
+//!
+//! `beam_run panes FILE SIZE` groups a file of timed lines by the field after the time in fixed
+//! windows of SIZE milliseconds, and prints the panes. [`beam_main`] is the whole program over any
+//! store and sinks, and its contract is the promise of the program: what was printed, what each other
+//! end means, and that it comes only so. `main` runs it over the system's files and streams, the
+//! adapters in `fs_store.rt` and `sinks.rt`. Read `top.rt` first.
 #![tactic(auto)]
 
+mod fs_store;
 mod notes;
+mod sinks;
 mod top;
 mod words;
 
+use fs_store::FsStore;
+use run_engine::Status;
+use sinks::{ErrSink, OutSink};
+use std::env;
+use std::process::ExitCode;
 pub use top::beam_main;
 
-fn main() {}
+/// The exit status where the words of the command line can't be got.
+const NO_WORDS: u8 = 2;
+
+fn main(rt: HostRuntime) -> ExitCode {
+    let Ok(args) = env::args(&rt) else {
+        return ExitCode::from(NO_WORDS);
+    };
+    let Ok(words) = args.collect::<Vec<String>>(rt.alloc()) else {
+        return ExitCode::from(Status::NoMemory.number());
+    };
+    let mut out = OutSink::new(rt.stdout());
+    let mut notes = ErrSink::new(rt.stderr());
+    let alloc = rt.alloc();
+    let Ok(mut store) = FsStore::new(rt) else {
+        return ExitCode::from(Status::NoMemory.number());
+    };
+    let end = beam_main(alloc, words.as_slice(), &mut store, &mut out, &mut notes);
+    ExitCode::from(end.status.number())
+}
