@@ -2,4 +2,6 @@ pub mod Lexicographic
 pub mod Varints
 pub mod Induction
 pub mod Spellings
+pub mod SignedBits
+pub mod Spreads
 pub mod Bags

@@ -1,10 +1,11 @@
 -- The spellings of values: none begins another.
-use Rattle.std.proofs.Common.{◌≡◌, ℕ, ◌+◌, ◌<◌, ℤ, List, [], ◌∷◌, ◌++◌, length, refl, sym, ap, ◌∙◌, arith, inl, inr, ◌≢◌, suc, drop, drop-cons, get_or, add-one}
+use Rattle.std.proofs.Common.{◌≡◌, ℕ, ◌+◌, ◌<◌, ℤ, List, [], ◌∷◌, ◌++◌, length, refl, sym, ap, ◌∙◌, arith, inl, inr, ◌≢◌, suc, take, drop, drop-cons, get_or, add-one}
 use Rattle.std.specs.declared.cmp.Ordering.{Ordering}
 use Rattle.std.specs.declared.cmp.Ordering.TheVariants.{Less, Equal, Greater}
 use Rattle.std.specs.Ordering.{ordering_then, nat_cmp}
 use Rattle.std.specs.Cmp.Lexicographic.{slice_cmp}
 use Rattle.std.specs.List.{flat_map, AllByRecursion}
+use Rattle.std.proofs.Math.Seq.{take-suc}
 use Rattle.std.proofs.lemmas.Bool.{cases_lt}
 use Rattle.std.proofs.lemmas.List.Concat.{flat_map-cons}
 use Rattle.beam_values.specs.declared.value.Value.{Value}
@@ -111,6 +112,11 @@ items_tie xs ys i x y p q e f tie = sym (items_compared xs ys i x y p q e f ∙ 
 pub items_apart : (xs ys : List Value) (i : ℕ) (x y : Value) → i < length xs → i < length ys → x ≡ get_or xs i x → y ≡ get_or ys i y
     → slice_cmp nat_cmp (spelling x) (spelling y) ≢ Equal → slice_cmp nat_cmp (spelling x) (spelling y) ≡ left_compared xs ys i
 items_apart xs ys i x y p q e f differ = sym (items_compared xs ys i x y p q e f ∙ then_apart (slice_cmp nat_cmp (spelling x) (spelling y)) (left_compared xs ys (i + 1)) differ)
+
+-- one more item that is the same
+pub same_more : (xs ys : List Value) (i : ℕ) (x y : Value) → i < length xs → i < length ys → x ≡ get_or xs i x → y ≡ get_or ys i y
+    → take i xs ≡ take i ys → x ≡ y → take (i + 1) xs ≡ take (i + 1) ys
+same_more xs ys i x y p q e f front same = rw (add-one, take-suc xs i x p, take-suc ys i y q, ← e, ← f, front, same) refl
 
 pub seqs_tie : (items others : List Value) → length items ≡ length others
     → slice_cmp nat_cmp (spelling (Seq items)) (spelling (Seq others)) ≡ slice_cmp nat_cmp (flat_map spelling items) (flat_map spelling others)

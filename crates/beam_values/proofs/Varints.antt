@@ -7,7 +7,7 @@ use Rattle.std.specs.Cmp.{nat_cmp_is}
 use Rattle.std.specs.Cmp.Lexicographic.{slice_cmp}
 use Rattle.std.proofs.lemmas.Bool.{cases_lt}
 use Rattle.beam_values.specs.Spelling.{groups, varint, blob_spelling}
-use Rattle.beam_values.proofs.Lexicographic.{DecideFirst, decide-below, decide-above, decide-∷, decide-long, same_where_tied, tied, same_head, head_below, head_above}
+use Rattle.beam_values.proofs.Lexicographic.{DecideFirst, decide-below, decide-above, decide-∷, decide-long, split_same, same_where_tied, tied, same_head, head_below, head_above}
 
 -- more fuel than a number has groups changes nothing
 groups-same : (f g n : ℕ) → n < f → n < g → groups f n ≡ groups g n
@@ -119,3 +119,9 @@ first_groups_decide m n x y p q differ =
           | inl lt ↦ sym (nat_cmp_is h k Less lt) ∙ sym (head_below h k hs ks lt)
           | inr le ↦ let gt : k < h = omega (arith, different) in sym (nat_cmp_is h k Greater gt) ∙ sym (head_above h k hs ks gt)
         ]
+
+-- strings of bytes that are spelled alike are the same
+pub blob-same : (a b : List ℕ) → slice_cmp nat_cmp (blob_spelling a) (blob_spelling b) ≡ Equal → a ≡ b
+blob-same a b tie =
+    let alike : varint (length a) ++ a ≡ varint (length b) ++ b = same_where_tied (varint (length a) ++ a) (varint (length b) ++ b) tie in
+    (split_same (varint (length a)) (varint (length b)) a b (varints_decide (length a) (length b)) alike).1

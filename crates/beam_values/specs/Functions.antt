@@ -1,5 +1,5 @@
 -- What single lines and elements give: the source of timed lines, the split at the first TAB, fixed windows.
-use Rattle.std.specs.Prelude.{ℕ, ◌+◌, ◌-◌, ◌*◌, ℤ, pos, ◌+ℤ◌, ◌-ℤ◌, Bool, ◌&&◌, List, [], ◌∷◌, length, Option, Some, None, if◌then◌else◌, ◌==◌, nat_le, nat_lt, fold}
+use Rattle.std.specs.Prelude.{ℕ, ◌+◌, ◌-◌, ◌*◌, ℤ, pos, ◌+ℤ◌, ◌-ℤ◌, Bool, ◌&&◌, List, [], ◌∷◌, length, Option, Some, None, if◌then◌else◌, ◌==◌, nat_le, nat_lt, fold, option_map}
 use Rattle.std.specs.List.{position_or_len, before_first, after_first, list_all}
 use Rattle.std.specs.Char.{is_ascii_digit}
 use Rattle.std.specs.Int.{int_rem_euclid}
@@ -20,12 +20,15 @@ abbrev pub is_time_text : List ℕ → Bool
 is_time_text digits =
     nat_le 1 (length digits) && nat_le (length digits) 16 && list_all is_ascii_digit digits && nat_le (digits_value digits) 9223372036854775
 
+-- the number of such digits
+abbrev pub magnitude : List ℕ → Option ℕ
+magnitude digits = if is_time_text digits then Some (digits_value digits) else None
+
 -- a time as text: an optional `-`, then digits
 abbrev pub time_of : List ℕ → Option ℤ
 time_of [] = None
 time_of (byte ∷ digits) =
-    if byte == 45 then (if is_time_text digits then Some (pos 0 -ℤ pos (digits_value digits)) else None)
-    else (if is_time_text (byte ∷ digits) then Some (pos (digits_value (byte ∷ digits))) else None)
+    if byte == 45 then option_map (λ n. pos 0 -ℤ pos n) (magnitude digits) else option_map pos (magnitude (byte ∷ digits))
 
 -- what a line of timed lines is
 pub data TimedLine : Type 0 where
@@ -60,7 +63,7 @@ abbrev pub key_field : List ℕ → Keyed
 key_field text = record { key = before_first is_tab text; part = after_first is_tab text }
 
 -- the fixed window of a time: it starts at the greatest multiple of the size that isn't above the time (Guide, fixed time windows)
-abbrev pub fixed_window : ℕ → ℤ → Interval
+abbrev pub fixed_window : ℤ → ℤ → Interval
 fixed_window size time =
-    let start = time -ℤ int_rem_euclid time (pos size) in
-    record { start = start; end = start +ℤ pos size }
+    let start = time -ℤ int_rem_euclid time size in
+    record { start = start; end = start +ℤ size }

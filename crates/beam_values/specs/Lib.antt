@@ -1,4 +1,5 @@
 pub mod Bags
+pub mod Elements
 pub mod Functions
 pub mod Grouping
 pub mod Intervals

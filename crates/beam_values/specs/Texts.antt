@@ -1,5 +1,5 @@
 -- How values and elements are printed.
-use Rattle.std.specs.Prelude.{ℕ, ◌+◌, ◌/◌, ◌%◌, List, [], ◌∷◌, ◌++◌, if◌then◌else◌, ◌==◌, ◌||◌, nat_lt, codes, decimal}
+use Rattle.std.specs.Prelude.{ℕ, Bool, ◌+◌, ◌/◌, ◌%◌, List, [], ◌∷◌, ◌++◌, if◌then◌else◌, ◌==◌, ◌||◌, nat_lt, codes, decimal}
 use Rattle.std.specs.Fmt.{signed_decimal}
 use Rattle.std.specs.List.{flat_map, join_by}
 use Rattle.beam_values.specs.declared.value.Value.{Value}
@@ -23,9 +23,17 @@ byte_text byte =
     else (if nat_lt byte 32 || nat_lt 126 byte then 92 ∷ 120 ∷ hex_digit (byte / 16) ∷ hex_digit (byte % 16) ∷ []
     else byte ∷ []))))
 
+-- the bytes that are not printed as they are
+abbrev pub is_escaped : ℕ → Bool
+is_escaped byte = byte == 34 || byte == 92 || nat_lt byte 32 || nat_lt 126 byte
+
 -- a byte string between quotes
 abbrev pub blob_text : List ℕ → List ℕ
 blob_text bytes = 34 ∷ (flat_map byte_text bytes ++ 34 ∷ [])
+
+-- texts with commas between them
+abbrev pub joined : List (List ℕ) → List ℕ
+joined texts = join_by (λ text. text) (44 ∷ []) texts
 
 -- one layer of a value, with the text of each inner value in its place
 abbrev pub value_text_step : layer.Value-F (List ℕ) → List ℕ
@@ -33,7 +41,7 @@ value_text_step layer.Null = codes "null"
 value_text_step (layer.Int n) = signed_decimal n
 value_text_step (layer.Blob bytes) = blob_text bytes
 value_text_step (layer.Pair key value) = 40 ∷ (key ++ 44 ∷ (value ++ 41 ∷ []))
-value_text_step (layer.Seq items) = 91 ∷ (join_by (λ item. item) (44 ∷ []) items ++ 93 ∷ [])
+value_text_step (layer.Seq items) = 91 ∷ (joined items ++ 93 ∷ [])
 
 abbrev pub value_text : Value → List ℕ
 value_text = fold-Value (List ℕ) value_text_step

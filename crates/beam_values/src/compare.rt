@@ -2,7 +2,7 @@ ghost use Rattle.std.specs.Prelude.{◌≡◌, ◌+◌, ◌%◌, if◌then◌els
 ghost use Rattle.std.specs.List.{flat_map};
 ghost use Rattle.std.specs.Ordering.{nat_cmp};
 ghost use Rattle.std.specs.Cmp.Lexicographic.{slice_cmp};
-ghost use Rattle.beam_values.specs.Spelling.{varint, blob_spelling, spelling, tag};
+ghost use Rattle.beam_values.specs.Spelling.{varint, two's_complement, blob_spelling, spelling, tag};
 
 use crate::{Value, unsigned_bits};
 use std::cmp::Ordering;
@@ -30,6 +30,14 @@ fn cmp_varints(a: u64, b: u64) -> Ordering
         b /= 128;
     }
     first_group(a).cmp(&first_group(b))
+}
+
+/// The order of two whole numbers as values, by their spellings.
+fn cmp_ints(a: i64, b: i64) -> Ordering
+    ensures same { result ≡ Ordering.Equal → a ≡ b }
+    ensures order { result ≡ slice_cmp nat_cmp (varint (two's_complement a)) (varint (two's_complement b)) }
+{
+    cmp_varints(unsigned_bits(a), unsigned_bits(b))
 }
 
 /// The order of two strings of bytes as values, by their spellings: the length comes first, and its
@@ -61,10 +69,12 @@ fn tag_of(value: &Value) -> u8
 /// difference and takes no memory.
 #[cycle(orders)]
 pub fn cmp_values(a: &Value, b: &Value) -> Ordering
-    ensures { result ≡ slice_cmp nat_cmp (spelling a.now) (spelling b.now) }
+    // Only a value itself is spelled as it is.
+    ensures same { result ≡ Ordering.Equal → a.now ≡ b.now }
+    ensures order { result ≡ slice_cmp nat_cmp (spelling a.now) (spelling b.now) }
 {
     match (a, b) {
-        (Value::Int(a), Value::Int(b)) => cmp_varints(unsigned_bits(*a), unsigned_bits(*b)),
+        (Value::Int(a), Value::Int(b)) => cmp_ints(*a, *b),
         (Value::Blob(a), Value::Blob(b)) => cmp_blobs(a.as_slice(), b.as_slice()),
         (Value::Pair(key, value), Value::Pair(other_key, other_value)) => {
             match cmp_values(key.get(), other_key.get()) {
@@ -87,7 +97,8 @@ pub fn cmp_values(a: &Value, b: &Value) -> Ordering
 #[cycle(orders)]
 fn cmp_items(a: &[Value], b: &[Value]) -> Ordering
     requires { length a.now ≡ length b.now }
-    ensures { result ≡ slice_cmp nat_cmp (flat_map spelling a.now) (flat_map spelling b.now) }
+    ensures same { result ≡ Ordering.Equal → a.now ≡ b.now }
+    ensures order { result ≡ slice_cmp nat_cmp (flat_map spelling a.now) (flat_map spelling b.now) }
 {
     for (i, item) in a.iter().enumerate() {
         match cmp_values(item, &b[i]) {

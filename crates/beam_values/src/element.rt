@@ -1,4 +1,5 @@
 ghost use Rattle.std.specs.Prelude.{◌≡◌, IfOk};
+ghost use Rattle.beam_values.specs.Elements.{timing_number};
 
 use crate::{Span, Time, Value};
 use beam_containers::{Duplicate, NoMemory};
@@ -11,6 +12,20 @@ pub enum Timing {
     OnTime,
     Late,
     Unknown,
+}
+
+impl Timing {
+    /// Its place in the order EARLY, ON_TIME, LATE, UNKNOWN, from 0.
+    pub fn number(&self) -> u8
+        ensures { result ≡ timing_number self.now }
+    {
+        match self {
+            Timing::Early => 0,
+            Timing::OnTime => 1,
+            Timing::Late => 2,
+            Timing::Unknown => 3,
+        }
+    }
 }
 
 /// Which pane of its key and window an element is: its timing, and its index counted from 0.

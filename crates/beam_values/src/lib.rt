@@ -11,6 +11,8 @@
 mod bits;
 mod compare;
 mod element;
+mod element_order;
+mod fault;
 mod range;
 mod span;
 mod time;
@@ -20,6 +22,7 @@ pub use beam_containers::{Boxed, Bytes, Duplicate, List, NoMemory, RoomyList};
 pub use bits::unsigned_bits;
 pub use compare::{cmp_blobs, cmp_values};
 pub use element::{Element, PaneTag, Timing};
+pub use fault::{Cause, FaultNote};
 pub use range::Range;
 pub use span::Span;
 pub use time::{Mark, Time};

@@ -35,6 +35,14 @@ impl Range {
         }
     }
 
+    /// `new`, where the order of the ends is known.
+    pub fn between(from: u64, to: u64) -> Range
+        requires { from ≤ to }
+        ensures { result ≡ record { from = from; to = to } }
+    {
+        Range { from, to }
+    }
+
     pub fn from(&self) -> u64
         ensures value { result ≡ self.now.from }
         ensures ordered { self.now.from ≤ self.now.to }

@@ -35,6 +35,14 @@ impl Span {
         }
     }
 
+    /// `new`, where the order of the ends is known.
+    pub fn between(start: i64, end: i64) -> Span
+        requires { start <ℤ end }
+        ensures { result ≡ record { start = start; end = end } }
+    {
+        Span { start, end }
+    }
+
     pub fn start(&self) -> i64
         ensures value { result ≡ self.now.start }
         ensures ordered { self.now.start <ℤ self.now.end }

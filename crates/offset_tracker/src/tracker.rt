@@ -88,8 +88,8 @@ impl Tracker {
             return None;
         }
         let at = at as u64;
-        self.range = Range::new(self.range.from(), at).unwrap();
-        Some(Range::new(at, to).unwrap())
+        self.range = Range::between(self.range.from(), at);
+        Some(Range::between(at, to))
     }
 
     /// Cuts right after the last attempted position: the split at 0.

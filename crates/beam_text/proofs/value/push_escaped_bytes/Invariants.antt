@@ -1,0 +1,11 @@
+use Rattle.std.proofs.Common.{◌≡◌, ◌++◌, length}
+use Rattle.std.specs.List.{flat_map}
+use Rattle.beam_values.specs.Texts.{byte_text}
+use Rattle.beam_text.proofs.value.push_escaped_bytes.Given as goal
+
+-- what is written and what is left are the whole text
+abbrev pub invariant-loop-rest : goal.invariant-loop-rest
+invariant-loop-rest l = l.out ++ flat_map byte_text l.rest ≡ l.fn.out ++ flat_map byte_text l.bytes
+
+abbrev pub decreases-loop-rest : goal.decreases-loop-rest
+decreases-loop-rest l = length l.rest

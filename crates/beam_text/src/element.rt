@@ -1,0 +1,50 @@
+ghost use Rattle.std.specs.Prelude.{◌≡◌, ◌++◌, ◌∷◌, [], IfOk, OnOk};
+ghost use Rattle.std.specs.List.{flat_map};
+ghost use Rattle.beam_values.specs.Texts.{element_line, timing_text};
+
+use crate::push_value;
+use beam_values::{Bytes, Element, NoMemory, Timing};
+use itoa::Buffer;
+use std::alloc::Global;
+
+/// The lines of written elements, in their order.
+pub fn render_elements(alloc: Global, elements: &[Element]) -> Result<Bytes, NoMemory>
+    ensures { IfOk result (λ text. text ≡ flat_map element_line elements.now) }
+{
+    let mut out = Bytes::new(alloc);
+    for element in elements {
+        push_element(element, &mut out)?;
+    }
+    Ok(out)
+}
+
+fn push_element(element: &Element, out: &mut Bytes) -> Result<(), NoMemory>
+    ensures { OnOk result (out.new ≡ out.old ++ element_line element.now) }
+{
+    let mut digits = Buffer::new();
+    push_field(digits.format(element.span.start()).as_bytes(), out)?;
+    push_field(digits.format(element.span.end()).as_bytes(), out)?;
+    push_field(timing_text(element.pane.timing), out)?;
+    push_field(digits.format(element.pane.index).as_bytes(), out)?;
+    push_value(&element.value, out)?;
+    out.push(b'\n')
+}
+
+// A field and the TAB after it.
+fn push_field(text: &[u8], out: &mut Bytes) -> Result<(), NoMemory>
+    ensures { OnOk result (out.new ≡ out.old ++ (text.now ++ 9 ∷ [])) }
+{
+    out.extend_from_slice(text)?;
+    out.push(b'\t')
+}
+
+fn timing_text(timing: Timing) -> &'static [u8]
+    ensures { result.now ≡ timing_text timing }
+{
+    match timing {
+        Timing::Early => b"EARLY",
+        Timing::OnTime => b"ON_TIME",
+        Timing::Late => b"LATE",
+        Timing::Unknown => b"UNKNOWN",
+    }
+}

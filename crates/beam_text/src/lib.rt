@@ -1,0 +1,11 @@
+//! The texts of values and elements, as the runner prints them.
+//!
+//! Exact by `beam_values::specs::Texts`. A text is appended in one pass; where memory is refused what
+//! was appended so far is of no use, and the caller drops it.
+#![tactic(auto)]
+
+mod element;
+mod value;
+
+pub use element::render_elements;
+pub use value::push_value;

@@ -1,0 +1,110 @@
+ghost use Rattle.std.specs.Prelude.{◌≡◌, ◌++◌, ◌∷◌, [], ◌<◌, ◌≤◌, length, slice_index, take, true, OnOk, map};
+ghost use Rattle.std.specs.List.{flat_map};
+ghost use Rattle.beam_values.specs.Texts.{value_text, joined, is_escaped, blob_text, byte_text, hex_digit};
+
+use beam_values::{Bytes, NoMemory, Value};
+use itoa::Buffer;
+
+/// Appends the text of a value.
+#[cycle(texts)]
+pub fn push_value(value: &Value, out: &mut Bytes) -> Result<(), NoMemory>
+    ensures { OnOk result (out.new ≡ out.old ++ value_text value.now) }
+{
+    match value {
+        Value::Null => out.extend_from_slice(b"null"),
+        Value::Int(n) => out.extend_from_slice(Buffer::new().format(*n).as_bytes()),
+        Value::Blob(bytes) => push_blob(bytes.as_slice(), out),
+        Value::Pair(key, part) => {
+            out.push(b'(')?;
+            push_value(key.get(), out)?;
+            out.push(b',')?;
+            push_value(part.get(), out)?;
+            out.push(b')')
+        }
+        Value::Seq(items) => {
+            out.push(b'[')?;
+            push_items(items.as_slice(), out)?;
+            out.push(b']')
+        }
+    }
+}
+
+#[cycle(texts)]
+fn push_items(items: &[Value], out: &mut Bytes) -> Result<(), NoMemory>
+    ensures { OnOk result (out.new ≡ out.old ++ joined (map value_text items.now)) }
+{
+    let Some((first, others)) = items.split_first() else {
+        return Ok(());
+    };
+    push_value(first, out)?;
+    for item in others {
+        out.push(b',')?;
+        push_value(item, out)?;
+    }
+    Ok(())
+}
+
+// Runs of plain bytes are appended whole.
+fn push_blob(bytes: &[u8], out: &mut Bytes) -> Result<(), NoMemory>
+    ensures { OnOk result (out.new ≡ out.old ++ blob_text bytes.now) }
+{
+    out.push(b'"')?;
+    push_escaped_bytes(bytes, out)?;
+    out.push(b'"')
+}
+
+fn push_escaped_bytes(bytes: &[u8], out: &mut Bytes) -> Result<(), NoMemory>
+    ensures { OnOk result (out.new ≡ out.old ++ flat_map byte_text bytes.now) }
+{
+    let mut rest = bytes;
+    while !rest.is_empty() {
+        let (plain, others) = rest.split_at(plain_len(rest));
+        out.extend_from_slice(plain)?;
+        rest = others;
+        if let Some((byte, after)) = others.split_first() {
+            push_escaped(*byte, out)?;
+            rest = after;
+        }
+    }
+    Ok(())
+}
+
+// How many bytes are printed as they are, up to the first that isn't.
+fn plain_len(bytes: &[u8]) -> usize
+    ensures within { result ≤ length bytes.now }
+    ensures plain { flat_map byte_text (take result bytes.now) ≡ take result bytes.now }
+    ensures next { result < length bytes.now → is_escaped (slice_index bytes.now result) ≡ true }
+{
+    for (i, byte) in bytes.iter().enumerate() {
+        if is_escaped(*byte) {
+            return i;
+        }
+    }
+    bytes.len()
+}
+
+fn is_escaped(byte: u8) -> bool
+    ensures { result ≡ is_escaped byte }
+{
+    byte == b'"' || byte == b'\\' || byte < b' ' || byte > b'~'
+}
+
+fn push_escaped(byte: u8, out: &mut Bytes) -> Result<(), NoMemory>
+    requires { is_escaped byte ≡ true }
+    ensures { OnOk result (out.new ≡ out.old ++ byte_text byte) }
+{
+    match byte {
+        b'"' | b'\\' => out.extend_from_slice(&[b'\\', byte]),
+        b'\n' => out.extend_from_slice(b"\\n"),
+        b'\r' => out.extend_from_slice(b"\\r"),
+        b'\t' => out.extend_from_slice(b"\\t"),
+        _ => out.extend_from_slice(&[b'\\', b'x', hex_digit(byte / 16), hex_digit(byte % 16)]),
+    }
+}
+
+fn hex_digit(n: u8) -> u8
+    requires { n < 16 }
+    ensures { result ≡ hex_digit n }
+{
+    if n < 10 { b'0' + n } else { b'a' + (n - 10) }
+}

@@ -1,0 +1,28 @@
+-- The order of elements: by window, by pane, by time, and then by value.
+use Rattle.std.specs.Prelude.{ℕ}
+use Rattle.std.specs.declared.cmp.Ordering.{Ordering}
+use Rattle.std.specs.Ordering.{on, then_cmp, nat_cmp, int_cmp}
+use Rattle.std.specs.Cmp.Lexicographic.{slice_cmp}
+use Rattle.beam_values.specs.declared.element.Element.{Element}
+use Rattle.beam_values.specs.declared.element.Timing.{Timing}
+use Rattle.beam_values.specs.declared.element.Timing.TheVariants.{Early, OnTime, Late, Unknown}
+use Rattle.beam_values.specs.Spelling.{spelling}
+
+-- EARLY, ON_TIME, LATE, UNKNOWN, counted from 0
+abbrev pub timing_number : Timing → ℕ
+timing_number Early = 0
+timing_number OnTime = 1
+timing_number Late = 2
+timing_number Unknown = 3
+
+-- elements by the start of their window, its end, the pane's index, its timing, and their time
+abbrev pub place_cmp : Element → Element → Ordering
+place_cmp =
+    then_cmp (on (λ e. e.span.start) int_cmp)
+    (then_cmp (on (λ e. e.span.end) int_cmp)
+    (then_cmp (on (λ e. e.pane.index) nat_cmp)
+    (then_cmp (on (λ e. timing_number e.pane.timing) nat_cmp) (on (λ e. e.time) int_cmp))))
+
+-- the order of elements: by these, and then by the bytes that spell their values
+abbrev pub element_cmp : Element → Element → Ordering
+element_cmp = then_cmp place_cmp (on (λ e. spelling e.value) (slice_cmp nat_cmp))

@@ -1,0 +1,16 @@
+//! The runner on a kit of work functions, a store and a sink: reading a source, working its positions,
+//! grouping, and writing the whole text.
+#![tactic(auto)]
+
+mod positions;
+mod reading;
+mod status;
+mod writing;
+
+pub use positions::{WorkRefusal, work_range};
+pub use reading::{ReadRefusal, read_whole};
+pub use status::{RunEnd, Status};
+pub use writing::put;
+
+#[cfg(test)]
+mod tests;

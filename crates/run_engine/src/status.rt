@@ -1,0 +1,46 @@
+ghost use Rattle.std.specs.Prelude.{◌≡◌};
+ghost use Rattle.run_engine.specs.Statuses.{number_of};
+
+use beam_values::{Bytes, FaultNote};
+
+/// What a command came to.
+#[derive(Debug, Drop)]
+pub enum Status {
+    /// The whole text was written.
+    Ok,
+    /// The words are no command.
+    Usage,
+    /// There is no file of this name.
+    NoSource(Bytes),
+    /// Opening a source failed too often, at the kit of this number.
+    SourceFault(u32),
+    /// Work failed too often.
+    WorkFault(FaultNote),
+    /// Writing the text failed too often.
+    SinkFault,
+    /// Memory was asked for and there was none.
+    NoMemory,
+}
+
+impl Status {
+    /// The exit status of the program. It takes no memory.
+    pub fn number(&self) -> u8
+        ensures { result ≡ number_of self.now }
+    {
+        match self {
+            Status::Ok => 0,
+            Status::Usage => 2,
+            Status::NoSource(_) => 4,
+            Status::SourceFault(_) => 5,
+            Status::WorkFault(_) => 6,
+            Status::SinkFault => 7,
+            Status::NoMemory => 8,
+        }
+    }
+}
+
+/// How a command ended.
+#[derive(Debug, Drop)]
+pub struct RunEnd {
+    pub status: Status,
+}

@@ -1,0 +1,18 @@
+ghost use Rattle.std.specs.Prelude.{◌≡◌, ◌≤ℤ◌, pos};
+ghost use Rattle.beam_values.specs.Functions.{fixed_window};
+
+use beam_values::{Span, Time};
+
+/// The greatest size of a window, in milliseconds.
+pub const GREATEST_SIZE: i64 = 31_536_000_000_000;
+
+/// The one fixed window of `size` milliseconds that contains the time. It takes no memory.
+pub fn fixed_window(size: i64, time: Time) -> Span
+    requires low { pos 1 ≤ℤ size }
+    requires high { size ≤ℤ pos 31536000000000 }
+    ensures { result ≡ fixed_window size time }
+{
+    let ms = time.ms();
+    let start = ms - ms.rem_euclid(size);
+    Span::between(start, start + size)
+}
