@@ -11,7 +11,8 @@ use Rattle.std.proofs.lemmas.Slice.Eq.{bytes_eq-Decides}
 use Rattle.std.proofs.lemmas.Cmp.{int_cmp_total, nat_list_cmp_total, on_total, then_total, int_ranked, tied_back, tied_itself, alike_right}
 use Rattle.beam_values.specs.Intervals.{Interval}
 use Rattle.beam_values.specs.Spelling.{spelling}
-use Rattle.beam_values.specs.Orders.{bytes_cmp, value_cmp, element_cmp}
+use Rattle.beam_values.specs.Orders.{bytes_cmp, value_cmp}
+use Rattle.beam_values.specs.Elements.{element_cmp}
 use Rattle.beam_values.specs.Grouping.{key_in, key_of, part_of, is_in_cell, last_time, pane_with}
 use Rattle.beam_values.specs.declared.value.Value.{Value}
 use Rattle.beam_values.specs.declared.value.Value.TheOpen as layer
@@ -160,7 +161,7 @@ pane_values k l v w e =
 
 above_by : (starts ends keys times values : Ordering) → ordering_then starts (ordering_then ends keys) ≡ Greater
     → (starts ≡ Equal → ends ≡ Equal → times ≡ Equal) → (keys ≡ Greater → values ≡ Greater)
-    → is_lt (ordering_then starts (ordering_then ends (ordering_then times values))) ≡ false
+    → is_lt (ordering_then (ordering_then starts (ordering_then ends times)) values) ≡ false
 above_by Less ends keys times values e same decide = absurd cc
 above_by Greater ends keys times values e same decide = refl
 above_by Equal Less keys times values e same decide = absurd cc

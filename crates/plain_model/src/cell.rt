@@ -1,5 +1,6 @@
 ghost use Rattle.std.specs.Prelude.{◌≡◌};
 ghost use Rattle.beam_values.specs.Grouping.{key_of, part_of};
+ghost use Rattle.beam_values.specs.Orders.{value_cmp};
 ghost use Rattle.beam_values.specs.declared.value.Value.TheVariants.{Null};
 ghost use Rattle.plain_model.specs.Cells.{cell_cmp, grouped_cmp};
 
@@ -28,15 +29,21 @@ pub fn part_of(element: &Element) -> &Value
     }
 }
 
+fn cmp_keys(a: &Element, b: &Element) -> Ordering
+    ensures { result ≡ value_cmp (key_of a.now) (key_of b.now) }
+{
+    let null = Value::Null;
+    cmp_values(key_or(a, &null), key_or(b, &null))
+}
+
 /// The order of the cells of two elements: the start of the window, its end, and then the key.
 pub fn cmp_cells(a: &Element, b: &Element) -> Ordering
     ensures { result ≡ cell_cmp a.now b.now }
 {
-    let null = Value::Null;
     let starts = a.span.start().cmp(&b.span.start());
     let ends = a.span.end().cmp(&b.span.end());
     match starts.then(ends) {
-        Ordering::Equal => cmp_values(key_or(a, &null), key_or(b, &null)),
+        Ordering::Equal => cmp_keys(a, b),
         decided => decided,
     }
 }
