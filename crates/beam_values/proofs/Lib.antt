@@ -1,7 +1,7 @@
-pub mod Lexicographic
-pub mod Varints
-pub mod Induction
-pub mod Spellings
-pub mod SignedBits
-pub mod Spreads
 pub mod Bags
+pub mod Induction
+pub mod Lexicographic
+pub mod SignedBits
+pub mod Spellings
+pub mod Spreads
+pub mod Varints

@@ -1,7 +1,7 @@
 ghost use Rattle.std.specs.Prelude.{◌≡◌};
 ghost use Rattle.beam_values.specs.Grouping.{key_of, part_of};
-ghost use Rattle.beam_values.specs.Orders.{value_cmp};
 ghost use Rattle.beam_values.specs.declared.value.Value.TheVariants.{Null};
+ghost use Rattle.beam_values.specs.Orders.{value_cmp};
 ghost use Rattle.plain_model.specs.Cells.{cell_cmp, grouped_cmp};
 
 use beam_values::{Element, Value, cmp_values};
@@ -29,13 +29,6 @@ pub fn part_of(element: &Element) -> &Value
     }
 }
 
-fn cmp_keys(a: &Element, b: &Element) -> Ordering
-    ensures { result ≡ value_cmp (key_of a.now) (key_of b.now) }
-{
-    let null = Value::Null;
-    cmp_values(key_or(a, &null), key_or(b, &null))
-}
-
 /// The order of the cells of two elements: the start of the window, its end, and then the key.
 pub fn cmp_cells(a: &Element, b: &Element) -> Ordering
     ensures { result ≡ cell_cmp a.now b.now }
@@ -46,6 +39,13 @@ pub fn cmp_cells(a: &Element, b: &Element) -> Ordering
         Ordering::Equal => cmp_keys(a, b),
         decided => decided,
     }
+}
+
+fn cmp_keys(a: &Element, b: &Element) -> Ordering
+    ensures { result ≡ value_cmp (key_of a.now) (key_of b.now) }
+{
+    let null = Value::Null;
+    cmp_values(key_or(a, &null), key_or(b, &null))
 }
 
 /// The order in which elements are grouped: by cell, and within a cell by what they bring to it.

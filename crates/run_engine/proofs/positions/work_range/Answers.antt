@@ -14,7 +14,7 @@ lines-preserved c =
     let inside : c.lines.p < c.args.tracker.now.range.to = omega arith in
     let above = next_start-above c.args.file.now c.lines.p (omega (arith, c.requires.in_file)) in
     let may : MayClaim (record { range = c.lines.tracker.range; attempted = Some c.lines.p }) c.in-Ok.next =
-      record { from_start = omega (arith, c.lines.invariant.may.from_start, c.in-Ok.ensures.next, above); ascending = omega (arith, c.in-Ok.ensures.next, above) } in
+    record { from_start = omega (arith, c.lines.invariant.may.from_start, c.in-Ok.ensures.next, above); ascending = omega (arith, c.in-Ok.ensures.next, above) } in
     record {
       may = subst (λ (t : Tracked). MayClaim t c.in-Ok.next) (sym c.try_claim.ensures.after) may;
       range = ap (λ t. t.range) c.try_claim.ensures.after ∙ c.lines.invariant.range;
