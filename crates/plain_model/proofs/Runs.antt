@@ -1,5 +1,5 @@
 -- Sorted elements taken run by run: what is done is grouped, and what is left stands in cells above.
-use Rattle.std.proofs.Common.{Some, ◌≡◌, ℕ, zero, suc, ◌+◌, ◌-◌, ◌<◌, ◌≤◌, ◌⊎◌, Bool, true, false, not, ◌==◌, List, [], ◌∷◌, ◌++◌, length, get_or, take, drop, map, refl, sym, ap, ◌∙◌, subst, append-nil, append_assoc, take-append-drop, inl, inr, arith}
+use Rattle.std.proofs.Common.{Some, ◌≡◌, ℕ, zero, suc, ◌+◌, ◌-◌, ◌<◌, ◌≤◌, ◌⊎◌, Bool, true, false, not, ◌==◌, List, [], ◌∷◌, ◌++◌, length, get_or, take, drop, map, refl, sym, ap, ◌∙◌, subst, append_assoc, take-append-drop, inl, inr, arith}
 use Rattle.std.specs.declared.cmp.Ordering.{Ordering}
 use Rattle.std.specs.declared.cmp.Ordering.TheVariants.{Less, Equal, Greater}
 use Rattle.std.specs.Ordering.{is_lt, is_eq, is_gt, ordering_index}
@@ -21,7 +21,7 @@ use Rattle.beam_values.specs.declared.element.Element.{Element}
 use Rattle.plain_model.specs.Cells.{cell_cmp, grouped_cmp}
 use Rattle.plain_model.proofs.Lists.{count_none, run_passes, sorted_take, sorted_drop}
 use Rattle.plain_model.proofs.Cells.{cell_total, grouped_total, cell_tied, cell_apart, below_upto, cells_rise, parts_rise, not_above, pane_cell, panes_rise}
-use Rattle.plain_model.proofs.Groupings.{grouping_none, grouping_append, grouping_one, seen_alike, pane_over, HasNoCellOfBoth}
+use Rattle.plain_model.proofs.Groupings.{grouping_append, grouping_one, seen_alike, pane_over, HasNoCellOfBoth}
 
 -- each element is in a cell above that of the pane
 abbrev pub IsBelow : List Element → Element → Type 0
@@ -34,19 +34,6 @@ pub record IsGrouped (sorted rest panes : List Element) : Type 0 where
   pub ascending : IsSorted element_cmp panes
   pub below : All (IsBelow rest) panes
   pub left : IsSorted grouped_cmp rest
-
-pub grouped_none : (sorted : List Element) → IsSorted grouped_cmp sorted → IsGrouped sorted sorted []
-grouped_none sorted up = record {
-  done = [];
-  whole = refl;
-  grouped = grouping_none;
-  ascending = λ k d z l. absurd (omega arith);
-  below = All-nil (IsBelow sorted);
-  left = up;
-}
-
-pub grouped_all : (sorted panes : List Element) → IsGrouped sorted [] panes → IsPlainGrouping sorted panes
-grouped_all sorted panes g = subst (λ (l : List Element). IsPlainGrouping l panes) (sym (g.whole ∙ append-nil g.done)) g.grouped
 
 abbrev in_run : Element → Element → Bool
 in_run first e = is_eq (cell_cmp first e)
