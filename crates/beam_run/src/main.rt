@@ -10,6 +10,8 @@
 mod fs_store;
 mod notes;
 mod sinks;
+#[cfg(test)]
+mod tests;
 mod top;
 mod words;
 
