@@ -16,26 +16,27 @@ mod top;
 mod words;
 
 use fs_store::FsStore;
-use run_engine::Status;
+use run_engine::{Status, put};
 use sinks::{ErrSink, OutSink};
-use std::env;
+use std::alloc::AllocError;
 use std::process::ExitCode;
+use std::{env, io};
 pub use top::beam_main;
 
 /// The exit status where the words of the command line can't be got.
 const NO_WORDS: u8 = 2;
 
 fn main(rt: HostRuntime) -> ExitCode {
-    let Ok(args) = env::args(&rt) else {
-        return ExitCode::from(NO_WORDS);
-    };
-    let Ok(words) = args.collect::<Vec<String>>(rt.alloc()) else {
-        return ExitCode::from(Status::NoMemory.number());
-    };
     let mut out = OutSink::new(rt.stdout());
     let mut notes = ErrSink::new(rt.stderr());
     let alloc = rt.alloc();
-    let Ok(mut store) = FsStore::new(rt) else {
+    let words = match env::args(&rt) {
+        Ok(args) => args.collect::<Vec<String>>(alloc),
+        Err(error) if error.kind() == io::ErrorKind::OutOfMemory => Err(AllocError),
+        Err(_) => return ExitCode::from(NO_WORDS),
+    };
+    let (Ok(words), Ok(mut store)) = (words, FsStore::new(rt)) else {
+        let _ = put(&mut notes, b"no memory\n", 1);
         return ExitCode::from(Status::NoMemory.number());
     };
     let end = beam_main(alloc, words.as_slice(), &mut store, &mut out, &mut notes);

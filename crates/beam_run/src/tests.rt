@@ -1,7 +1,7 @@
 //! The command over stores and sinks in memory, with texts and notes counted by hand.
 use crate::beam_main;
 use beam_ports::{FileText, MemorySink, MemoryStore};
-use beam_values::{Bytes, List};
+use beam_values::{Bytes, List, NoMemory};
 use std::alloc::Global;
 use std::test::Fail;
 
@@ -18,7 +18,7 @@ struct Ended {
     notes: Bytes,
 }
 
-fn words(alloc: Global, name: &str, size: &str) -> Result<Vec<String>, Fail> {
+fn words(alloc: Global, name: &str, size: &str) -> Result<Vec<String>, NoMemory> {
     let mut words = Vec::new(alloc);
     for word in ["beam_run", "panes", name, size] {
         words.push(String::from_str(alloc, word)?)?;
@@ -26,7 +26,7 @@ fn words(alloc: Global, name: &str, size: &str) -> Result<Vec<String>, Fail> {
     Ok(words)
 }
 
-fn store(alloc: Global, text: &[u8], failing: &[u64]) -> Result<MemoryStore, Fail> {
+fn store(alloc: Global, text: &[u8], failing: &[u64]) -> Result<MemoryStore, NoMemory> {
     let mut files = List::new(alloc);
     files.push(FileText {
         name: Bytes::from_slice(alloc, b"f")?,
@@ -36,7 +36,13 @@ fn store(alloc: Global, text: &[u8], failing: &[u64]) -> Result<MemoryStore, Fai
 }
 
 // Runs `panes NAME SIZE` over a store that has `f` with this text and fails at these calls.
-fn run(alloc: Global, word: &str, size: &str, text: &[u8], failing: &[u64]) -> Result<Ended, Fail> {
+fn run(
+    alloc: Global,
+    word: &str,
+    size: &str,
+    text: &[u8],
+    failing: &[u64],
+) -> Result<Ended, NoMemory> {
     let mut store = store(alloc, text, failing)?;
     let mut out = MemorySink::new(alloc, 1 << 20, List::new(alloc));
     let mut notes = MemorySink::new(alloc, 1 << 20, List::new(alloc));
@@ -170,7 +176,7 @@ fn files_give_their_panes_or_a_note(rt: HostRuntime) -> Result<(), Fail> {
 }
 
 // Runs the four lines over a sink that takes one byte a call and fails at call `k`.
-fn run_to_failing_sink(alloc: Global, k: u64) -> Result<Ended, Fail> {
+fn run_to_failing_sink(alloc: Global, k: u64) -> Result<Ended, NoMemory> {
     let mut store = store(alloc, FOUR_LINES, &[])?;
     let mut out = MemorySink::new(alloc, 1, List::from_slice(alloc, &[k])?);
     let mut notes = MemorySink::new(alloc, 1 << 20, List::new(alloc));
@@ -190,6 +196,23 @@ fn a_failing_sink_keeps_what_it_took(rt: HostRuntime) -> Result<(), Fail> {
         assert_eq!(rt; ended.number, 7);
         assert_eq!(rt; ended.out.as_slice(), THREE_PANES.split_at(k).0);
         assert_eq!(rt; ended.notes.as_slice(), b"sink fault\n".as_slice());
+    }
+    Ok(())
+}
+
+// Run this one with each allocation failing in turn: `tests/every_allocation_fails.sh`.
+#[test]
+fn four_lines_give_their_panes_or_no_memory(rt: HostRuntime) -> Result<(), Fail> {
+    let Ok(ended) = run(rt.alloc(), "f", "60000", FOUR_LINES, &[]) else {
+        // Memory was short already for the store, or for what is looked at below.
+        return Ok(());
+    };
+    if ended.number == 8 {
+        assert_eq!(rt; ended.out.as_slice(), b"".as_slice());
+        assert_eq!(rt; ended.notes.as_slice(), b"no memory\n".as_slice());
+    } else {
+        assert_eq!(rt; ended.number, 0);
+        assert_eq!(rt; ended.out.as_slice(), THREE_PANES);
     }
     Ok(())
 }
