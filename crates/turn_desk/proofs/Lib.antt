@@ -1,2 +1,6 @@
 pub mod Numbers
 pub mod Views
+pub mod Stages
+pub mod Steps
+pub mod Parting
+pub mod Ending

@@ -22,6 +22,13 @@ module _ {W : Type 0} where
   each_set P vs i w mine others j d at = ⊎_elim (λ (t : (j ≡ i) × (w ≡ d)). subst (λ (z : ℕ × W). P z.0 z.1) (λ k. (sym t.0 k, t.1 k)) mine)
       (λ (t : (¬ (j ≡ i)) × (get_elem? vs j ≡ some d)). others j d t.0 t.1) (at_set vs i j w d at)
 
+  pub set_swap : (vs : List W) (i j : ℕ) (v w : W) → ¬ (j ≡ i) → set (set vs i v) j w ≡ set (set vs j w) i v
+  set_swap [] i j v w away = refl
+  set_swap (x ∷ xs) zero zero v w away = absurd (away refl)
+  set_swap (x ∷ xs) zero (suc j) v w away = refl
+  set_swap (x ∷ xs) (suc i) zero v w away = refl
+  set_swap (x ∷ xs) (suc i) (suc j) v w away = ap (λ (l : List W). x ∷ l) (set_swap xs i j v w (λ e. away (ap suc e)))
+
   pub at_end : (vs : List W) (w d : W) (j : ℕ) → get_elem? (vs ++ w ∷ []) j ≡ some d → (get_elem? vs j ≡ some d) ⊎ ((j ≡ length vs) × (w ≡ d))
   at_end [] w d zero at = inr (refl, some-injective w d at)
   at_end [] w d (suc j) at = absurd (some-ne-none d (sym at))
