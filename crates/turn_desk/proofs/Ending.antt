@@ -57,9 +57,9 @@ module _ {V A C : Type 0} (fits : V → C → Note A → Type 0) (constant : C) 
       let size : size_in v ≡ size_of v.note = present_size (size_of v.note) v.stage present in ⊎_elim
       (λ home. (r.value, home.0.0, ap (λ (hs : List (Maybe (Slot V A))). get_elem? hs 0) home.0.1, home.0.2, mine.fitting))
       (λ busy.
-          let there : IsPresent busy.2.stage = busy_present busy.2.stage busy.4 in
-          let away : ¬ (id ≡ busy.1) = λ e. busy.4 (subst (λ (x : W). IsAside x.stage) (same_at s.views id v busy.2 at (subst (λ (k : ℕ). get_elem? s.views k ≡ some busy.2) (sym e) busy.3)) (subst IsAside (sym idle) tt)) in
-          let other : size_in busy.2 ≡ size_of busy.2.note = present_size (size_of busy.2.note) busy.2.stage there in
-          let some_size = size_positive fits constant r.value busy.2 (r.each busy.1 busy.2 busy.3 there) in
-          let two = sum_of_two size_in s.views id busy.1 v busy.2 away at busy.3 in let all = r.sizes in
-          absurd (omega arith)) r.slot
+      let there : IsPresent busy.2.stage = busy_present busy.2.stage busy.4 in
+      let away : ¬ (id ≡ busy.1) = λ e. busy.4 (subst (λ (x : W). IsAside x.stage) (same_at s.views id v busy.2 at (subst (λ (k : ℕ). get_elem? s.views k ≡ some busy.2) (sym e) busy.3)) (subst IsAside (sym idle) tt)) in
+      let other : size_in busy.2 ≡ size_of busy.2.note = present_size (size_of busy.2.note) busy.2.stage there in
+      let some_size = size_positive fits constant r.value busy.2 (r.each busy.1 busy.2 busy.3 there) in
+      let two = sum_of_two size_in s.views id busy.1 v busy.2 away at busy.3 in let all = r.sizes in
+      absurd (omega arith)) r.slot

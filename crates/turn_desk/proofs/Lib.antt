@@ -4,3 +4,4 @@ pub mod Stages
 pub mod Steps
 pub mod Parting
 pub mod Ending
+pub mod Told

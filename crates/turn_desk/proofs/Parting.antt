@@ -50,12 +50,12 @@ module _ {V A C : Type 0} (fits : V → C → Note A → Type 0) (constant : C) 
       let present = here s r id v idle at in let mine = r.each id v at present in let both = parts r.value mine.sound mine.fitting in
       let vs : List W = set s.views id left in
       let apart' = pairs_set (λ v w. IsPresent v.stage → IsPresent w.stage → IsApart v.note w.note) s.views id left
-          (λ j d away at'. (
-            (λ _ p. kept_apart v.note mine.sound free a d.note (r.apart id j v d (λ e. away (sym e)) at at' present p)),
-            (λ p _. apart_back left.note d.note (kept_apart v.note mine.sound free a d.note (r.apart id j v d (λ e. away (sym e)) at at' present p))),
-          )) r.apart in
+      (λ j d away at'. (
+        (λ _ p. kept_apart v.note mine.sound free a d.note (r.apart id j v d (λ e. away (sym e)) at at' present p)),
+        (λ p _. apart_back left.note d.note (kept_apart v.note mine.sound free a d.note (r.apart id j v d (λ e. away (sym e)) at at' present p))),
+      )) r.apart in
       let tickets' = λ (u : ℕ). pairs_set (λ v w. HasTicket u v.stage → HasTicket u w.stage → ⊥) s.views id left
-          (λ j d _ _. ((λ mine _. no_ticket s r id v idle at u mine), (λ _ mine. no_ticket s r id v idle at u mine))) (λ i j v w. r.tickets i j u v w) in
+      (λ j d _ _. ((λ mine _. no_ticket s r id v idle at u mine), (λ _ mine. no_ticket s r id v idle at u mine))) (λ i j v w. r.tickets i j u v w) in
       let out = r.out in let all = r.sizes in
       let count = sum_set tickets_in s.views id v left at in let more = sum_by_push tickets_in vs right in
       let size = sum_set size_in s.views id v left at in let larger = sum_by_push size_in vs right in

@@ -1,5 +1,9 @@
 -- Where a pass stands: what its ticket and its place in the line tell.
-use Rattle.std.proofs.Common.{◌≡◌, ◌≢◌, ℕ, ◌+◌, ◌<◌, ◌≤◌, sym, refl, ap, ◌∙◌, subst, arith}
+use Rattle.std.proofs.Common.{◌≡◌, ◌≢◌, ℕ, ◌+◌, ◌<◌, ◌≤◌, List, [], ◌∷◌, map, false, sym, refl, ap, ◌∙◌, subst, arith}
+use Rattle.std.specs.Prelude.{Option, Some, None}
+use Rattle.std.specs.Option.{is_some}
+use Rattle.turn_desk.specs.declared.view.Slot.{Slot}
+use Rattle.turn_desk.specs.Standing.{IsIdle, HasTaken}
 use Rattle.turn_desk.specs.declared.held.Note.{Note}
 use Rattle.turn_desk.specs.declared.view.Stage.{Stage}
 use Rattle.turn_desk.specs.declared.view.Stage.TheVariants.{Spent, Idle, Waits, InTurn}
@@ -60,3 +64,27 @@ module _ {V : Type 0} where
 module _ {V A C : Type 0} where
   pub size_positive : (fits : V → C → Note A → Type 0) (constant : C) (value : V) (v : View V A C) → Stands fits constant value v → 0 < size_of v.note
   size_positive fits constant value v s = (let h = s.sound.own in omega arith)
+
+module _ {V : Type 0} where
+  pub idle_is : (st : Stage V) → IsIdle st → st ≡ Idle
+  idle_is Spent i = absurd i
+  idle_is Idle i = refl
+  idle_is (Waits t) i = absurd i
+  idle_is (InTurn t x) i = absurd i
+
+  pub taken_is : (x : V) (st : Stage V) → HasTaken x st → (t : ℕ) × (st ≡ InTurn t x)
+  taken_is x Spent h = absurd h
+  taken_is x Idle h = absurd h
+  taken_is x (Waits t) h = absurd h
+  taken_is x (InTurn t y) h = (t, ap (InTurn t) h)
+
+  pub none_left : (o : Option V) → is_some o ≡ false → o ≡ None
+  none_left None e = refl
+  none_left (Some x) e = absurd (cc)
+
+module _ {V A : Type 0} where
+  -- a seat with the slot out holds just that
+  pub one_out : (cs : List (ℕ × Slot V A)) → map (λ k. k.0) cs ≡ 0 ∷ [] → map (λ k. is_some k.1.value) cs ≡ false ∷ [] → (x : Slot V A) × (cs ≡ (0, x) ∷ []) × (x.value ≡ None)
+  one_out [] a b = absurd (cc)
+  one_out (k ∷ []) a b = (k.1, (let e : k.0 ≡ 0 = cc in λ i. (e i, k.1) ∷ []), (let e : is_some k.1.value ≡ false = cc in none_left k.1.value e))
+  one_out (k ∷ l ∷ cs) a b = absurd (cc)

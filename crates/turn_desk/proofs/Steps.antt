@@ -73,8 +73,10 @@ module _ {V A C : Type 0} (fits : V → C → Note A → Type 0) (constant : C) 
           apart = pairs_set (λ v w. IsPresent v.stage → IsPresent w.stage → IsApart v.note w.note) s.views id w
               (λ j d away a. ((λ _ p. r.apart id j v d (λ e. away (sym e)) at a present p), (λ p _. r.apart j id d v away a at p present))) r.apart;
           tickets = λ i j u x y. pairs_set (λ v w. HasTicket u v.stage → HasTicket u w.stage → ⊥) s.views id w
-              (λ j d _ a. ((λ here there. let e : t ≡ u = here in let l = ticket_drawn r.serving t r.value u d.stage there (r.line j d a) in omega arith),
-              (λ there here. let e : t ≡ u = here in let l = ticket_drawn r.serving t r.value u d.stage there (r.line j d a) in omega arith))) (λ i j v w. r.tickets i j u v w) i j x y;
+              (λ j d _ a. (
+                (λ here there. let e : t ≡ u = here in let l = ticket_drawn r.serving t r.value u d.stage there (r.line j d a) in omega arith),
+                (λ there here. let e : t ≡ u = here in let l = ticket_drawn r.serving t r.value u d.stage there (r.line j d a) in omega arith),
+              )) (λ i j v w. r.tickets i j u v w) i j x y;
           slot = ⊎_elim (λ home. inl (home.0, each_set (λ j d. IsAside d.stage) s.views id w tt (λ j d _ a. home.1 j d a)))
               (λ out. inr (out.0, out.1, out.2, (set_else s.views id out.1 w (λ e. out.4 (subst (λ (x : W). IsAside x.stage) (same_at s.views id v out.2 at (subst (λ (k : ℕ). get_elem? s.views k ≡ some out.2) e out.3)) (subst IsAside (sym idle) tt))) ∙ out.3), out.4)) r.slot;
         },
@@ -122,8 +124,10 @@ module _ {V A C : Type 0} (fits : V → C → Note A → Type 0) (constant : C) 
           apart = pairs_set (λ v w. IsPresent v.stage → IsPresent w.stage → IsApart v.note w.note) s.views id w
               (λ j d away a. ((λ _ p. r.apart id j v d (λ e. away (sym e)) at a present p), (λ p _. r.apart j id d v away a at p present))) r.apart;
           tickets = λ i j u x y. pairs_set (λ v w. HasTicket u v.stage → HasTicket u w.stage → ⊥) s.views id w
-              (λ j d away a. ((λ here there. r.tickets id j u v d (λ e. away (sym e)) at a (subst (HasTicket u) (sym waits) here) there),
-              (λ there here. r.tickets id j u v d (λ e. away (sym e)) at a (subst (HasTicket u) (sym waits) here) there))) (λ i j v w. r.tickets i j u v w) i j x y;
+              (λ j d away a. (
+                (λ here there. r.tickets id j u v d (λ e. away (sym e)) at a (subst (HasTicket u) (sym waits) here) there),
+                (λ there here. r.tickets id j u v d (λ e. away (sym e)) at a (subst (HasTicket u) (sym waits) here) there),
+              )) (λ i j v w. r.tickets i j u v w) i j x y;
           slot = inr (ap (λ (hs : List (Maybe (Slot V A))). set hs 0 none) homes, id, w, set_here s.views id w (inside s.views id v at), λ busy. busy);
         }
 
@@ -141,18 +145,18 @@ module _ {V A C : Type 0} (fits : V → C → Note A → Type 0) (constant : C) 
   pub serves : (slots id t : ℕ) (m : M) → m.0.stage ≡ Waits t → m.1 ≡ [] → Allows Rule slots id m 1 (λ n. n) (Serves fits (step slots 1 0 0 none) m)
   serves slots id t m waits empty s r _ at _ = dite (ℕ_discrete (get_or s.words 1 0) (t % 18446744073709551616))
       (λ hit.
-          let line = subst (IsInLine r.serving r.drawn r.value) waits (r.line id m.0 at) in
-          let few = few_tickets s r in let from : r.serving ≤ t = line.0 in let below : t < r.drawn = line.1 in
-          let served : r.serving ≡ t = one_turn r.serving t 18446744073709551616 from (omega arith) (sym (second_word s r) ∙ hit) in
-          ⊎_elim
-          (λ (home : IsHome r.value s.homes × ((j : ℕ) (d : W) → get_elem? s.views j ≡ some d → IsAside d.stage)). let x : Slot V A = home.0.0 in (
-            at_stage m.0 (InTurn t r.value),
-            takes 0 x,
-            ap (λ (hs : List (Maybe (Slot V A))). get_elem? hs 0) home.0.1,
-            home_rule s r id t m waits empty at served x home.0.1 home.1,
-            λ u is. ((λ _. told s r id t m waits empty at served x home.0.2 u is), (λ miss. absurd (miss (hit ∙ ap (λ (k : ℕ). k % 18446744073709551616) (waits_same t u m.0.stage waits is))))),
-          ))
-          (λ out. absurd (none_busy s r id t m waits empty at served out.1 out.2 out.3 out.4)) r.slot)
+      let line = subst (IsInLine r.serving r.drawn r.value) waits (r.line id m.0 at) in
+      let few = few_tickets s r in let from : r.serving ≤ t = line.0 in let below : t < r.drawn = line.1 in
+      let served : r.serving ≡ t = one_turn r.serving t 18446744073709551616 from (omega arith) (sym (second_word s r) ∙ hit) in
+      ⊎_elim
+      (λ (home : IsHome r.value s.homes × ((j : ℕ) (d : W) → get_elem? s.views j ≡ some d → IsAside d.stage)). let x : Slot V A = home.0.0 in (
+        at_stage m.0 (InTurn t r.value),
+        takes 0 x,
+        ap (λ (hs : List (Maybe (Slot V A))). get_elem? hs 0) home.0.1,
+        home_rule s r id t m waits empty at served x home.0.1 home.1,
+        λ u is. ((λ _. told s r id t m waits empty at served x home.0.2 u is), (λ miss. absurd (miss (hit ∙ ap (λ (k : ℕ). k % 18446744073709551616) (waits_same t u m.0.stage waits is))))),
+      ))
+      (λ out. absurd (none_busy s r id t m waits empty at served out.1 out.2 out.3 out.4)) r.slot)
       (λ miss. (
         m.0,
         keeps,
@@ -197,8 +201,10 @@ module _ {V A C : Type 0} (fits : V → C → Note A → Type 0) (constant : C) 
                 });
             line = each_set (λ j d. IsInLine (r.serving + 1) r.drawn y d.stage) s.views id w tt (λ j d away a. next_turn r.serving r.drawn r.value y d.stage (alone j d away a) (r.line j d a));
             apart = pairs_set (λ v w. IsPresent v.stage → IsPresent w.stage → IsApart v.note w.note) s.views id w
-                (λ j d away a. ((λ _ p. apart_same v.note note d.note own.1 (r.apart id j v d (λ e. away (sym e)) at a present p)),
-                (λ p _. apart_back note d.note (apart_same v.note note d.note own.1 (r.apart id j v d (λ e. away (sym e)) at a present p))))) r.apart;
+                (λ j d away a. (
+                  (λ _ p. apart_same v.note note d.note own.1 (r.apart id j v d (λ e. away (sym e)) at a present p)),
+                  (λ p _. apart_back note d.note (apart_same v.note note d.note own.1 (r.apart id j v d (λ e. away (sym e)) at a present p))),
+                )) r.apart;
             tickets = λ i j u x y. pairs_set (λ v w. HasTicket u v.stage → HasTicket u w.stage → ⊥) s.views id w (λ j d _ a. ((λ here there. here), (λ there here. here))) (λ i j v w. r.tickets i j u v w) i j x y;
             slot = inl (
               (

@@ -32,3 +32,11 @@ module _ {V A C : Type 0} where
   -- the turn ended, and the pass has the note that stood in the slot
   abbrev pub Ends : Step (Slot V A) → Knows V A C → ℕ → Knows V A C → Type 0
   Ends st m found m' = (k : ℕ × Slot V A) → m.1 ≡ k ∷ [] → m' ≡ (view_at k.1.note.value m.0.constant Idle, [])
+
+  -- a pass that drew the ticket, whose word was found
+  abbrev pub HasDrawn : ℕ → Knows V A C → Type 0
+  HasDrawn found m = (t : ℕ) × (found ≡ t % 18446744073709551616) × (m.0.stage ≡ Waits t) × (m.1 ≡ [])
+
+  -- the same pass, in turn
+  abbrev pub IsInTurn : (V → C → Note A → Type 0) → Knows V A C → Knows V A C → Type 0
+  IsInTurn fits m m' = (t : ℕ) × IsServed fits m.0 t m'

@@ -1,11 +1,17 @@
 //! Turns at a shared value.
 #![tactic(auto)]
 
+mod calls;
+mod change;
 mod desk;
+mod error;
 mod held;
 mod plays;
+mod turn;
 mod unseen;
 mod view;
 
-pub use desk::{Desk, Pass};
+pub use change::Change;
+pub use desk::{Desk, Pass, Turn};
+pub use error::NoMemory;
 pub use held::{Held, Note};

@@ -1,4 +1,6 @@
 //! What the seats of the table know, and what its slot holds.
+ghost use Rattle.std.specs.Prelude.{◌≡◌, IsSome};
+
 use crate::held::Note;
 use crate::unseen::Unseen;
 
@@ -26,4 +28,25 @@ pub struct View<V, A, C> {
 pub struct Slot<V, A> {
     pub value: Option<V>,
     pub note: Unseen<Note<A>>,
+}
+
+impl<V, A> Slot<V, A> {
+    pub fn into_value(self) -> V
+        requires { IsSome self.value }
+        ensures { self.value ≡ Some result }
+    {
+        let Slot { value, note: _ } = self;
+        value.unwrap()
+    }
+
+    // A slot with no value may go.
+    pub fn end_vacant(self)
+        requires { self.value ≡ None }
+    {
+        let Slot { value, note: _ } = self;
+        match value {
+            None => {}
+            Some(_) => unreachable!(),
+        }
+    }
 }
