@@ -3,3 +3,5 @@ pub mod Rule
 pub mod Plays
 pub mod Standing
 pub mod Seen
+pub mod Tally
+pub mod TallyLaws

@@ -25,3 +25,7 @@ impl<T> Unseen<T> {
         }
     }
 }
+
+unsafe impl<T> Send for Unseen<T> {}
+
+unsafe impl<T> Sync for Unseen<T> {}
