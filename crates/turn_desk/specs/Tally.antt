@@ -35,3 +35,7 @@ TallyMoves counts note counts' note' =
     (place_of (slice_index note.numbers 0) < length counts)
     × (counts' ≡ slice_set counts (place_of (slice_index note.numbers 0)) (count_at counts (slice_index note.numbers 0) + 1))
     × (note' ≡ raised_note note)
+
+-- the note of a pass that was split off, once it counted so far
+abbrev pub first_note : ℕ → ℕ → Note (List ℕ)
+first_note place count = record { numbers = (4294967295 - place) ∷ []; free = 0; about = count ∷ [] }

@@ -69,7 +69,7 @@ tally_join c x m n sound sound' apart fit fit' = (
   fit.0,
   counts_append x m.numbers m.about n.numbers n.about fit.1 fit'.1,
   λ k some below. elim (dec_le k m.free) as (λ _. count_at x k ≡ 0) [
-    yes within ↦ fit.2 k some within
+    | yes within ↦ fit.2 k some within
     | no beyond ↦ fit'.2 k some (let one = apart.free in grind arith)
   ],
 )

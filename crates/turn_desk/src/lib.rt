@@ -7,6 +7,8 @@ mod desk;
 mod error;
 mod held;
 mod plays;
+#[cfg(test)]
+mod tally;
 mod turn;
 mod unseen;
 mod view;
