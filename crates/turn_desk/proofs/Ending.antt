@@ -1,17 +1,15 @@
 -- The rule at the start, and what it says at the end, when one pass has all numbers.
-use Rattle.std.proofs.Common.{◌≡◌, ℕ, zero, suc, ◌+◌, ◌<◌, ◌≤◌, List, [], ◌∷◌, length, sum_by, sym, refl, ap, ◌∙◌, subst, inl, inr, ⊎_elim, arith}
-use Rattle.std.specs.Prelude.{Option, Some}
-use Rattle.std.proofs.lemmas.List.Sums.{sum_by-cons}
-use mathlib.Core.Option.{some, none, some-injective, some-ne-none, Option as Maybe}
+use Rattle.std.proofs.Common.{◌≡◌, ℕ, zero, suc, List, [], ◌∷◌, sym, refl, ap, subst, inl, ⊎_elim, arith}
+use Rattle.std.specs.Prelude.{Some}
+use mathlib.Core.Option.{some, some-injective, some-ne-none, Option as Maybe}
 use lib.ListN.{get_elem?}
-use Rattle.atomic_table.specs.Table.{State, opening, Final, Seen}
+use Rattle.atomic_table.specs.Table.{State, opening}
 use Rattle.turn_desk.specs.declared.held.Note.{Note}
-use Rattle.turn_desk.specs.declared.view.Stage.{Stage}
 use Rattle.turn_desk.specs.declared.view.Stage.TheVariants.{Idle}
 use Rattle.turn_desk.specs.declared.view.View.{View}
 use Rattle.turn_desk.specs.declared.view.Slot.{Slot}
 use Rattle.turn_desk.specs.Notes.{size_of, opening_note}
-use Rattle.turn_desk.specs.Rule.{IsPresent, IsAside, HasTicket, IsInLine, size_in, tickets_in, Stands, Turns, view_at}
+use Rattle.turn_desk.specs.Rule.{IsPresent, IsAside, IsInLine, size_in, Stands, Turns, view_at}
 use Rattle.turn_desk.proofs.Numbers.{opening_sound}
 use Rattle.turn_desk.proofs.Stages.{busy_present, present_size, size_positive}
 use Rattle.turn_desk.proofs.Views.{same_at, sum_of_two}

@@ -1,5 +1,5 @@
 -- Facts on the numbers of notes: sound notes and notes apart stay so where notes are parted and joined.
-use Rattle.std.proofs.Common.{◌≡◌, ◌≢◌, ℕ, ◌+◌, ◌-◌, ◌<◌, ◌≤◌, List, [], ◌∷◌, ◌++◌, length, sym, refl, ap, subst, arith, length-append}
+use Rattle.std.proofs.Common.{◌≡◌, ◌≢◌, ℕ, ◌+◌, ◌-◌, ◌<◌, List, [], ◌∷◌, ◌++◌, length, sym, refl, ap, subst, arith, length-append}
 use native.Mathlib.Decide.{dec_le}
 use Rattle.turn_desk.specs.declared.held.Note.{Note}
 use Rattle.turn_desk.specs.Notes.{Each, AreDistinct, IsNotFree, size_of, IsSound, IsApart, HasSameNumbers, opening_note, kept_part, given_part, joined_note}

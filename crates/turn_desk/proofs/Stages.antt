@@ -1,5 +1,5 @@
 -- Where a pass stands: what its ticket and its place in the line tell.
-use Rattle.std.proofs.Common.{◌≡◌, ◌≢◌, ℕ, ◌+◌, ◌<◌, ◌≤◌, List, [], ◌∷◌, map, false, sym, refl, ap, ◌∙◌, subst, arith}
+use Rattle.std.proofs.Common.{◌≡◌, ◌≢◌, ℕ, ◌+◌, ◌<◌, ◌≤◌, List, [], ◌∷◌, map, false, refl, ap, arith}
 use Rattle.std.specs.Prelude.{Option, Some, None}
 use Rattle.std.specs.Option.{is_some}
 use Rattle.turn_desk.specs.declared.view.Slot.{Slot}
@@ -8,8 +8,8 @@ use Rattle.turn_desk.specs.declared.held.Note.{Note}
 use Rattle.turn_desk.specs.declared.view.Stage.{Stage}
 use Rattle.turn_desk.specs.declared.view.Stage.TheVariants.{Spent, Idle, Waits, InTurn}
 use Rattle.turn_desk.specs.declared.view.View.{View}
-use Rattle.turn_desk.specs.Notes.{size_of, IsSound}
-use Rattle.turn_desk.specs.Rule.{IsPresent, IsAside, if_present, tickets_of, HasTicket, IsInLine, size_in, tickets_in, Stands}
+use Rattle.turn_desk.specs.Notes.{size_of}
+use Rattle.turn_desk.specs.Rule.{IsPresent, IsAside, if_present, tickets_of, HasTicket, IsInLine, Stands}
 
 module _ {V : Type 0} where
   pub later : (serving drawn : ℕ) (value : V) (st : Stage V) → IsInLine serving drawn value st → IsInLine serving (drawn + 1) value st

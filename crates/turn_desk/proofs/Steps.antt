@@ -1,5 +1,5 @@
 -- The steps on the two words keep the rule: drawing a ticket, loading serving with the slot taken, and ending the turn with the slot put back.
-use Rattle.std.proofs.Common.{◌≡◌, ◌≢◌, ℕ, ◌+◌, ◌%◌, ◌<◌, ◌≤◌, ◌⊎◌, List, [], ◌∷◌, set, get_or, sum_by, sym, refl, ap, ◌∙◌, subst, inl, inr, ⊎_elim, arith}
+use Rattle.std.proofs.Common.{◌≡◌, ℕ, ◌+◌, ◌%◌, ◌<◌, ◌≤◌, List, [], ◌∷◌, set, get_or, sym, refl, ap, ◌∙◌, subst, inl, inr, ⊎_elim, arith}
 use Rattle.std.specs.Prelude.{Option, Some}
 use Rattle.std.proofs.Math.Nat.{mod-add-mod}
 use mathlib.Core.Option.{some, none, Option as Maybe}
@@ -7,18 +7,18 @@ use mathlib.Core.Logic.{dite}
 use native.Mathlib.Decide.{ℕ_discrete}
 use lib.ListN.{get_elem?}
 use lib.Seq.{set-get_or}
-use Rattle.atomic_table.specs.Table.{State, Me, Act, keeps, takes, gives, step, stepped, put_back, rest, Allows}
+use Rattle.atomic_table.specs.Table.{State, Me, keeps, takes, gives, step, stepped, put_back, rest, Allows}
 use Rattle.atomic_table.proofs.Lists.{set_here, set_else, set_again, one_turn}
 use Rattle.turn_desk.specs.declared.held.Note.{Note}
 use Rattle.turn_desk.specs.declared.view.Stage.{Stage}
-use Rattle.turn_desk.specs.declared.view.Stage.TheVariants.{Spent, Idle, Waits, InTurn}
+use Rattle.turn_desk.specs.declared.view.Stage.TheVariants.{Idle, Waits, InTurn}
 use Rattle.turn_desk.specs.declared.view.View.{View}
 use Rattle.turn_desk.specs.declared.view.Slot.{Slot}
 use Rattle.turn_desk.specs.Notes.{size_of, IsSound, IsApart, HasSameNumbers}
-use Rattle.turn_desk.specs.Rule.{IsPresent, IsAside, if_present, tickets_of, HasTicket, IsInLine, size_in, tickets_in, IsHome, Stands, Turns, view_at, at_stage}
+use Rattle.turn_desk.specs.Rule.{IsPresent, IsAside, tickets_of, HasTicket, IsInLine, size_in, tickets_in, IsHome, Stands, Turns, view_at, at_stage}
 use Rattle.turn_desk.specs.Plays.{Draws, IsServed, Serves, Ends}
 use Rattle.turn_desk.proofs.Numbers.{apart_back, sound_same, apart_same, size_same}
-use Rattle.turn_desk.proofs.Stages.{later, next_turn, ticket_drawn, turn_ticket, no_ticket_aside, busy_present, present_size, tickets_at_most, size_positive}
+use Rattle.turn_desk.proofs.Stages.{later, next_turn, ticket_drawn, turn_ticket, no_ticket_aside, present_size, tickets_at_most, size_positive}
 use Rattle.turn_desk.proofs.Views.{inside, same_at, each_set, pairs_set, sum_set, sum_below}
 
 -- the next count, as the word has it

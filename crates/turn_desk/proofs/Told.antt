@@ -1,18 +1,18 @@
 -- What the desk's calls make of what the steps told.
-use Rattle.std.proofs.Common.{◌≡◌, ℕ, ◌+◌, ◌%◌, false, List, [], ◌∷◌, ◌++◌, map, sym, refl, ap, ◌∙◌, subst}
-use Rattle.std.specs.Prelude.{Option, Some, None, IsSome}
+use Rattle.std.proofs.Common.{◌≡◌, ℕ, ◌+◌, ◌%◌, false, List, [], ◌∷◌, ◌++◌, map, sym, ap, ◌∙◌, subst}
+use Rattle.std.specs.Prelude.{Some}
 use Rattle.std.specs.Option.{is_some}
 use mathlib.Core.Option.{some, none, some-injective}
 use lib.ListN.{get_elem?}
-use Rattle.atomic_table.specs.Table.{Me, Step, rest, step, opening, Final, Seen, Allows}
+use Rattle.atomic_table.specs.Table.{Step, rest, step, opening, Final, Seen, Allows}
 use Rattle.turn_desk.specs.declared.held.Note.{Note}
-use Rattle.turn_desk.specs.declared.view.Stage.TheVariants.{Idle, Waits, InTurn}
+use Rattle.turn_desk.specs.declared.view.Stage.TheVariants.{Idle}
 use Rattle.turn_desk.specs.declared.view.View.{View}
 use Rattle.turn_desk.specs.declared.view.Slot.{Slot}
 use Rattle.turn_desk.specs.Notes.{size_of, IsSound, IsApart, HasSameNumbers, opening_note}
-use Rattle.turn_desk.specs.Rule.{Turns, view_at, at_stage}
+use Rattle.turn_desk.specs.Rule.{Turns, view_at}
 use Rattle.turn_desk.specs.Standing.{HasTaken}
-use Rattle.turn_desk.specs.Plays.{Knows, Draws, IsServed, Serves, Ends, HasDrawn, IsInTurn}
+use Rattle.turn_desk.specs.Plays.{Knows, Serves, Ends, HasDrawn, IsInTurn}
 use Rattle.turn_desk.proofs.Ending.{opens, closes}
 use Rattle.turn_desk.proofs.Stages.{taken_is, one_out}
 use Rattle.turn_desk.proofs.Steps.{ends}
@@ -27,18 +27,9 @@ module _ {V A C : Type 0} (fits : V → C → Note A → Type 0) where
   found_turn m m' m'' ticket found drawn same serves hit = let told = subst (λ (z : Knows V A C). Serves fits any_step z found m'') same serves in
       (drawn.0, (told drawn.0 drawn.2).0 (hit ∙ drawn.1))
 
-  -- the load found another ticket
-  pub found_other : (m m' m'' : Knows V A C) (ticket found : ℕ) → HasDrawn ticket m → m' ≡ m → Serves fits any_step m' found m'' → ¬ (found ≡ ticket) → m'' ≡ m
-  found_other m m' m'' ticket found drawn same serves miss = let told = subst (λ (z : Knows V A C). Serves fits any_step z found m'') same serves in
-      (told drawn.0 drawn.2).1 (λ e. miss (e ∙ sym drawn.1))
-
   module _ (m m' : Knows V A C) (turn : IsInTurn fits m m') where
     pub has_slot : (old : Slot V A) × (m'.1 ≡ (0, old) ∷ rest m'.1)
     has_slot = let e = ap (λ (z : Knows V A C). z.1) turn.1.2 in (turn.1.1, e ∙ ap (λ (cs : List (ℕ × Slot V A)). (0, turn.1.1) ∷ rest cs) (sym e))
-
-  pub still_drawn : (m m' : Knows V A C) (found : ℕ) → m.1 ≡ [] → Draws any_step m found m' → HasDrawn found m'
-  still_drawn m m' found empty draws =
-      (draws.0, draws.1, ap (λ (z : Knows V A C). z.0.stage) draws.2, ap (λ (z : Knows V A C). z.1) draws.2 ∙ empty)
 
 module _ {V A C : Type 0} (fits : V → C → Note A → Type 0) (constant : C) where
   -- the list that has the one slot

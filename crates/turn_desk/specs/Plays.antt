@@ -1,5 +1,5 @@
 -- What each kind of step tells its pass.
-use Rattle.std.specs.Prelude.{◌≡◌, ◌≢◌, ℕ, ◌%◌, List, [], ◌∷◌, Some}
+use Rattle.std.specs.Prelude.{◌≡◌, ◌≢◌, ℕ, ◌%◌, [], ◌∷◌, Some}
 use Rattle.atomic_table.specs.Table.{Me, Step}
 use Rattle.turn_desk.specs.declared.held.Note.{Note}
 use Rattle.turn_desk.specs.declared.view.Stage.TheVariants.{Idle, Waits, InTurn}

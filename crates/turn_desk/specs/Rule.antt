@@ -1,15 +1,15 @@
 -- The rule of a desk: what is true of its two words, its slot and its views between any two steps.
 -- Word 0 counts the tickets that were drawn, word 1 the turns that ended. The slot has the value, or is out with the pass in turn.
-use Rattle.std.specs.Prelude.{◌≡◌, ℕ, ◌+◌, ◌-◌, ◌%◌, ◌^◌, ◌<◌, ◌≤◌, ◌⊎◌, List, [], ◌∷◌, sum_by, Option, Some, None}
+use Rattle.std.specs.Prelude.{◌≡◌, ℕ, ◌+◌, ◌%◌, ◌<◌, ◌≤◌, ◌⊎◌, List, [], ◌∷◌, sum_by, Option, Some}
 use mathlib.Core.Option.{some, none, Option as Maybe}
 use lib.ListN.{get_elem?}
-use Rattle.atomic_table.specs.Table.{State, Me, Step}
+use Rattle.atomic_table.specs.Table.{State}
 use Rattle.turn_desk.specs.declared.held.Note.{Note}
 use Rattle.turn_desk.specs.declared.view.Stage.{Stage}
 use Rattle.turn_desk.specs.declared.view.Stage.TheVariants.{Spent, Idle, Waits, InTurn}
 use Rattle.turn_desk.specs.declared.view.View.{View}
 use Rattle.turn_desk.specs.declared.view.Slot.{Slot}
-use Rattle.turn_desk.specs.Notes.{size_of, IsSound, IsApart, opening_note, kept_part, given_part, joined_note}
+use Rattle.turn_desk.specs.Notes.{size_of, IsSound, IsApart}
 
 module _ {V : Type 0} where
   abbrev pub IsPresent : Stage V → Type 0
@@ -68,8 +68,9 @@ module _ {V A C : Type 0} where
     pub fitting : fits value constant v.note
 
   pub record Turns (fits : V → C → Note A → Type 0) (constant : C) (s : State (Slot V A) (View V A C)) : Type 0 where
-    -- So many tickets were drawn, and so many turns ended.
+    -- So many tickets were drawn.
     pub drawn : ℕ
+    -- So many turns ended, so this is the ticket that is served.
     pub serving : ℕ
     -- The value that is in the slot, or that the pass in turn took.
     pub value : V

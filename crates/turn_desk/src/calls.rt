@@ -119,9 +119,8 @@ impl<V: Held> Desk<V> {
         ensures kept { note_of pass.new ≡ kept_part (V.kept (note_of pass.old)) (note_of pass.old) }
         ensures given { note_of result ≡ given_part (V.given (note_of pass.old)) (note_of pass.old) }
     {
-        Pass {
-            seat: self.table.shared.split_seat::<Cut<V>>(&mut pass.seat),
-        }
+        let split = self.table.shared.split_seat::<Cut<V>>(&mut pass.seat);
+        Pass { seat: split }
     }
 
     /// Joins another pass into this one.
@@ -131,9 +130,8 @@ impl<V: Held> Desk<V> {
         ensures note { note_of pass.new ≡ joined_note (V.joined (note_of pass.old) (note_of other)) (note_of pass.old) (note_of other) }
     {
         let Pass { seat: joined } = other;
-        self.table
-            .shared
-            .join_seat::<Merge<V>>(&mut pass.seat, joined);
+        let shared = &self.table.shared;
+        shared.join_seat::<Merge<V>>(&mut pass.seat, joined);
     }
 
     /// Ends the desk, by the pass into which all others were joined, and gives the value back.

@@ -1,4 +1,4 @@
-use Rattle.std.proofs.Common.{sym, refl, ap, ◌∙◌, ◌≡◌, subst}
+use Rattle.std.proofs.Common.{sym, refl, ◌∙◌, ◌≡◌, subst}
 use Rattle.std.specs.Prelude.{Some, IsSome}
 use Rattle.turn_desk.proofs.Told.{ends_with}
 use Rattle.turn_desk.proofs.Stages.{idle_is}

@@ -3,8 +3,8 @@ use Rattle.turn_desk.proofs.Parting.{splits}
 use Rattle.turn_desk.proofs.Stages.{idle_is}
 use Rattle.turn_desk.proofs.desk.Desk.split_pass.Goals as goal
 
-pub split_seat-requires : goal.split_seat-requires
-split_seat-requires g c =
+pub split_seat-split-requires : goal.split_seat-split-requires
+split_seat-split-requires g c =
     let H = g.V.Held in let pass = c.args.pass.now in let constant = c.args.self.now.table.shared.key.value in let note = pass.seat.me.0.note in
     let counts = c.args.self.now.counts in (
       c.requires.desk.0,

@@ -1,11 +1,10 @@
 -- `of` makes a value of no bytes, whose ghost field is what its caller picks.
 use mathlib.Core.Path.{refl}
-use mathlib.Core.List.{List, [], ◌∷◌, ◌++◌}
+use mathlib.Core.List.{[], ◌∷◌}
 use mir.Syntax.{Fn, a_type}
 use mir.MapTy.{inst_fn}
 use mir.Val.{vstruct, vcons, vnil}
 use base.Fml.{Fml, ftrue}
-use prog.Wp.{WpFn}
 use contract.Running.{tables}
 use types.Kit.{‵, raw, ◌⊛◌, ◌$◌, ◌∵◌, !, qed, move, keep, split, join, use0, suffices, done}
 use types.Run.{no_more, and_then, returns, enter}
