@@ -12,12 +12,14 @@ use Rattle.turn_desk.specs.declared.view.Slot.{Slot}
 use Rattle.turn_desk.specs.Notes.{size_of, IsSound, IsApart}
 
 module _ {V : Type 0} where
+  -- its note is not in another pass
   abbrev pub IsPresent : Stage V → Type 0
   IsPresent Spent = ⊥
   IsPresent Idle = Unit {0}
   IsPresent (Waits t) = Unit {0}
   IsPresent (InTurn t x) = Unit {0}
 
+  -- it is not in turn
   abbrev pub IsAside : Stage V → Type 0
   IsAside Spent = Unit {0}
   IsAside Idle = Unit {0}
@@ -31,12 +33,14 @@ module _ {V : Type 0} where
   if_present n (Waits t) = n
   if_present n (InTurn t x) = n
 
+  -- how many tickets are out with it
   abbrev pub tickets_of : Stage V → ℕ
   tickets_of Spent = 0
   tickets_of Idle = 0
   tickets_of (Waits t) = 1
   tickets_of (InTurn t x) = 1
 
+  -- the ticket u is out with it
   abbrev pub HasTicket : ℕ → Stage V → Type 0
   HasTicket u Spent = ⊥
   HasTicket u Idle = ⊥
@@ -55,6 +59,7 @@ abbrev pub IsHome : {V A : Type 0} → V → List (Maybe (Slot V A)) → Type 0
 IsHome {V} {A} value homes = (x : Slot V A) × (homes ≡ some x ∷ []) × (x.value ≡ Some value)
 
 module _ {V A C : Type 0} where
+  -- the numbers of a view, of which a spent one has none
   abbrev pub size_in : View V A C → ℕ
   size_in v = if_present (size_of v.note) v.stage
 
@@ -92,6 +97,7 @@ module _ {V A C : Type 0} where
     pub slot : (IsHome value s.homes × ((j : ℕ) (v : View V A C) → get_elem? s.views j ≡ some v → IsAside v.stage))
         ⊎ ((s.homes ≡ none ∷ []) × (j : ℕ) × (v : View V A C) × (get_elem? s.views j ≡ some v) × (IsAside v.stage → ⊥))
 
+  -- the view of these parts, and a view at another stage
   abbrev pub view_at : Note A → Option C → Stage V → View V A C
   view_at note constant stage = record { note = note; constant = constant; stage = stage }
 

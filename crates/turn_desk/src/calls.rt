@@ -100,10 +100,13 @@ impl<V: Held> Desk<V> {
         ensures note { note_of result ≡ M.new_note by.now (lent_value turn) (turn_note turn) (present_value turn) }
     {
         let note = noted(&turn, by);
-        let Turn { value, hold } = turn;
+        let Turn {
+            value: present,
+            hold,
+        } = turn;
         let Hold { lent: _, mut seat } = hold;
         let back = Slot {
-            value: Some(value),
+            value: Some(present),
             note,
         };
         self.table.shared.exchange(&mut seat, 0, back).end_vacant();
