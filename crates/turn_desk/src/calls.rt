@@ -49,6 +49,7 @@ impl<V: Held> Desk<V> {
     }
 
     /// Waits for the pass's turn, which lends the value.
+    #[inline(always)]
     pub fn take<R: Wait>(&self, rt: &R, pass: Pass<V>) -> Turn<V>
         requires { IsPassOf self.now pass }
         ensures desk { IsTurnOf self.now result }
@@ -72,6 +73,7 @@ impl<V: Held> Desk<V> {
     }
 
     // Waits until the ticket is served.
+    #[inline(always)]
     fn wait<R: Wait>(&self, rt: &R, seat: &mut Place<V>, ticket: u64)
         requires desk { seat.old.table_id ≡ self.now.table.shared.table_id }
         requires drawn { HasDrawn ticket seat.old.me }
@@ -93,6 +95,7 @@ impl<V: Held> Desk<V> {
     }
 
     /// Gives the turn back. The pass then has the note that the change names.
+    #[inline(always)]
     pub fn give<M: Change<V>>(&self, turn: Turn<V>, by: &M) -> Pass<V>
         requires desk { IsTurnOf self.now turn }
         requires moves { V.moves (constant_of self.now) (lent_value turn) (turn_note turn) (present_value turn) (M.new_note by.now (lent_value turn) (turn_note turn) (present_value turn)) }
