@@ -1,4 +1,4 @@
-//! What a call does to the value in its turn.
+//! What a call does to the value in its turn. The language has a trait `Move`, so this one has another name.
 use crate::held::{Held, Note};
 
 /// A kind of change, which a call picks as it gives its turn back. The value of this type has what the change depends on.

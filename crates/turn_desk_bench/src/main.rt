@@ -5,6 +5,7 @@
 mod count;
 
 use count::count_together;
+use std::alloc::AllocError;
 use std::time::Instant;
 use std::{env, io};
 
@@ -15,13 +16,14 @@ fn main(rt: HostRuntime) -> io::Result<()> {
     let turns = number(words.next(), 250);
     let timed = words.next().is_some();
     let start = Instant::now(&rt)?;
-    match count_together(&rt, rt.alloc(), threads, turns) {
-        Ok(counted) => println!(rt; "{counted} counted by {threads} threads")?,
-        Err(_) => println!(rt; "no memory")?,
-    }
+    let Ok(counted) = count_together(&rt, rt.alloc(), threads, turns) else {
+        return Err(AllocError.into());
+    };
+    let spent = start.elapsed(&rt)?;
+    println!(rt; "{counted} counted by {threads} threads")?;
     if timed {
         let all = (u128::from(threads) * u128::from(turns)).max(1);
-        let each = start.elapsed(&rt)?.as_nanos() / all;
+        let each = spent.as_nanos() / all;
         println!(rt; "{each} ns a turn")?;
     }
     Ok(())
