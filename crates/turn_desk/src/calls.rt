@@ -27,13 +27,15 @@ const SERVING: usize = 1;
 const SPINS: u8 = 63;
 
 impl<V: Held> Desk<V> {
-    /// A desk with this value, and its first pass.
+    /// A desk with this value, and its first pass. The proof of the call picks the constant.
+    /// Where there is no memory, the value is dropped.
     pub fn new(alloc: Global, value: V) -> Result<(Desk<V>, Pass<V>), NoMemory>
     where
         V: Drop,
         ghost constant: { V.Constant }
         requires { V.fits value constant (opening_note V.opening) }
-        ensures desk { IfOk result (λ r. IsPassOf r.0 r.1 × (constant_of r.0 ≡ constant)) }
+        ensures desk { IfOk result (λ r. IsPassOf r.0 r.1) }
+        ensures constant { IfOk result (λ r. constant_of r.0 ≡ constant) }
         ensures note { IfOk result (λ r. note_of r.1 ≡ opening_note V.opening) }
     {
         let mut slots = Vec::new(alloc);
@@ -53,7 +55,8 @@ impl<V: Held> Desk<V> {
     pub fn take<R: Wait>(&self, rt: &R, pass: Pass<V>) -> Turn<V>
         requires { IsPassOf self.now pass }
         ensures desk { IsTurnOf self.now result }
-        ensures note { (turn_note result ≡ note_of pass) × IsSound (note_of pass) }
+        ensures note { turn_note result ≡ note_of pass }
+        ensures sound { IsSound (note_of pass) }
         ensures fits { V.fits (lent_value result) (constant_of self.now) (note_of pass) }
         ensures value { present_value result ≡ lent_value result }
     {
@@ -155,7 +158,7 @@ impl<V: Held> Desk<V> {
     }
 }
 
-// The note that the change names.
+// The note that the change names. It has no bytes: the proof of the call says which it is.
 fn noted<V: Held, M: Change<V>>(_turn: &Turn<V>, _by: &M) -> Unseen<Note<V::About>>
     ghost note: { Note V.About }
     ensures { result.value ≡ note }
