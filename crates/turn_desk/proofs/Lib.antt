@@ -1,0 +1,7 @@
+pub mod Numbers
+pub mod Views
+pub mod Stages
+pub mod Steps
+pub mod Parting
+pub mod Ending
+pub mod Told
