@@ -3,3 +3,4 @@ pub mod Varints
 pub mod Induction
 pub mod Spellings
 pub mod SignedBits
+pub mod OneSpelling
