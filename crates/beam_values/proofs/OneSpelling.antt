@@ -1,12 +1,20 @@
 -- Each value and each element has exactly one spelling, which the functions compute.
-use Rattle.std.proofs.Common.{◌≡◌, ℕ, zero, suc, ◌+◌, ◌*◌, ◌/◌, ◌%◌, ◌<◌, List, [], ◌∷◌, length, refl, sym, subst, ◌∙◌, arith, inl, inr}
+use Rattle.std.proofs.Common.{◌≡◌, ℕ, zero, suc, ◌+◌, ◌*◌, ◌/◌, ◌%◌, ◌^◌, ◌<◌, ℤ, pos, negsuc, ◌+ℤ◌, FitsSigned, w64, List, [], ◌∷◌, length, get_or, All, refl, sym, ap, subst, ◌∙◌, arith, inl, inr}
 use Rattle.std.specs.Prelude.{◌↔◌}
 use Rattle.std.specs.List.{flat_map, AllByRecursion}
+use Rattle.std.specs.Int.{to_be_bytes, from_be_bytes}
 use Rattle.std.proofs.lemmas.Bool.{cases_lt}
+use Rattle.std.proofs.lemmas.Int.{ints}
+use Rattle.std.proofs.lemmas.List.{get_or_past}
 use Rattle.std.proofs.lemmas.List.Concat.{flat_map-cons}
+use Rattle.std.proofs.lemmas.List.Elements.{All-from_recursion}
+use Rattle.std.proofs.lemmas.Nat.{be_bytes_8, from_be_bytes-to_be_bytes_8}
 use Rattle.beam_values.specs.declared.value.Value.{Value}
-use Rattle.beam_values.specs.Spelled.{IsVarint, last, more, Spells, null, int, blob, pair, seq, SpellsAll, none, next}
-use Rattle.beam_values.specs.Spelling.{varint, two's_complement, spelling}
+use Rattle.beam_values.specs.declared.element.PaneTag.{PaneTag}
+use Rattle.beam_values.specs.declared.element.Element.{Element}
+use Rattle.beam_values.specs.Timings.{timing_number}
+use Rattle.beam_values.specs.Spelled.{IsVarint, last, more, Spells, null, int, blob, pair, seq, SpellsAll, none, next, SpellsMs, SpellsPane, pane, SpellsElement, element}
+use Rattle.beam_values.specs.Spelling.{varint, two's_complement, spelling, sign_flipped, ms_spelling, pane_spelling, element_spelling}
 use Rattle.beam_values.proofs.Induction.{value_ind, spelling-Null, spelling-Int, spelling-Blob, spelling-Pair, spelling-Seq}
 use Rattle.beam_values.proofs.Varints.{varint-last, varint-more}
 
@@ -62,3 +70,53 @@ is_spelled =
 
 pub one_spelling : (v : Value) (bytes : List ℕ) → Spells v bytes ↔ (bytes ≡ spelling v)
 one_spelling v bytes = (spelling_only, λ e. subst (Spells v) (sym e) (is_spelled v))
+
+-- ---- elements
+
+flipped : (ms : ℤ) → FitsSigned w64 ms → ms +ℤ pos (2 ^ 63) ≡ pos (sign_flipped ms)
+flipped (pos n) f = ap pos (omega arith)
+flipped (negsuc n) f = omega (arith, ints, f.sfits)
+
+flipped_fits : (ms : ℤ) → FitsSigned w64 ms → sign_flipped ms < 2 ^ 64
+flipped_fits (pos n) f = omega (arith, f.sfits)
+flipped_fits (negsuc n) f = omega (arith, f.sfits)
+
+pos-same : (m n : ℕ) → pos m ≡ pos n → m ≡ n
+pos-same m n e = cc
+
+bytes_at : (bytes : List ℕ) → All (λ byte. byte < 256) bytes → (i : ℕ) → get_or bytes i 0 < 256
+bytes_at bytes each i =
+    elim (cases_lt i (length bytes)) [
+      | inl lt ↦ each i 0 lt
+      | inr le ↦ rw (get_or_past bytes i 0 le) (omega arith)
+    ]
+
+ms_only : (ms : ℤ) (bytes : List ℕ) → FitsSigned w64 ms → SpellsMs ms bytes → bytes ≡ ms_spelling ms
+unfolding ms_spelling
+ms_only ms bytes f s =
+    let number = pos-same (from_be_bytes w64 bytes) (sign_flipped ms) (s.number ∙ flipped ms f) in
+    sym (be_bytes_8 bytes (sign_flipped ms) s.eight (bytes_at bytes s.each) (sym number))
+
+eight_bytes : (n : ℕ) → All (λ byte. byte < 256) (to_be_bytes w64 n)
+eight_bytes n = All-from_recursion (λ byte. byte < 256) (to_be_bytes w64 n) (omega arith, (omega arith, (omega arith, (omega arith, (omega arith, (omega arith, (omega arith, (omega arith, tt))))))))
+
+pub is_ms : (ms : ℤ) → FitsSigned w64 ms → SpellsMs ms (ms_spelling ms)
+unfolding ms_spelling
+is_ms ms f = record {
+  eight = refl;
+  each = eight_bytes (sign_flipped ms);
+  number = ap pos (from_be_bytes-to_be_bytes_8 (sign_flipped ms) (flipped_fits ms f)) ∙ sym (flipped ms f);
+}
+
+pane_only : {p : PaneTag} {bytes : List ℕ} → SpellsPane p bytes → bytes ≡ pane_spelling p
+pane_only (pane p index) = ap (λ (i : List ℕ). timing_number p.timing ∷ i) (varint_only index)
+
+element_only : {e : Element} {bytes : List ℕ} → FitsSigned w64 e.time → FitsSigned w64 e.span.start → FitsSigned w64 e.span.end → SpellsElement e bytes → bytes ≡ element_spelling e
+element_only f g h (element e {time = time} {start = start} {end = end} at from to tag value) =
+    rw (ms_only e.time time f at, ms_only e.span.start start g from, ms_only e.span.end end h to, pane_only tag, spelling_only value) refl
+
+pub one_element_spelling : (e : Element) (bytes : List ℕ) → FitsSigned w64 e.time → FitsSigned w64 e.span.start → FitsSigned w64 e.span.end
+    → SpellsElement e bytes ↔ (bytes ≡ element_spelling e)
+one_element_spelling e bytes f g h =
+    let whole : SpellsElement e (element_spelling e) = element e (is_ms e.time f) (is_ms e.span.start g) (is_ms e.span.end h) (pane e.pane (is_varint e.pane.index)) (is_spelled e.value) in
+    (element_only f g h, λ same. subst (SpellsElement e) (sym same) whole)

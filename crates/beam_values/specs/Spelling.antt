@@ -57,7 +57,7 @@ sign_flipped (pos n) = 2 ^ 63 + n
 sign_flipped (negsuc n) = 2 ^ 63 - 1 - n
 
 -- a number of milliseconds in eight bytes, whose order is that of the numbers
-abbrev pub ms_spelling : ℤ → List ℕ
+unfoldable pub ms_spelling : ℤ → List ℕ
 ms_spelling ms = to_be_bytes w64 (sign_flipped ms)
 
 -- the timing's number and the index

@@ -1,13 +1,23 @@
 ghost use Rattle.std.specs.Prelude.{◌≡◌, ◌↔◌, ◌++◌, List, ℕ};
-ghost use Rattle.beam_values.specs.Spelled.{Spells};
-ghost use Rattle.beam_values.specs.Spelling.{spelling};
+ghost use Rattle.beam_values.specs.Spelled.{Spells, SpellsElement};
+ghost use Rattle.beam_values.specs.Spelling.{spelling, element_spelling};
 
-use crate::Value;
+use crate::{Element, Value};
 
 /// A value has exactly one spelling.
 pub fn value_has_one_spelling(value: &Value)
     ensures { (bytes : List ℕ) → Spells value.now bytes ↔ (bytes ≡ spelling value.now) }
 {}
+
+/// An element has exactly one spelling.
+pub fn element_has_one_spelling(element: &Element)
+    ensures { (bytes : List ℕ) → SpellsElement element.now bytes ↔ (bytes ≡ element_spelling element.now) }
+{
+    // What is read of the numbers is that they have 64 bits.
+    let _time = element.time.ms();
+    let _start = element.span.start();
+    let _end = element.span.end();
+}
 
 /// No spelling begins that of another value: where two begin the same bytes, they are the same, and
 /// so is what follows them.
