@@ -4,3 +4,4 @@ pub mod Induction
 pub mod Spellings
 pub mod SignedBits
 pub mod OneSpelling
+pub mod Words

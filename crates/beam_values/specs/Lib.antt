@@ -4,3 +4,4 @@ pub mod Intervals
 pub mod Spelling
 pub mod Elements
 pub mod Spelled
+pub mod Words

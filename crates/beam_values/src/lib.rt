@@ -22,7 +22,10 @@ pub use beam_containers::{Boxed, Bytes, Duplicate, List, NoMemory, RoomyList};
 pub use bits::unsigned_bits;
 pub use compare::{cmp_blobs, cmp_values};
 pub use element::{Element, PaneTag, Timing};
-pub use laws::{element_has_one_spelling, no_spelling_begins_another, value_has_one_spelling};
+pub use laws::{
+    element_has_one_spelling, no_spelling_begins_another, value_has_one_spelling,
+    values_spelled_alike_are_the_same,
+};
 pub use range::Range;
 pub use span::Span;
 pub use time::{Mark, Time};
