@@ -8,6 +8,7 @@
 #![tactic(auto)]
 
 mod bits;
+mod reading;
 mod refusal;
 mod varint;
 mod writing;
