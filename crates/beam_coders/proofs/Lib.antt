@@ -3,3 +3,8 @@ pub mod VarintReading
 pub mod Written
 pub mod ItemsReading
 pub mod ValueReading
+pub mod Parts
+pub mod VarintLaws
+pub mod NestingLaws
+pub mod ValueLaws
+pub mod Fronts

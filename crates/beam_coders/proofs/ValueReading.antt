@@ -17,7 +17,7 @@ pub read_none : (depth : ℕ) (bytes : List ℕ) → depth ≢ 0 → bytes ≡ [
 unfolding value_at
 read_none depth bytes h e = rw (above_zero depth h, e) refl
 
-value_at-tag : (depth tag : ℕ) (bytes rest : List ℕ) → depth ≢ 0 → bytes ≡ tag ∷ rest → value_at depth bytes ≡ tagged_at (value_at (depth - 1)) tag rest
+pub value_at-tag : (depth tag : ℕ) (bytes rest : List ℕ) → depth ≢ 0 → bytes ≡ tag ∷ rest → value_at depth bytes ≡ tagged_at (value_at (depth - 1)) tag rest
 unfolding value_at
 value_at-tag depth tag bytes rest h e = ap (value_at depth) e ∙ ap (λ (d : ℕ). value_at d (tag ∷ rest)) (above_zero depth h)
 

@@ -23,7 +23,7 @@ pub read_long : (bits byte : ℕ) (bytes rest : List ℕ) → bytes ≡ byte ∷
 unfolding varint_at
 read_long bits byte bytes rest e high few = ap (varint_at bits) e ∙ rw (le-ltb byte 128 high, le-ltb 7 bits few) refl
 
-read_on : (bits byte : ℕ) (bytes rest : List ℕ) → bytes ≡ byte ∷ rest → 128 ≤ byte → 7 < bits
+pub read_on : (bits byte : ℕ) (bytes rest : List ℕ) → bytes ≡ byte ∷ rest → 128 ≤ byte → 7 < bits
     → varint_at bits bytes ≡ (varint_at (bits - 7) rest >>= λ above. cond (nat_eq above.0 0) (Err Overlong) (Ok (byte % 128 + 128 * above.0, above.1)))
 unfolding varint_at
 read_on bits byte bytes rest e high many = ap (varint_at bits) e ∙ rw (le-ltb byte 128 high, lt-ltb 7 bits many) refl

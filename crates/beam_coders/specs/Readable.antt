@@ -32,10 +32,15 @@ pub record IsReadable (v : Value) : Type 0 where
   pub within : nesting v ≤ depth_limit
   pub words : FitsWords v
 
-pub record IsReadableElement (e : Element) : Type 0 where
+-- an element with numbers that its places can hold
+pub record FitsPlaces (e : Element) : Type 0 where
   pub time : IsTime e.time
   pub start : FitsSigned w64 e.span.start
   pub end : FitsSigned w64 e.span.end
   pub ordered : e.span.start <ℤ e.span.end
   pub index : e.pane.index < 2 ^ 32
-  pub value : IsReadable e.value
+  pub words : FitsWords e.value
+
+pub record IsReadableElement (e : Element) : Type 0 where
+  pub within : nesting e.value ≤ depth_limit
+  pub places : FitsPlaces e

@@ -8,10 +8,13 @@
 #![tactic(auto)]
 
 mod bits;
+mod elements;
 mod reading;
 mod refusal;
 mod varint;
 mod writing;
 
+pub use elements::write_element;
+pub use reading::read_value;
 pub use refusal::{CoderRefusal, ReadRefusal};
 pub use writing::write_value;
