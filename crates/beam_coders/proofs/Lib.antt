@@ -8,3 +8,5 @@ pub mod VarintLaws
 pub mod NestingLaws
 pub mod ValueLaws
 pub mod Fronts
+pub mod PlaceLaws
+pub mod ElementLaws

@@ -137,3 +137,18 @@ fn element_of(alloc: Global, bytes: &[u8]) -> Result<(Element, &[u8]), ReadRefus
     };
     Ok((element, rest))
 }
+
+/// The element whose spelling stands at the front of the bytes, and the length of that spelling.
+pub fn read_element(alloc: Global, bytes: &[u8]) -> Result<(Element, usize), ReadRefusal>
+    // What is read is spelled so.
+    ensures found { IfOk result (λ x. IsReadableElement x.0 × (x.1 ≤ length bytes.now) × (element_spelling x.0 ≡ take x.1 bytes.now)) }
+    // What is spelled so is read, whatever follows it, unless there is no memory.
+    ensures only { (e : Element) (rest : ListOf ℕ) → IsReadableElement e → bytes.now ≡ element_spelling e ++ rest → GivesFront bytes.now result (Ok (e, rest)) }
+    // So `Bad` comes only where no spelling stands at the front.
+    ensures bad { IsBad result → (e : Element) (rest : ListOf ℕ) → IsReadableElement e → bytes.now ≢ element_spelling e ++ rest }
+    // Which refusal it is: the first rule that fails from the left.
+    ensures exact { GivesFront bytes.now result (element_at bytes.now) }
+{
+    let (element, rest) = element_of(alloc, bytes)?;
+    Ok((element, bytes.len() - rest.len()))
+}

@@ -14,7 +14,7 @@ mod refusal;
 mod varint;
 mod writing;
 
-pub use elements::write_element;
+pub use elements::{read_element, write_element};
 pub use reading::read_value;
 pub use refusal::{CoderRefusal, ReadRefusal};
 pub use writing::write_value;

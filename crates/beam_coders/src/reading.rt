@@ -37,9 +37,8 @@ pub fn read_value(alloc: Global, bytes: &[u8]) -> Result<(Value, usize), ReadRef
     // Which refusal it is: the first rule that fails from the left.
     ensures exact { GivesFront bytes.now result (value_at depth_limit bytes.now) }
 {
-    let len = bytes.len();
     let (value, rest) = value_of(alloc, DEPTH_LIMIT, bytes)?;
-    Ok((value, len - rest.len()))
+    Ok((value, bytes.len() - rest.len()))
 }
 
 /// The value at the front, of a nesting of at most `depth`, and the bytes after it.
