@@ -9,12 +9,17 @@
 
 mod bits;
 mod elements;
+mod laws;
 mod reading;
 mod refusal;
 mod varint;
 mod writing;
 
 pub use elements::{read_element, write_element};
+pub use laws::{write_and_compare, write_and_read};
 pub use reading::read_value;
 pub use refusal::{CoderRefusal, ReadRefusal};
 pub use writing::write_value;
+
+#[cfg(test)]
+mod tests;
