@@ -14,5 +14,6 @@ three_parts old a b c front back byte p q r =
 pub pair_written : (old a b c : List ℕ) (key value : Value) → a ≡ old ++ 3 ∷ [] → b ≡ a ++ spelling key → c ≡ b ++ spelling value → c ≡ old ++ spelling (Pair key value)
 pair_written old a b c key value p q r = three_parts old a b c (spelling key) (spelling value) 3 p q r ∙ ap (λ (text : List ℕ). old ++ text) (sym (spelling-Pair key value))
 
-pub seq_written : (old a b c : List ℕ) (items : List Value) → a ≡ old ++ 4 ∷ [] → b ≡ a ++ varint (length items) → c ≡ b ++ flat_map spelling items → c ≡ old ++ spelling (Seq items)
-seq_written old a b c items p q r = three_parts old a b c (varint (length items)) (flat_map spelling items) 4 p q r ∙ ap (λ (text : List ℕ). old ++ text) (sym (spelling-Seq items))
+pub seq_written : (old a b : List ℕ) (items : List Value) → a ≡ old ++ 4 ∷ varint (length items) → b ≡ a ++ flat_map spelling items → b ≡ old ++ spelling (Seq items)
+seq_written old a b items p q =
+    q ∙ ap (λ (text : List ℕ). text ++ flat_map spelling items) p ∙ append_assoc old (4 ∷ varint (length items)) (flat_map spelling items) ∙ ap (λ (text : List ℕ). old ++ text) (sym (spelling-Seq items))

@@ -48,8 +48,8 @@ pub fn varint_of(bits: u32, bytes: &[u8]) -> Result<(u64, &[u8]), CoderRefusal>
         return Err(CoderRefusal::Overlong);
     }
     let (above, rest) = varint_of(bits - 7, rest)?;
-    if above == 0 {
-        return Err(CoderRefusal::Overlong);
+    match above {
+        0 => Err(CoderRefusal::Overlong),
+        _ => Ok(((*byte % 128) as u64 + 128 * above, rest)),
     }
-    Ok(((*byte % 128) as u64 + 128 * above, rest))
 }

@@ -28,6 +28,15 @@ fn append_blob(bytes: &[u8], out: &mut Bytes) -> Result<(), NoMemory>
     Ok(())
 }
 
+/// Appends the tag of a sequence and the count of its items.
+fn append_count(count: u64, out: &mut Bytes) -> Result<(), NoMemory>
+    ensures ok { OnOk result (out.new ≡ out.old ++ 4 ∷ varint count) }
+    ensures kept { Keeps out.old out.new }
+{
+    out.push(4)?;
+    append_varint(count, out)
+}
+
 /// Appends the spelling of a value. Where memory fails a part of it may stand at the end.
 #[cycle(appends)]
 pub fn append_value(value: &Value, out: &mut Bytes) -> Result<(), NoMemory>
@@ -47,12 +56,20 @@ pub fn append_value(value: &Value, out: &mut Bytes) -> Result<(), NoMemory>
             append_value(key.get(), out)?;
             append_value(value.get(), out)
         }
-        Value::Seq(items) => {
-            out.push(4)?;
-            append_varint(items.len() as u64, out)?;
-            append_items(items.as_slice(), out)
-        }
+        Value::Seq(items) => append_seq(items.as_slice(), out),
     }
+}
+
+#[cycle(appends)]
+#[tactic(auto, using(crate::proofs::Written::seq_written, crate::proofs::Keeping::keeps_on))]
+fn append_seq(items: &[Value], out: &mut Bytes) -> Result<(), NoMemory>
+    ensures ok { OnOk result (out.new ≡ out.old ++ spelling (Value.Seq items.now)) }
+    ensures words { OnOk result (AllByRecursion FitsWords items.now) }
+    ensures kept { Keeps out.old out.new }
+{
+    append_count(items.len() as u64, out)?;
+    append_items(items, out)?;
+    Ok(())
 }
 
 #[cycle(appends)]

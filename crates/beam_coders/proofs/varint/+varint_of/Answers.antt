@@ -21,9 +21,9 @@ returns-in_err-above-clause-exact t c =
     let p = err_from_is_err_and c.from_residual.result c.from_residual.ensures.1 in
     rw (p.1, p.2) (read_refused c.args.bits c.in-Some.byte.now c.args.bytes.now c.in-Some.rest.now c.in_err-above.field-0.0 c.in-Some.ensures.cases.0 c.if-byte-lt128.false c.if-bits-le7.false c.in_err-above.ensures.exact)
 
-pub returns-then-above-eq0-clause-exact : goal.returns-then-above-eq0-clause-exact
-returns-then-above-eq0-clause-exact t c =
-    read_unneeded c.args.bits c.in-Some.byte.now c.in_ok-above.above c.args.bytes.now c.in-Some.rest.now c.in_ok-above.rest.now c.in-Some.ensures.cases.0 c.if-byte-lt128.false c.if-bits-le7.false c.in_ok-above.ensures.exact c.if-above-eq0.true
+pub returns-in-0-clause-exact : goal.returns-in-0-clause-exact
+returns-in-0-clause-exact t c =
+    read_unneeded c.args.bits c.in-Some.byte.now c.in_ok-above.above c.args.bytes.now c.in-Some.rest.now c.in_ok-above.rest.now c.in-Some.ensures.cases.0 c.if-byte-lt128.false c.if-bits-le7.false c.in_ok-above.ensures.exact c.in-0.is
 
 pub overflow_mul-result : goal.overflow_mul-result
 overflow_mul-result t c = omega (arith, joined_small c.args.bits c.in-Some.byte.now c.in_ok-above.above c.if-bits-le7.false c.in_ok-above.ensures.small, within_64 c.args.bits c.requires)
@@ -31,12 +31,12 @@ overflow_mul-result t c = omega (arith, joined_small c.args.bits c.in-Some.byte.
 pub overflow_add-result : goal.overflow_add-result
 overflow_add-result t c = omega (arith, joined_small c.args.bits c.in-Some.byte.now c.in_ok-above.above c.if-bits-le7.false c.in_ok-above.ensures.small, within_64 c.args.bits c.requires)
 
-pub returns-clause-small : goal.returns-clause-small
-returns-clause-small t c = joined_small c.args.bits c.in-Some.byte.now c.in_ok-above.above c.if-bits-le7.false c.in_ok-above.ensures.small
+pub returns-in_default-above-clause-small : goal.returns-in_default-above-clause-small
+returns-in_default-above-clause-small t c = joined_small c.args.bits c.in-Some.byte.now c.in_ok-above.above c.if-bits-le7.false c.in_ok-above.ensures.small
 
-pub returns-clause-exact : goal.returns-clause-exact
-returns-clause-exact t c =
-    read_more c.args.bits c.in-Some.byte.now c.in_ok-above.above c.args.bytes.now c.in-Some.rest.now c.in_ok-above.rest.now c.in-Some.ensures.cases.0 c.if-byte-lt128.false c.if-bits-le7.false c.in_ok-above.ensures.exact c.if-above-eq0.false
+pub returns-in_default-above-clause-exact : goal.returns-in_default-above-clause-exact
+returns-in_default-above-clause-exact t c =
+    read_more c.args.bits c.in-Some.byte.now c.in_ok-above.above c.args.bytes.now c.in-Some.rest.now c.in_ok-above.rest.now c.in-Some.ensures.cases.0 c.if-byte-lt128.false c.if-bits-le7.false c.in_ok-above.ensures.exact (omega arith)
 
 pub returns-then-byte-lt128-clause-small : goal.returns-then-byte-lt128-clause-small
 returns-then-byte-lt128-clause-small t c = ltb-true c.in-Some.byte.now (2 ^ c.args.bits) (sym c.fits.ensures ∙ c.if-not-fits.false)

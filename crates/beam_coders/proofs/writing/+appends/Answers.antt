@@ -5,7 +5,7 @@ use Rattle.beam_values.specs.Spelling.{spelling}
 use Rattle.beam_values.specs.Words.{FitsWords}
 use Rattle.beam_values.proofs.Words.{Null-fits, Int-fits, Blob-fits, Pair-fits, Seq-fits}
 use Rattle.beam_coders.proofs.Keeping.{keeps_self, keeps_on, keeps_with, on_ok}
-use Rattle.beam_coders.proofs.Written.{pair_written, seq_written}
+use Rattle.beam_coders.proofs.Written.{pair_written}
 use Rattle.beam_coders.proofs.writing.+appends.Goals as goal
 
 pub append_value-returns-in_ok-push-in-Null-clause-words : goal.append_value-returns-in_ok-push-in-Null-clause-words
@@ -38,19 +38,6 @@ append_value-returns-in_ok-append_value-in-Pair-clause-kept t c =
     (keeps_on c.args.out.now c.push-in-Pair.new.self c.append_value.new.out (keeps_with c.args.out.now c.args.out.now (3 ∷ []) c.push-in-Pair.new.self (keeps_self c.args.out.now) c.in_ok-push-in-Pair.ensures.ok) c.append_value.ensures.kept)
     c.append_value-in-Pair.ensures.kept
 
-pub append_value-returns-in_ok-append_varint-in-Seq-clause-ok : goal.append_value-returns-in_ok-append_varint-in-Seq-clause-ok
-append_value-returns-in_ok-append_varint-in-Seq-clause-ok t c =
-    let tag = c.in_ok-push-in-Seq.ensures.ok in
-    let count = c.in_ok-append_varint-in-Seq.ensures.ok in
-    let whole = seq_written c.args.out.now c.push-in-Seq.new.self c.append_varint.new.out c.append_items.new.out c.in-Seq.items in
-    on_ok c.append_items.result (λ items. whole tag (cc (count, c.len.ensures)) (cc (items, c.as_slice-in-Seq.ensures)) ∙ ap (λ (v : Value). c.args.out.now ++ spelling v) (sym c.in-Seq.is)) c.append_items.ensures.ok
-
-pub append_value-returns-in_ok-append_varint-in-Seq-clause-words : goal.append_value-returns-in_ok-append_varint-in-Seq-clause-words
-append_value-returns-in_ok-append_varint-in-Seq-clause-words t c =
-    on_ok c.append_items.result (λ fits. subst FitsWords (sym c.in-Seq.is) (Seq-fits c.in-Seq.items (subst (AllByRecursion FitsWords) c.as_slice-in-Seq.ensures fits))) c.append_items.ensures.words
-
-pub append_value-returns-in_ok-append_varint-in-Seq-clause-kept : goal.append_value-returns-in_ok-append_varint-in-Seq-clause-kept
-append_value-returns-in_ok-append_varint-in-Seq-clause-kept t c =
-    keeps_on c.args.out.now c.append_varint.new.out c.append_items.new.out
-    (keeps_on c.args.out.now c.push-in-Seq.new.self c.append_varint.new.out (keeps_with c.args.out.now c.args.out.now (4 ∷ []) c.push-in-Seq.new.self (keeps_self c.args.out.now) c.in_ok-push-in-Seq.ensures.ok) c.append_varint.ensures.kept)
-    c.append_items.ensures.kept
+pub append_value-returns-in-Seq-clause-words : goal.append_value-returns-in-Seq-clause-words
+append_value-returns-in-Seq-clause-words t c =
+    on_ok c.append_seq.result (λ fits. subst FitsWords (sym c.in-Seq.is) (Seq-fits c.in-Seq.items (subst (AllByRecursion FitsWords) c.as_slice-in-Seq.ensures fits))) c.append_seq.ensures.words
