@@ -26,15 +26,15 @@ pub returns-in_err-element-clause-bad : goal.returns-in_err-element-clause-bad
 returns-in_err-element-clause-bad c bad v rest readable e =
     not_bad (λ (x : Element × ℕ). (x.0, drop x.1 c.args.bytes.now)) c.from_residual.result (v, rest) bad (returns-in_err-element-clause-only c v rest readable e)
 
-pub returns-clause-found : goal.returns-clause-found
-returns-clause-found c =
-    let front = element_front c.args.bytes.now c.in_ok-element.element c.in_ok-element.rest.now (λ i. omega (arith, c.type_inv.bytes i)) c.in_ok-element.ensures in
-    (front.readable, omega arith, front.at.front)
-
 pub returns-clause-exact : goal.returns-clause-exact
 returns-clause-exact c =
     let front = element_front c.args.bytes.now c.in_ok-element.element c.in_ok-element.rest.now (λ i. omega (arith, c.type_inv.bytes i)) c.in_ok-element.ensures in
     c.in_ok-element.ensures ∙ ap (λ (r : List ℕ). Ok (c.in_ok-element.element, r)) front.at.back
+
+pub returns-clause-found : goal.returns-clause-found
+returns-clause-found c =
+    let front = element_front c.args.bytes.now c.in_ok-element.element c.in_ok-element.rest.now (λ i. omega (arith, c.type_inv.bytes i)) c.in_ok-element.ensures in
+    (front.readable, omega arith, front.at.front)
 
 pub returns-clause-only : goal.returns-clause-only
 returns-clause-only c v rest readable e =

@@ -26,15 +26,15 @@ pub returns-in_err-value-clause-bad : goal.returns-in_err-value-clause-bad
 returns-in_err-value-clause-bad c bad v rest readable e =
     not_bad (λ (x : Value × ℕ). (x.0, drop x.1 c.args.bytes.now)) c.from_residual.result (v, rest) bad (returns-in_err-value-clause-only c v rest readable e)
 
-pub returns-clause-found : goal.returns-clause-found
-returns-clause-found c =
-    let front = value_front c.args.bytes.now c.in_ok-value.value c.in_ok-value.rest.now (λ i. omega (arith, c.type_inv.bytes i)) c.in_ok-value.ensures in
-    (front.readable, omega arith, front.at.front)
-
 pub returns-clause-exact : goal.returns-clause-exact
 returns-clause-exact c =
     let front = value_front c.args.bytes.now c.in_ok-value.value c.in_ok-value.rest.now (λ i. omega (arith, c.type_inv.bytes i)) c.in_ok-value.ensures in
     c.in_ok-value.ensures ∙ ap (λ (r : List ℕ). Ok (c.in_ok-value.value, r)) front.at.back
+
+pub returns-clause-found : goal.returns-clause-found
+returns-clause-found c =
+    let front = value_front c.args.bytes.now c.in_ok-value.value c.in_ok-value.rest.now (λ i. omega (arith, c.type_inv.bytes i)) c.in_ok-value.ensures in
+    (front.readable, omega arith, front.at.front)
 
 pub returns-clause-only : goal.returns-clause-only
 returns-clause-only c v rest readable e =
