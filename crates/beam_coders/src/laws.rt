@@ -1,6 +1,7 @@
 ghost use Rattle.std.specs.Prelude.{◌≡◌, ◌≤◌, IfOk};
 ghost use Rattle.std.specs.Ordering.{nat_cmp};
 ghost use Rattle.std.specs.Cmp.Lexicographic.{slice_cmp};
+ghost use Rattle.beam_values.specs.Spelling.{spelling};
 ghost use Rattle.beam_coders.specs.Answers.{IsBad};
 ghost use Rattle.beam_coders.specs.Readable.{nesting, depth_limit};
 
@@ -16,7 +17,9 @@ pub fn write_and_compare(
     a: &Value,
     b: &Value,
 ) -> Result<(Bytes, Bytes, Ordering), NoMemory>
-    ensures { IfOk result (λ x. x.2 ≡ slice_cmp nat_cmp x.0 x.1) }
+    ensures first { IfOk result (λ x. x.0 ≡ spelling a.now) }
+    ensures second { IfOk result (λ x. x.1 ≡ spelling b.now) }
+    ensures order { IfOk result (λ x. x.2 ≡ slice_cmp nat_cmp x.0 x.1) }
 {
     let mut first = Bytes::new(alloc);
     write_value(a, &mut first)?;
