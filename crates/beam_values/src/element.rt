@@ -1,5 +1,5 @@
 ghost use Rattle.std.specs.Prelude.{◌≡◌, IfOk};
-ghost use Rattle.beam_values.specs.Elements.{timing_number};
+ghost use Rattle.beam_values.specs.Timings.{timing_number};
 
 use crate::{Span, Time, Value};
 use beam_containers::{Duplicate, NoMemory};

@@ -3,7 +3,7 @@ ghost use Rattle.std.specs.Ordering.{as_partial_cmp, eq_by_cmp};
 ghost use Rattle.std.specs.Cmp.{partial_order_from_own_ties};
 ghost use Rattle.std.specs.Cmp.Rules.{comparing};
 ghost use Rattle.std.proofs.Common.{rules};
-ghost use Rattle.beam_values.specs.Elements.{element_cmp, place_cmp, timing_number};
+ghost use Rattle.beam_values.specs.Elements.{element_cmp, place_cmp};
 
 use crate::{Element, PaneTag, Timing, cmp_values};
 use std::cmp::Ordering;

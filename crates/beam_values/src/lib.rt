@@ -13,6 +13,7 @@ mod compare;
 mod element;
 mod element_order;
 mod fault;
+mod laws;
 mod range;
 mod span;
 mod time;
@@ -23,6 +24,10 @@ pub use bits::unsigned_bits;
 pub use compare::{cmp_blobs, cmp_values};
 pub use element::{Element, PaneTag, Timing};
 pub use fault::{Cause, FaultNote};
+pub use laws::{
+    element_has_one_spelling, no_spelling_begins_another, value_has_one_spelling,
+    values_spelled_alike_are_the_same,
+};
 pub use range::Range;
 pub use span::Span;
 pub use time::{Mark, Time};

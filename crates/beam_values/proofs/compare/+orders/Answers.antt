@@ -1,12 +1,26 @@
-use Rattle.std.proofs.Common.{◌≡◌, ◌≢◌, ◌<◌, ◌∙◌, sym, length, arith}
+use Rattle.std.proofs.Common.{◌≡◌, ◌≢◌, ◌<◌, ◌∙◌, FitsSigned, w64, sym, ap, length, arith}
 use Rattle.std.specs.declared.cmp.Ordering.TheVariants.{Equal}
 use Rattle.std.specs.Ordering.{nat_cmp}
 use Rattle.std.specs.Cmp.Lexicographic.{slice_cmp}
-use Rattle.beam_values.specs.Spelling.{varint, spelling}
+use Rattle.beam_values.specs.Spelling.{varint, two's_complement, spelling}
+use Rattle.std.proofs.lemmas.Int.{to_z-of_z}
+use Rattle.beam_values.proofs.SignedBits.{ints_alike}
 use Rattle.beam_values.proofs.Lexicographic.{same_where_tied}
 use Rattle.beam_values.proofs.Varints.{varint-same, blob-same}
 use Rattle.beam_values.proofs.Spellings.{pairs_tie, pairs_apart, items_tie, items_apart, seqs_tie, seqs_apart, same_more}
 use Rattle.beam_values.proofs.compare.+orders.Goals as goal
+
+pub cmp_values-returns-in-Int-Int-clause-same : goal.cmp_values-returns-in-Int-Int-clause-same
+cmp_values-returns-in-Int-Int-clause-same t c tie =
+    let a = c.in-Int-Int.a in
+    let b = c.in-Int-Int.b in
+    let f : FitsSigned w64 a = record { sfits = omega arith } in
+    let g : FitsSigned w64 b = record { sfits = omega arith } in
+    let x = ap two's_complement (to_z-of_z w64 a f) in
+    let y = ap two's_complement (to_z-of_z w64 b g) in
+    let tied : slice_cmp nat_cmp (varint (two's_complement a)) (varint (two's_complement b)) ≡ Equal = cc in
+    let same = ints_alike a b f g tied in
+    cc
 
 pub cmp_values-returns-in-Blob-Blob-clause-same : goal.cmp_values-returns-in-Blob-Blob-clause-same
 cmp_values-returns-in-Blob-Blob-clause-same t c tie = let same = blob-same c.as_slice.result.now c.as_slice-in-Blob-Blob.result.now (sym c.cmp_blobs.ensures ∙ tie) in cc
@@ -28,13 +42,13 @@ cmp_values-returns-in_default-cmp_values-clause-order t c =
 pub cmp_values-returns-then-len-clause-order : goal.cmp_values-returns-then-len-clause-order
 cmp_values-returns-then-len-clause-order t c =
     let p = c.in-Seq-Seq in
-    let whole = seqs_tie p.a p.b cc in
+    let whole = seqs_tie p.items p.others cc in
     cc
 
 pub cmp_values-returns-else-len-clause-order : goal.cmp_values-returns-else-len-clause-order
 cmp_values-returns-else-len-clause-order t c =
     let p = c.in-Seq-Seq in
-    let whole = seqs_apart p.a p.b (λ e. c.if-len.false (c.len.ensures ∙ e ∙ sym c.len-in-Seq-Seq.ensures)) in
+    let whole = seqs_apart p.items p.others (λ e. c.if-len.false (c.len.ensures ∙ e ∙ sym c.len-in-Seq-Seq.ensures)) in
     cc
 
 pub cmp_values-returns-else-len-clause-same : goal.cmp_values-returns-else-len-clause-same

@@ -1,0 +1,12 @@
+pub mod Keeping
+pub mod VarintReading
+pub mod Written
+pub mod ItemsReading
+pub mod ValueReading
+pub mod Parts
+pub mod VarintLaws
+pub mod NestingLaws
+pub mod ValueLaws
+pub mod Fronts
+pub mod PlaceLaws
+pub mod ElementLaws

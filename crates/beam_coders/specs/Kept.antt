@@ -1,0 +1,6 @@
+-- Text that is only added to.
+use Rattle.std.specs.Prelude.{◌≡◌, ℕ, List, length, take}
+
+-- the new text begins with the old one
+pub record Keeps (old new : List ℕ) : Type 0 where
+  pub kept : take (length old) new ≡ old

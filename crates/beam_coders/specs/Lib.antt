@@ -1,0 +1,5 @@
+pub mod Answers
+pub mod Kept
+pub mod Readable
+pub mod Refusals
+pub mod Reading
