@@ -24,3 +24,6 @@ pub use duplicate::Duplicate;
 pub use list::List;
 pub use memory::NoMemory;
 pub use roomy::RoomyList;
+
+#[cfg(test)]
+mod tests;

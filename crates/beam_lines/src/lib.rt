@@ -10,3 +10,6 @@ mod timed;
 
 pub use line::{FirstLine, first_line};
 pub use timed::{TimedLine, key_field, time_of, timed_line};
+
+#[cfg(test)]
+mod tests;

@@ -9,3 +9,6 @@ mod value;
 
 pub use element::render_elements;
 pub use value::{push_blob, push_value};
+
+#[cfg(test)]
+mod tests;

@@ -6,3 +6,6 @@
 mod fixed;
 
 pub use fixed::{GREATEST_SIZE, fixed_window};
+
+#[cfg(test)]
+mod tests;
