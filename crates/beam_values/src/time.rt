@@ -1,4 +1,4 @@
-ghost use Rattle.std.specs.Prelude.{◌≡◌};
+ghost use Rattle.std.specs.Prelude.{◌≡◌, ◌↔◌, IsTrue};
 ghost use Rattle.std.specs.Option.{SomeIff};
 ghost use Rattle.beam_values.specs.Times.{IsTime, IsMark, final_mark};
 
@@ -74,6 +74,12 @@ impl Model for Mark {
 
 impl Mark {
     pub const FINAL: Mark = Mark { ms: i64::MAX };
+
+    pub fn is_final(&self) -> bool
+        ensures { IsTrue result ↔ (self.now ≡ final_mark) }
+    {
+        self.ms == Mark::FINAL.ms
+    }
 
     pub fn at(time: Time) -> Mark
         ensures { result ≡ time }
