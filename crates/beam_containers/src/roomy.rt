@@ -1,4 +1,4 @@
-ghost use Rattle.std.specs.Prelude.{◌≡◌, ◌≢◌, [], ◌∷◌, ◌++◌, ◌+◌, ◌-◌, ◌<◌, ◌≤◌, length, slice_get, slice_set, insert, remove, take, ◌↔◌, IsTrue, IsOk, IfOk, MatchOption, OnOk, OnErr, OnSome, vec_capacity, vec_len};
+ghost use Rattle.std.specs.Prelude.{◌≡◌, ◌≢◌, [], ◌∷◌, ◌++◌, ◌+◌, ◌-◌, ◌<◌, ◌≤◌, length, slice_get, slice_set, insert, remove, take, ◌↔◌, IsTrue, IsOk, IfOk, IfSome, IfNone, MatchOption, OnOk, OnErr, OnSome, vec_capacity, vec_len};
 
 use crate::{List, NoMemory};
 use std::alloc::Global;
@@ -90,6 +90,28 @@ impl<T: Drop> RoomyList<T> {
     {
         self.items.push(item)?;
         Ok(())
+    }
+
+    /// Uses one place where one is kept, and then is never refused.
+    pub fn insert(&mut self, at: usize, item: T) -> Result<(), NoMemory>
+        requires { at ≤ length self.old.items }
+        ensures ok { OnOk result (self.new.items ≡ insert self.old.items at item) }
+        ensures err { OnErr result (self.new.items ≡ self.old.items) }
+        ensures had { 0 < self.old.room → IsOk result }
+        ensures used { self.old.room ≤ self.new.room + 1 }
+    {
+        self.items.insert(at, item)?;
+        Ok(())
+    }
+
+    /// The place of the item is kept.
+    pub fn pop(&mut self) -> Option<T>
+        ensures item { MatchOption result (self.old.items ≡ []) (λ last. self.old.items ≡ self.new.items ++ last ∷ []) }
+        ensures none { IfNone result (self.new.items ≡ []) }
+        ensures kept { IfSome result (λ _. self.old.room + 1 ≤ self.new.room) }
+        ensures same { self.old.room ≤ self.new.room }
+    {
+        self.items.pop()
     }
 
     /// The place of the item is kept.

@@ -8,8 +8,9 @@ use Rattle.std.proofs.lemmas.Bool.Decides.{nat_tests}
 use Rattle.beam_ports.specs.declared.refusal.OpenRefusal.TheVariants.{Absent}
 use Rattle.beam_ports.specs.declared.refusal.OpenRefusal.{OpenRefusal}
 use Rattle.beam_ports.specs.declared.store.Opened.{Opened}
-use Rattle.beam_ports.specs.declared.store.FileText.{FileText}
-use Rattle.beam_ports.specs.Files.{is_named, first_named, OpensText}
+use Rattle.beam_values.specs.declared.file_text.FileText.{FileText}
+use Rattle.beam_ports.specs.Files.{OpensText}
+use Rattle.beam_values.specs.Files.{is_named, first_named}
 use Rattle.beam_ports.specs.StoreMemory.{StoreMemory, opened_at, listed_opening, open_answer}
 
 -- the first index, where it is within the list

@@ -1,18 +1,10 @@
 -- Files that a store tells, and files that were opened.
-use Rattle.std.specs.Prelude.{◌≡◌, ◌⊎◌, ◌↔◌, ℕ, ◌+◌, ◌<◌, ◌≤◌, Bool, List, length, take, drop, find, bytes_eq, Option, Some, option_map}
-use Rattle.beam_ports.specs.declared.store.FileText.{FileText}
+use Rattle.std.specs.Prelude.{◌≡◌, ◌⊎◌, ◌↔◌, ℕ, ◌+◌, ◌<◌, ◌≤◌, List, length, take, drop, Option, Some}
 
 -- what an opened file has: its length, and its bytes where the store tells them
 pub record Opening : Type 0 where
   pub len : ℕ
   pub text : Option (List ℕ)
-
-abbrev pub is_named : List ℕ → FileText → Bool
-is_named name file = bytes_eq file.name name
-
--- the bytes of the first file of that name
-abbrev pub first_named : List ℕ → List FileText → Option (List ℕ)
-first_named name files = option_map (λ file. file.bytes) (find (is_named name) files)
 
 -- what was opened stays so, with the same length and bytes
 abbrev pub KeepsOpenings : (ℕ → Option Opening) → (ℕ → Option Opening) → Type 0

@@ -5,9 +5,10 @@ use Rattle.beam_ports.specs.declared.refusal.Failed.{Failed}
 use Rattle.beam_ports.specs.declared.refusal.OpenRefusal.{OpenRefusal}
 use Rattle.beam_ports.specs.declared.refusal.OpenRefusal.TheVariants.{Absent, Failed as Faulty}
 use Rattle.beam_ports.specs.declared.store.Opened.{Opened}
-use Rattle.beam_ports.specs.declared.store.FileText.{FileText}
+use Rattle.beam_values.specs.declared.file_text.FileText.{FileText}
 use Rattle.beam_ports.specs.Counts.{raised}
-use Rattle.beam_ports.specs.Files.{Opening, is_named}
+use Rattle.beam_ports.specs.Files.{Opening}
+use Rattle.beam_values.specs.Files.{is_named}
 
 pub record StoreMemory : Type 0 where
   pub files : List FileText

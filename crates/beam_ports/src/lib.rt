@@ -14,12 +14,12 @@ mod refusal;
 mod sink;
 mod store;
 
-pub use beam_values::{Bytes, List, NoMemory};
+pub use beam_values::{Bytes, FileText, List, NoMemory};
 pub use memory_sink::MemorySink;
 pub use memory_store::MemoryStore;
 pub use refusal::{Failed, OpenRefusal};
 pub use sink::Sink;
-pub use store::{FileText, Opened, Store};
+pub use store::{Opened, Store};
 
 #[cfg(test)]
 mod tests;

@@ -1,6 +1,6 @@
 ghost use Rattle.std.specs.Prelude.{◌≡◌, ◌<◌, ◌≤◌, Some, length, position};
 ghost use Rattle.std.specs.Option.{ForSome};
-ghost use Rattle.beam_ports.specs.Files.{is_named};
+ghost use Rattle.beam_values.specs.Files.{is_named};
 ghost use Rattle.beam_ports.specs.StoreMemory.{is_listed, after_call, listed_opening, opened_at, open_answer, is_fault, count_read, buffer_read, read_answer, read_leaves};
 
 use crate::{Failed, FileText, OpenRefusal, Opened, Store};

@@ -1,23 +1,16 @@
 ghost use Rattle.std.specs.Prelude.{◌≡◌, ◌≤◌, ℕ, List, Option, Some, length, drop, IsSome, IsSomeAnd, IsErrOf, IfOk, OnErr};
 ghost use Rattle.beam_ports.specs.Counts.{Rose};
-ghost use Rattle.beam_ports.specs.Files.{Opening, first_named, KeepsOpenings, OpensText, IsRead};
-ghost use Rattle.beam_ports.specs.declared.store.FileText.{FileText};
+ghost use Rattle.beam_ports.specs.Files.{Opening, KeepsOpenings, OpensText, IsRead};
+ghost use Rattle.beam_values.specs.Files.{first_named};
+ghost use Rattle.beam_values.specs.declared.file_text.FileText.{FileText};
 
 use crate::{Failed, OpenRefusal};
-use beam_values::Bytes;
 
 /// A file that was opened: its number at the store, and its length in bytes.
 #[derive(Clone, Copy, Debug, PartialEq, Eq)]
 pub struct Opened {
     pub file: u32,
     pub len: u64,
-}
-
-/// A file as a name and the bytes in it.
-#[derive(Debug, Drop)]
-pub struct FileText {
-    pub name: Bytes,
-    pub bytes: Bytes,
 }
 
 /// Where files are opened by name and read by position.

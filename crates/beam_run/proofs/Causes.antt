@@ -5,8 +5,8 @@ use Rattle.std.proofs.lemmas.Bool.{false≢true}
 use Rattle.beam_values.specs.Panes.{IsPanesText, HasPoison, is_spoiled}
 use Rattle.beam_values.proofs.Spreads.{list_any-came}
 use Rattle.beam_ports.specs.Counts.{Rose}
-use Rattle.beam_ports.specs.Files.{first_named}
-use Rattle.beam_ports.specs.declared.store.FileText.{FileText}
+use Rattle.beam_values.specs.Files.{first_named}
+use Rattle.beam_values.specs.declared.file_text.FileText.{FileText}
 use Rattle.run_engine.specs.declared.status.Status.{Status}
 use Rattle.run_engine.specs.declared.status.Status.TheVariants as status
 use Rattle.beam_values.specs.declared.fault.Cause.TheVariants.{Call, Read}

@@ -5,9 +5,9 @@ use Rattle.beam_values.specs.declared.fault.Cause.{Cause}
 use Rattle.beam_values.specs.declared.fault.Cause.TheVariants.{Call, Read}
 use Rattle.beam_values.specs.declared.fault.FaultNote.{FaultNote}
 use Rattle.beam_ports.specs.Counts.{Rose}
-use Rattle.beam_ports.specs.Files.{first_named}
+use Rattle.beam_values.specs.Files.{first_named}
 use Rattle.beam_ports.specs.Sinks.{then_taken}
-use Rattle.beam_ports.specs.declared.store.FileText.{FileText}
+use Rattle.beam_values.specs.declared.file_text.FileText.{FileText}
 use Rattle.run_engine.specs.declared.status.Status.{Status}
 use Rattle.run_engine.specs.declared.status.Status.TheVariants as status
 use Rattle.beam_run.specs.Notes.{note_line}

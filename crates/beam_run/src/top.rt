@@ -2,8 +2,8 @@ ghost use Rattle.std.specs.Prelude.{◌≡◌, ◌↔◌, ◌≤ℤ◌, ◌≤�
 ghost use Rattle.std.specs.String.{string_bytes};
 ghost use Rattle.beam_values.specs.Panes.{HasPoison};
 ghost use Rattle.beam_ports.specs.Counts.{Rose};
-ghost use Rattle.beam_ports.specs.Files.{first_named};
-ghost use Rattle.beam_ports.specs.declared.store.FileText.{FileText};
+ghost use Rattle.beam_values.specs.Files.{first_named};
+ghost use Rattle.beam_values.specs.declared.file_text.FileText.{FileText};
 ghost use Rattle.beam_run.specs.Words.{TakesPanes, file_word};
 ghost use Rattle.beam_run.specs.Ends.{Met, HasCause, Prevents, IsTextOf, IsNoted, IsNotedUpTo, IsWritten, IsNoSourceOrNoMemory, first_fault, StaysOrNoMemory, IsEndOfPoison, IsEndOfClean, IsEndOfAbsent, size_of};
 

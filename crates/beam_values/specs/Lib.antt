@@ -1,5 +1,7 @@
 pub mod Bags
+pub mod Cover
 pub mod Elements
+pub mod Files
 pub mod Functions
 pub mod Grouping
 pub mod Intervals
@@ -8,8 +10,10 @@ pub mod Orders
 pub mod Panes
 pub mod Spelled
 pub mod Spelling
+pub mod States
 pub mod Texts
 pub mod Times
 pub mod Timings
 pub mod Tracking
+pub mod Windows
 pub mod Words

@@ -13,9 +13,13 @@ mod compare;
 mod element;
 mod element_order;
 mod fault;
+mod file_text;
 mod laws;
+mod outcome;
+mod plan;
 mod range;
 mod span;
+mod state_cell;
 mod time;
 mod value;
 
@@ -24,11 +28,20 @@ pub use bits::unsigned_bits;
 pub use compare::{cmp_blobs, cmp_values};
 pub use element::{Element, PaneTag, Timing};
 pub use fault::{Cause, FaultNote};
+pub use file_text::FileText;
 pub use laws::{
     element_has_one_spelling, no_spelling_begins_another, value_has_one_spelling,
     values_spelled_alike_are_the_same,
 };
+pub use outcome::{
+    Arrival, Cell, CommitMarks, Done, Dropped, Entry, FileLen, KeyLog, LogEntry, LogInput, Options,
+    Outcome, Pane, Piece, StageMarks, StopCause, Timer,
+};
+pub use plan::{
+    Args, Estimator, FnKind, Mode, Node, NodeKind, Plan, SourceKind, StateKind, Strategy, Trigger,
+};
 pub use range::Range;
 pub use span::Span;
+pub use state_cell::StateCell;
 pub use time::{Mark, Time};
 pub use value::Value;

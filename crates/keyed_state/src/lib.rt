@@ -2,13 +2,11 @@
 //! (Beam Programming Guide, State and Timers).
 //!
 //! A [`KeyState`] is seen as the list of its eight cells, and every call is exact by
-//! `specs/Cells.antt`. What needs no new place takes no memory. Read `state.rt` first.
+//! `beam_values::specs::States`. What needs no new place takes no memory. Read `state.rt` first.
 #![tactic(auto)]
 
-mod cell;
 mod state;
 
-pub use cell::Cell;
 pub use state::KeyState;
 
 #[cfg(test)]

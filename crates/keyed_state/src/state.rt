@@ -1,10 +1,9 @@
 ghost use Rattle.std.specs.Prelude.{◌≡◌, ◌<◌, [], ◌∷◌, ◌++◌, slice_set, replicate, IfOk, OnOk, OnErr};
 ghost use Rattle.std.specs.Option.{option_copied};
-ghost use Rattle.keyed_state.specs.declared.cell.Cell.TheVariants.{Unset, Number, Text, Bag};
-ghost use Rattle.keyed_state.specs.Cells.{cell_of, number_in, bytes_in, bag_in, values_in};
+ghost use Rattle.beam_values.specs.declared.state_cell.StateCell.TheVariants.{Unset, Number, Text, Bag};
+ghost use Rattle.beam_values.specs.States.{cell_of, number_in, bytes_in, bag_in, values_in};
 
-use crate::Cell;
-use beam_values::{Bytes, Duplicate, List, NoMemory, Value};
+use beam_values::{Bytes, Duplicate, List, NoMemory, StateCell, Value};
 use std::alloc::Global;
 use std::marker::Model;
 
@@ -14,17 +13,17 @@ pub const CELLS: usize = 8;
 /// The state cells of one key and window.
 #[derive(Debug, Drop)]
 pub struct KeyState {
-    cells: [Cell; 8],
+    cells: [StateCell; 8],
     alloc: Global,
 }
 
 impl Model for KeyState {
     ghost use Rattle.std.specs.Prelude.{◌≡◌, length, List as ListOf};
-    ghost use Rattle.keyed_state.specs.declared.cell.Cell.{Cell};
+    ghost use Rattle.beam_values.specs.declared.state_cell.StateCell.{StateCell};
     ghost use Rattle.std.specs.Coded.{codes};
     ghost use Rattle.beam_values.specs.contracts.value.Value as value;
 
-    ghost Value = { ListOf Cell };
+    ghost Value = { ListOf StateCell };
 
     ghost coded = { Prim.hlevel (codes, value.the_row.coded) };
 
@@ -50,7 +49,7 @@ impl KeyState {
         ensures { result ≡ number_in (cell_of self.now name) }
     {
         match &self.cells[name as usize] {
-            Cell::Number(n) => Some(*n),
+            StateCell::Number(n) => Some(*n),
             _ => None,
         }
     }
@@ -61,7 +60,7 @@ impl KeyState {
         ensures { option_copied result ≡ bytes_in (cell_of self.now name) }
     {
         match &self.cells[name as usize] {
-            Cell::Text(bytes) => Some(bytes.as_slice()),
+            StateCell::Text(bytes) => Some(bytes.as_slice()),
             _ => None,
         }
     }
@@ -72,7 +71,7 @@ impl KeyState {
         ensures { option_copied result ≡ bag_in (cell_of self.now name) }
     {
         match &self.cells[name as usize] {
-            Cell::Bag(values) => Some(values.as_slice()),
+            StateCell::Bag(values) => Some(values.as_slice()),
             _ => None,
         }
     }
@@ -82,7 +81,7 @@ impl KeyState {
         requires { name < 8 }
         ensures { self.new ≡ slice_set self.old name (Number n) }
     {
-        self.cells[name as usize] = Cell::Number(n);
+        self.cells[name as usize] = StateCell::Number(n);
     }
 
     pub fn set_bytes(&mut self, name: u8, bytes: &[u8]) -> Result<(), NoMemory>
@@ -91,7 +90,7 @@ impl KeyState {
         ensures err { OnErr result (self.new ≡ self.old) }
     {
         let bytes = Bytes::from_slice(self.alloc, bytes)?;
-        self.cells[name as usize] = Cell::Text(bytes);
+        self.cells[name as usize] = StateCell::Text(bytes);
         Ok(())
     }
 
@@ -100,7 +99,7 @@ impl KeyState {
         requires { name < 8 }
         ensures { self.new ≡ slice_set self.old name Unset }
     {
-        self.cells[name as usize] = Cell::Unset;
+        self.cells[name as usize] = StateCell::Unset;
     }
 
     /// A cell of another form becomes a bag with this one value.
@@ -110,12 +109,12 @@ impl KeyState {
         ensures err { OnErr result (self.new ≡ self.old) }
     {
         let cell = &mut self.cells[name as usize];
-        if let Cell::Bag(values) = cell {
+        if let StateCell::Bag(values) = cell {
             return values.push(value);
         }
         let mut values = List::new(self.alloc);
         values.push(value)?;
-        *cell = Cell::Bag(values);
+        *cell = StateCell::Bag(values);
         Ok(())
     }
 
@@ -131,17 +130,17 @@ impl KeyState {
     }
 }
 
-fn no_cells() -> [Cell; 8]
+fn no_cells() -> [StateCell; 8]
     ensures { result ≡ replicate 8 Unset }
 {
     [
-        Cell::Unset,
-        Cell::Unset,
-        Cell::Unset,
-        Cell::Unset,
-        Cell::Unset,
-        Cell::Unset,
-        Cell::Unset,
-        Cell::Unset,
+        StateCell::Unset,
+        StateCell::Unset,
+        StateCell::Unset,
+        StateCell::Unset,
+        StateCell::Unset,
+        StateCell::Unset,
+        StateCell::Unset,
+        StateCell::Unset,
     ]
 }

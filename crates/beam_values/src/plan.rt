@@ -1,0 +1,214 @@
+ghost use Rattle.std.specs.Prelude.{◌≡◌, IfOk};
+
+use beam_containers::{Bytes, Duplicate, List, NoMemory};
+use std::alloc::Global;
+
+/// How the elements of a collection are assigned to windows (Beam Programming Guide, Windowing).
+/// Sizes, periods and gaps are in milliseconds.
+#[derive(Clone, Copy, Debug, PartialEq, Eq)]
+pub enum Strategy {
+    Global,
+    Fixed { size: i64 },
+    Sliding { size: i64, period: i64 },
+    Sessions { gap: i64 },
+    /// Below a Group of sessions: the elements keep the windows of their panes, and a later Group merges none.
+    Kept,
+}
+
+/// How a source's watermark follows from what was read (Splittable DoFn, watermark estimators).
+#[derive(Clone, Copy, Debug, PartialEq, Eq)]
+pub enum Estimator {
+    None,
+    /// The greatest time so far.
+    Monotonic,
+    /// The greatest time so far, less this many milliseconds.
+    Lag(i64),
+    /// The greatest mark that the source declared so far.
+    Declared,
+}
+
+/// What a pane of a window that has fired before holds (Beam Programming Guide, Window accumulation modes).
+#[derive(Clone, Copy, Debug, PartialEq, Eq)]
+pub enum Mode {
+    /// What no pane has shown yet.
+    Discarding,
+    /// Everything so far.
+    Accumulating,
+}
+
+/// When the panes of a window fire (Beam Programming Guide, Triggers).
+#[derive(Clone, Copy, Debug, PartialEq, Eq)]
+pub struct Trigger {
+    /// Before the watermark passes the window's end: as soon as this many elements are unseen.
+    pub early: Option<u32>,
+    /// After the on-time pane: as soon as this many are.
+    pub late: u32,
+    /// How long after its end a window still takes elements, in milliseconds.
+    pub lateness: i64,
+    pub mode: Mode,
+}
+
+/// The arguments of a function or a source.
+#[derive(Debug, Drop)]
+pub enum Args {
+    Nothing,
+    Text(Bytes),
+    Number(i64),
+    Two(u64, u64),
+}
+
+/// What a source reads or makes.
+#[derive(Clone, Copy, Debug, PartialEq, Eq)]
+pub enum SourceKind {
+    /// Each line of its files is a byte string.
+    Lines,
+    /// Each line of its files is a time and a byte string, or a watermark.
+    TimedLines,
+    /// `Two(count, step)`: the numbers from 0, each `step` milliseconds after the one before.
+    Count,
+    /// `Two(count, number)`: made-up timed lines.
+    Made,
+}
+
+/// The functions of single elements.
+#[derive(Clone, Copy, Debug, PartialEq, Eq)]
+pub enum FnKind {
+    KeyField,
+    Words,
+    Field,
+    KeepPrefix,
+    FieldInt,
+    Swap,
+    Shift,
+    SumSeq,
+    CountSeq,
+    MaxSeq,
+    Unseq,
+    Values,
+}
+
+/// The functions with state and timers (Beam Programming Guide, State and Timers).
+#[derive(Clone, Copy, Debug, PartialEq, Eq)]
+pub enum StateKind {
+    Dedupe,
+    RunningSum,
+    BatchUntil,
+    LatestThenEmit,
+}
+
+/// What a node of a pipeline does.
+#[derive(Debug, Drop)]
+pub enum NodeKind {
+    Source {
+        work: SourceKind,
+        args: Args,
+        files: List<Bytes>,
+        estimator: Estimator,
+    },
+    ParDo {
+        work: FnKind,
+        args: Args,
+    },
+    Flatten,
+    WindowInto {
+        strategy: Strategy,
+    },
+    Group {
+        trigger: Trigger,
+    },
+    Stateful {
+        work: StateKind,
+        args: Args,
+        /// Whether its calls are printed.
+        log: bool,
+    },
+    Write {
+        label: Bytes,
+    },
+}
+
+/// A node and the nodes that it takes its elements from, by their numbers, which are below its own.
+#[derive(Debug, Drop)]
+pub struct Node {
+    pub kind: NodeKind,
+    pub inputs: List<u32>,
+}
+
+/// A pipeline: nodes, numbered from 0.
+#[derive(Debug, Drop)]
+pub struct Plan {
+    pub version: u32,
+    pub nodes: List<Node>,
+}
+
+impl Plan {
+    pub fn copy(&self, alloc: Global) -> Result<Plan, NoMemory>
+        ensures { IfOk result (λ plan. plan ≡ self.now) }
+    {
+        Ok(Plan {
+            version: self.version,
+            nodes: self.nodes.duplicate(alloc)?,
+        })
+    }
+}
+
+impl Duplicate for Plan {
+    fn duplicate(&self, alloc: Global) -> Result<Plan, NoMemory> {
+        self.copy(alloc)
+    }
+}
+
+impl Duplicate for Node {
+    fn duplicate(&self, alloc: Global) -> Result<Node, NoMemory> {
+        Ok(Node {
+            kind: self.kind.duplicate(alloc)?,
+            inputs: self.inputs.duplicate(alloc)?,
+        })
+    }
+}
+
+impl Duplicate for NodeKind {
+    fn duplicate(&self, alloc: Global) -> Result<NodeKind, NoMemory> {
+        match self {
+            NodeKind::Source {
+                work,
+                args,
+                files,
+                estimator,
+            } => Ok(NodeKind::Source {
+                work: *work,
+                args: args.duplicate(alloc)?,
+                files: files.duplicate(alloc)?,
+                estimator: *estimator,
+            }),
+            NodeKind::ParDo { work, args } => Ok(NodeKind::ParDo {
+                work: *work,
+                args: args.duplicate(alloc)?,
+            }),
+            NodeKind::Flatten => Ok(NodeKind::Flatten),
+            NodeKind::WindowInto { strategy } => Ok(NodeKind::WindowInto {
+                strategy: *strategy,
+            }),
+            NodeKind::Group { trigger } => Ok(NodeKind::Group { trigger: *trigger }),
+            NodeKind::Stateful { work, args, log } => Ok(NodeKind::Stateful {
+                work: *work,
+                args: args.duplicate(alloc)?,
+                log: *log,
+            }),
+            NodeKind::Write { label } => Ok(NodeKind::Write {
+                label: label.duplicate(alloc)?,
+            }),
+        }
+    }
+}
+
+impl Duplicate for Args {
+    fn duplicate(&self, alloc: Global) -> Result<Args, NoMemory> {
+        match self {
+            Args::Nothing => Ok(Args::Nothing),
+            Args::Text(text) => Ok(Args::Text(text.duplicate(alloc)?)),
+            Args::Number(n) => Ok(Args::Number(*n)),
+            Args::Two(first, second) => Ok(Args::Two(*first, *second)),
+        }
+    }
+}
