@@ -1,0 +1,38 @@
+-- The account: what came to the barriers of a run is what flows to them, each once.
+use Rattle.std.specs.Prelude.{ℕ, List, [], ◌∷◌, ◌++◌, map}
+use Rattle.std.specs.List.{flat_map}
+use Rattle.beam_values.specs.Bags.{IsSameBag}
+use Rattle.beam_values.specs.declared.outcome.Arrival.{Arrival}
+use Rattle.beam_values.specs.declared.outcome.Cell.{Cell}
+use Rattle.beam_values.specs.declared.outcome.Dropped.{Dropped}
+use Rattle.beam_values.specs.declared.outcome.KeyLog.{KeyLog}
+use Rattle.beam_values.specs.declared.outcome.LogInput.{LogInput}
+use Rattle.beam_values.specs.declared.outcome.LogInput.TheVariants.{Arrived, Fired}
+use Rattle.beam_values.specs.declared.outcome.Outcome.{Outcome}
+use Rattle.beam_model.specs.Chains.{Came}
+use Rattle.beam_model.specs.Flow.{flow}
+use Rattle.beam_model.specs.Positions.{SourceItem}
+
+-- what a Group took, as it arrived
+abbrev pub cell_arrivals : Cell → List Arrival
+cell_arrivals cell = map (λ entry. record { node = cell.node; element = entry.element }) cell.entries
+
+abbrev pub dropped_arrival : Dropped → Arrival
+dropped_arrival dropped = record { node = dropped.node; element = dropped.element }
+
+abbrev pub input_arrival : ℕ → LogInput → List Arrival
+input_arrival node (Arrived e) = record { node = node; element = e } ∷ []
+input_arrival node (Fired timer) = []
+
+-- what a key of a Stateful node took
+abbrev pub log_arrivals : KeyLog → List Arrival
+log_arrivals log = flat_map (λ entry. input_arrival log.node entry.input) log.entries
+
+-- what came to the Groups, also what they dropped, to the Stateful nodes and to the Writes
+abbrev pub arrivals : Outcome → List Arrival
+arrivals o = flat_map cell_arrivals o.cells ++ (map dropped_arrival o.dropped ++ (flat_map log_arrivals o.logs ++ o.written))
+
+-- It is one bag with the flow of the outcome, and nothing of that is poison. So every position's outputs, every pane and every stateful output
+-- came to each barrier that it reaches exactly once, and nothing else came.
+abbrev pub IsAccounted : List SourceItem → Outcome → Type 0
+IsAccounted items o = IsSameBag (flow o.plan items o.panes o.logs) (map Came (arrivals o))

@@ -1,0 +1,110 @@
+-- The functions of single elements (Beam Programming Guide, ParDo): what each gives of an element, or that the element is poison for it.
+use Rattle.std.specs.Prelude.{ℕ, ℤ, pos, negsuc, ◌+ℤ◌, ◌&&◌, if◌then◌else◌, int_le, List, [], ◌∷◌, length, map, fold, slice_get, Option, Some, None}
+use Rattle.std.specs.Option.{option_map, option_and_then}
+use Rattle.std.specs.Int.{int_min, int_max}
+use Rattle.beam_values.specs.Times.{greatest_time}
+use Rattle.beam_values.specs.Windows.{or_zero}
+use Rattle.beam_values.specs.Functions.{key_field}
+use Rattle.beam_values.specs.declared.value.Value.{Value}
+use Rattle.beam_values.specs.declared.element.Element.{Element}
+use Rattle.beam_values.specs.declared.plan.Args.{Args}
+use Rattle.beam_values.specs.declared.plan.Args.TheVariants.{Text, Number, Two}
+use Rattle.beam_values.specs.declared.plan.FnKind.{FnKind}
+use Rattle.beam_values.specs.declared.plan.FnKind.TheVariants.{KeyField, Words, Field, KeepPrefix, FieldInt, Swap, Shift, SumSeq, CountSeq, MaxSeq, Unseq, Values}
+use Rattle.beam_model.specs.Values.{KeyedValue, null, int, blob, pair, as_blob, as_pair, as_seq, numbers_in}
+use Rattle.beam_model.specs.Texts.{words, fields, begins_with, int_of}
+
+-- the arguments by their forms; another form reads as nothing
+abbrev pub text_arg : Args → List ℕ
+text_arg (Text text) = text
+text_arg _ = []
+
+abbrev pub number_arg : Args → ℤ
+number_arg (Number n) = n
+number_arg _ = pos 0
+
+abbrev pub first_arg : Args → ℕ
+first_arg (Two first second) = first
+first_arg _ = 0
+
+abbrev pub second_arg : Args → ℕ
+second_arg (Two first second) = second
+second_arg _ = 0
+
+-- a time that many milliseconds later, cut to the greatest time
+abbrev pub later_by : ℤ → ℤ → ℤ
+later_by delay time = int_min (time +ℤ delay) greatest_time
+
+-- a number, where 64 bits hold it
+abbrev pub in_word : ℤ → Option ℤ
+in_word n = if int_le (negsuc 9223372036854775807) n && int_le n (pos 9223372036854775807) then Some n else None
+
+abbrev pub sum_of : List ℤ → ℤ
+sum_of numbers = fold (λ sum n. sum +ℤ n) (pos 0) numbers
+
+-- the greatest of some numbers; of none it is Null
+abbrev pub greatest_of : List ℤ → Value
+greatest_of [] = null
+greatest_of (n ∷ numbers) = int (fold int_max n numbers)
+
+-- an element with another value; its time, its window and its pane's tag stay
+abbrev pub valued : Element → Value → Element
+valued e v = record e { value = v }
+
+abbrev pub one : Element → Value → List Element
+one e v = valued e v ∷ []
+
+-- the text before the first TAB as the key of what is after it
+abbrev pub keyed_text : List ℕ → Value
+keyed_text text = pair (blob (key_field text).key) (blob (key_field text).part)
+
+-- a function of the part of a pair; the key stays
+abbrev pub on_part : (Value → Option Value) → KeyedValue → Option Value
+on_part change keyed = option_map (pair keyed.key) (change keyed.part)
+
+abbrev pub int_in : Value → Option Value
+int_in part = option_map int (option_and_then int_of (as_blob part))
+
+abbrev pub sum_in : Value → Option Value
+sum_in part = option_map int (option_and_then (λ numbers. in_word (sum_of numbers)) (option_and_then numbers_in (as_seq part)))
+
+abbrev pub count_in : Value → Option Value
+count_in part = option_map (λ items. int (pos (length items))) (as_seq part)
+
+abbrev pub greatest_in : Value → Option Value
+greatest_in part = option_map greatest_of (option_and_then numbers_in (as_seq part))
+
+-- the elements that a value gives where it has the form that the function takes; poison is None
+abbrev pub from_blob : Element → (List ℕ → Option (List Element)) → Option (List Element)
+from_blob e give = option_and_then give (as_blob e.value)
+
+abbrev pub from_pair : Element → (KeyedValue → Option (List Element)) → Option (List Element)
+from_pair e give = option_and_then give (as_pair e.value)
+
+-- a prefix is kept, and anything else left out
+abbrev pub kept_prefix : List ℕ → Element → Option (List ℕ) → List Element
+kept_prefix prefix e (Some text) = if begins_with prefix text then e ∷ [] else []
+kept_prefix prefix e None = []
+
+-- what an element gives, in order; None where it is poison
+abbrev pub emits : FnKind → Args → Element → Option (List Element)
+-- a byte string, split at its first TAB
+emits KeyField args e = from_blob e (λ text. Some (one e (keyed_text text)))
+-- each word of a byte string
+emits Words args e = from_blob e (λ text. Some (map (λ word. valued e (blob word)) (words text)))
+-- the field of this number, counted from 0; poison where there is none
+emits Field args e = from_blob e (λ text. option_map (λ field. one e (blob field)) (slice_get (fields text) (or_zero (number_arg args))))
+-- a byte string that begins so, as it is; nothing of any other value, and no poison
+emits KeepPrefix args e = Some (kept_prefix (text_arg args) e (as_blob e.value))
+-- the number that the part of a pair writes
+emits FieldInt args e = from_pair e (λ keyed. option_map (one e) (on_part int_in keyed))
+emits Swap args e = from_pair e (λ keyed. Some (one e (pair keyed.part keyed.key)))
+-- any value, later
+emits Shift args e = Some (record e { time = later_by (number_arg args) e.time } ∷ [])
+-- of a pair with a sequence: the sum of its numbers, how many items it has, the greatest of its numbers, each item
+emits SumSeq args e = from_pair e (λ keyed. option_map (one e) (on_part sum_in keyed))
+emits CountSeq args e = from_pair e (λ keyed. option_map (one e) (on_part count_in keyed))
+emits MaxSeq args e = from_pair e (λ keyed. option_map (one e) (on_part greatest_in keyed))
+emits Unseq args e = from_pair e (λ keyed. option_map (map (λ item. valued e (pair keyed.key item))) (as_seq keyed.part))
+-- the part of a pair
+emits Values args e = from_pair e (λ keyed. Some (one e keyed.part))

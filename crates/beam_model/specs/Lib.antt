@@ -1,0 +1,15 @@
+pub mod Account
+pub mod Chains
+pub mod Covers
+pub mod Flow
+pub mod Functions
+pub mod Plain
+pub mod Plans
+pub mod Positions
+pub mod Rendering
+pub mod Sessions
+pub mod Spread
+pub mod Steps
+pub mod Texts
+pub mod Values
+pub mod Vectors

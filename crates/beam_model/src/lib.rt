@@ -1,0 +1,6 @@
+//! What pipelines mean, over whole runs: the definitions that every promise of the runner is stated in, and the laws that hold of them.
+//!
+//! `specs/` takes the positions of each whole restriction one after another and filters complete lists; nothing in it knows of pieces, trackers, bundles, retries or indexes. The
+//! product runs none of it. Read `specs/Positions.antt`, `Functions.antt`, `Steps.antt` and `Chains.antt` for what single positions and elements give, then `Spread.antt`,
+//! `Flow.antt`, `Plain.antt`, `Covers.antt`, `Account.antt` and `Rendering.antt` for whole runs. The layer above may rely on these definitions and on the laws in `laws.rt`.
+#![tactic(auto)]
