@@ -1,35 +1,119 @@
 -- The work on a range, one line after another.
-use Rattle.std.proofs.Common.{◌≡◌, ℕ, ℤ, ◌<◌, ◌≤◌, true, List, ◌++◌, map, length, sym, ap, ◌∙◌, append_assoc}
+use Rattle.std.proofs.Common.{Bool, false, ◌||◌, Some, None, subst, if◌then◌else◌, ◌≡◌, ℕ, ℤ, ◌+◌, ◌<◌, ◌≤◌, true, List, [], ◌∷◌, ◌++◌, map, min, length, sym, ap, ◌∙◌, append_assoc, arith, refl}
 use Rattle.std.proofs.lemmas.List.{append-nil}
 use Rattle.std.specs.List.{list_any}
-use Rattle.beam_values.specs.Lines.{spread, next_start}
-use Rattle.beam_values.specs.Panes.{Brought, Came, is_spoiled, brought_at}
-use Rattle.beam_values.specs.declared.element.Element.{Element}
-use Rattle.beam_values.proofs.Spreads.{spread-empty, brought-step, poison_behind, poison_among}
+use Rattle.std.proofs.lemmas.List.Folds.{list_any-append}
+use Rattle.beam_values.specs.Tracking.{Tracked, MayClaim, IsAbove, first_open}
+use Rattle.beam_values.specs.declared.outcome.Entry.{Entry}
+use Rattle.beam_values.specs.declared.value.Value.TheViews.{out-roll-Value}
+use Rattle.beam_values.specs.Lines.{spread, next_start, starts_line, line_at}
+use Rattle.beam_values.specs.Functions.{TimedLine, Timed, Declared, Poison, timed_line}
+use Rattle.beam_values.proofs.Spreads.{spread-empty, spread-join, spread-single, spread-nothing, spread-step, starts_line-between, next_start-above}
+use Rattle.beam_model.specs.Chains.{Brought, Came, Spoiled, chain}
+use Rattle.beam_model.specs.Values.{blob}
+use Rattle.beam_model.specs.Plans.{panes_plan}
+use Rattle.beam_model.specs.Positions.{Emission, line_emission, nothing}
+use Rattle.beam_model.specs.Spread.{brought_by, brought_at, from_source, is_spoiled}
+use Rattle.run_engine.specs.Working.{brought, spread_of, came}
 
-module _ (size : ℤ) (file : List ℕ) where
-  -- after a position, what came and what is left are the same as before it
-  pub came_more : (old new : List Element) (p next to : ℕ) (all : List Brought) → p < to → to ≤ length file → next ≡ next_start file p
-      → map Came new ≡ map Came old ++ brought_at size file p
-      → map Came old ++ spread (brought_at size file) p to ≡ all
-      → map Came new ++ spread (brought_at size file) next to ≡ all
-  came_more old new p next to all inside within is came before =
-      ap (λ t. t ++ spread (brought_at size file) next to) came
-      ∙ append_assoc (map Came old) (brought_at size file p) (spread (brought_at size file) next to)
-      ∙ ap (λ n. map Came old ++ (brought_at size file p ++ spread (brought_at size file) n to)) is
-      ∙ ap (λ t. map Came old ++ t) (sym (brought-step size file p to inside within))
-      ∙ before
+-- the positions of a range bring nothing
+abbrev pub Quiet : {X : Type 0} → (ℕ → List X) → ℕ → ℕ → Type 0
+Quiet at from to = (q : ℕ) → from ≤ q → q < to → at q ≡ []
 
-  -- at the end nothing is left
-  pub came_all : (out : List Element) (p to : ℕ) (all : List Brought) → to ≤ p → map Came out ++ spread (brought_at size file) p to ≡ all → map Came out ≡ all
-  came_all out p to all ended before =
-      sym (append-nil (map Came out)) ∙ ap (λ t. map Came out ++ t) (sym (spread-empty (brought_at size file) p to ended)) ∙ before
+module _ {X : Type 0} (at : ℕ → List X) where
+  -- one more position is worked
+  pub spread_more : (from reached p : ℕ) → from ≤ reached → reached ≤ p → Quiet at reached p → spread at from (p + 1) ≡ spread at from reached ++ at p
+  spread_more from reached p low high quiet =
+      spread-join at from reached (p + 1) low (omega arith)
+      ∙ ap (λ t. spread at from reached ++ t)
+      (spread-join at reached p (p + 1) high (omega arith) ∙ ap (λ t. t ++ spread at p (p + 1)) (spread-nothing at reached p quiet) ∙ spread-single at p)
 
-  -- poison at a position is poison of the range
-  pub poison_of_range : (old initial : List Element) (p to : ℕ) (all : List Brought) → p < to → to ≤ length file
-      → map Came old ++ spread (brought_at size file) p to ≡ map Came initial ++ all
-      → list_any is_spoiled (brought_at size file p) ≡ true → list_any is_spoiled all ≡ true
-  poison_of_range old initial p to all inside within before poison =
-      poison_behind initial all
-      (ap (list_any is_spoiled) (sym before ∙ ap (λ t. map Came old ++ t) (brought-step size file p to inside within))
-      ∙ poison_among (map Came old) (brought_at size file p) (spread (brought_at size file) (next_start file p) to) poison)
+  -- a range whose rest is quiet brings what its front does
+  pub spread_rest : (from reached p to : ℕ) → from ≤ reached → reached ≤ to → to ≤ p → Quiet at reached p → spread at from to ≡ spread at from reached
+  spread_rest from reached p to low within past quiet =
+      spread-join at from reached to low within
+      ∙ ap (λ t. spread at from reached ++ t) (spread-nothing at reached to (λ q above below. quiet q above (omega arith)))
+      ∙ append-nil (spread at from reached)
+
+-- up to the next line start after a position nothing is brought
+pub quiet_behind : (size : ℤ) (file : List ℕ) (p next : ℕ) → next ≡ next_start file p → Quiet (brought size file) (p + 1) next
+quiet_behind size file p next is q above below =
+    ap (λ starts. brought_by (panes_plan [] size) 0 (if starts then line_emission (timed_line (line_at file q)) else nothing))
+    (starts_line-between file p q (omega arith) (omega (arith, is)))
+
+any_or-right : (a b : Bool) → b ≡ true → (a || b) ≡ true
+any_or-right true b holds = refl
+any_or-right false b holds = holds
+
+any_or-left : (a b : Bool) → a ≡ true → (a || b) ≡ true
+any_or-left a b holds = ap (λ x. x || b) holds
+
+-- poison at a position is poison of a range that has it
+pub poison_within : (size : ℤ) (file : List ℕ) (from p to : ℕ) → from ≤ p → p < to → list_any is_spoiled (brought size file p) ≡ true → list_any is_spoiled (spread_of size file from to) ≡ true
+poison_within size file from p to low high poison =
+    let at = brought size file in
+    ap (list_any is_spoiled) (spread-join at from p to low (omega arith) ∙ ap (λ t. spread at from p ++ t) (spread-join at p (p + 1) to (omega arith) (omega arith) ∙ ap (λ t. t ++ spread at (p + 1) to) (spread-single at p)))
+    ∙ list_any-append is_spoiled (spread at from p) (at p ++ spread at (p + 1) to)
+    ∙ any_or-right (list_any is_spoiled (spread at from p)) _
+      (list_any-append is_spoiled (at p) (spread at (p + 1) to) ∙ any_or-left _ (list_any is_spoiled (spread at (p + 1) to)) poison)
+
+-- How far the work on a range has come: what came is what the attempted positions bring, and those up to the next one to claim bring nothing.
+pub record IsWorked (size : ℤ) (file : List ℕ) (before : Tracked) (old new : List Entry) (now : Tracked) (p : ℕ) : Type 0 where
+  pub may : MayClaim now p
+  pub range : now.range ≡ before.range
+  pub arrived : map came new ≡ map came old ++ spread_of size file before.range.from (first_open before.range.from now.attempted)
+  pub quiet : Quiet (brought size file) (first_open before.range.from now.attempted) p
+  pub above : before.range.from ≤ first_open before.range.from now.attempted
+  pub ordered : first_open before.range.from now.attempted ≤ p
+  pub within : first_open before.range.from now.attempted ≤ before.range.to
+
+module _ (size : ℤ) (file : List ℕ) (before : Tracked) (old : List Entry) where
+  -- nothing is worked of a range that nothing was claimed of
+  pub worked_none : (p : ℕ) → before.attempted ≡ None → p ≡ before.range.from → before.range.from ≤ before.range.to → IsWorked size file before old old before p
+  worked_none p unstarted at ends =
+      let first : first_open before.range.from before.attempted ≡ before.range.from = ap (first_open before.range.from) unstarted in
+      record {
+        may = record { from_start = omega arith; ascending = subst (λ attempted. IsAbove attempted p) (sym unstarted) tt };
+        range = refl;
+        arrived = sym (ap (λ t. map came old ++ t) (spread-empty (brought size file) before.range.from (first_open before.range.from before.attempted) (omega arith)) ∙ append-nil _);
+        quiet = λ q above below. absurd (omega arith);
+        above = omega arith;
+        ordered = omega arith;
+        within = omega arith;
+      }
+
+  -- one more position is claimed and worked
+  pub worked_more : (mid new : List Entry) (now claimed : Tracked) (p next : ℕ) → IsWorked size file before old mid now p → p < before.range.to → before.range.to ≤ length file
+      → claimed ≡ record { range = now.range; attempted = Some p } → next ≡ next_start file p
+      → map came new ≡ map came mid ++ brought size file p
+      → IsWorked size file before old new claimed next
+  worked_more mid new now claimed p next known inside in_file is next_is more =
+      let from = before.range.from in
+      let first : first_open from claimed.attempted ≡ p + 1 = ap (λ (t : Tracked). first_open from t.attempted) is in
+      let rises : p < next = omega (arith, next_start-above file p (omega arith), next_is) in
+      let start = known.may.from_start in
+      record {
+        may = subst (λ (t : Tracked). MayClaim t next) (sym is) (record { from_start = omega arith; ascending = rises });
+        range = ap (λ (t : Tracked). t.range) is ∙ known.range;
+        arrived =
+          more ∙ ap (λ t. t ++ brought size file p) known.arrived
+          ∙ append_assoc (map came old) (spread_of size file from (first_open from now.attempted)) (brought size file p)
+          ∙ ap (λ t. map came old ++ t) (sym (spread_more (brought size file) from (first_open from now.attempted) p known.above known.ordered known.quiet))
+          ∙ ap (λ end. map came old ++ spread_of size file from end) (sym first);
+        quiet = λ q above below. quiet_behind size file p next next_is q (omega arith) below;
+        above = omega (arith, known.above, known.ordered);
+        ordered = omega arith;
+        within = omega arith;
+      }
+
+  -- where a claim is refused, the whole range is worked
+  pub worked_whole : (new : List Entry) (now claimed : Tracked) (p : ℕ) → IsWorked size file before old new now p → before.range.to ≤ p
+      → claimed ≡ record { range = now.range; attempted = Some p }
+      → map came new ≡ map came old ++ spread_of size file before.range.from (min (first_open before.range.from claimed.attempted) before.range.to)
+  worked_whole new now claimed p known past is =
+      let from = before.range.from in
+      let to = before.range.to in
+      let first : min (first_open from claimed.attempted) to ≡ to = ap (λ (t : Tracked). min (first_open from t.attempted) to) is ∙ omega arith in
+      known.arrived
+      ∙ ap (λ t. map came old ++ t) (sym (spread_rest (brought size file) from (first_open from now.attempted) p to known.above known.within past known.quiet))
+      ∙ ap (λ end. map came old ++ spread_of size file from end) (sym first)

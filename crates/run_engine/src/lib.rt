@@ -2,14 +2,12 @@
 //! grouping, and writing the whole text.
 #![tactic(auto)]
 
-mod panes;
 mod positions;
 mod reading;
 mod status;
 mod writing;
 
-pub use panes::panes_text;
-pub use positions::{WorkRefusal, work_range};
+pub use positions::{WorkRefusal, work_bundle};
 pub use reading::{ReadRefusal, read_whole};
 pub use status::{RunEnd, Status};
 pub use writing::put;

@@ -1,16 +1,17 @@
-ghost use Rattle.std.specs.Prelude.{◌≡◌, ◌≤◌, ◌<◌, ◌++◌, ℕ, ◌≤ℤ◌, pos, List, [], ◌∷◌, length, map, None, true, OnOk, IfOk, IsErrOf};
+ghost use Rattle.std.specs.Prelude.{◌≡◌, ◌≤◌, ◌<◌, ◌+◌, ◌++◌, ◌⊎◌, ℕ, ◌≤ℤ◌, pos, List, [], ◌∷◌, length, map, min, None, true, IsTrue, ◌↔◌, OnOk, IfOk, IsErrOf};
 ghost use Rattle.std.specs.List.{list_any};
-ghost use Rattle.beam_values.specs.Lines.{starts_line, next_start, spread};
-ghost use Rattle.beam_values.specs.Panes.{Came, brought_at, keyed_element, is_spoiled};
-ghost use Rattle.beam_values.specs.Tracking.{IsDone};
+ghost use Rattle.beam_values.specs.Lines.{starts_line, next_start};
+ghost use Rattle.beam_values.specs.Tracking.{first_open};
+ghost use Rattle.beam_model.specs.Spread.{is_spoiled};
+ghost use Rattle.run_engine.specs.Working.{brought, spread_of, came, panes_element};
 
 use beam_lines::{TimedLine, first_line, key_field, timed_line};
-use beam_values::{Boxed, Bytes, Element, List, NoMemory, PaneTag, Time, Timing, Value};
+use beam_values::{Boxed, Bytes, Element, Entry, List, NoMemory, PaneTag, Time, Timing, Value};
 use offset_tracker::Tracker;
 use std::alloc::Global;
 use windowing::fixed_window;
 
-/// Why the positions of a range were not worked to its end.
+/// Why a range was not worked to the end of its bundle.
 #[derive(Clone, Copy, Debug, PartialEq, Eq)]
 pub enum WorkRefusal {
     /// A line is no timed line.
@@ -28,58 +29,98 @@ impl From<NoMemory> for WorkRefusal {
     }
 }
 
-/// Claims the positions of a tracker that nothing was claimed of, one line start after another, and
-/// adds the elements that they bring, split at the first TAB and in fixed windows of `size` ms.
-pub fn work_range(
+/// Claims and works the positions of a tracker that nothing was claimed of, one line start after
+/// another, until a claim is refused or `bundle` of them emitted an element. What they bring is added
+/// as entries of this commit.
+pub fn work_bundle(
     alloc: Global,
     size: i64,
     file: &[u8],
+    bundle: u32,
+    commit: u32,
     tracker: &mut Tracker,
-    out: &mut List<Element>,
+    out: &mut List<Entry>,
 ) -> Result<(), WorkRefusal>
     requires low { pos 1 ≤ℤ size }
     requires high { size ≤ℤ pos 31536000000000 }
+    requires some { 1 ≤ bundle }
     requires unstarted { tracker.old.attempted ≡ None }
     requires in_file { tracker.old.range.to ≤ length file.now }
-    ensures came { OnOk result (map Came out.new ≡ map Came out.old ++ spread (brought_at size file.now) tracker.old.range.from tracker.old.range.to) }
-    ensures done { OnOk result (IsDone tracker.new) }
+    // What came is what the positions up to the last attempted one bring.
+    ensures came { OnOk result (map came out.new ≡ map came out.old
+        ++ spread_of size file.now tracker.old.range.from (min (first_open tracker.old.range.from tracker.new.attempted) tracker.old.range.to)) }
+    ensures some { OnOk result (tracker.old.range.from < first_open tracker.old.range.from tracker.new.attempted) }
     ensures range { tracker.new.range ≡ tracker.old.range }
-    ensures poison { IsErrOf result WorkRefusal.Poison → list_any is_spoiled (spread (brought_at size file.now) tracker.old.range.from tracker.old.range.to) ≡ true }
+    ensures poison { IsErrOf result WorkRefusal.Poison
+        → list_any is_spoiled (spread_of size file.now tracker.old.range.from tracker.old.range.to) ≡ true }
 {
     let mut p = tracker.range().from();
-    'lines: while tracker.try_claim(p) {
-        match work_position(alloc, size, file, p as usize, out) {
-            Ok(next) => p = next as u64,
+    let mut emitted = 0;
+    'lines: while emitted < bundle && tracker.try_claim(p) {
+        match work_position(alloc, size, file, p as usize, commit, out) {
+            Ok(step) => {
+                p = step.next as u64;
+                if step.emitted {
+                    emitted += 1;
+                }
+            }
             Err(refusal) => return Err(refusal),
         }
     }
     Ok(())
 }
 
-// Works one position, and answers the next line start.
+// The position to claim next, and whether the one that was worked emitted an element.
+#[derive(Clone, Copy)]
+struct Step {
+    next: usize,
+    emitted: bool,
+}
+
+// Works one position.
 fn work_position(
     alloc: Global,
     size: i64,
     file: &[u8],
     p: usize,
-    out: &mut List<Element>,
-) -> Result<usize, WorkRefusal>
+    commit: u32,
+    out: &mut List<Entry>,
+) -> Result<Step, WorkRefusal>
     requires low { pos 1 ≤ℤ size }
     requires high { size ≤ℤ pos 31536000000000 }
     requires in_file { p < length file.now }
-    ensures came { OnOk result (map Came out.new ≡ map Came out.old ++ brought_at size file.now p) }
-    ensures next { IfOk result (λ next. next ≡ next_start file.now p) }
-    ensures poison { IsErrOf result WorkRefusal.Poison → list_any is_spoiled (brought_at size file.now p) ≡ true }
+    ensures came { OnOk result (map came out.new ≡ map came out.old ++ brought size file.now p) }
+    ensures next { IfOk result (λ step. step.next ≡ next_start file.now p) }
+    ensures emitted { IfOk result (λ step. IsTrue step.emitted ↔ (0 < length (brought size file.now p))) }
+    ensures poison { IsErrOf result WorkRefusal.Poison → list_any is_spoiled (brought size file.now p) ≡ true }
 {
     let line = first_line(file.split_at(p).1);
-    if starts_line(file, p) {
-        match timed_line(line.text) {
-            TimedLine::Timed(time, text) => out.push(keyed_element(alloc, size, time, text)?)?,
-            TimedLine::Declared(_) => {}
-            TimedLine::Poison => return Err(WorkRefusal::Poison),
-        }
+    let next = p + line.next;
+    if !starts_line(file, p) {
+        return Ok(Step {
+            next,
+            emitted: false,
+        });
     }
-    Ok(p + line.next)
+    match timed_line(line.text) {
+        TimedLine::Timed(time, text) => {
+            let element = keyed_element(alloc, size, time, text)?;
+            out.push(Entry {
+                element,
+                commit,
+                shown: false,
+            })?;
+            Ok(Step {
+                next,
+                emitted: true,
+            })
+        }
+        TimedLine::Declared(_) => Ok(Step {
+            next,
+            emitted: false,
+        }),
+        TimedLine::Poison => Err(WorkRefusal::Poison),
+    }
 }
 
 fn starts_line(file: &[u8], p: usize) -> bool
@@ -89,10 +130,11 @@ fn starts_line(file: &[u8], p: usize) -> bool
     p == 0 || file[p - 1] == b'\n'
 }
 
+// A timed text split at its first TAB, in the fixed window of its time.
 fn keyed_element(alloc: Global, size: i64, time: Time, text: &[u8]) -> Result<Element, NoMemory>
     requires low { pos 1 ≤ℤ size }
     requires high { size ≤ℤ pos 31536000000000 }
-    ensures { IfOk result (λ e. e ≡ keyed_element size time text.now) }
+    ensures { IfOk result (λ e. e ≡ panes_element size time text.now) }
 {
     let (key, part) = key_field(text);
     let key = Boxed::new(alloc, Value::Blob(Bytes::from_slice(alloc, key)?))?;
