@@ -94,3 +94,15 @@ pub record IsPlainRun (plan : Plan) (items : List SourceItem) (arrivals panes : 
 abbrev pub IsPlainAt : Plan → List SourceItem → ℕ → List Element → Type 0
 IsPlainAt plan items node elements =
     (arrivals : List Arrival) × (panes : List Arrival) × IsPlainRun plan items arrivals panes × IsSameBag elements (elements_at node arrivals)
+
+abbrev pub is_write_kind : NodeKind → Bool
+is_write_kind (Write label) = true
+is_write_kind _ = false
+
+abbrev pub is_write : Plan → ℕ → Bool
+is_write plan node = unwrap_or (option_map (λ n. is_write_kind n.kind) (slice_get plan.nodes node)) false
+
+-- what was written at each Write with no Stateful node above it is what plain grouping brings there
+abbrev pub IsPlainlyWritten : Plan → List SourceItem → List Arrival → Type 0
+IsPlainlyWritten plan items written =
+    (node : ℕ) → is_write plan node ≡ true → is_stateful plan node ≡ false → IsPlainAt plan items node (elements_at node written)

@@ -55,7 +55,7 @@ poison_within size file from p to low high poison =
     ap (list_any is_spoiled) (spread-join at from p to low (omega arith) ∙ ap (λ t. spread at from p ++ t) (spread-join at p (p + 1) to (omega arith) (omega arith) ∙ ap (λ t. t ++ spread at (p + 1) to) (spread-single at p)))
     ∙ list_any-append is_spoiled (spread at from p) (at p ++ spread at (p + 1) to)
     ∙ any_or-right (list_any is_spoiled (spread at from p)) _
-      (list_any-append is_spoiled (at p) (spread at (p + 1) to) ∙ any_or-left _ (list_any is_spoiled (spread at (p + 1) to)) poison)
+    (list_any-append is_spoiled (at p) (spread at (p + 1) to) ∙ any_or-left _ (list_any is_spoiled (spread at (p + 1) to)) poison)
 
 -- How far the work on a range has come: what came is what the attempted positions bring, and those up to the next one to claim bring nothing.
 pub record IsWorked (size : ℤ) (file : List ℕ) (before : Tracked) (old new : List Entry) (now : Tracked) (p : ℕ) : Type 0 where
@@ -96,10 +96,10 @@ module _ (size : ℤ) (file : List ℕ) (before : Tracked) (old : List Entry) wh
         may = subst (λ (t : Tracked). MayClaim t next) (sym is) (record { from_start = omega arith; ascending = rises });
         range = ap (λ (t : Tracked). t.range) is ∙ known.range;
         arrived =
-          more ∙ ap (λ t. t ++ brought size file p) known.arrived
-          ∙ append_assoc (map came old) (spread_of size file from (first_open from now.attempted)) (brought size file p)
-          ∙ ap (λ t. map came old ++ t) (sym (spread_more (brought size file) from (first_open from now.attempted) p known.above known.ordered known.quiet))
-          ∙ ap (λ end. map came old ++ spread_of size file from end) (sym first);
+            more ∙ ap (λ t. t ++ brought size file p) known.arrived
+            ∙ append_assoc (map came old) (spread_of size file from (first_open from now.attempted)) (brought size file p)
+            ∙ ap (λ t. map came old ++ t) (sym (spread_more (brought size file) from (first_open from now.attempted) p known.above known.ordered known.quiet))
+            ∙ ap (λ end. map came old ++ spread_of size file from end) (sym first);
         quiet = λ q above below. quiet_behind size file p next next_is q (omega arith) below;
         above = omega (arith, known.above, known.ordered);
         ordered = omega arith;

@@ -1,2 +1,3 @@
+pub mod PanesRun
 pub mod Statuses
 pub mod Working

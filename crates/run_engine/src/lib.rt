@@ -2,11 +2,13 @@
 //! grouping, and writing the whole text.
 #![tactic(auto)]
 
+mod plan;
 mod positions;
 mod reading;
 mod status;
 mod writing;
 
+pub use plan::panes_plan;
 pub use positions::{WorkRefusal, work_bundle};
 pub use reading::{ReadRefusal, read_whole};
 pub use status::{RunEnd, Status};

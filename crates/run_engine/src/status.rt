@@ -1,7 +1,7 @@
 ghost use Rattle.std.specs.Prelude.{◌≡◌};
 ghost use Rattle.run_engine.specs.Statuses.{number_of};
 
-use beam_values::{Bytes, FaultNote};
+use beam_values::{Bytes, FaultNote, Outcome};
 
 /// What a command came to.
 #[derive(Debug, Drop)]
@@ -43,4 +43,6 @@ impl Status {
 #[derive(Debug, Drop)]
 pub struct RunEnd {
     pub status: Status,
+    /// What was committed; `None` where no run came to its end.
+    pub outcome: Option<Outcome>,
 }

@@ -1,0 +1,140 @@
+-- What a worked file comes to: the account, and plain grouping.
+use Rattle.std.proofs.Common.{◌==◌, ◌≡◌, ℕ, zero, suc, ℤ, Bool, true, false, Option, Some, None, List, [], ◌∷◌, ◌++◌, map, refl, sym, ap, subst, ◌∙◌, append_assoc, arith, eq-eqb}
+use Rattle.std.specs.List.{All, AllByRecursion, flat_map, filter}
+use Rattle.std.proofs.lemmas.List.{append-nil, map-append}
+use Rattle.std.proofs.lemmas.List.Elements.{filter-append, recursion_from_All, All-from_recursion}
+use Rattle.std.proofs.lemmas.List.Folds.{flat_map-map}
+use Rattle.std.proofs.lemmas.Bool.{false≢true}
+use Rattle.std.proofs.lemmas.Simd.{map-map}
+use Rattle.beam_values.specs.Bags.{IsSameBag}
+use Rattle.beam_values.specs.Grouping.{IsPlainGrouping}
+use Rattle.beam_values.proofs.Bags.{bag_trans, bag_sym, bag_append, bag_map, bag_from_same, bag_refl}
+use Rattle.beam_values.specs.declared.element.Element.{Element}
+use Rattle.beam_values.specs.declared.outcome.Arrival.{Arrival}
+use Rattle.beam_values.specs.declared.outcome.Cell.{Cell}
+use Rattle.beam_values.specs.declared.outcome.Entry.{Entry}
+use Rattle.beam_values.specs.declared.outcome.Outcome.{Outcome}
+use Rattle.beam_values.specs.declared.outcome.Pane.{Pane}
+use Rattle.beam_model.specs.Account.{cell_arrivals, arrivals, IsAccounted}
+use Rattle.beam_model.specs.Chains.{Brought, Came, chain}
+use Rattle.beam_model.specs.Flow.{elements_at, is_at, flow, pane_chains, log_chains}
+use Rattle.beam_model.specs.Plain.{IsPlainlyWritten, IsPlainRun, IsPlainAt, IsPlainGroup, IsGroupedBy, is_group, is_write, is_stateful, strategy_of, plain_flow}
+use Rattle.beam_model.specs.Plans.{panes_plan}
+use Rattle.beam_model.specs.Spread.{spread_all}
+use Rattle.run_engine.specs.Working.{panes_item, came}
+
+-- an entry of the Group as it arrived; a pane as it was written, and as it left the Group
+abbrev pub arrival : Entry → Arrival
+arrival entry = record { node = 3; element = entry.element }
+
+abbrev pub written_of : Pane → Arrival
+written_of pane = record { node = 4; element = pane.element }
+
+abbrev pub grouped_of : Pane → Arrival
+grouped_of pane = record { node = 3; element = pane.element }
+
+-- what leaves the Group is written
+pub chain-group : (name : List ℕ) (size : ℤ) (e : Element) → chain (panes_plan name size) 3 e ≡ Came (record { node = 4; element = e }) ∷ []
+chain-group name size e = refl
+
+-- the nodes of the plan that are Groups, and those that are Writes
+pub group-is-3 : (name : List ℕ) (size : ℤ) (node : ℕ) → is_group (panes_plan name size) node ≡ true → node ≡ 3
+group-is-3 name size zero is = absurd (false≢true is)
+group-is-3 name size (suc zero) is = absurd (false≢true is)
+group-is-3 name size (suc (suc zero)) is = absurd (false≢true is)
+group-is-3 name size (suc (suc (suc zero))) is = refl
+group-is-3 name size (suc (suc (suc (suc zero)))) is = absurd (false≢true is)
+group-is-3 name size (suc (suc (suc (suc (suc n))))) is = absurd (false≢true is)
+
+pub write-is-4 : (name : List ℕ) (size : ℤ) (node : ℕ) → is_write (panes_plan name size) node ≡ true → node ≡ 4
+write-is-4 name size zero is = absurd (false≢true is)
+write-is-4 name size (suc zero) is = absurd (false≢true is)
+write-is-4 name size (suc (suc zero)) is = absurd (false≢true is)
+write-is-4 name size (suc (suc (suc zero))) is = absurd (false≢true is)
+write-is-4 name size (suc (suc (suc (suc zero)))) is = refl
+write-is-4 name size (suc (suc (suc (suc (suc n))))) is = absurd (false≢true is)
+
+pub group-is-plain : (name : List ℕ) (size : ℤ) → IsPlainGroup (panes_plan name size) 3
+group-is-plain name size = (refl, refl)
+
+pub grouped-by : (name : List ℕ) (size : ℤ) (elements panes : List Element) → IsPlainGrouping elements panes → IsGroupedBy (strategy_of (panes_plan name size) 3) elements panes
+grouped-by name size elements panes is = is
+
+-- elements of one node stand there, and not at another
+at-same : {X : Type 0} (n : ℕ) (e : X → Element) (xs : List X) → elements_at n (map (λ x. record { node = n; element = e x }) xs) ≡ map e xs
+at-same n e [] = refl
+at-same n e (x ∷ xs) =
+    let same : (n == n) ≡ true = eq-eqb n n refl in
+    rw same (ap (λ t. e x ∷ t) (at-same n e xs))
+
+at-other : {X : Type 0} (n m : ℕ) (e : X → Element) (xs : List X) → (m == n) ≡ false → elements_at n (map (λ x. record { node = m; element = e x }) xs) ≡ []
+at-other n m e [] other = refl
+at-other n m e (x ∷ xs) other = rw other (at-other n m e xs other)
+
+at-append : (n : ℕ) (xs ys : List Arrival) → elements_at n (xs ++ ys) ≡ elements_at n xs ++ elements_at n ys
+at-append n xs ys = ap (map (λ (a : Arrival). a.element)) (filter-append (is_at n) xs ys) ∙ map-append (λ (a : Arrival). a.element) (filter (is_at n) xs) (filter (is_at n) ys)
+
+-- panes of the Group are written
+pub chains-of-panes : (name : List ℕ) (size : ℤ) (panes : List Pane) → AllByRecursion (λ pane. pane.node ≡ 3) panes → pane_chains (panes_plan name size) panes ≡ map Came (map written_of panes)
+chains-of-panes name size [] all = refl
+chains-of-panes name size (pane ∷ panes) all =
+    ap (λ n. chain (panes_plan name size) n pane.element ++ pane_chains (panes_plan name size) panes) all.0
+    ∙ ap (λ t. Came (written_of pane) ∷ t) (chains-of-panes name size panes all.1)
+
+chains-of-grouped : (name : List ℕ) (size : ℤ) (panes : List Pane) → flat_map (λ (pane : Arrival). chain (panes_plan name size) pane.node pane.element) (map grouped_of panes) ≡ map Came (map written_of panes)
+chains-of-grouped name size [] = refl
+chains-of-grouped name size (pane ∷ panes) = ap (λ t. Came (written_of pane) ∷ t) (chains-of-grouped name size panes)
+
+from-groups : (name : List ℕ) (size : ℤ) (panes : List Pane) → AllByRecursion (λ (pane : Arrival). IsPlainGroup (panes_plan name size) pane.node) (map grouped_of panes)
+from-groups name size [] = tt
+from-groups name size (pane ∷ panes) = ((refl, refl), from-groups name size panes)
+
+-- what came to the Group, and to the Write
+came-to-group : (entries : List Entry) (panes : List Pane) → elements_at 3 (map arrival entries ++ map written_of panes) ≡ map (λ (entry : Entry). entry.element) entries
+came-to-group entries panes =
+    at-append 3 (map arrival entries) (map written_of panes)
+    ∙ ap (λ t. t ++ elements_at 3 (map written_of panes)) (at-same 3 (λ (entry : Entry). entry.element) entries)
+    ∙ ap (λ t. map (λ (entry : Entry). entry.element) entries ++ t) (at-other 3 4 (λ (pane : Pane). pane.element) panes refl)
+    ∙ append-nil _
+
+came-to-write : (entries : List Entry) (panes : List Pane) → elements_at 4 (map written_of panes) ≡ elements_at 4 (map arrival entries ++ map written_of panes)
+came-to-write entries panes =
+    sym (at-append 4 (map arrival entries) (map written_of panes)
+      ∙ ap (λ t. t ++ elements_at 4 (map written_of panes)) (at-other 4 3 (λ (entry : Entry). entry.element) entries refl))
+
+module _ (name : List ℕ) (size : ℤ) (file : List ℕ) (entries : List Entry) (panes : List Pane) (ours : AllByRecursion (λ pane. pane.node ≡ 3) panes)
+    (came_all : IsSameBag (map came entries) (spread_all (panes_plan name size) (panes_item file ∷ []))) where
+  -- all that is brought to the Group and the Write came, and nothing of it is poison
+  clean : IsSameBag (spread_all (panes_plan name size) (panes_item file ∷ []) ++ map Came (map written_of panes)) (map Came (map arrival entries ++ map written_of panes))
+  clean =
+      bag_trans _ _ _
+      (bag_append _ _ _ _ (bag_trans _ _ _ (bag_sym _ _ came_all) (bag_from_same _ _ (sym (map-map Came arrival entries)))) (bag_refl (map Came (map written_of panes))))
+      (bag_from_same _ _ (sym (map-append Came (map arrival entries) (map written_of panes))))
+
+  -- what came to the Group in cells, and what was written, is all that flows
+  pub accounted : (cells : List Cell) → IsSameBag (flat_map cell_arrivals cells) (map arrival entries)
+      → IsSameBag (flow (panes_plan name size) (panes_item file ∷ []) panes []) (map Came (flat_map cell_arrivals cells ++ ([] ++ ([] ++ map written_of panes))))
+  accounted cells held =
+      bag_trans _ _ _
+      (bag_from_same _ _ (ap (λ t. spread_all (panes_plan name size) (panes_item file ∷ []) ++ t) (append-nil _ ∙ chains-of-panes name size panes ours)))
+      (bag_trans _ _ _ clean (bag_map Came _ _ (bag_append _ _ _ _ (bag_sym _ _ held) (bag_refl (map written_of panes)))))
+
+  -- the Write took what plain grouping brings there
+  pub plainly : IsPlainGrouping (map (λ (entry : Entry). entry.element) entries) (map (λ (pane : Pane). pane.element) panes)
+      → IsPlainlyWritten (panes_plan name size) (panes_item file ∷ []) (map written_of panes)
+  plainly grouping node is_write_node plain_node = (map arrival entries ++ map written_of panes, map grouped_of panes, run, at_write)
+    where
+      run : IsPlainRun (panes_plan name size) (panes_item file ∷ []) (map arrival entries ++ map written_of panes) (map grouped_of panes)
+      run = record {
+        clean = bag_trans _ _ _ (bag_from_same _ _ (ap (λ t. spread_all (panes_plan name size) (panes_item file ∷ []) ++ t) (chains-of-grouped name size panes))) clean;
+        from_groups = All-from_recursion _ _ (from-groups name size panes);
+        grouped = λ n is.
+            let A = map arrival entries ++ map written_of panes in
+            let P = map grouped_of panes in
+            let at : IsPlainGrouping (elements_at 3 A) (elements_at 3 P) =
+              subst (λ es. IsPlainGrouping es (elements_at 3 P)) (sym (came-to-group entries panes))
+              (subst (λ ps. IsPlainGrouping (map (λ (entry : Entry). entry.element) entries) ps) (sym (at-same 3 (λ (pane : Pane). pane.element) panes)) grouping) in
+            subst (λ m. IsGroupedBy (strategy_of (panes_plan name size) m) (elements_at m A) (elements_at m P)) (sym (group-is-3 name size n is.0)) at;
+      }
+      at_write : IsSameBag (elements_at node (map written_of panes)) (elements_at node (map arrival entries ++ map written_of panes))
+      at_write = bag_from_same _ _ (subst (λ m. elements_at m (map written_of panes) ≡ elements_at m (map arrival entries ++ map written_of panes)) (sym (write-is-4 name size node is_write_node)) (came-to-write entries panes))
