@@ -1,14 +1,21 @@
 -- Coverings: ranges that hold each offset as often as a whole does bring together what the whole brings.
-use Rattle.std.proofs.Common.{◌≡◌, ℕ, zero, suc, ◌+◌, ◌*◌, ◌<◌, ◌≤◌, min, ◌⊎◌, inl, inr, List, [], ◌∷◌, ◌++◌, refl, sym, ap, ap₂, subst, ◌∙◌, arith}
-use Rattle.std.proofs.lemmas.Bool.{cases_lt}
+use Rattle.std.proofs.Common.{◌≡◌, ℕ, zero, suc, ◌+◌, ◌*◌, ◌<◌, ◌≤◌, min, ◌==◌, Bool, true, ◌&&◌, if◌then◌else◌, ◌⊎◌, inl, inr, List, [], ◌∷◌, ◌++◌, map, refl, sym, ap, ap₂, subst, ◌∙◌, append-nil, zero-add, arith}
+use Rattle.std.proofs.lemmas.Bool.{cases_lt, eq-eqb, and_from}
 use Rattle.std.proofs.lemmas.Bool.Decides.{nat_tests}
 use Rattle.std.proofs.lemmas.List.Sums.{sum_by-cons, sum_by-append}
-use Rattle.std.specs.List.{sum_by, flat_map}
+use Rattle.std.proofs.lemmas.List.Elements.{All-head, All-tail}
+use Rattle.std.specs.List.{All, sum_by, filter, flat_map}
 use Rattle.beam_values.specs.Bags.{IsSameBag}
+use Rattle.beam_values.specs.Cover.{Place, times_at, times_done, whole, times_listed}
 use Rattle.beam_values.specs.Intervals.{Offsets, times_in}
 use Rattle.beam_values.specs.Lines.{spread}
-use Rattle.beam_values.proofs.Bags.{sum_by-flat_map}
+use Rattle.beam_values.specs.declared.outcome.Done.{Done}
+use Rattle.beam_values.specs.declared.plan.Plan.{Plan}
+use Rattle.beam_values.proofs.Bags.{sum_by-map, sum_by-flat_map, sum_by-filter}
 use Rattle.beam_values.proofs.Spreads.{spread-empty, spread-join, spread-single}
+use Rattle.beam_model.specs.Chains.{Brought}
+use Rattle.beam_model.specs.Positions.{SourceItem, item_len}
+use Rattle.beam_model.specs.Spread.{brought_at, spread_range, spread_all}
 
 times_in-inside : (r : Offsets) (p : ℕ) → r.from ≤ p → p < r.to → times_in r p ≡ 1
 times_in-inside r p low high = grind (arith, nat_tests)
@@ -18,6 +25,12 @@ times_in-before r p before = grind (arith, nat_tests)
 
 times_in-behind : (r : Offsets) (p : ℕ) → r.to ≤ p → times_in r p ≡ 0
 times_in-behind r p behind = grind (arith, nat_tests)
+
+-- sums whose terms are the same at each element that P holds of
+sum_by-same : {X : Type 0} (P : X → Type 0) (f g : X → ℕ) → ((x : X) → P x → f x ≡ g x) → (xs : List X) → All P xs → sum_by f xs ≡ sum_by g xs
+sum_by-same P f g same [] all = refl
+sum_by-same P f g same (x ∷ xs) all =
+    sum_by-cons f x xs ∙ ap₂ (λ s t. s + t) (same x (All-head P x xs all)) (sum_by-same P f g same xs (All-tail P x xs all)) ∙ sym (sum_by-cons g x xs)
 
 sum_by-nothing : {X : Type 0} (f : X → ℕ) → ((x : X) → f x ≡ 0) → (xs : List X) → sum_by f xs ≡ 0
 sum_by-nothing f none [] = refl
@@ -52,10 +65,13 @@ module _ {X : Type 0} (at : ℕ → List X) (w : X → ℕ) where
     where
       rest : ℕ
       rest = sum_by w (at n)
+
       unheld : times_in r n ≡ 0 → below (suc n) r ≡ below n r → below (suc n) r ≡ below n r + times_in r n * rest
       unheld none same = same ∙ (omega arith) ∙ ap (λ k. below n r + k * rest) (sym none)
+
       held : times_in r n ≡ 1 → below (suc n) r ≡ below n r + rest → below (suc n) r ≡ below n r + times_in r n * rest
       held one more = more ∙ (omega arith) ∙ ap (λ k. below n r + k * rest) (sym one)
+
       in_case : (n < r.from) ⊎ (r.from ≤ n) → (n < r.to) ⊎ (r.to ≤ n) → below (suc n) r ≡ below n r + times_in r n * rest
       in_case (inl before) _ =
           unheld (times_in-before r n before) (weight-empty r.from (min r.to (suc n)) (omega arith) ∙ sym (weight-empty r.from (min r.to n) (omega arith)))
@@ -98,3 +114,53 @@ pub covering_spreads : {X : Type 0} (at : ℕ → List X) (ranges : List Offsets
 covering_spreads at ranges len covers = record {
   weighs = λ w. sum_by-flat_map w (λ r. spread at r.from r.to) ranges ∙ covering_weight at w ranges (record { from = 0; to = len }) covers;
 }
+
+abbrev place : SourceItem → ℕ → Place
+place item p = record { node = item.node; item = item.item; offset = p }
+
+abbrev is_of : SourceItem → Done → Bool
+is_of item d = d.node == item.node && d.item == item.item
+
+abbrev IsOf : SourceItem → Done → Type 0
+IsOf item d = (d.node ≡ item.node) × (d.item ≡ item.item)
+
+is_of-true : (item : SourceItem) (d : Done) → IsOf item d → is_of item d ≡ true
+is_of-true item d of = and_from _ _ (eq-eqb d.node item.node of.0) (eq-eqb d.item item.item of.1)
+
+times_at-own : (item : SourceItem) (r : Offsets) (p : ℕ) → times_at item.node item.item r (place item p) ≡ times_in r p
+times_at-own item r p = ap (λ own. if own then times_in r p else 0) (and_from _ _ (eq-eqb item.node item.node refl) (eq-eqb item.item item.item refl))
+
+abbrev ranges_of : SourceItem → List Done → List Offsets
+ranges_of item dones = map (λ d. d.range) (filter (is_of item) dones)
+
+module _ (plan : Plan) (w : Brought → ℕ) where
+  -- what a range of an item weighs
+  abbrev worked : SourceItem → Offsets → ℕ
+  worked item r = sum_by w (spread_range plan item r.from r.to)
+
+  -- an item weighs what the ranges of it do, where they hold each of its offsets once
+  item_covered : (item : SourceItem) (dones : List Done) → ((p : ℕ) → times_done dones (place item p) ≡ times_in (whole item.len) p)
+      → sum_by (λ d. if is_of item d then worked item d.range else 0) dones ≡ worked item (whole item.len)
+  item_covered item dones covers =
+      sym (over_ranges (worked item)) ∙ covering_weight (brought_at plan item) w (ranges_of item dones) (whole item.len) (λ p. over_ranges (λ r. times_in r p) ∙ covers p)
+    where
+      over_ranges : (f : Offsets → ℕ) → sum_by f (ranges_of item dones) ≡ sum_by (λ d. if is_of item d then f d.range else 0) dones
+      over_ranges f = sum_by-map f (λ d. d.range) (filter (is_of item) dones) ∙ sum_by-filter (λ d. f d.range) (is_of item) dones
+
+-- ranges of one item that cover it bring what it brings
+pub covering_one : (plan : Plan) (item : SourceItem) (dones : List Done)
+    → All (λ d. (d.node ≡ item.node) × (d.item ≡ item.item)) dones
+    → ((place : Place) → times_done dones place ≡ times_listed (item_len item ∷ []) place)
+    → IsSameBag (flat_map (λ d. spread_range plan item d.range.from d.range.to) dones) (spread_all plan (item ∷ []))
+covering_one plan item dones of covers = record { weighs = weighs }
+  where
+    covers_item : (p : ℕ) → times_done dones (place item p) ≡ times_in (whole item.len) p
+    covers_item p = covers (place item p) ∙ zero-add _ ∙ times_at-own item (whole item.len) p
+
+    weighs : (w : Brought → ℕ) → sum_by w (flat_map (λ d. spread_range plan item d.range.from d.range.to) dones) ≡ sum_by w (spread_all plan (item ∷ []))
+    weighs w =
+        sum_by-flat_map w (λ d. spread_range plan item d.range.from d.range.to) dones
+        ∙ sum_by-same (IsOf item) (λ d. worked plan w item d.range) (λ d. if is_of item d then worked plan w item d.range else 0)
+        (λ d own. ap (λ b. if b then worked plan w item d.range else 0) (sym (is_of-true item d own))) dones of
+        ∙ item_covered plan w item dones covers_item
+        ∙ ap (sum_by w) (sym (append-nil (spread_range plan item 0 item.len)))
