@@ -1,5 +1,6 @@
 pub mod Account
 pub mod Chains
+pub mod Coverings
 pub mod Covers
 pub mod Flow
 pub mod Functions

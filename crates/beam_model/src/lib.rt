@@ -4,3 +4,5 @@
 //! product runs none of it. Read `specs/Positions.antt`, `Functions.antt`, `Steps.antt` and `Chains.antt` for what single positions and elements give, then `Spread.antt`,
 //! `Flow.antt`, `Plain.antt`, `Covers.antt`, `Account.antt` and `Rendering.antt` for whole runs. The layer above may rely on these definitions and on the laws in `laws.rt`.
 #![tactic(auto)]
+
+pub mod covering_laws;
