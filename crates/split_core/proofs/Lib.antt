@@ -1,0 +1,4 @@
+pub mod Ordered
+pub mod Chunks
+pub mod Holding
+pub mod Cutting
