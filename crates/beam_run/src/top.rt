@@ -1,24 +1,39 @@
-ghost use Rattle.std.specs.Prelude.{◌≡◌, ◌↔◌, ◌≤ℤ◌, ◌≤◌, ℕ, List, Option, Some, None, map, pos, IfOk, IfErr};
+ghost use Rattle.std.specs.Prelude.{◌≡◌, ◌↔◌, ◌≤◌, ℕ, List, Option, Some, None, map};
 ghost use Rattle.std.specs.String.{string_bytes};
-ghost use Rattle.beam_values.specs.Panes.{HasPoison};
-ghost use Rattle.beam_ports.specs.Counts.{Rose};
 ghost use Rattle.beam_values.specs.Files.{first_named};
 ghost use Rattle.beam_values.specs.declared.file_text.FileText.{FileText};
+ghost use Rattle.beam_ports.specs.Counts.{Rose};
+ghost use Rattle.beam_model.specs.Account.{IsAccounted};
+ghost use Rattle.beam_model.specs.Covers.{IsCovered};
+ghost use Rattle.beam_model.specs.Plain.{IsPlainlyWritten};
+ghost use Rattle.beam_model.specs.Plans.{panes_plan};
+ghost use Rattle.beam_model.specs.Positions.{items, item_len};
+ghost use Rattle.beam_model.specs.Spread.{HasPoison};
+ghost use Rattle.run_engine.specs.PanesRun.{IsPanesRun};
 ghost use Rattle.beam_run.specs.Words.{TakesPanes, file_word};
-ghost use Rattle.beam_run.specs.Ends.{Met, HasCause, Prevents, IsTextOf, IsNoted, IsNotedUpTo, IsWritten, IsNoSourceOrNoMemory, first_fault, StaysOrNoMemory, IsEndOfPoison, IsEndOfClean, IsEndOfAbsent, size_of};
+ghost use Rattle.beam_run.specs.Ends.{Met, HasCause, HasRun, IsPrinted, IsNoted, IsNotedUpTo, IsWritten, StaysOrNoMemory, IsEndOfPoison, IsEndOfClean, IsEndOfAbsent, size_of};
 
 use crate::notes::{fixed_line, note_line};
 use crate::words::panes_command;
-use beam_ports::{Failed, OpenRefusal, Sink, Store};
-use beam_values::{Bytes, Cause, FaultNote};
-use run_engine::{ReadRefusal, RunEnd, Status, WorkRefusal, panes_text, put, read_whole};
+use beam_ports::{Failed, Sink, Store};
+use beam_text::render;
+use beam_values::Options;
+use run_engine::{RunEnd, Status, put, run_panes};
 use std::alloc::Global;
 
-/// How often a write is tried.
-const ATTEMPTS: u32 = 1;
+/// How a run works its pieces, and that each job and each write is tried once.
+const OPTIONS: Options = Options {
+    workers: 4,
+    bundle: 64,
+    chunk: 65_536,
+    attempts: 1,
+};
 
 /// Runs the command that the words name, the name of the program first: a file is read from `store`,
 /// the text goes to `out` and, where the end isn't Ok, one line goes to `notes`.
+///
+/// The clauses from `plan` to `printed` are the promise of a run that came to its end. Those on what
+/// the file has speak of told files: of a store that tells its files, as the one in memory does.
 pub fn beam_main<S: Store, W: Sink, N: Sink>(
     alloc: Global,
     words: &[String],
@@ -26,7 +41,28 @@ pub fn beam_main<S: Store, W: Sink, N: Sink>(
     out: &mut W,
     notes: &mut N,
 ) -> RunEnd
-    // What each end means, and that it comes only so.
+    // The outcome is of the plan of the command and of the items that it names.
+    ensures plan { HasRun result.status result.outcome
+        (λ o. o.plan ≡ panes_plan (file_word (map string_bytes words.now)) (size_of (map string_bytes words.now))) }
+    ensures lengths { HasRun result.status result.outcome
+        (λ o. (told : List FileText) → S.files store.old ≡ Some told → o.files ≡ map item_len (items told o.plan)) }
+
+    // The committed ranges partition each item.
+    ensures cover { HasRun result.status result.outcome IsCovered }
+
+    // What every position brings came to each barrier exactly once.
+    ensures account { HasRun result.status result.outcome
+        (λ o. (told : List FileText) → S.files store.old ≡ Some told → IsAccounted (items told o.plan) o) }
+
+    // What was written is plain grouping of the whole input.
+    ensures plain { HasRun result.status result.outcome
+        (λ o. (told : List FileText) → S.files store.old ≡ Some told → IsPlainlyWritten o.plan (items told o.plan) o.written) }
+
+    // The output is the rendering of the outcome: all of it, or less where the sink failed.
+    ensures printed { HasRun result.status result.outcome
+        (IsPrinted (record { before = W.faults out.old; after = W.faults out.new; taken_before = W.taken out.old; taken_after = W.taken out.new }) result.status) }
+
+    // Each end comes only so.
     ensures cause { HasCause (map string_bytes words.now)
         (record {
           store = record { files = S.files store.old; before = S.faults store.old; after = S.faults store.new };
@@ -45,36 +81,57 @@ pub fn beam_main<S: Store, W: Sink, N: Sink>(
     ensures poison { (told : List FileText) (bytes : List ℕ) → S.files store.old ≡ Some told → TakesPanes (map string_bytes words.now)
         → (Rose (S.faults store.old) (S.faults store.new) → ⊥)
         → first_named (file_word (map string_bytes words.now)) told ≡ Some bytes
-        → HasPoison (size_of (map string_bytes words.now)) bytes
+        → (let plan = panes_plan (file_word (map string_bytes words.now)) (size_of (map string_bytes words.now)) in HasPoison plan (items told plan))
         → IsEndOfPoison result.status }
     ensures clean { (told : List FileText) (bytes : List ℕ) → S.files store.old ≡ Some told → TakesPanes (map string_bytes words.now)
         → (Rose (S.faults store.old) (S.faults store.new) → ⊥)
         → (Rose (W.faults out.old) (W.faults out.new) → ⊥)
         → first_named (file_word (map string_bytes words.now)) told ≡ Some bytes
-        → (HasPoison (size_of (map string_bytes words.now)) bytes → ⊥)
+        → ((let plan = panes_plan (file_word (map string_bytes words.now)) (size_of (map string_bytes words.now)) in HasPoison plan (items told plan)) → ⊥)
         → IsEndOfClean result.status }
 {
-    let status = run(alloc, words, store, out);
+    let RunEnd { status, outcome } = run(alloc, words, store, out);
     RunEnd {
         status: noted(alloc, status, notes),
+        outcome,
     }
 }
 
 // The end of the command before its note is written.
-fn run<S: Store, W: Sink>(alloc: Global, words: &[String], store: &mut S, out: &mut W) -> Status
-    ensures { HasCause (map string_bytes words.now)
+fn run<S: Store, W: Sink>(alloc: Global, words: &[String], store: &mut S, out: &mut W) -> RunEnd
+    ensures cause { HasCause (map string_bytes words.now)
         (record {
           store = record { files = S.files store.old; before = S.faults store.old; after = S.faults store.new };
           out = record { before = W.faults out.old; after = W.faults out.new; taken_before = W.taken out.old; taken_after = W.taken out.new };
         })
-        result }
+        result.status }
+    ensures ran { HasRun result.status result.outcome
+        (IsPanesRun (S.files store.old) (file_word (map string_bytes words.now)) (size_of (map string_bytes words.now))) }
+    ensures printed { HasRun result.status result.outcome
+        (IsPrinted (record { before = W.faults out.old; after = W.faults out.new; taken_before = W.taken out.old; taken_after = W.taken out.new }) result.status) }
 {
     let Some(command) = panes_command(words) else {
-        return Status::Usage;
+        return RunEnd {
+            status: Status::Usage,
+            outcome: None,
+        };
     };
-    match text_of(alloc, command.file, command.size, store) {
-        Ok(text) => written(out, text.as_slice()),
-        Err(status) => status,
+    let RunEnd { status, outcome } = run_panes(alloc, command.file, command.size, &OPTIONS, store);
+    let Some(outcome) = outcome else {
+        return RunEnd {
+            status,
+            outcome: None,
+        };
+    };
+    match render(alloc, &outcome) {
+        Ok(text) => RunEnd {
+            status: written(out, text.as_slice()),
+            outcome: Some(outcome),
+        },
+        Err(_refused) => RunEnd {
+            status: Status::NoMemory,
+            outcome: None,
+        },
     }
 }
 
@@ -84,56 +141,9 @@ fn written<W: Sink>(out: &mut W, text: &[u8]) -> Status
         (record { before = W.faults out.old; after = W.faults out.new; taken_before = W.taken out.old; taken_after = W.taken out.new })
         text.now result }
 {
-    match put(out, text, ATTEMPTS) {
+    match put(out, text, OPTIONS.attempts) {
         Ok(()) => Status::Ok,
         Err(Failed) => Status::SinkFault,
-    }
-}
-
-// The text of the panes of a file.
-fn text_of<S: Store>(alloc: Global, file: &[u8], size: i64, store: &mut S) -> Result<Bytes, Status>
-    requires low { pos 1 ≤ℤ size }
-    requires high { size ≤ℤ pos 31536000000000 }
-    ensures text { IfOk result (IsTextOf (S.files store.old) file.now size) }
-    ensures refused { IfErr result (Prevents
-        (record { files = S.files store.old; before = S.faults store.old; after = S.faults store.new })
-        file.now size) }
-{
-    let opened = match store.open_file(file) {
-        Ok(opened) => opened,
-        Err(OpenRefusal::Absent) => return Err(no_source(alloc, file)),
-        Err(OpenRefusal::Failed) => return Err(Status::SourceFault(0)),
-    };
-    let bytes = match read_whole(alloc, store, opened) {
-        Ok(bytes) => bytes,
-        Err(ReadRefusal::Failed) => return Err(Status::WorkFault(first_fault(Cause::Read))),
-        Err(ReadRefusal::NoMemory) => return Err(Status::NoMemory),
-    };
-    match panes_text(alloc, size, bytes.as_slice()) {
-        Ok(text) => Ok(text),
-        Err(WorkRefusal::Poison) => Err(Status::WorkFault(first_fault(Cause::Call))),
-        Err(WorkRefusal::NoMemory) => Err(Status::NoMemory),
-    }
-}
-
-fn no_source(alloc: Global, name: &[u8]) -> Status
-    ensures { IsNoSourceOrNoMemory name.now result }
-{
-    match Bytes::from_slice(alloc, name) {
-        Ok(name) => Status::NoSource(name),
-        Err(_refused) => Status::NoMemory,
-    }
-}
-
-fn first_fault(cause: Cause) -> FaultNote
-    ensures { result ≡ first_fault cause }
-{
-    FaultNote {
-        node: 0,
-        item: 0,
-        at: 0,
-        attempt: 1,
-        cause,
     }
 }
 

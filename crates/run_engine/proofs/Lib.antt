@@ -1,3 +1,4 @@
+pub mod Commits
 pub mod Filling
 pub mod Outcomes
 pub mod Working

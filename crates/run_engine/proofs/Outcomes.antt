@@ -100,7 +100,7 @@ came-to-group entries panes =
 came-to-write : (entries : List Entry) (panes : List Pane) → elements_at 4 (map written_of panes) ≡ elements_at 4 (map arrival entries ++ map written_of panes)
 came-to-write entries panes =
     sym (at-append 4 (map arrival entries) (map written_of panes)
-      ∙ ap (λ t. t ++ elements_at 4 (map written_of panes)) (at-other 4 3 (λ (entry : Entry). entry.element) entries refl))
+    ∙ ap (λ t. t ++ elements_at 4 (map written_of panes)) (at-other 4 3 (λ (entry : Entry). entry.element) entries refl))
 
 module _ (name : List ℕ) (size : ℤ) (file : List ℕ) (entries : List Entry) (panes : List Pane) (ours : AllByRecursion (λ pane. pane.node ≡ 3) panes)
     (came_all : IsSameBag (map came entries) (spread_all (panes_plan name size) (panes_item file ∷ []))) where
@@ -132,9 +132,10 @@ module _ (name : List ℕ) (size : ℤ) (file : List ℕ) (entries : List Entry)
             let A = map arrival entries ++ map written_of panes in
             let P = map grouped_of panes in
             let at : IsPlainGrouping (elements_at 3 A) (elements_at 3 P) =
-              subst (λ es. IsPlainGrouping es (elements_at 3 P)) (sym (came-to-group entries panes))
-              (subst (λ ps. IsPlainGrouping (map (λ (entry : Entry). entry.element) entries) ps) (sym (at-same 3 (λ (pane : Pane). pane.element) panes)) grouping) in
+            subst (λ es. IsPlainGrouping es (elements_at 3 P)) (sym (came-to-group entries panes))
+            (subst (λ ps. IsPlainGrouping (map (λ (entry : Entry). entry.element) entries) ps) (sym (at-same 3 (λ (pane : Pane). pane.element) panes)) grouping) in
             subst (λ m. IsGroupedBy (strategy_of (panes_plan name size) m) (elements_at m A) (elements_at m P)) (sym (group-is-3 name size n is.0)) at;
       }
+
       at_write : IsSameBag (elements_at node (map written_of panes)) (elements_at node (map arrival entries ++ map written_of panes))
       at_write = bag_from_same _ _ (subst (λ m. elements_at m (map written_of panes) ≡ elements_at m (map arrival entries ++ map written_of panes)) (sym (write-is-4 name size node is_write_node)) (came-to-write entries panes))

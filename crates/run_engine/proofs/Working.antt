@@ -41,11 +41,11 @@ quiet_behind size file p next is q above below =
     ap (λ starts. brought_by (panes_plan [] size) 0 (if starts then line_emission (timed_line (line_at file q)) else nothing))
     (starts_line-between file p q (omega arith) (omega (arith, is)))
 
-any_or-right : (a b : Bool) → b ≡ true → (a || b) ≡ true
+pub any_or-right : (a b : Bool) → b ≡ true → (a || b) ≡ true
 any_or-right true b holds = refl
 any_or-right false b holds = holds
 
-any_or-left : (a b : Bool) → a ≡ true → (a || b) ≡ true
+pub any_or-left : (a b : Bool) → a ≡ true → (a || b) ≡ true
 any_or-left a b holds = ap (λ x. x || b) holds
 
 -- poison at a position is poison of a range that has it

@@ -1,3 +1,5 @@
+pub mod Committing
 pub mod PanesRun
 pub mod Statuses
 pub mod Working
+pub mod Written

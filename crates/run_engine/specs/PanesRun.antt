@@ -1,5 +1,5 @@
 -- What a run of `panes FILE SIZE` did where it ended Ok, and why it ended otherwise.
-use Rattle.std.specs.Prelude.{◌≡◌, ℕ, ℤ, List, [], ◌∷◌, map, Option, Some, None}
+use Rattle.std.specs.Prelude.{◌≡◌, ◌⊎◌, ℕ, ℤ, List, [], ◌∷◌, map, Option, Some, None}
 use Rattle.beam_values.specs.Files.{first_named}
 use Rattle.beam_values.specs.declared.fault.Cause.{Cause}
 use Rattle.beam_values.specs.declared.fault.Cause.TheVariants.{Call, Read}
@@ -73,3 +73,6 @@ Prevents store name size _ = ⊥
 abbrev pub IsRunEnd : StoreMet → List ℕ → ℤ → Status → Option Outcome → Type 0
 IsRunEnd store name size status.Ok outcome = (o : Outcome) × (outcome ≡ Some o) × IsPanesRun store.files name size o
 IsRunEnd store name size s outcome = (outcome ≡ None) × Prevents store name size s
+
+abbrev pub IsNoSourceOrNoMemory : List ℕ → Status → Type 0
+IsNoSourceOrNoMemory name s = (s ≡ status.NoSource name) ⊎ (s ≡ status.NoMemory)

@@ -2,12 +2,16 @@
 //! grouping, and writing the whole text.
 #![tactic(auto)]
 
+mod batches;
+mod committing;
 mod plan;
 mod positions;
 mod reading;
 mod status;
 mod writing;
 
+pub use batches::written;
+pub use committing::{Committed, work_pieces};
 pub use plan::panes_plan;
 pub use positions::{WorkRefusal, work_bundle};
 pub use reading::{ReadRefusal, read_whole};

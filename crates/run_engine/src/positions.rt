@@ -45,7 +45,7 @@ pub fn work_bundle(
     requires high { size ≤ℤ pos 31536000000000 }
     requires some { 1 ≤ bundle }
     requires unstarted { tracker.old.attempted ≡ None }
-    requires in_file { tracker.old.range.to ≤ length file.now }
+    requires in_file { tracker.old.range.from < tracker.old.range.to → tracker.old.range.to ≤ length file.now }
     // What came is what the positions up to the last attempted one bring.
     ensures came { OnOk result (map came out.new ≡ map came out.old
         ++ spread_of size file.now tracker.old.range.from (min (first_open tracker.old.range.from tracker.new.attempted) tracker.old.range.to)) }

@@ -20,7 +20,7 @@ lines-preserved c =
     let to : c.lines.tracker.range.to ≡ c.args.tracker.now.range.to = ap (λ r. r.to) known.worked.range in
     let inside : c.lines.p < c.args.tracker.now.range.to = omega (arith, c.if-try_claim.ensures.answer.0 refl) in
     record {
-      worked = worked_more _ _ _ _ _ _ _ _ _ _ known.worked inside c.requires.in_file c.try_claim.ensures.after c.in-Ok.ensures.next c.in-Ok.ensures.came;
+      worked = worked_more _ _ _ _ _ _ _ _ _ _ known.worked inside (c.requires.in_file (omega (arith, known.worked.above, known.worked.ordered))) c.try_claim.ensures.after c.in-Ok.ensures.next c.in-Ok.ensures.came;
       started = inr (omega (arith, known.worked.above, known.worked.ordered));
       counted = known.counted;
     }
@@ -33,7 +33,7 @@ lines-preserved-then-step c =
     let to : c.lines.tracker.range.to ≡ c.args.tracker.now.range.to = ap (λ r. r.to) known.worked.range in
     let inside : c.lines.p < c.args.tracker.now.range.to = omega (arith, c.if-try_claim.ensures.answer.0 refl) in
     record {
-      worked = worked_more _ _ _ _ _ _ _ _ _ _ known.worked inside c.requires.in_file c.try_claim.ensures.after c.in-Ok.ensures.next c.in-Ok.ensures.came;
+      worked = worked_more _ _ _ _ _ _ _ _ _ _ known.worked inside (c.requires.in_file (omega (arith, known.worked.above, known.worked.ordered))) c.try_claim.ensures.after c.in-Ok.ensures.next c.in-Ok.ensures.came;
       started = inr (omega (arith, known.worked.above, known.worked.ordered));
       counted = omega (arith, c.lines-test.true);
     }
