@@ -3,6 +3,7 @@ pub mod Chains
 pub mod Covers
 pub mod Flow
 pub mod Functions
+pub mod Lawful
 pub mod Plain
 pub mod Plans
 pub mod Positions

@@ -4,3 +4,10 @@
 //! product runs none of it. Read `specs/Positions.antt`, `Functions.antt`, `Steps.antt` and `Chains.antt` for what single positions and elements give, then `Spread.antt`,
 //! `Flow.antt`, `Plain.antt`, `Covers.antt`, `Account.antt` and `Rendering.antt` for whole runs. The layer above may rely on these definitions and on the laws in `laws.rt`.
 #![tactic(auto)]
+
+mod laws;
+
+pub use laws::{
+    a_cut_range_covers_the_same, a_spread_steps_over_positions, covers_append, flows_add,
+    next_positions_rise, positions_between_give_nothing, spreads_join,
+};
