@@ -1,2 +1,4 @@
+mod Barriers
 mod Flows
+mod Lists
 mod Positions

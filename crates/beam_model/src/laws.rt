@@ -1,16 +1,19 @@
 //! What the definitions mean to a reader. Each function does nothing: its contract is the law.
 
 ghost use Rattle.std.specs.Prelude.{◌≡◌, ℕ, ◌+◌, ◌<◌, ◌≤◌, List, [], ◌∷◌, ◌++◌};
+ghost use Rattle.std.specs.List.{All};
 ghost use Rattle.beam_values.specs.Bags.{IsSameBag};
 ghost use Rattle.beam_values.specs.Cover.{Place, times_done};
+ghost use Rattle.beam_values.specs.declared.element.Element.{Element};
 ghost use Rattle.beam_values.specs.declared.outcome.Done.{Done};
 ghost use Rattle.beam_values.specs.declared.outcome.KeyLog.{KeyLog};
 ghost use Rattle.beam_values.specs.declared.outcome.Pane.{Pane};
 ghost use Rattle.beam_values.specs.declared.plan.Args.{Args};
 ghost use Rattle.beam_values.specs.declared.plan.Plan.{Plan};
 ghost use Rattle.beam_values.specs.declared.plan.SourceKind.{SourceKind};
+ghost use Rattle.beam_model.specs.Chains.{chain};
 ghost use Rattle.beam_model.specs.Flow.{pane_chains, log_chains, flow};
-ghost use Rattle.beam_model.specs.Lawful.{IsWithin, done_range};
+ghost use Rattle.beam_model.specs.Lawful.{IsWithin, EndsAfter, done_range};
 ghost use Rattle.beam_model.specs.Positions.{nothing, emission, next_position, SourceItem};
 ghost use Rattle.beam_model.specs.Spread.{brought_at, spread_range, spread_all};
 
@@ -38,6 +41,12 @@ pub fn a_spread_steps_over_positions()
     ensures { (plan : Plan) (item : SourceItem) (p to : ℕ) → p < to → IsWithin item.work item.file to
         → spread_range plan item p to
         ≡ brought_at plan item p ++ spread_range plan item (next_position item.work item.file p) to }
+{}
+
+/// What comes of an output of a node ends at a later node of the plan: at a Group, a Stateful node or a
+/// Write, or at a ParDo that finds it to be poison.
+pub fn chains_end_at_barriers()
+    ensures { (plan : Plan) (n : ℕ) (e : Element) → All (EndsAfter plan n) (chain plan n e) }
 {}
 
 /// Two lists of committed ranges hold a place as often as both together.

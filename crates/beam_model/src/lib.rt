@@ -8,6 +8,6 @@
 mod laws;
 
 pub use laws::{
-    a_cut_range_covers_the_same, a_spread_steps_over_positions, covers_append, flows_add,
-    next_positions_rise, positions_between_give_nothing, spreads_join,
+    a_cut_range_covers_the_same, a_spread_steps_over_positions, chains_end_at_barriers,
+    covers_append, flows_add, next_positions_rise, positions_between_give_nothing, spreads_join,
 };
