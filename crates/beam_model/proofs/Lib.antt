@@ -1,4 +1,5 @@
 mod Barriers
 mod Flows
 mod Lists
+mod Outputs
 mod Positions

@@ -1,13 +1,21 @@
 -- What the laws speak of.
-use Rattle.std.specs.Prelude.{◌≡◌, ℕ, ◌<◌, ◌≤◌, Bool, true, false, List, length, slice_get, Some}
+use Rattle.std.specs.Prelude.{◌≡◌, ℕ, ◌<◌, ◌≤◌, ℤ, pos, ◌≤ℤ◌, Bool, true, false, List, length, slice_get, Some}
 use Rattle.std.specs.Option.{option_map}
+use Rattle.beam_values.specs.Intervals.{Interval}
+use Rattle.beam_values.specs.declared.element.Element.{Element}
 use Rattle.beam_values.specs.declared.outcome.Done.{Done}
+use Rattle.beam_values.specs.declared.outcome.LogInput.{LogInput}
+use Rattle.beam_values.specs.declared.outcome.LogInput.TheVariants.{Arrived, Fired}
+use Rattle.beam_values.specs.declared.plan.Args.{Args}
+use Rattle.beam_values.specs.declared.plan.FnKind.{FnKind}
+use Rattle.beam_values.specs.declared.plan.FnKind.TheVariants.{Shift}
 use Rattle.beam_values.specs.declared.plan.NodeKind.{NodeKind}
 use Rattle.beam_values.specs.declared.plan.NodeKind.TheVariants.{ParDo, Group, Stateful, Write}
 use Rattle.beam_values.specs.declared.plan.Plan.{Plan}
 use Rattle.beam_values.specs.declared.plan.SourceKind.{SourceKind}
 use Rattle.beam_values.specs.declared.plan.SourceKind.TheVariants.{Lines, TimedLines, Count, Made}
 use Rattle.beam_model.specs.Chains.{Brought, Came, Spoiled}
+use Rattle.beam_model.specs.Functions.{number_arg}
 
 -- at most the length of the file, where the source reads one
 abbrev pub IsWithin : SourceKind → List ℕ → ℕ → Type 0
@@ -39,3 +47,27 @@ IsAfter passes plan n node = (n < node) × (option_map (λ it. passes it.kind) (
 abbrev pub EndsAfter : Plan → ℕ → Brought → Type 0
 EndsAfter plan n (Came arrival) = IsAfter is_barrier plan n arrival.node
 EndsAfter plan n (Spoiled node) = IsAfter is_par_do plan n node
+
+-- with the window and the pane's tag of an element, and not before it
+pub record KeepsPlace (e output : Element) : Type 0 where
+  pub span : output.span ≡ e.span
+  pub pane : output.pane ≡ e.pane
+  pub time : e.time ≤ℤ output.time
+
+-- a shift goes forward
+abbrev pub IsForward : FnKind → Args → Type 0
+IsForward Shift args = pos 0 ≤ℤ number_arg args
+IsForward _ args = Unit {0}
+
+-- the window of what a stateful call is on: the element's, or that of the timer's state
+abbrev pub input_span : Interval → LogInput → Interval
+input_span span (Arrived e) = e.span
+input_span span (Fired timer) = span
+
+abbrev pub input_time : LogInput → ℤ
+input_time (Arrived e) = e.time
+input_time (Fired timer) = timer.time
+
+-- in the window and at the time of what the call is on
+abbrev pub IsOfCall : Interval → LogInput → Element → Type 0
+IsOfCall span input output = (output.span ≡ input_span span input) × (output.time ≡ input_time input)

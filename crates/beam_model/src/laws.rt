@@ -1,20 +1,28 @@
 //! What the definitions mean to a reader. Each function does nothing: its contract is the law.
 
-ghost use Rattle.std.specs.Prelude.{◌≡◌, ℕ, ◌+◌, ◌<◌, ◌≤◌, List, [], ◌∷◌, ◌++◌};
+ghost use Rattle.std.specs.Prelude.{◌≡◌, ℕ, ◌≤ℤ◌, Some, ◌+◌, ◌<◌, ◌≤◌, List, [], ◌∷◌, ◌++◌};
 ghost use Rattle.std.specs.List.{All};
 ghost use Rattle.beam_values.specs.Bags.{IsSameBag};
 ghost use Rattle.beam_values.specs.Cover.{Place, times_done};
+ghost use Rattle.beam_values.specs.Intervals.{Interval};
+ghost use Rattle.beam_values.specs.Times.{greatest_time};
 ghost use Rattle.beam_values.specs.declared.element.Element.{Element};
 ghost use Rattle.beam_values.specs.declared.outcome.Done.{Done};
 ghost use Rattle.beam_values.specs.declared.outcome.KeyLog.{KeyLog};
+ghost use Rattle.beam_values.specs.declared.outcome.LogInput.{LogInput};
 ghost use Rattle.beam_values.specs.declared.outcome.Pane.{Pane};
 ghost use Rattle.beam_values.specs.declared.plan.Args.{Args};
+ghost use Rattle.beam_values.specs.declared.plan.FnKind.{FnKind};
+ghost use Rattle.beam_values.specs.declared.plan.StateKind.{StateKind};
+ghost use Rattle.beam_values.specs.declared.value.Value.{Value};
 ghost use Rattle.beam_values.specs.declared.plan.Plan.{Plan};
 ghost use Rattle.beam_values.specs.declared.plan.SourceKind.{SourceKind};
 ghost use Rattle.beam_model.specs.Chains.{chain};
 ghost use Rattle.beam_model.specs.Flow.{pane_chains, log_chains, flow};
-ghost use Rattle.beam_model.specs.Lawful.{IsWithin, EndsAfter, done_range};
+ghost use Rattle.beam_model.specs.Functions.{emits};
+ghost use Rattle.beam_model.specs.Lawful.{IsWithin, EndsAfter, KeepsPlace, IsForward, IsOfCall, done_range};
 ghost use Rattle.beam_model.specs.Positions.{nothing, emission, next_position, SourceItem};
+ghost use Rattle.beam_model.specs.Steps.{KeptState, Stepped, steps};
 ghost use Rattle.beam_model.specs.Spread.{brought_at, spread_range, spread_all};
 
 /// Between a position and the one that is worked after it nothing is emitted, and nothing is poison.
@@ -47,6 +55,21 @@ pub fn a_spread_steps_over_positions()
 /// Write, or at a ParDo that finds it to be poison.
 pub fn chains_end_at_barriers()
     ensures { (plan : Plan) (n : ℕ) (e : Element) → All (EndsAfter plan n) (chain plan n e) }
+{}
+
+/// What a function gives of an element is in its window, with its pane's tag and never before it, so it
+/// can't be late where the element wasn't. Only a shift moves the time.
+pub fn functions_keep_window_and_pane()
+    ensures { (kind : FnKind) (args : Args) (e : Element) (outputs : List Element)
+        → e.time ≤ℤ greatest_time → IsForward kind args → emits kind args e ≡ Some outputs
+        → All (KeepsPlace e) outputs }
+{}
+
+/// What a stateful call gives is in the window and at the time of the element or the timer that it is on.
+pub fn stateful_outputs_keep_their_window()
+    ensures { (kind : StateKind) (args : Args) (key : Value) (span : Interval) (input : LogInput) (kept : KeptState) (after : Stepped)
+        → steps kind args key span input kept ≡ Some after
+        → All (IsOfCall span input) after.outputs }
 {}
 
 /// Two lists of committed ranges hold a place as often as both together.

@@ -9,5 +9,6 @@ mod laws;
 
 pub use laws::{
     a_cut_range_covers_the_same, a_spread_steps_over_positions, chains_end_at_barriers,
-    covers_append, flows_add, next_positions_rise, positions_between_give_nothing, spreads_join,
+    covers_append, flows_add, functions_keep_window_and_pane, next_positions_rise,
+    positions_between_give_nothing, spreads_join, stateful_outputs_keep_their_window,
 };
