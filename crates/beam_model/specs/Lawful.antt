@@ -1,5 +1,5 @@
 -- What the laws speak of.
-use Rattle.std.specs.Prelude.{◌≡◌, ℕ, ◌<◌, ◌≤◌, ℤ, pos, ◌≤ℤ◌, Bool, true, false, List, length, slice_get, Some}
+use Rattle.std.specs.Prelude.{◌≡◌, ◌⊎◌, ℕ, ◌<◌, ◌≤◌, ℤ, pos, ◌≤ℤ◌, Bool, true, false, List, length, slice_get, Some}
 use Rattle.std.specs.Option.{option_map}
 use Rattle.beam_values.specs.Intervals.{Interval}
 use Rattle.beam_values.specs.declared.element.Element.{Element}
@@ -13,9 +13,11 @@ use Rattle.beam_values.specs.declared.plan.NodeKind.{NodeKind}
 use Rattle.beam_values.specs.declared.plan.NodeKind.TheVariants.{ParDo, Group, Stateful, Write}
 use Rattle.beam_values.specs.declared.plan.Plan.{Plan}
 use Rattle.beam_values.specs.declared.plan.SourceKind.{SourceKind}
+use Rattle.beam_values.specs.declared.value.Value.{Value}
 use Rattle.beam_values.specs.declared.plan.SourceKind.TheVariants.{Lines, TimedLines, Count, Made}
 use Rattle.beam_model.specs.Chains.{Brought, Came, Spoiled}
 use Rattle.beam_model.specs.Functions.{number_arg}
+use Rattle.beam_model.specs.Sessions.{is_keyed, IsApart}
 
 -- at most the length of the file, where the source reads one
 abbrev pub IsWithin : SourceKind → List ℕ → ℕ → Type 0
@@ -71,3 +73,11 @@ input_time (Fired timer) = timer.time
 -- in the window and at the time of what the call is on
 abbrev pub IsOfCall : Interval → LogInput → Element → Type 0
 IsOfCall span input output = (output.span ≡ input_span span input) × (output.time ≡ input_time input)
+
+-- it ends no earlier than it starts
+abbrev pub IsOrdered : Interval → Type 0
+IsOrdered span = span.start ≤ℤ span.end
+
+-- elements of this key are in one window, or in two that are apart
+abbrev pub AreOneOrApart : Value → Element → Element → Type 0
+AreOneOrApart key a b = is_keyed key a ≡ true → is_keyed key b ≡ true → (a.span ≡ b.span) ⊎ IsApart a.span b.span

@@ -1,9 +1,13 @@
 //! What the definitions mean to a reader. Each function does nothing: its contract is the law.
 
-ghost use Rattle.std.specs.Prelude.{◌≡◌, ℕ, ◌≤ℤ◌, Some, ◌+◌, ◌<◌, ◌≤◌, List, [], ◌∷◌, ◌++◌};
-ghost use Rattle.std.specs.List.{All};
+ghost use Rattle.std.specs.Prelude.{◌⊎◌, ◌≡◌, ℕ, ◌≤ℤ◌, Some, ◌+◌, ◌<◌, ◌≤◌, List, [], ◌∷◌, ◌++◌};
+ghost use Rattle.std.specs.List.{All, AllPairs, count_by};
 ghost use Rattle.beam_values.specs.Bags.{IsSameBag};
 ghost use Rattle.beam_values.specs.Cover.{Place, times_done};
+ghost use Rattle.std.specs.List.Sorted.{IsSorted};
+ghost use Rattle.beam_values.specs.Grouping.{key_of, is_in_cell, IsPlainGrouping};
+ghost use Rattle.beam_values.specs.Orders.{value_cmp};
+ghost use Rattle.beam_model.specs.Sessions.{IsApart, IsSession, IsMerging};
 ghost use Rattle.beam_values.specs.Intervals.{Interval};
 ghost use Rattle.beam_values.specs.Times.{greatest_time};
 ghost use Rattle.beam_values.specs.declared.element.Element.{Element};
@@ -20,9 +24,9 @@ ghost use Rattle.beam_values.specs.declared.plan.SourceKind.{SourceKind};
 ghost use Rattle.beam_model.specs.Chains.{chain};
 ghost use Rattle.beam_model.specs.Flow.{pane_chains, log_chains, flow};
 ghost use Rattle.beam_model.specs.Functions.{emits};
-ghost use Rattle.beam_model.specs.Lawful.{IsWithin, EndsAfter, KeepsPlace, IsForward, IsOfCall, done_range};
+ghost use Rattle.beam_model.specs.Lawful.{IsWithin, EndsAfter, KeepsPlace, IsForward, IsOfCall, done_range, IsOrdered, AreOneOrApart};
 ghost use Rattle.beam_model.specs.Positions.{nothing, emission, next_position, SourceItem};
-ghost use Rattle.beam_model.specs.Steps.{KeptState, Stepped, steps};
+ghost use Rattle.beam_model.specs.Steps.{KeptState, Stepped, ascending, steps};
 ghost use Rattle.beam_model.specs.Spread.{brought_at, spread_range, spread_all};
 
 /// Between a position and the one that is worked after it nothing is emitted, and nothing is poison.
@@ -70,6 +74,32 @@ pub fn stateful_outputs_keep_their_window()
     ensures { (kind : StateKind) (args : Args) (key : Value) (span : Interval) (input : LogInput) (kept : KeptState) (after : Stepped)
         → steps kind args key span input kept ≡ Some after
         → All (IsOfCall span input) after.outputs }
+{}
+
+/// The values of a batch are put in order, and none is lost or added.
+pub fn ascending_is_sorted()
+    ensures sorted { (values : List Value) → IsSorted value_cmp (ascending values) }
+    ensures same { (values : List Value) → IsSameBag (ascending values) values }
+{}
+
+/// Plain grouping gives at most one pane of each key and window, and none without an element.
+pub fn plain_groupings_have_each_cell_once()
+    ensures once { (elements panes : List Element) (key : Value) (span : Interval)
+        → IsPlainGrouping elements panes → count_by (is_in_cell key span) panes ≤ 1 }
+    ensures held { (elements panes : List Element) → IsPlainGrouping elements panes
+        → All (λ pane. 1 ≤ count_by (is_in_cell (key_of pane) pane.span) elements) panes }
+{}
+
+/// Two sessions of the same windows are one, or they don't overlap.
+pub fn sessions_are_apart()
+    ensures { (spans : List Interval) (a b : Interval) → IsOrdered a → IsOrdered b
+        → IsSession spans a → IsSession spans b → (a ≡ b) ⊎ IsApart a b }
+{}
+
+/// Merging leaves no two windows of a key that overlap, so a later merge would change nothing.
+pub fn merged_windows_are_apart()
+    ensures { (elements sessioned : List Element) (key : Value) → All (λ e. IsOrdered e.span) elements
+        → IsMerging elements sessioned → AllPairs (AreOneOrApart key) sessioned }
 {}
 
 /// Two lists of committed ranges hold a place as often as both together.
