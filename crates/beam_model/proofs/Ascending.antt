@@ -15,7 +15,7 @@ use Rattle.beam_values.specs.declared.value.Value.{Value}
 use Rattle.beam_values.proofs.Bags.{bag_refl, bag_cons, bag_trans}
 use Rattle.beam_model.specs.Steps.{insert_value, ascending}
 
-value_total : IsTotalOrder value_cmp
+pub value_total : IsTotalOrder value_cmp
 value_total = on_total spelling nat_list_cmp_total
 
 -- a value that is less than another is not above it

@@ -12,7 +12,7 @@ use Rattle.beam_values.specs.declared.value.Value.{Value}
 use Rattle.beam_values.specs.declared.element.Element.{Element}
 
 -- a pane is in its own cell
-in_own_cell : (e : Element) → is_in_cell (key_of e) e.span e ≡ true
+pub in_own_cell : (e : Element) → is_in_cell (key_of e) e.span e ≡ true
 in_own_cell e =
     and_from _ _
     (and_from _ _ ((bytes_eq-Decides (spelling (key_of e)) (spelling (key_of e))).1 refl) ((Decides-int_eq e.span.start e.span.start).1 refl))

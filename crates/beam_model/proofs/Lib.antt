@@ -1,3 +1,4 @@
+mod Agreement
 mod Ascending
 mod Barriers
 mod Flows

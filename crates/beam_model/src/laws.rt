@@ -9,6 +9,7 @@ ghost use Rattle.beam_values.specs.Grouping.{key_of, is_in_cell, IsPlainGrouping
 ghost use Rattle.beam_values.specs.Orders.{value_cmp};
 ghost use Rattle.beam_model.specs.Sessions.{IsApart, IsSession, IsMerging};
 ghost use Rattle.beam_values.specs.Intervals.{Interval};
+ghost use Rattle.beam_values.specs.Words.{FitsWords};
 ghost use Rattle.beam_values.specs.Times.{greatest_time};
 ghost use Rattle.beam_values.specs.declared.element.Element.{Element};
 ghost use Rattle.beam_values.specs.declared.outcome.Done.{Done};
@@ -88,6 +89,15 @@ pub fn plain_groupings_have_each_cell_once()
         → IsPlainGrouping elements panes → count_by (is_in_cell key span) panes ≤ 1 }
     ensures held { (elements panes : List Element) → IsPlainGrouping elements panes
         → All (λ pane. 1 ≤ count_by (is_in_cell (key_of pane) pane.span) elements) panes }
+{}
+
+/// Plain grouping is a function of the bag: where two groupings are of one bag of elements, their panes are
+/// one bag, whatever the order in which the elements came.
+pub fn plain_groupings_agree()
+    ensures { (elements others panes more : List Element) → IsSameBag elements others
+        → IsPlainGrouping elements panes → IsPlainGrouping others more
+        → All (λ pane. FitsWords pane.value) panes → All (λ pane. FitsWords pane.value) more
+        → IsSameBag panes more }
 {}
 
 /// Two sessions of the same windows are one, or they don't overlap.
