@@ -1,17 +1,13 @@
 -- Plain groupings of one bag are one bag.
-use Rattle.std.proofs.Common.{◌≡◌, inl, inr, ℕ, suc, ◌+◌, ◌≤◌, Bool, true, false, ◌&&◌, cond, List, [], ◌∷◌, ◌++◌, get_or, map, min, refl, sym, ap, subst, ◌∙◌, arith}
+use Rattle.std.proofs.Common.{◌≡◌, ℕ, suc, ◌+◌, Bool, true, false, cond, List, [], ◌∷◌, get_or, map, min, refl, sym, ap, subst, ◌∙◌, arith}
 use Rattle.std.specs.declared.cmp.Ordering.{Ordering}
 use Rattle.std.specs.declared.cmp.Ordering.TheVariants.{Less, Equal, Greater}
-use Rattle.std.specs.Ordering.{is_lt, ordering_reverse, int_eq}
-use Rattle.std.specs.Str.{bytes_eq}
-use Rattle.std.specs.List.{All, AllByRecursion, sum_by, count_by, filter}
+use Rattle.std.specs.Ordering.{is_lt, ordering_reverse}
+use Rattle.std.specs.List.{All, AllByRecursion, count_by, filter}
 use Rattle.std.specs.List.Sorted.{IsSorted}
-use Rattle.std.proofs.lemmas.Bool.{cases_Bool, and_parts}
-use Rattle.std.proofs.lemmas.Bool.Decides.{Decides-int_eq}
 use Rattle.std.proofs.lemmas.List.Elements.{recursion_from_All, All-head, All-tail}
 use Rattle.std.proofs.lemmas.List.Sorted.{ranks_by, sorted_far}
-use Rattle.std.proofs.lemmas.List.Sums.{sum_by-cons, sum_by-append}
-use Rattle.std.proofs.lemmas.Slice.Eq.{bytes_eq-Decides}
+use Rattle.std.proofs.lemmas.List.Sums.{sum_by-cons}
 use Rattle.beam_values.specs.Bags.{IsSameBag}
 use Rattle.beam_values.specs.Grouping.{key_of, part_of, is_in_cell, pane_with, IsPlainPane, IsPlainGrouping}
 use Rattle.beam_values.specs.Intervals.{Interval}
@@ -23,11 +19,12 @@ use Rattle.beam_values.specs.declared.value.Value.TheOpen as layer
 use Rattle.beam_values.specs.declared.value.Value.TheVariants.{Pair, Seq, rolls-Pair, rolls-Seq}
 use Rattle.beam_values.specs.declared.value.Value.TheViews.{roll-Value}
 use Rattle.beam_values.specs.declared.element.Element.{Element}
-use Rattle.beam_values.proofs.Bags.{bag_refl, bag_sym, bag_trans, bag_cancel, bag_map, bag_filter, bag_count}
+use Rattle.beam_values.proofs.Bags.{bag_sym, bag_trans, bag_cancel, bag_map, bag_filter, bag_count}
 use Rattle.beam_values.proofs.Lexicographic.{same_where_tied}
 use Rattle.beam_values.proofs.Words.{values_same, fits-Pair, fits-Seq}
+use Rattle.beam_model.proofs.Matching.{matched}
 use Rattle.beam_model.proofs.Ascending.{value_total}
-use Rattle.beam_model.proofs.Groupings.{in_own_cell}
+use Rattle.beam_model.proofs.Groupings.{own_cell, in_own_cell, same_cell}
 
 -- ---- ascending values of one bag are the same
 
@@ -80,9 +77,6 @@ same_ascending (x ∷ xs) (y ∷ ys) f g up rising same =
 
 -- ---- panes of one cell are the same
 
-same_span : (a b : Interval) → a.start ≡ b.start → a.end ≡ b.end → a ≡ b
-same_span a b p q = λ i. record { start = p i; end = q i }
-
 -- what a pane holds fits where the pane does
 pane_fits : (pane : Element) (key : Value) (span : Interval) (parts : List Value) → pane ≡ pane_with key span parts → FitsWords pane.value
     → FitsWords key × AllByRecursion FitsWords parts
@@ -94,18 +88,13 @@ pane_fits pane key span parts is fits =
 abbrev IsFitPane : List Element → Element → Type 0
 IsFitPane elements pane = IsPlainPane elements pane × FitsWords pane.value
 
--- whether an element is in the cell of another
-abbrev own_cell : Element → Element → Bool
-own_cell a b = is_in_cell (key_of a) a.span b
-
 same_pane : (xs ys : List Element) → IsSameBag xs ys → (p q : Element) → IsFitPane xs p → IsFitPane ys q → own_cell p q ≡ true → p ≡ q
 same_pane xs ys same p q h k inside =
-    let outer = and_parts (bytes_eq (spelling (key_of q)) (spelling (key_of p)) && int_eq q.span.start p.span.start) (int_eq q.span.end p.span.end) inside in
-    let inner = and_parts (bytes_eq (spelling (key_of q)) (spelling (key_of p))) (int_eq q.span.start p.span.start) outer.0 in
+    let cell = same_cell p q inside in
     let first = pane_fits p (key_of p) p.span h.0.parts h.0.holds h.1 in
     let second = pane_fits q (key_of q) q.span k.0.parts k.0.holds k.1 in
-    let key : key_of p ≡ key_of q = values_same (key_of p) (key_of q) first.0 second.0 (sym ((bytes_eq-Decides (spelling (key_of q)) (spelling (key_of p))).0 inner.0)) in
-    let span : p.span ≡ q.span = same_span p.span q.span (sym ((Decides-int_eq q.span.start p.span.start).0 inner.1)) (sym ((Decides-int_eq q.span.end p.span.end).0 outer.1)) in
+    let key : key_of p ≡ key_of q = values_same (key_of p) (key_of q) first.0 second.0 (sym cell.keys) in
+    let span : p.span ≡ q.span = sym cell.spans in
     let test : is_in_cell (key_of p) p.span ≡ is_in_cell (key_of q) q.span = λ i. is_in_cell (key i) (span i) in
     let held : IsSameBag (map part_of (filter (own_cell p) xs)) (map part_of (filter (own_cell q) ys)) =
     subst (λ (cell : Element → Bool). IsSameBag (map part_of (filter (own_cell p) xs)) (map part_of (filter cell ys))) test
@@ -116,52 +105,6 @@ same_pane xs ys same p q h k inside =
     let parts : h.0.parts ≡ k.0.parts = same_ascending h.0.parts k.0.parts first.1 second.1 h.0.ascending k.0.ascending bag in
     let middle : pane_with (key_of p) p.span h.0.parts ≡ pane_with (key_of q) q.span k.0.parts = λ i. pane_with (key i) (span i) (parts i) in
     h.0.holds ∙ middle ∙ sym k.0.holds
-
--- ---- lists whose members match one by one are one bag
-
-record Split {X : Type 0} (test : X → Bool) (xs : List X) : Type 0 where
-  front : List X
-  at : X
-  back : List X
-  is : xs ≡ front ++ at ∷ back
-  passes : test at ≡ true
-
-split : {X : Type 0} (test : X → Bool) (xs : List X) → 1 ≤ count_by test xs → Split test xs
-split test [] some = absurd (omega arith)
-split test (x ∷ xs) some =
-    elim (cases_Bool (test x)) [
-      | inl passing ↦ record { front = []; at = x; back = xs; is = refl; passes = passing }
-      | inr failing ↦
-          let here : cond {A = ℕ} (test x) 1 0 ≡ 0 = ap (λ (b : Bool). cond {A = ℕ} b 1 0) failing in
-          let rest = split test xs (omega (arith, sum_by-cons (λ (y : _). cond {A = ℕ} (test y) 1 0) x xs)) in
-          record { front = x ∷ rest.front; at = rest.at; back = rest.back; is = ap (λ l. x ∷ l) rest.is; passes = rest.passes }
-    ]
-
-each_middle : {X : Type 0} (P : X → Type 0) (front : List X) (x : X) (back : List X) → AllByRecursion P (front ++ x ∷ back)
-    → P x × AllByRecursion P (front ++ back)
-each_middle P [] x back h = h
-each_middle P (y ∷ front) x back h = let rest = each_middle P front x back h.1 in (rest.0, (h.0, rest.1))
-
-module _ {X : Type 0} (own : X → X → Bool) (itself : (x : X) → own x x ≡ true) (P Q : X → Type 0)
-    (one : (p q : X) → P p → Q q → own p q ≡ true → p ≡ q) where
-  matched : (ps qs : List X) → AllByRecursion P ps → AllByRecursion Q qs → ((t : X) → count_by (own t) ps ≡ count_by (own t) qs) → IsSameBag ps qs
-  matched [] [] h k counts = bag_refl []
-  matched [] (q ∷ qs) h k counts =
-      let here : cond {A = ℕ} (own q q) 1 0 ≡ 1 = ap (λ (b : Bool). cond {A = ℕ} b 1 0) (itself q) in
-      absurd (omega (arith, counts q, sum_by-cons (λ (x : X). cond {A = ℕ} (own q x) 1 0) q qs))
-  matched (p ∷ ps) qs h k counts =
-      let here : cond {A = ℕ} (own p p) 1 0 ≡ 1 = ap (λ (b : Bool). cond {A = ℕ} b 1 0) (itself p) in
-      let found = split (own p) qs (omega (arith, counts p, sum_by-cons (λ (x : X). cond {A = ℕ} (own p x) 1 0) p ps)) in
-      let others = each_middle Q found.front found.at found.back (subst (λ (l : List X). AllByRecursion Q l) found.is k) in
-      let same = one p found.at h.0 others.0 found.passes in
-      let counted : (t : X) → count_by (own t) ps ≡ count_by (own t) (found.front ++ found.back) = λ t.
-      let w : X → ℕ = λ x. cond {A = ℕ} (own t x) 1 0 in
-      omega (arith, counts t, ap (sum_by w) found.is, sum_by-cons w p ps, sum_by-append w found.front (found.at ∷ found.back), sum_by-cons w found.at found.back, sum_by-append w found.front found.back, ap w same) in
-      let rest = matched ps (found.front ++ found.back) h.1 others.1 counted in
-      record {
-        weighs = λ w.
-            omega (arith, rest.weighs w, ap (sum_by w) found.is, sum_by-cons w p ps, sum_by-append w found.front (found.at ∷ found.back), sum_by-cons w found.at found.back, sum_by-append w found.front found.back, ap w same);
-      }
 
 pub groupings_agree : (xs ys ps qs : List Element) → IsSameBag xs ys → IsPlainGrouping xs ps → IsPlainGrouping ys qs
     → All (λ p. FitsWords p.value) ps → All (λ q. FitsWords q.value) qs → IsSameBag ps qs

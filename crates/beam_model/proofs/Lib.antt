@@ -4,6 +4,8 @@ mod Barriers
 mod Flows
 mod Groupings
 mod Lists
+mod Matching
 mod Merging
 mod Outputs
 mod Positions
+mod Remerging

@@ -53,11 +53,11 @@ sessions_apart spans a b first second x y =
     both : a.start ≡ b.start → a.end ≡ b.end → a ≡ b
     both p q = λ i. record { start = p i; end = q i }
 
-session_ordered : (span session : Interval) → IsOrdered span → LiesIn span session → IsOrdered session
+pub session_ordered : (span session : Interval) → IsOrdered span → LiesIn span session → IsOrdered session
 session_ordered span session ordered lies = omega (arith, ints)
 
 -- windows of keys that are spelled alike are the same
-spans_alike : (elements : List Element) (a b : Value) → spelling a ≡ spelling b → spans_of a elements ≡ spans_of b elements
+pub spans_alike : (elements : List Element) (a b : Value) → spelling a ≡ spelling b → spans_of a elements ≡ spans_of b elements
 spans_alike elements a b same = ap (λ (spelled : List ℕ). map (λ e. e.span) (filter (λ e. bytes_eq (spelling (key_of e)) spelled) elements)) same
 
 two_merged : (elements : List Element) (key : Value) (m n : Merged) → IsMergedIn elements m → IsMergedIn elements n

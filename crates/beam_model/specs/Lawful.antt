@@ -1,5 +1,5 @@
 -- What the laws speak of.
-use Rattle.std.specs.Prelude.{◌≡◌, ◌⊎◌, ℕ, ◌<◌, ◌≤◌, ℤ, pos, ◌≤ℤ◌, Bool, true, false, List, length, slice_get, Some}
+use Rattle.std.specs.Prelude.{◌≡◌, ◌⊎◌, ℕ, ◌<◌, ◌≤◌, ℤ, pos, ◌≤ℤ◌, ◌<ℤ◌, Bool, true, false, List, length, slice_get, Some}
 use Rattle.std.specs.Option.{option_map}
 use Rattle.beam_values.specs.Intervals.{Interval}
 use Rattle.beam_values.specs.declared.element.Element.{Element}
@@ -81,3 +81,7 @@ IsOrdered span = span.start ≤ℤ span.end
 -- elements of this key are in one window, or in two that are apart
 abbrev pub AreOneOrApart : Value → Element → Element → Type 0
 AreOneOrApart key a b = is_keyed key a ≡ true → is_keyed key b ≡ true → (a.span ≡ b.span) ⊎ IsApart a.span b.span
+
+-- it holds some time
+abbrev pub IsNonEmpty : Interval → Type 0
+IsNonEmpty span = span.start <ℤ span.end

@@ -25,7 +25,7 @@ ghost use Rattle.beam_values.specs.declared.plan.SourceKind.{SourceKind};
 ghost use Rattle.beam_model.specs.Chains.{chain};
 ghost use Rattle.beam_model.specs.Flow.{pane_chains, log_chains, flow};
 ghost use Rattle.beam_model.specs.Functions.{emits};
-ghost use Rattle.beam_model.specs.Lawful.{IsWithin, EndsAfter, KeepsPlace, IsForward, IsOfCall, done_range, IsOrdered, AreOneOrApart};
+ghost use Rattle.beam_model.specs.Lawful.{IsWithin, EndsAfter, KeepsPlace, IsForward, IsOfCall, done_range, IsOrdered, AreOneOrApart, IsNonEmpty};
 ghost use Rattle.beam_model.specs.Positions.{nothing, emission, next_position, SourceItem};
 ghost use Rattle.beam_model.specs.Steps.{KeptState, Stepped, ascending, steps};
 ghost use Rattle.beam_model.specs.Spread.{brought_at, spread_range, spread_all};
@@ -110,6 +110,13 @@ pub fn sessions_are_apart()
 pub fn merged_windows_are_apart()
     ensures { (elements sessioned : List Element) (key : Value) → All (λ e. IsOrdered e.span) elements
         → IsMerging elements sessioned → AllPairs (AreOneOrApart key) sessioned }
+{}
+
+/// Merging is a function of the bag: where two mergings are of one bag of elements, none of whose windows
+/// is empty, what they give is one bag.
+pub fn mergings_agree()
+    ensures { (elements others merged more : List Element) → IsSameBag elements others → All (λ e. IsNonEmpty e.span) elements
+        → IsMerging elements merged → IsMerging others more → IsSameBag merged more }
 {}
 
 /// Two lists of committed ranges hold a place as often as both together.
