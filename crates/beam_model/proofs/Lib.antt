@@ -9,3 +9,4 @@ mod Merging
 mod Outputs
 mod Positions
 mod Remerging
+mod Runs

@@ -1,8 +1,11 @@
 -- What the laws speak of.
 use Rattle.std.specs.Prelude.{◌≡◌, ◌⊎◌, ℕ, ◌<◌, ◌≤◌, ℤ, pos, ◌≤ℤ◌, ◌<ℤ◌, Bool, true, false, List, length, slice_get, Some}
+use Rattle.std.specs.List.{All}
 use Rattle.std.specs.Option.{option_map}
 use Rattle.beam_values.specs.Intervals.{Interval}
+use Rattle.beam_values.specs.Words.{FitsWords}
 use Rattle.beam_values.specs.declared.element.Element.{Element}
+use Rattle.beam_values.specs.declared.outcome.Arrival.{Arrival}
 use Rattle.beam_values.specs.declared.outcome.Done.{Done}
 use Rattle.beam_values.specs.declared.outcome.LogInput.{LogInput}
 use Rattle.beam_values.specs.declared.outcome.LogInput.TheVariants.{Arrived, Fired}
@@ -17,6 +20,8 @@ use Rattle.beam_values.specs.declared.value.Value.{Value}
 use Rattle.beam_values.specs.declared.plan.SourceKind.TheVariants.{Lines, TimedLines, Count, Made}
 use Rattle.beam_model.specs.Chains.{Brought, Came, Spoiled}
 use Rattle.beam_model.specs.Functions.{number_arg}
+use Rattle.beam_model.specs.Plain.{IsPlainRun}
+use Rattle.beam_model.specs.Positions.{SourceItem}
 use Rattle.beam_model.specs.Sessions.{is_keyed, IsApart}
 
 -- at most the length of the file, where the source reads one
@@ -85,3 +90,9 @@ AreOneOrApart key a b = is_keyed key a ≡ true → is_keyed key b ≡ true → 
 -- it holds some time
 abbrev pub IsNonEmpty : Interval → Type 0
 IsNonEmpty span = span.start <ℤ span.end
+
+-- a plain run of values that a program can hold, in windows that are not empty
+pub record IsSoundRun (plan : Plan) (items : List SourceItem) (arrivals panes : List Arrival) : Type 0 where
+  pub plain : IsPlainRun plan items arrivals panes
+  pub fits : All (λ pane. FitsWords pane.element.value) panes
+  pub held : All (λ arrival. IsNonEmpty arrival.element.span) arrivals

@@ -23,9 +23,10 @@ ghost use Rattle.beam_values.specs.declared.value.Value.{Value};
 ghost use Rattle.beam_values.specs.declared.plan.Plan.{Plan};
 ghost use Rattle.beam_values.specs.declared.plan.SourceKind.{SourceKind};
 ghost use Rattle.beam_model.specs.Chains.{chain};
-ghost use Rattle.beam_model.specs.Flow.{pane_chains, log_chains, flow};
+ghost use Rattle.beam_values.specs.declared.outcome.Arrival.{Arrival};
+ghost use Rattle.beam_model.specs.Flow.{elements_at, pane_chains, log_chains, flow};
 ghost use Rattle.beam_model.specs.Functions.{emits};
-ghost use Rattle.beam_model.specs.Lawful.{IsWithin, EndsAfter, KeepsPlace, IsForward, IsOfCall, done_range, IsOrdered, AreOneOrApart, IsNonEmpty};
+ghost use Rattle.beam_model.specs.Lawful.{IsWithin, EndsAfter, KeepsPlace, IsForward, IsOfCall, done_range, IsOrdered, AreOneOrApart, IsNonEmpty, IsSoundRun};
 ghost use Rattle.beam_model.specs.Positions.{nothing, emission, next_position, SourceItem};
 ghost use Rattle.beam_model.specs.Steps.{KeptState, Stepped, ascending, steps};
 ghost use Rattle.beam_model.specs.Spread.{brought_at, spread_range, spread_all};
@@ -117,6 +118,17 @@ pub fn merged_windows_are_apart()
 pub fn mergings_agree()
     ensures { (elements others merged more : List Element) → IsSameBag elements others → All (λ e. IsNonEmpty e.span) elements
         → IsMerging elements merged → IsMerging others more → IsSameBag merged more }
+{}
+
+/// A pipeline means one thing: in two plain runs of one plan over the same items the same elements arrive at
+/// each node, and each Group puts out the same panes. (What a Stateful node would put out is no part of a plain run.)
+pub fn plain_runs_agree()
+    ensures arrived { (plan : Plan) (items : List SourceItem) (arrivals panes others more : List Arrival)
+        → IsSoundRun plan items arrivals panes → IsSoundRun plan items others more
+        → (node : ℕ) → IsSameBag (elements_at node arrivals) (elements_at node others) }
+    ensures put_out { (plan : Plan) (items : List SourceItem) (arrivals panes others more : List Arrival)
+        → IsSoundRun plan items arrivals panes → IsSoundRun plan items others more
+        → (node : ℕ) → IsSameBag (elements_at node panes) (elements_at node more) }
 {}
 
 /// Two lists of committed ranges hold a place as often as both together.
