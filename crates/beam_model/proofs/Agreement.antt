@@ -5,7 +5,7 @@ use Rattle.std.specs.declared.cmp.Ordering.TheVariants.{Less, Equal, Greater}
 use Rattle.std.specs.Ordering.{is_lt, ordering_reverse}
 use Rattle.std.specs.List.{All, AllByRecursion, count_by, filter}
 use Rattle.std.specs.List.Sorted.{IsSorted}
-use Rattle.std.proofs.lemmas.List.Elements.{recursion_from_All, All-head, All-tail}
+use Rattle.std.proofs.lemmas.List.Elements.{recursion_from_All}
 use Rattle.std.proofs.lemmas.List.Sorted.{ranks_by, sorted_far}
 use Rattle.std.proofs.lemmas.List.Sums.{sum_by-cons}
 use Rattle.beam_values.specs.Bags.{IsSameBag}
@@ -22,6 +22,7 @@ use Rattle.beam_values.specs.declared.element.Element.{Element}
 use Rattle.beam_values.proofs.Bags.{bag_sym, bag_trans, bag_cancel, bag_map, bag_filter, bag_count}
 use Rattle.beam_values.proofs.Lexicographic.{same_where_tied}
 use Rattle.beam_values.proofs.Words.{values_same, fits-Pair, fits-Seq}
+use Rattle.beam_model.proofs.Lists.{sum_none}
 use Rattle.beam_model.proofs.Matching.{matched}
 use Rattle.beam_model.proofs.Ascending.{value_total}
 use Rattle.beam_model.proofs.Groupings.{own_cell, in_own_cell, same_cell}
@@ -34,10 +35,7 @@ tail_sorted v vs up k d from within =
     subst (λ (j : ℕ). is_lt (value_cmp (get_or (v ∷ vs) j d) (get_or vs k d)) ≡ false) place (up (suc k) d (omega arith) (omega arith))
 
 count_none : {X : Type 0} (p : X → Bool) (xs : List X) → All (λ x. p x ≡ false) xs → count_by p xs ≡ 0
-count_none p [] h = refl
-count_none p (x ∷ xs) h =
-    let here : cond {A = ℕ} (p x) 1 0 ≡ 0 = ap (λ (b : Bool). cond {A = ℕ} b 1 0) (All-head (λ y. p y ≡ false) x xs h) in
-    omega (arith, sum_by-cons (λ (y : _). cond {A = ℕ} (p y) 1 0) x xs, count_none p xs (All-tail (λ y. p y ≡ false) x xs h))
+count_none p xs h = sum_none (λ x. cond {A = ℕ} (p x) 1 0) xs (λ k d within. ap (λ (b : Bool). cond {A = ℕ} b 1 0) (h k d within))
 
 first_of_none : {X : Type 0} (p : X → Bool) (x : X) (xs : List X) → count_by p (x ∷ xs) ≡ 0 → p x ≡ false
 first_of_none p x xs none = by_test (p x) (sym (sum_by-cons (λ (y : _). cond {A = ℕ} (p y) 1 0) x xs) ∙ none)

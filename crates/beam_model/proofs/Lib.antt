@@ -5,8 +5,8 @@ mod Flows
 mod Groupings
 mod Lists
 mod Matching
-mod Merging
+mod Mergings
 mod Outputs
 mod Positions
-mod Remerging
 mod Runs
+mod Sessions

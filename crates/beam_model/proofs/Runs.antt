@@ -1,11 +1,11 @@
 -- Two plain runs of one plan and the same items: node after node, the same arrives, since panes go only to later nodes.
-use Rattle.std.proofs.Common.{◌≡◌, ℕ, zero, suc, ◌+◌, ◌<◌, ◌≤◌, inl, inr, Bool, true, false, cond, List, [], ◌∷◌, get_or, map, refl, sym, ap, subst, ◌∙◌, arith}
+use Rattle.std.proofs.Common.{◌≡◌, ℕ, zero, suc, ◌+◌, ◌<◌, ◌≤◌, inl, inr, Bool, true, false, cond, List, get_or, map, refl, sym, ap, subst, ◌∙◌, arith}
 use Rattle.std.specs.Prelude.{nat_lt, ◌==◌}
 use Rattle.std.specs.List.{All, sum_by, filter, flat_map}
 use Rattle.std.proofs.lemmas.Bool.{false≢true, cases_lt, cond-true, cond-false, lt-ltb, le-ltb, ne_eqb}
 use Rattle.std.proofs.lemmas.Bool.Decides.{nat_tests}
-use Rattle.std.proofs.lemmas.List.Elements.{All-head, All-tail, All-map, All-filter, All-weaker}
-use Rattle.std.proofs.lemmas.List.Sums.{sum_by-cons, sum_by-append}
+use Rattle.std.proofs.lemmas.List.Elements.{All-map, All-filter, All-weaker}
+use Rattle.std.proofs.lemmas.List.Sums.{sum_by-append}
 use Rattle.beam_values.specs.Bags.{IsSameBag}
 use Rattle.beam_values.specs.Words.{FitsWords}
 use Rattle.beam_values.specs.declared.element.Element.{Element}
@@ -22,20 +22,8 @@ use Rattle.beam_model.specs.Positions.{SourceItem}
 use Rattle.beam_model.specs.Spread.{spread_all}
 use Rattle.beam_model.proofs.Agreement.{groupings_agree}
 use Rattle.beam_model.proofs.Barriers.{chains_end}
-use Rattle.beam_model.proofs.Remerging.{mergings_agree}
-
--- ---- sums
-
-sum_by-same : {X : Type 0} (f g : X → ℕ) (xs : List X) → ((x : X) → f x ≡ g x) → sum_by f xs ≡ sum_by g xs
-sum_by-same f g xs h = ap (λ (w : _ → ℕ). sum_by w xs) (λ i x. h x i)
-
-sum_by-add : {X : Type 0} (f g : X → ℕ) (xs : List X) → sum_by (λ x. f x + g x) xs ≡ sum_by f xs + sum_by g xs
-sum_by-add f g [] = refl
-sum_by-add f g (x ∷ xs) = omega (arith, sum_by-cons (λ y. f y + g y) x xs, sum_by-cons f x xs, sum_by-cons g x xs, sum_by-add f g xs)
-
-sum_none : {X : Type 0} (w : X → ℕ) (xs : List X) → All (λ x. w x ≡ 0) xs → sum_by w xs ≡ 0
-sum_none w [] h = refl
-sum_none w (x ∷ xs) h = omega (arith, sum_by-cons w x xs, All-head (λ y. w y ≡ 0) x xs h, sum_none w xs (All-tail (λ y. w y ≡ 0) x xs h))
+use Rattle.beam_model.proofs.Lists.{sum_by-same, sum_by-add, sum_none}
+use Rattle.beam_model.proofs.Mergings.{mergings_agree}
 
 -- what arrived at a node weighs what the arrivals there do
 at_node : (node : ℕ) (w : Element → ℕ) (arrivals : List Arrival)

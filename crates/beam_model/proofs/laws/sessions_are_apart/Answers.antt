@@ -1,4 +1,4 @@
-use Rattle.beam_model.proofs.Merging.{sessions_apart}
+use Rattle.beam_model.proofs.Sessions.{sessions_apart}
 use Rattle.beam_model.proofs.laws.sessions_are_apart.Goals as goal
 
 pub returns : goal.returns

@@ -18,7 +18,7 @@ use Rattle.beam_model.specs.Lawful.{IsOrdered, IsNonEmpty}
 use Rattle.beam_model.specs.Sessions.{IsApart, LiesIn, IsInside, IsSession, is_keyed, spans_of, Merged, IsMergedIn, in_session, IsMerging}
 use Rattle.beam_model.proofs.Groupings.{own_cell, in_own_cell, same_cell, same_span}
 use Rattle.beam_model.proofs.Matching.{any_moved, all_moved, count_member}
-use Rattle.beam_model.proofs.Merging.{sessions_apart, spans_alike}
+use Rattle.beam_model.proofs.Sessions.{sessions_apart, spans_alike}
 
 -- ---- sessions are of the bag of the windows
 
