@@ -5,4 +5,16 @@
 //! `Flow.antt`, `Plain.antt`, `Covers.antt`, `Account.antt` and `Rendering.antt` for whole runs. The layer above may rely on these definitions and on the laws in `laws.rt`.
 #![tactic(auto)]
 
-pub mod covering_laws;
+mod covering_laws;
+mod laws;
+
+pub use covering_laws::{
+    covering_ranges_bring_everything, the_items_of_a_plan_are_distinct,
+};
+pub use laws::{
+    a_cut_range_covers_the_same, a_spread_steps_over_positions, ascending_is_sorted,
+    chains_end_at_barriers, covers_append, flows_add, functions_keep_window_and_pane,
+    merged_windows_are_apart, mergings_agree, next_positions_rise, plain_groupings_agree,
+    plain_groupings_have_each_cell_once, plain_runs_agree, positions_between_give_nothing,
+    sessions_are_apart, spreads_join, stateful_outputs_keep_their_window,
+};

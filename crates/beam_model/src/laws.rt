@@ -1,0 +1,153 @@
+//! What the definitions mean to a reader. Each function does nothing: its contract is the law.
+
+ghost use Rattle.std.specs.Prelude.{◌≡◌, ◌⊎◌, ℕ, ◌+◌, ◌<◌, ◌≤◌, ◌≤ℤ◌, List, [], ◌∷◌, ◌++◌, Some};
+ghost use Rattle.std.specs.List.{All, AllPairs, count_by};
+ghost use Rattle.std.specs.List.Sorted.{IsSorted};
+ghost use Rattle.beam_values.specs.Bags.{IsSameBag};
+ghost use Rattle.beam_values.specs.Cover.{Place, times_done};
+ghost use Rattle.beam_values.specs.Grouping.{key_of, is_in_cell, IsPlainGrouping};
+ghost use Rattle.beam_values.specs.Intervals.{Interval};
+ghost use Rattle.beam_values.specs.Orders.{value_cmp};
+ghost use Rattle.beam_values.specs.Times.{greatest_time};
+ghost use Rattle.beam_values.specs.Words.{FitsWords};
+ghost use Rattle.beam_values.specs.declared.element.Element.{Element};
+ghost use Rattle.beam_values.specs.declared.outcome.Arrival.{Arrival};
+ghost use Rattle.beam_values.specs.declared.outcome.Done.{Done};
+ghost use Rattle.beam_values.specs.declared.outcome.KeyLog.{KeyLog};
+ghost use Rattle.beam_values.specs.declared.outcome.LogInput.{LogInput};
+ghost use Rattle.beam_values.specs.declared.outcome.Pane.{Pane};
+ghost use Rattle.beam_values.specs.declared.plan.Args.{Args};
+ghost use Rattle.beam_values.specs.declared.plan.FnKind.{FnKind};
+ghost use Rattle.beam_values.specs.declared.plan.Plan.{Plan};
+ghost use Rattle.beam_values.specs.declared.plan.SourceKind.{SourceKind};
+ghost use Rattle.beam_values.specs.declared.plan.StateKind.{StateKind};
+ghost use Rattle.beam_values.specs.declared.value.Value.{Value};
+ghost use Rattle.beam_model.specs.Chains.{chain};
+ghost use Rattle.beam_model.specs.Flow.{elements_at, pane_chains, log_chains, flow};
+ghost use Rattle.beam_model.specs.Functions.{emits};
+ghost use Rattle.beam_model.specs.Lawful.{IsWithin, EndsAfter, done_range, KeepsPlace, IsForward, IsOfCall, IsOrdered, IsNonEmpty, AreOneOrApart, IsSoundRun};
+ghost use Rattle.beam_model.specs.Positions.{nothing, emission, next_position, SourceItem};
+ghost use Rattle.beam_model.specs.Sessions.{IsApart, IsSession, IsMerging};
+ghost use Rattle.beam_model.specs.Spread.{brought_at, spread_range, spread_all};
+ghost use Rattle.beam_model.specs.Steps.{KeptState, Stepped, ascending, steps};
+
+/// Between a position and the one that is worked after it nothing is emitted, and nothing is poison.
+pub fn positions_between_give_nothing()
+    ensures { (kind : SourceKind) (args : Args) (file : List ℕ) (p q : ℕ)
+        → p < q → q < next_position kind file p → emission kind args file q ≡ nothing }
+{}
+
+/// The position that is worked after one lies above it, and in a file at most at its end.
+pub fn next_positions_rise()
+    ensures { (kind : SourceKind) (file : List ℕ) (p : ℕ) → IsWithin kind file (p + 1)
+        → (p < next_position kind file p) × IsWithin kind file (next_position kind file p) }
+{}
+
+/// A range of positions brings what its parts bring, one after the other, wherever it is cut: also
+/// inside a line.
+pub fn spreads_join()
+    ensures { (plan : Plan) (item : SourceItem) (from middle to : ℕ) → from ≤ middle → middle ≤ to
+        → spread_range plan item from to ≡ spread_range plan item from middle ++ spread_range plan item middle to }
+{}
+
+/// A range brings what its first position does, and then what the range from the next position on does.
+pub fn a_spread_steps_over_positions()
+    ensures { (plan : Plan) (item : SourceItem) (p to : ℕ) → p < to → IsWithin item.work item.file to
+        → spread_range plan item p to
+        ≡ brought_at plan item p ++ spread_range plan item (next_position item.work item.file p) to }
+{}
+
+/// What comes of an output of a node ends at a later node of the plan: at a Group, a Stateful node or a
+/// Write, or at a ParDo that finds it to be poison.
+pub fn chains_end_at_barriers()
+    ensures { (plan : Plan) (n : ℕ) (e : Element) → All (EndsAfter plan n) (chain plan n e) }
+{}
+
+/// What more panes, items or logs bring is added to the flow of a run, and changes nothing else of it.
+pub fn flows_add()
+    ensures panes { (plan : Plan) (items : List SourceItem) (panes more : List Pane) (logs : List KeyLog)
+        → IsSameBag (flow plan items (panes ++ more) logs) (flow plan items panes logs ++ pane_chains plan more) }
+    ensures items { (plan : Plan) (items more : List SourceItem) (panes : List Pane) (logs : List KeyLog)
+        → IsSameBag (flow plan (items ++ more) panes logs) (flow plan items panes logs ++ spread_all plan more) }
+    ensures logs { (plan : Plan) (items : List SourceItem) (panes : List Pane) (logs more : List KeyLog)
+        → IsSameBag (flow plan items panes (logs ++ more)) (flow plan items panes logs ++ log_chains plan more) }
+{}
+
+/// Two lists of committed ranges hold a place as often as both together.
+pub fn covers_append()
+    ensures { (a b : List Done) (place : Place) → times_done (a ++ b) place ≡ times_done a place + times_done b place }
+{}
+
+/// The two parts of a committed range hold each place as often as the range does.
+pub fn a_cut_range_covers_the_same()
+    ensures { (node item from middle to : ℕ) (place : Place) → from ≤ middle → middle ≤ to
+        → times_done (done_range node item from to ∷ []) place
+        ≡ times_done (done_range node item from middle ∷ done_range node item middle to ∷ []) place }
+{}
+
+/// What a function gives of an element is in its window, with its pane's tag, and never before it.
+pub fn functions_keep_window_and_pane()
+    ensures { (kind : FnKind) (args : Args) (e : Element) (outputs : List Element)
+        → e.time ≤ℤ greatest_time → IsForward kind args → emits kind args e ≡ Some outputs
+        → All (KeepsPlace e) outputs }
+{}
+
+/// What a stateful call gives is in the window and at the time of the element or the timer that it is on.
+pub fn stateful_outputs_keep_their_window()
+    ensures { (kind : StateKind) (args : Args) (key : Value) (span : Interval) (input : LogInput) (kept : KeptState) (after : Stepped)
+        → steps kind args key span input kept ≡ Some after
+        → All (IsOfCall span input) after.outputs }
+{}
+
+/// The values of a batch are put in order, and none is lost or added.
+pub fn ascending_is_sorted()
+    ensures sorted { (values : List Value) → IsSorted value_cmp (ascending values) }
+    ensures same { (values : List Value) → IsSameBag (ascending values) values }
+{}
+
+/// Plain grouping gives at most one pane of each key and window, and none without an element.
+pub fn plain_groupings_have_each_cell_once()
+    ensures once { (elements panes : List Element) (key : Value) (span : Interval)
+        → IsPlainGrouping elements panes → count_by (is_in_cell key span) panes ≤ 1 }
+    ensures held { (elements panes : List Element) → IsPlainGrouping elements panes
+        → All (λ pane. 1 ≤ count_by (is_in_cell (key_of pane) pane.span) elements) panes }
+{}
+
+/// Plain grouping is a function of the bag: groupings of one bag of elements have one bag of panes, in
+/// whatever order the elements came.
+pub fn plain_groupings_agree()
+    ensures { (elements others panes more : List Element) → IsSameBag elements others
+        → IsPlainGrouping elements panes → IsPlainGrouping others more
+        → All (λ pane. FitsWords pane.value) panes → All (λ pane. FitsWords pane.value) more
+        → IsSameBag panes more }
+{}
+
+/// Two sessions of the same windows are one, or they don't overlap.
+pub fn sessions_are_apart()
+    ensures { (spans : List Interval) (a b : Interval) → IsOrdered a → IsOrdered b
+        → IsSession spans a → IsSession spans b → (a ≡ b) ⊎ IsApart a b }
+{}
+
+/// Merging leaves no two windows of a key that overlap, unless they are the same.
+pub fn merged_windows_are_apart()
+    ensures { (elements sessioned : List Element) (key : Value) → All (λ e. IsOrdered e.span) elements
+        → IsMerging elements sessioned → AllPairs (AreOneOrApart key) sessioned }
+{}
+
+/// Merging is a function of the bag: mergings of one bag of elements, none of whose windows is empty, give
+/// one bag.
+pub fn mergings_agree()
+    ensures { (elements others merged more : List Element) → IsSameBag elements others → All (λ e. IsNonEmpty e.span) elements
+        → IsMerging elements merged → IsMerging others more → IsSameBag merged more }
+{}
+
+/// A pipeline means one thing: in two plain runs of one plan over the same items the same elements arrive
+/// at each node, and each Group puts out the same panes. Stateful nodes put out nothing in a plain run.
+pub fn plain_runs_agree()
+    ensures arrived { (plan : Plan) (items : List SourceItem) (arrivals panes others more : List Arrival)
+        → IsSoundRun plan items arrivals panes → IsSoundRun plan items others more
+        → (node : ℕ) → IsSameBag (elements_at node arrivals) (elements_at node others) }
+    ensures put_out { (plan : Plan) (items : List SourceItem) (arrivals panes others more : List Arrival)
+        → IsSoundRun plan items arrivals panes → IsSoundRun plan items others more
+        → (node : ℕ) → IsSameBag (elements_at node panes) (elements_at node more) }
+{}
