@@ -1,10 +1,10 @@
 -- The first pieces of an item: they ascend, and hold each of its offsets once.
-use Rattle.std.proofs.Common.{◌≡◌, ◌⊎◌, inl, inr, ℕ, zero, suc, ◌+◌, ◌-◌, ◌*◌, ◌/◌, ◌%◌, ◌<◌, ◌≤◌, min, Bool, true, false, cond, ◌&&◌, ◌==◌, List, [], ◌∷◌, ◌++◌, map, refl, sym, ap, ◌∙◌, arith}
+use Rattle.std.proofs.Common.{◌≡◌, ◌⊎◌, inl, inr, ℕ, zero, suc, ◌+◌, ◌*◌, ◌/◌, ◌%◌, ◌<◌, ◌≤◌, min, Bool, true, false, cond, ◌&&◌, ◌==◌, List, [], ◌∷◌, ◌++◌, map, refl, sym, ap, ◌∙◌, arith}
 use Rattle.std.specs.declared.cmp.Ordering.{Ordering}
-use Rattle.std.specs.declared.cmp.Ordering.TheVariants.{Less, Equal, Greater}
-use Rattle.std.specs.Ordering.{is_lt, nat_cmp, ordering_then}
+use Rattle.std.specs.declared.cmp.Ordering.TheVariants.{Less, Equal}
+use Rattle.std.specs.Ordering.{is_lt, ordering_then}
 use Rattle.std.specs.Int.{div_ceil}
-use Rattle.std.specs.List.{All, sum_by}
+use Rattle.std.specs.List.{All}
 use Rattle.std.proofs.lemmas.Bool.{cases_lt}
 use Rattle.std.proofs.lemmas.Bool.Decides.{nat_tests}
 use Rattle.std.proofs.lemmas.Cmp.{nat_cmp_total, tied_itself}
@@ -15,7 +15,7 @@ use Rattle.beam_values.specs.Cover.{Place, times_at, times_pending, whole}
 use Rattle.beam_values.specs.Intervals.{times_in}
 use Rattle.beam_values.specs.Lines.{offsets}
 use Rattle.beam_values.specs.declared.outcome.Piece.{Piece}
-use Rattle.split_core.specs.Order.{piece_cmp, is_lower, with_piece, with_pieces, first_piece, first_pieces}
+use Rattle.split_core.specs.Order.{is_lower, with_piece, with_pieces, first_piece, first_pieces}
 use Rattle.split_core.proofs.Ordered.{nat_less, with_pieces-more, with_piece-behind}
 
 offsets-more : (from n : ℕ) → offsets from (suc n) ≡ offsets from n ++ (from + n) ∷ []

@@ -1,14 +1,11 @@
 -- The cover is kept: by first pieces, by what is taken, and by what comes back.
-use Rattle.std.proofs.Common.{◌≡◌, ℕ, ◌+◌, ◌<◌, ◌≤◌, Bool, true, false, cond, ◌&&◌, ◌==◌, List, [], ◌∷◌, ◌++◌, reverse, Option, Some, None, refl, sym, ap, ◌∙◌, subst, eq-eqb, arith}
+use Rattle.std.proofs.Common.{◌≡◌, ℕ, ◌+◌, ◌≤◌, Bool, true, false, cond, ◌&&◌, ◌==◌, List, [], ◌∷◌, ◌++◌, reverse, Option, Some, None, refl, sym, ap, ◌∙◌, subst, eq-eqb, arith}
 use Rattle.std.specs.Option.{MatchOption, IfSome}
-use Rattle.std.specs.List.{All, sum_by, count_by}
+use Rattle.std.specs.List.{All, sum_by}
 use Rattle.std.proofs.lemmas.Bool.{false≢true, eqb-true}
 use Rattle.std.proofs.lemmas.List.Elements.{All-nil, All-cons, All-head, All-tail, All-weaker, All-append, All-map}
-use Rattle.std.proofs.lemmas.List.Sums.{sum_by-cons, sum_by-append, sum_by_push}
-use Rattle.beam_values.specs.Bags.{IsSameBag}
-use Rattle.beam_values.proofs.Bags.{bag_refl, bag_trans, bag_cons, bag_append}
-use Rattle.beam_values.specs.Cover.{Place, times_at, times_done, times_pending, times_listed, whole}
-use Rattle.beam_values.specs.Lines.{offsets}
+use Rattle.std.proofs.lemmas.List.Sums.{sum_by-cons, sum_by_push}
+use Rattle.beam_values.specs.Cover.{times_at, whole}
 use Rattle.beam_values.specs.declared.outcome.Done.{Done}
 use Rattle.beam_values.specs.declared.outcome.FileLen.{FileLen}
 use Rattle.beam_values.specs.declared.outcome.Piece.{Piece}

@@ -5,7 +5,7 @@ use Rattle.std.specs.declared.cmp.Ordering.{Ordering}
 use Rattle.std.specs.Ordering.{is_lt, nat_cmp, ordering_then, ordering_index}
 use Rattle.std.specs.Result.{is_err}
 use Rattle.std.specs.Cmp.{IsTotalOrder, IsStrictWeakOrder}
-use Rattle.std.specs.List.{All, AllWithin, insert, fold}
+use Rattle.std.specs.List.{All, AllWithin, insert}
 use Rattle.std.specs.List.Sorted.{IsPartitionedBy, IsPartitionPoint, IsNonDecreasingBy, IsSearchInRange, IsBinarySearchResult}
 use Rattle.std.proofs.lemmas.Cmp.{nat_cmp_total, int_cmp_total, on_total, then_total, tied_itself, ranked}
 use Rattle.std.proofs.lemmas.Bool.Decides.{nat_tests}

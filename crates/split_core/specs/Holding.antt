@@ -1,5 +1,5 @@
 -- Where the offsets of the source items are: each lies in one pending piece or in one range that is out (Splittable DoFn: restrictions partition their element).
-use Rattle.std.specs.Prelude.{◌≡◌, ℕ, ◌+◌, ◌<◌, Bool, ◌&&◌, ◌==◌, List, All, count_by}
+use Rattle.std.specs.Prelude.{◌≡◌, ℕ, ◌+◌, ◌<◌, ◌&&◌, ◌==◌, List, All, count_by}
 use Rattle.beam_values.specs.Cover.{Place, times_at, times_done, times_pending, times_listed}
 use Rattle.beam_values.specs.declared.outcome.Done.{Done}
 use Rattle.beam_values.specs.declared.outcome.FileLen.{FileLen}

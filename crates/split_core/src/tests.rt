@@ -73,7 +73,8 @@ fn takes_pieces_back(rt: HostRuntime) -> Result<(), Fail> {
     pieces.initial(0, 0, 20, 10)?;
     pieces.keep_room(1)?;
     pieces.give_back(fresh(15, 18)?);
-    expect_next(&rt, &mut pieces, 0, 10)?;
+    let taken = pieces.take().ok_or("nothing is pending")?;
+    assert_eq!(rt; taken, fresh(0, 10)?);
     pieces.give_back(piece(0, 0, 4, 10, 7, 1)?);
     assert_eq!(rt; pieces.take(), Some(piece(0, 0, 4, 10, 7, 1)?));
     expect_next(&rt, &mut pieces, 10, 20)?;

@@ -1,6 +1,5 @@
-use Rattle.std.proofs.Common.{◌≡◌, ◌+◌, ◌++◌, [], ◌∷◌, true, length, reverse, sym, ap, ◌∙◌, length-append, arith}
+use Rattle.std.proofs.Common.{◌≡◌, ◌++◌, [], ◌∷◌, true, length, reverse, sym, ap, ◌∙◌, length-append, arith}
 use Rattle.std.proofs.lemmas.List.Elements.{All-same, All-push}
-use Rattle.beam_values.specs.declared.outcome.Piece.{Piece}
 use Rattle.split_core.specs.Front.{first_is_lower}
 use Rattle.split_core.specs.Order.{is_lower, with_piece}
 use Rattle.split_core.proofs.Ordered.{lower_chain, pass_step, passed_is_lower}

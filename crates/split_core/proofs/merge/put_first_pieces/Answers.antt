@@ -1,6 +1,5 @@
 use Rattle.std.proofs.Common.{◌≡◌, ◌+◌, ◌++◌, true, length, reverse, sym, ap, ◌∙◌, arith}
 use Rattle.std.proofs.lemmas.List.Elements.{All-weaker}
-use Rattle.beam_values.specs.declared.outcome.Piece.{Piece}
 use Rattle.split_core.specs.Order.{is_lower, with_piece, first_piece}
 use Rattle.split_core.proofs.Ordered.{lower_chain}
 use Rattle.split_core.proofs.Chunks.{some-none, next_is_higher, step}

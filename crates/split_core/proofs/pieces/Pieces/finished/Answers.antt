@@ -2,7 +2,6 @@ use Rattle.std.proofs.Common.{◌≡◌, ◌↔◌, ◌≢◌, Bool, List, IsTru
 use Rattle.std.specs.List.{All}
 use Rattle.std.specs.Ordering.{nat_cmp}
 use Rattle.std.specs.Result.{is_err}
-use Rattle.std.specs.List.Sorted.{IsSearchInRange, IsBinarySearchResult}
 use Rattle.std.proofs.lemmas.Fn.{always_returns_same}
 use Rattle.beam_values.specs.declared.outcome.Piece.{Piece}
 use Rattle.split_core.specs.Held.{Held}

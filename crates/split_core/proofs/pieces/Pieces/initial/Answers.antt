@@ -1,5 +1,4 @@
 use Rattle.std.proofs.Common.{List, ◌∷◌, [], ◌++◌, reverse, sym, ap, ◌∙◌, subst, arith}
-use Rattle.beam_values.specs.declared.outcome.FileLen.{FileLen}
 use Rattle.beam_values.specs.declared.outcome.Piece.{Piece}
 use Rattle.split_core.specs.Held.{Held}
 use Rattle.split_core.specs.Order.{with_pieces, first_pieces, IsAscending}
