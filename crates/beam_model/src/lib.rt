@@ -8,9 +8,7 @@
 mod covering_laws;
 mod laws;
 
-pub use covering_laws::{
-    covering_ranges_bring_everything, the_items_of_a_plan_are_distinct,
-};
+pub use covering_laws::{covering_ranges_bring_everything, the_items_of_a_plan_are_distinct};
 pub use laws::{
     a_cut_range_covers_the_same, a_spread_steps_over_positions, ascending_is_sorted,
     chains_end_at_barriers, covers_append, flows_add, functions_keep_window_and_pane,

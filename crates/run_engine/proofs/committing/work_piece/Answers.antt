@@ -1,4 +1,4 @@
-use Rattle.std.proofs.Common.{◌≡◌, map, min, ◌<◌, ◌≤◌, ◌++◌, ◌∷◌, [], length, Err, ap, sym, subst, ◌∙◌, arith, true, to_z, of_z, w64}
+use Rattle.std.proofs.Common.{ℤ, ◌≡◌, map, min, ◌<◌, ◌≤◌, ◌++◌, ◌∷◌, [], length, Err, ap, sym, subst, ◌∙◌, arith, true, to_z, of_z, w64}
 use Rattle.std.proofs.lemmas.Int.{ints}
 use Rattle.std.specs.List.{list_any}
 use Rattle.beam_model.specs.Spread.{is_spoiled}
@@ -39,8 +39,8 @@ returns-clause-held c =
     let came_is = subst (λ (t : Tracked). map came c.work_bundle.new.self.entries ≡ map came c.args.committed.now.entries
         ++ spread_of size file t.range.from (min (first_open t.range.from c.work_bundle.new.tracker.attempted) t.range.to)) c.new-tracker.ensures c.in-Ok.ensures.came in
     let range_is = ap (λ (x : Done). x.range) c.in_ok-done.ensures.range in
-    let more = brought_more size file c.args.committed.now.done d _ _ _ _ range_is (rw (← same) at c.requires.taken.brought) (ap (map came) c.in_ok-commit.ensures.entries ∙ came_is) in
+    let more = brought_more size file c.args.committed.now.done d _ _ _ _ range_is (subst (λ (z : ℤ). IsSameBag (map came c.args.committed.now.entries) (spread_of_done z file c.args.committed.now.done)) (sym same) c.requires.taken.brought) (ap (map came) c.in_ok-commit.ensures.entries ∙ came_is) in
     record {
       held = subst (λ ds. IsHeld (item_len (panes_item file) ∷ []) c.put_rest.new.pieces.pending ds) (sym done_is) (c.in_ok-done.ensures.cover _ _ c.requires.taken.held);
-      brought = rw same at (subst (λ ds. IsSameBag (map came c.commit.new.self.entries) (spread_of_done size file ds)) (sym done_is) more);
+      brought = subst (λ (z : ℤ). IsSameBag (map came c.commit.new.self.entries) (spread_of_done z file c.commit.new.self.done)) same (subst (λ ds. IsSameBag (map came c.commit.new.self.entries) (spread_of_done size file ds)) (sym done_is) more);
     }
