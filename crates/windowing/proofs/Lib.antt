@@ -1,1 +1,5 @@
 pub mod Ends
+pub mod Euclid
+pub mod Sliding
+pub mod UnderWay
+pub mod Quotients

@@ -1,6 +1,10 @@
-//! Times and their windows, counted by hand.
-use crate::fixed_window;
-use beam_values::Time;
+//! Strategies at their limits, and times and their windows, counted by hand.
+ghost use Rattle.std.specs.Prelude.{◌≡◌};
+
+use crate::{StrategyRefusal, assign, check_strategy, fixed_window};
+use beam_values::{List, NoMemory, Span, Strategy, Time};
+use std::alloc::Global;
+use std::process::Abort;
 use std::test::Fail;
 
 #[test]
