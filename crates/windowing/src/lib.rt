@@ -9,6 +9,7 @@
 
 mod assignment;
 mod fixed;
+pub mod laws;
 mod strategy;
 
 pub use assignment::assign;
