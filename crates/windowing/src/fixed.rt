@@ -10,6 +10,7 @@ pub fn fixed_window(size: i64, time: Time) -> Span
     ensures { result ≡ fixed_window size time }
 {
     let ms = time.ms();
-    let start = ms - ms.rem_euclid(size);
+    let since_start = ms.rem_euclid(size);
+    let start = ms - since_start;
     Span::between(start, start + size)
 }
