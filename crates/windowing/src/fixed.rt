@@ -3,9 +3,6 @@ ghost use Rattle.beam_values.specs.Functions.{fixed_window};
 
 use beam_values::{Span, Time};
 
-/// The greatest size of a window, in milliseconds.
-pub const GREATEST_SIZE: i64 = 31_536_000_000_000;
-
 /// The one fixed window of `size` milliseconds that contains the time. It takes no memory.
 pub fn fixed_window(size: i64, time: Time) -> Span
     requires low { pos 1 ≤ℤ size }
@@ -13,6 +10,7 @@ pub fn fixed_window(size: i64, time: Time) -> Span
     ensures { result ≡ fixed_window size time }
 {
     let ms = time.ms();
-    let start = ms - ms.rem_euclid(size);
+    let since_start = ms.rem_euclid(size);
+    let start = ms - since_start;
     Span::between(start, start + size)
 }

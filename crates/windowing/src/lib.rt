@@ -1,11 +1,20 @@
-//! Windows: which spans of event time hold a time (Beam Programming Guide, Windowing).
+//! Windows: which strategies a plan may have, and which spans of event time hold a time (Beam
+//! Programming Guide, Windowing).
 //!
-//! What a window is stands in `beam_values::specs::Functions`; the layer above relies on exactly that.
+//! What a window is stands in `beam_values::specs::Windows`, and which strategies are allowed in
+//! `specs/Strategies.antt`; the layer above relies on exactly these. [`laws`] has what they mean to a
+//! reader: the windows of a time are the spans of the strategy's kind that hold it, each given once.
+//! Read `assignment.rt` first.
 #![tactic(auto)]
 
+mod assignment;
 mod fixed;
+pub mod laws;
+mod strategy;
 
-pub use fixed::{GREATEST_SIZE, fixed_window};
+pub use assignment::assign;
+pub use fixed::fixed_window;
+pub use strategy::{GREATEST_SIZE, MOST_WINDOWS, StrategyRefusal, check_strategy};
 
 #[cfg(test)]
 mod tests;

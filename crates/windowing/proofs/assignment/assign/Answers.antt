@@ -1,0 +1,7 @@
+use Rattle.std.proofs.Common.{ap, rules, arith, subst}
+use Rattle.windowing.specs.Strategies.{IsAllowed}
+use Rattle.windowing.proofs.Sliding.{few_of}
+use Rattle.windowing.proofs.assignment.assign.Goals as goal
+
+pub returns-in-Sliding-clause-few : goal.returns-in-Sliding-clause-few
+returns-in-Sliding-clause-few c = few_of c.args.s.now c.args.time c.requires.allowed
