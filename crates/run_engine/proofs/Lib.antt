@@ -1,2 +1,5 @@
+mod Ascents
+mod Cells
+mod PlainPanes
 pub mod Filling
 pub mod Working
