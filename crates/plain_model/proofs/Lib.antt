@@ -1,5 +1,5 @@
-mod Lists
-mod Cells
-mod Groupings
-mod Runs
-mod Sorts
+pub mod Lists
+pub mod Cells
+pub mod Groupings
+pub mod Runs
+pub mod Sorts

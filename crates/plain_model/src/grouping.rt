@@ -87,7 +87,7 @@ fn copy_parts(alloc: Global, elements: &[Element]) -> Result<List<Value>, NoMemo
 }
 
 /// The last millisecond of a window that is a time.
-fn last_time(span: Span) -> Time
+pub fn last_time(span: Span) -> Time
     ensures { result ≡ last_time span }
 {
     let last = span.end() - 1;

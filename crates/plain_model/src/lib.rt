@@ -12,4 +12,4 @@ mod grouping;
 mod tests;
 
 pub use cell::{key_or, part_of};
-pub use grouping::plain_panes;
+pub use grouping::{last_time, plain_panes};

@@ -1,4 +1,7 @@
 pub mod Commits
+mod Ascents
+mod Cells
+mod PlainPanes
 pub mod Filling
 pub mod Outcomes
 pub mod Working

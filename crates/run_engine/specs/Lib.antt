@@ -1,5 +1,6 @@
 pub mod Committing
 pub mod PanesRun
+pub mod Grouped
 pub mod Statuses
 pub mod Working
 pub mod Written

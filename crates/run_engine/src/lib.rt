@@ -4,6 +4,7 @@
 
 mod batches;
 mod committing;
+mod grouping;
 mod plan;
 mod positions;
 mod reading;
@@ -12,6 +13,7 @@ mod writing;
 
 pub use batches::written;
 pub use committing::{Committed, work_pieces};
+pub use grouping::{Grouped, group};
 pub use plan::panes_plan;
 pub use positions::{WorkRefusal, work_bundle};
 pub use reading::{ReadRefusal, read_whole};
