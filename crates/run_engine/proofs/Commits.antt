@@ -44,6 +44,7 @@ empty_part node item to place = by_item (node == place.node && item == place.ite
   where
     nothing : times_in (record { from = to; to = to }) place.offset ≡ 0
     nothing = grind (arith, nat_tests)
+
     by_item : (here : Bool) → cond here (times_in (record { from = to; to = to }) place.offset) 0 ≡ 0
     by_item true = nothing
     by_item false = refl
@@ -59,10 +60,10 @@ end_cut_out out node item from s to attempts seen low high =
     let empty = part node item to to in
     let last : to ≤ to = omega arith in
     let parts : IsSameBag (out ++ (front ∷ empty ∷ [])) (front ∷ empty ∷ out) =
-      bag_trans _ _ _ (bag_swap out (front ∷ empty ∷ [])) (bag_refl (front ∷ empty ∷ out)) in
+    bag_trans _ _ _ (bag_swap out (front ∷ empty ∷ [])) (bag_refl (front ∷ empty ∷ out)) in
     let cut = middle_cut_out (out ++ part node item from to ∷ []) (out ++ (front ∷ empty ∷ [])) out node item from s to to attempts seen low high last
-      (bag_trans _ _ _ (bag_middle out (part node item from to) []) (bag_from_same _ _ (ap (λ t. part node item from to ∷ t) (append-nil out))))
-      parts in
+    (bag_trans _ _ _ (bag_middle out (part node item from to) []) (bag_from_same _ _ (ap (λ t. part node item from to ∷ t) (append-nil out))))
+    parts in
     record {
       piece_out = cut.piece_out;
       rest_out = subst (All (λ (d : Done). IsOut (out ++ part node item from to ∷ []) d.node d.item)) (take_front out front empty) (All-take (λ (d : Done). IsOut (out ++ part node item from to ∷ []) d.node d.item) (length out + 1) (out ++ (front ∷ empty ∷ [])) cut.rest_out);
@@ -165,7 +166,7 @@ in_file file piece pending done held some =
     let w : Done → ℕ = λ d. times_at d.node d.item d.range place in
     let v : FileLen → ℕ = λ f. times_at f.node f.item (whole f.len) place in
     let here : times_at piece.node piece.item piece.range place ≡ 1 =
-      ap (λ b. cond b (times_in piece.range place.offset) 0) (both_same piece.node piece.item) ∙ one_in piece.range place.offset (omega arith) (omega arith) in
+    ap (λ b. cond b (times_in piece.range place.offset) 0) (both_same piece.node piece.item) ∙ one_in piece.range place.offset (omega arith) (omega arith) in
     let out : 1 ≤ times_done (done ++ range_of piece ∷ []) place = omega (arith, here, sum_by-append w done (range_of piece ∷ []), sum_by-cons w (range_of piece) []) in
     let listed : 0 < times_at 0 0 (whole (length file)) place = omega (arith, out, held.times place, sum_by-cons v (item_len (panes_item file)) []) in
     let inside : place.offset < length file = positive_in (length file) place.offset (positive_cond _ _ listed) in
@@ -176,9 +177,9 @@ pub poison_in_part : (size : ℤ) (file : List ℕ) (from to len : ℕ) → (fro
     → list_any is_spoiled (spread_of size file 0 len) ≡ true
 poison_in_part size file from to len within poison = elim (cases_lt from to) [
   | inl some ↦
-    ap (list_any is_spoiled) (spread-join at 0 from len (omega arith) (omega (arith, within some)) ∙ ap (λ t. spread at 0 from ++ t) (spread-join at from to len (omega arith) (within some)))
-    ∙ list_any-append is_spoiled (spread at 0 from) (spread at from to ++ spread at to len)
-    ∙ any_or-right (list_any is_spoiled (spread at 0 from)) _
+      ap (list_any is_spoiled) (spread-join at 0 from len (omega arith) (omega (arith, within some)) ∙ ap (λ t. spread at 0 from ++ t) (spread-join at from to len (omega arith) (within some)))
+      ∙ list_any-append is_spoiled (spread at 0 from) (spread at from to ++ spread at to len)
+      ∙ any_or-right (list_any is_spoiled (spread at 0 from)) _
       (list_any-append is_spoiled (spread at from to) (spread at to len) ∙ any_or-left _ (list_any is_spoiled (spread at to len)) poison)
   | inr none ↦ absurd (false≢true (sym (ap (list_any is_spoiled) (spread-empty at from to none)) ∙ poison))
 ]
@@ -195,5 +196,5 @@ brought_more size file done d old new from to is before more =
     bag_trans _ _ _ (bag_from_same _ _ more)
     (bag_trans _ _ _ (bag_append _ _ _ _ before (bag_refl (spread_of size file from to)))
     (bag_from_same _ _
-      (ap (λ t. spread_of_done size file done ++ t) (ap (λ (r : Offsets). spread_of size file r.from r.to) (sym is) ∙ sym (append-nil _))
-      ∙ sym (flat_map-append (λ (e : Done). spread_of size file e.range.from e.range.to) done (d ∷ [])))))
+    (ap (λ t. spread_of_done size file done ++ t) (ap (λ (r : Offsets). spread_of size file r.from r.to) (sym is) ∙ sym (append-nil _))
+    ∙ sym (flat_map-append (λ (e : Done). spread_of size file e.range.from e.range.to) done (d ∷ [])))))

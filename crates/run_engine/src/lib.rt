@@ -8,6 +8,7 @@ mod grouping;
 mod plan;
 mod positions;
 mod reading;
+mod run;
 mod status;
 mod writing;
 
@@ -17,6 +18,7 @@ pub use grouping::{Grouped, group};
 pub use plan::panes_plan;
 pub use positions::{WorkRefusal, work_bundle};
 pub use reading::{ReadRefusal, read_whole};
+pub use run::run_panes;
 pub use status::{RunEnd, Status};
 pub use writing::put;
 

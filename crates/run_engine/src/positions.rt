@@ -6,10 +6,12 @@ ghost use Rattle.beam_model.specs.Spread.{is_spoiled};
 ghost use Rattle.run_engine.specs.Working.{brought, spread_of, came, panes_element};
 
 use beam_lines::{TimedLine, first_line, key_field, timed_line};
-use beam_values::{Boxed, Bytes, Element, Entry, List, NoMemory, PaneTag, Time, Timing, Value};
+use beam_values::{
+    Boxed, Bytes, Element, Entry, List, NoMemory, PaneTag, Span, Strategy, Time, Timing, Value,
+};
 use offset_tracker::Tracker;
 use std::alloc::Global;
-use windowing::fixed_window;
+use windowing::assign;
 
 /// Why a range was not worked to the end of its bundle.
 #[derive(Clone, Copy, Debug, PartialEq, Eq)]
@@ -56,8 +58,9 @@ pub fn work_bundle(
 {
     let mut p = tracker.range().from();
     let mut emitted = 0;
+    let mut windows = List::new(alloc);
     'lines: while emitted < bundle && tracker.try_claim(p) {
-        match work_position(alloc, size, file, p as usize, commit, out) {
+        match work_position(alloc, size, file, p as usize, commit, &mut windows, out) {
             Ok(step) => {
                 p = step.next as u64;
                 if step.emitted {
@@ -77,18 +80,21 @@ struct Step {
     emitted: bool,
 }
 
-// Works one position.
+// Works one position. The list of windows is a buffer, empty before and after.
 fn work_position(
     alloc: Global,
     size: i64,
     file: &[u8],
     p: usize,
     commit: u32,
+    windows: &mut List<Span>,
     out: &mut List<Entry>,
 ) -> Result<Step, WorkRefusal>
     requires low { pos 1 ≤ℤ size }
     requires high { size ≤ℤ pos 31536000000000 }
     requires in_file { p < length file.now }
+    requires unused { windows.old ≡ [] }
+    ensures unused { OnOk result (windows.new ≡ []) }
     ensures came { OnOk result (map came out.new ≡ map came out.old ++ brought size file.now p) }
     ensures next { IfOk result (λ step. step.next ≡ next_start file.now p) }
     ensures emitted { IfOk result (λ step. IsTrue step.emitted ↔ (0 < length (brought size file.now p))) }
@@ -104,7 +110,7 @@ fn work_position(
     }
     match timed_line(line.text) {
         TimedLine::Timed(time, text) => {
-            let element = keyed_element(alloc, size, time, text)?;
+            let element = keyed_element(alloc, size, time, text, windows)?;
             out.push(Entry {
                 element,
                 commit,
@@ -131,18 +137,30 @@ fn starts_line(file: &[u8], p: usize) -> bool
 }
 
 // A timed text split at its first TAB, in the fixed window of its time.
-fn keyed_element(alloc: Global, size: i64, time: Time, text: &[u8]) -> Result<Element, NoMemory>
+fn keyed_element(
+    alloc: Global,
+    size: i64,
+    time: Time,
+    text: &[u8],
+    windows: &mut List<Span>,
+) -> Result<Element, NoMemory>
     requires low { pos 1 ≤ℤ size }
     requires high { size ≤ℤ pos 31536000000000 }
-    ensures { IfOk result (λ e. e ≡ panes_element size time text.now) }
+    requires unused { windows.old ≡ [] }
+    ensures element { IfOk result (λ e. e ≡ panes_element size time text.now) }
+    ensures unused { OnOk result (windows.new ≡ []) }
 {
     let (key, part) = key_field(text);
     let key = Boxed::new(alloc, Value::Blob(Bytes::from_slice(alloc, key)?))?;
     let part = Boxed::new(alloc, Value::Blob(Bytes::from_slice(alloc, part)?))?;
+    assign(&Strategy::Fixed { size }, time, windows)?;
+    let Some(span) = windows.pop() else {
+        unreachable!()
+    };
     Ok(Element {
         value: Value::Pair(key, part),
         time,
-        span: fixed_window(size, time),
+        span,
         pane: PaneTag {
             timing: Timing::Unknown,
             index: 0,

@@ -27,7 +27,7 @@ returns-in-Err-clause-poison c = λ is.
     let size = to_z w64 (of_z w64 c.args.size) in
     let found = subst (λ (r : Offsets). list_any is_spoiled (spread_of size c.args.file.now r.from r.to) ≡ true) range (c.in-Err.ensures.poison (ap (λ x. Err x) poison)) in
     rw same at (poison_in_part size c.args.file.now c.args.piece.range.from c.args.piece.range.to (length c.args.file.now)
-      (in_file c.args.file.now c.args.piece _ _ c.requires.taken.held) found)
+    (in_file c.args.file.now c.args.piece _ _ c.requires.taken.held) found)
 
 pub returns-clause-held : goal.returns-clause-held
 returns-clause-held c =
@@ -37,7 +37,7 @@ returns-clause-held c =
     let size = to_z w64 (of_z w64 c.args.size) in
     let done_is = c.in_ok-commit.ensures.done ∙ ap (λ ds. ds ++ d ∷ []) c.work_bundle.ensures.done in
     let came_is = subst (λ (t : Tracked). map came c.work_bundle.new.self.entries ≡ map came c.args.committed.now.entries
-        ++ spread_of size file t.range.from (min (first_open t.range.from c.work_bundle.new.tracker.attempted) t.range.to)) c.new-tracker.ensures c.in-Ok.ensures.came in
+    ++ spread_of size file t.range.from (min (first_open t.range.from c.work_bundle.new.tracker.attempted) t.range.to)) c.new-tracker.ensures c.in-Ok.ensures.came in
     let range_is = ap (λ (x : Done). x.range) c.in_ok-done.ensures.range in
     let more = brought_more size file c.args.committed.now.done d _ _ _ _ range_is (subst (λ (z : ℤ). IsSameBag (map came c.args.committed.now.entries) (spread_of_done z file c.args.committed.now.done)) (sym same) c.requires.taken.brought) (ap (map came) c.in_ok-commit.ensures.entries ∙ came_is) in
     record {

@@ -10,7 +10,7 @@ lines-init c =
     let range = c.range.ensures in
     let at = c.from-p.ensures.value ∙ ap (λ r. r.from) range in
     let within : c.args.tracker.now.range.from ≤ c.args.tracker.now.range.to = omega (arith, c.from-p.ensures.ordered, ap (λ r. r.from) range, ap (λ r. r.to) range) in
-    record { worked = worked_none _ _ _ _ _ c.requires.unstarted at within; started = inl refl; counted = omega arith }
+    record { worked = worked_none _ _ _ _ _ c.requires.unstarted at within; started = inl refl; counted = omega arith; unused = c.new-windows.ensures }
 
 pub lines-preserved : goal.lines-preserved
 lines-preserved c =
@@ -23,6 +23,7 @@ lines-preserved c =
       worked = worked_more _ _ _ _ _ _ _ _ _ _ known.worked inside (c.requires.in_file (omega (arith, known.worked.above, known.worked.ordered))) c.try_claim.ensures.after c.in-Ok.ensures.next c.in-Ok.ensures.came;
       started = inr (omega (arith, known.worked.above, known.worked.ordered));
       counted = known.counted;
+      unused = c.in-Ok.ensures.unused;
     }
 
 pub lines-preserved-then-step : goal.lines-preserved-then-step
@@ -36,6 +37,7 @@ lines-preserved-then-step c =
       worked = worked_more _ _ _ _ _ _ _ _ _ _ known.worked inside (c.requires.in_file (omega (arith, known.worked.above, known.worked.ordered))) c.try_claim.ensures.after c.in-Ok.ensures.next c.in-Ok.ensures.came;
       started = inr (omega (arith, known.worked.above, known.worked.ordered));
       counted = omega (arith, c.lines-test.true);
+      unused = c.in-Ok.ensures.unused;
     }
 
 pub returns-in-Err-clause-poison : goal.returns-in-Err-clause-poison
@@ -48,11 +50,3 @@ returns-in-Err-clause-poison c = λ is.
     let same : to_z w64 (of_z w64 c.args.size) ≡ c.args.size = omega (arith, ints) in
     let poison : c.in-Err.refusal ≡ refusal.Poison = cc in
     rw same at (poison_within (to_z w64 (of_z w64 c.args.size)) c.args.file.now from c.lines.p c.args.tracker.now.range.to low inside (c.in-Err.ensures.poison (ap (λ x. Err x) poison)))
-
-pub returns-else-try_claim-clause-came : goal.returns-else-try_claim-clause-came
-returns-else-try_claim-clause-came c =
-    let known = c.lines.invariant in
-    let to : c.lines.tracker.range.to ≡ c.args.tracker.now.range.to = ap (λ r. r.to) known.worked.range in
-    let past : c.args.tracker.now.range.to ≤ c.lines.p = grind (arith, c.try_claim.ensures.answer, c.if-try_claim.false) in
-    let same : to_z w64 (of_z w64 c.args.size) ≡ c.args.size = omega (arith, ints) in
-    rw same at (worked_whole _ _ _ _ _ _ _ _ known.worked past c.try_claim.ensures.after)

@@ -1,4 +1,4 @@
-use Rattle.std.proofs.Common.{◌≡◌, ◌-◌, ◌<◌, ◌≤◌, ◌⊎◌}
+use Rattle.std.proofs.Common.{◌≡◌, ◌-◌, ◌<◌, ◌≤◌, ◌⊎◌, []}
 use Rattle.beam_values.specs.Tracking.{first_open}
 use Rattle.run_engine.proofs.Working.{IsWorked}
 use Rattle.run_engine.proofs.positions.work_bundle.Given as goal
@@ -8,6 +8,7 @@ invariant-lines l = record {
   worked : IsWorked l.size l.file l.initial.tracker l.initial.out l.out l.tracker l.p;
   started : (l.emitted ≡ 0) ⊎ (l.initial.tracker.range.from < first_open l.initial.tracker.range.from l.tracker.attempted);
   counted : l.emitted ≤ l.bundle;
+  unused : l.windows ≡ [];
 }
 
 abbrev pub decreases-lines : goal.decreases-lines
