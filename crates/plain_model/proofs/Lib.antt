@@ -1,4 +1,6 @@
+mod FileLines
 mod Lists
+mod MadeLines
 mod Cells
 mod Groupings
 mod Runs

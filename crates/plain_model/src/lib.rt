@@ -8,8 +8,12 @@
 
 mod cell;
 mod grouping;
+mod positions;
+mod reading;
 #[cfg(test)]
 mod tests;
 
 pub use cell::{key_or, part_of};
 pub use grouping::plain_panes;
+pub use positions::{Emitted, TimedValue, emission, next_position};
+pub use reading::lines;
