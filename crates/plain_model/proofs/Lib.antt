@@ -4,4 +4,5 @@ mod MadeLines
 mod Cells
 mod Groupings
 mod Runs
+mod Merging
 mod Sorts

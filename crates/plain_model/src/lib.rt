@@ -10,6 +10,7 @@ mod cell;
 mod grouping;
 mod positions;
 mod reading;
+mod sessions;
 #[cfg(test)]
 mod tests;
 
@@ -17,3 +18,4 @@ pub use cell::{key_or, part_of};
 pub use grouping::plain_panes;
 pub use positions::{Emitted, TimedValue, emission, next_position};
 pub use reading::lines;
+pub use sessions::{grouped, plain_sessions};
