@@ -2,8 +2,6 @@ ghost use Rattle.std.specs.Prelude.{◌≡◌, ◌*◌, ◌<◌, ◌≤◌, pos,
 ghost use Rattle.beam_values.specs.Times.{least_time};
 ghost use Rattle.beam_values.specs.Lines.{line_at, next_start};
 ghost use Rattle.beam_values.specs.Functions as functions;
-ghost use Rattle.beam_values.specs.declared.plan.Args.TheVariants.{Nothing};
-ghost use Rattle.beam_values.specs.declared.plan.SourceKind.TheVariants.{Lines, TimedLines};
 ghost use Rattle.beam_model.specs.Values.{int};
 ghost use Rattle.beam_model.specs.Positions as model;
 ghost use Rattle.beam_model.specs.Functions.{second_arg};
@@ -47,8 +45,14 @@ pub fn emission(
     ensures { IfOk result (λ emitted. shown emitted ≡ model.emission work args.now file.now p) }
 {
     match work {
-        SourceKind::Lines => line_emission(alloc, file, p as usize),
-        SourceKind::TimedLines => timed_emission(alloc, file, p as usize),
+        SourceKind::Lines | SourceKind::TimedLines if !starts_line(file, p as usize) => {
+            Ok(emits_nothing(alloc, None))
+        }
+        SourceKind::Lines => {
+            let line = Bytes::from_slice(alloc, line_at(file, p as usize))?;
+            emits_one(alloc, Value::Blob(line), least_time())
+        }
+        SourceKind::TimedLines => timed_emission(alloc, line_at(file, p as usize)),
         SourceKind::Count => count_emission(alloc, second_argument(args), p),
         SourceKind::Made => made_emission(alloc, second_argument(args), p),
     }
@@ -108,25 +112,11 @@ fn line_at(file: &[u8], p: usize) -> &[u8]
     first_line(file.split_at(p).1).text
 }
 
-fn line_emission(alloc: Global, file: &[u8], p: usize) -> Result<Emitted, NoMemory>
-    requires { p < length file.now }
-    ensures { IfOk result (λ emitted. shown emitted ≡ model.emission Lines Nothing file.now p) }
+// What a line of timed lines emits.
+fn timed_emission(alloc: Global, line: &[u8]) -> Result<Emitted, NoMemory>
+    ensures { IfOk result (λ emitted. shown emitted ≡ model.line_emission (functions.timed_line line.now)) }
 {
-    if !starts_line(file, p) {
-        return Ok(emits_nothing(alloc, None));
-    }
-    let line = Bytes::from_slice(alloc, line_at(file, p))?;
-    emits_one(alloc, Value::Blob(line), least_time())
-}
-
-fn timed_emission(alloc: Global, file: &[u8], p: usize) -> Result<Emitted, NoMemory>
-    requires { p < length file.now }
-    ensures { IfOk result (λ emitted. shown emitted ≡ model.emission TimedLines Nothing file.now p) }
-{
-    if !starts_line(file, p) {
-        return Ok(emits_nothing(alloc, None));
-    }
-    match timed_line(line_at(file, p)) {
+    match timed_line(line) {
         TimedLine::Timed(time, text) => {
             let text = Bytes::from_slice(alloc, text)?;
             emits_one(alloc, Value::Blob(text), time)
