@@ -2,6 +2,7 @@ ghost use Rattle.std.specs.Prelude.{◌≡◌};
 ghost use Rattle.beam_values.specs.Grouping.{key_of, part_of};
 ghost use Rattle.beam_values.specs.declared.value.Value.TheVariants.{Null};
 ghost use Rattle.beam_values.specs.Orders.{value_cmp};
+ghost use Rattle.beam_model.specs.Sessions.{is_keyed};
 ghost use Rattle.plain_model.specs.Cells.{cell_cmp, grouped_cmp};
 
 use beam_values::{Element, Value, cmp_values};
@@ -46,6 +47,13 @@ fn cmp_keys(a: &Element, b: &Element) -> Ordering
 {
     let null = Value::Null;
     cmp_values(key_or(a, &null), key_or(b, &null))
+}
+
+/// The second element has the key of the first.
+pub fn is_keyed_alike(element: &Element, other: &Element) -> bool
+    ensures { result ≡ is_keyed (key_of element.now) other.now }
+{
+    cmp_keys(other, element) == Ordering::Equal
 }
 
 /// The order in which elements are grouped: by cell, and within a cell by what they bring to it.

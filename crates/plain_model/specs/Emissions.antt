@@ -1,0 +1,41 @@
+-- The lines of a file, and what the program holds of what a position emits.
+use Rattle.std.specs.Prelude.{◌≤◌, ◌<◌, ℕ, List, [], ◌∷◌, length, map, if◌then◌else◌}
+use Rattle.beam_values.specs.Lines.{starts_line, line_at, spread}
+use Rattle.beam_values.specs.declared.plan.Args.{Args}
+use Rattle.beam_values.specs.declared.plan.SourceKind.{SourceKind}
+use Rattle.beam_values.specs.declared.plan.SourceKind.TheVariants.{Lines, TimedLines, Count, Made}
+use Rattle.beam_model.specs.Functions.{first_arg, second_arg}
+use Rattle.beam_model.specs.Positions as model
+use Rattle.plain_model.specs.declared.positions.Emitted.{Emitted}
+use Rattle.plain_model.specs.declared.positions.Emitted.TheVariants.{Emits, Poisoned}
+use Rattle.plain_model.specs.declared.positions.TimedValue.{TimedValue}
+
+-- the line that starts at an offset, if one does
+abbrev pub line_from : List ℕ → ℕ → List (List ℕ)
+line_from file p = if starts_line file p then line_at file p ∷ [] else []
+
+-- the lines of a file, in order
+abbrev pub file_lines : List ℕ → List (List ℕ)
+file_lines file = spread (line_from file) 0 (length file)
+
+abbrev pub shown_value : TimedValue → model.TimedValue
+shown_value v = record { value = v.value; time = v.time }
+
+-- what a program's answer says of a position
+abbrev pub shown : Emitted → model.Emission
+shown (Emits values declared) = model.Emits (map shown_value values) declared
+shown Poisoned = model.Poisoned
+
+-- a position of a file, or one below a count, where the arguments are in their limits
+abbrev pub IsWorkable : SourceKind → Args → List ℕ → ℕ → Type 0
+IsWorkable Lines args file p = p < length file
+IsWorkable TimedLines args file p = p < length file
+IsWorkable Count args file p = (p < first_arg args) × (first_arg args ≤ 1000000000) × (second_arg args ≤ 1000000)
+IsWorkable Made args file p = (p < first_arg args) × (first_arg args ≤ 1000000) × (second_arg args ≤ 1000000)
+
+-- a position of a file, or one below the greatest count
+abbrev pub HasNext : SourceKind → List ℕ → ℕ → Type 0
+HasNext Lines file p = p < length file
+HasNext TimedLines file p = p < length file
+HasNext Count file p = p < 1000000000
+HasNext Made file p = p < 1000000000
