@@ -5,9 +5,13 @@
 #![tactic(auto)]
 
 mod element;
+mod logs;
+mod rendering;
 mod value;
+mod writes;
 
 pub use element::render_elements;
+pub use rendering::render;
 pub use value::{push_blob, push_value};
 
 #[cfg(test)]
