@@ -1,8 +1,7 @@
-ghost use Rattle.std.specs.Prelude.{◌≡◌, ◌++◌, ◌∷◌, [], ◌<◌, ℕ, IfOk, OnOk, count_by, length, map, nat_lt, slice_index_or};
+ghost use Rattle.std.specs.Prelude.{◌≡◌, ◌++◌, ◌∷◌, [], ◌<◌, ℕ, IfOk, OnOk, count_by, length, nat_lt, slice_index_or};
 ghost use Rattle.std.specs.List.{flat_map};
 ghost use Rattle.beam_values.specs.Texts.{element_line};
-ghost use Rattle.beam_model.specs.Flow.{elements_at};
-ghost use Rattle.beam_model.specs.Rendering.{IsLines, IsWritten, writes, writes_from, title};
+ghost use Rattle.beam_model.specs.Rendering.{IsLines, IsWritten, title, writes};
 ghost use Rattle.beam_text.specs.Parts.{Adds, IsByNode, IsNodeText, contents, elements_in, is_write};
 
 use crate::element::push_element;
