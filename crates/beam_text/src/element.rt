@@ -18,7 +18,7 @@ pub fn render_elements(alloc: Global, elements: &[Element]) -> Result<Bytes, NoM
     Ok(out)
 }
 
-fn push_element(element: &Element, out: &mut Bytes) -> Result<(), NoMemory>
+pub(crate) fn push_element(element: &Element, out: &mut Bytes) -> Result<(), NoMemory>
     ensures { OnOk result (out.new ≡ out.old ++ element_line element.now) }
 {
     let mut digits = Buffer::new();
@@ -31,7 +31,7 @@ fn push_element(element: &Element, out: &mut Bytes) -> Result<(), NoMemory>
 }
 
 // A field and the TAB after it.
-fn push_field(text: &[u8], out: &mut Bytes) -> Result<(), NoMemory>
+pub(crate) fn push_field(text: &[u8], out: &mut Bytes) -> Result<(), NoMemory>
     ensures { OnOk result (out.new ≡ out.old ++ (text.now ++ 9 ∷ [])) }
 {
     out.extend_from_slice(text)?;

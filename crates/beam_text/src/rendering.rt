@@ -1,0 +1,24 @@
+ghost use Rattle.std.specs.Prelude.{IfOk};
+ghost use Rattle.beam_model.specs.Rendering.{IsRendering};
+
+use crate::logs::push_logs;
+use crate::writes::push_writes;
+use beam_values::{Bytes, NoMemory, Outcome};
+use std::alloc::Global;
+
+/// About how long a line is, in bytes. Longer ones only make the text grow while it is written.
+const USUAL_LINE_LEN: usize = 48;
+
+/// The text of an outcome: for each Write in number order the lines of its elements, in ascending
+/// order and below a line with its label where there are several, and then the calls of the stateful
+/// nodes that are to be printed (Beam Programming Guide, State and Timers).
+pub fn render(alloc: Global, outcome: &Outcome) -> Result<Bytes, NoMemory>
+    ensures { IfOk result (IsRendering outcome.now) }
+{
+    let written = outcome.written.as_slice();
+    let mut out = Bytes::new(alloc);
+    out.reserve(written.len().saturating_mul(USUAL_LINE_LEN))?;
+    push_writes(alloc, &outcome.plan, written, &mut out)?;
+    push_logs(alloc, &outcome.plan, outcome.logs.as_slice(), &mut out)?;
+    Ok(out)
+}

@@ -1,0 +1,131 @@
+ghost use Rattle.std.specs.Prelude.{◌≡◌, ◌++◌, ◌∷◌, [], ◌<◌, ℕ, IfOk, OnOk, count_by, length, nat_lt, slice_index_or};
+ghost use Rattle.std.specs.List.{flat_map};
+ghost use Rattle.beam_values.specs.Texts.{element_line};
+ghost use Rattle.beam_model.specs.Rendering.{IsLines, IsWritten, title, writes};
+ghost use Rattle.beam_text.specs.Parts.{Adds, IsByNode, IsNodeText, contents, elements_in, is_write};
+
+use crate::element::push_element;
+use crate::push_blob;
+use beam_values::{Arrival, Bytes, Element, NoMemory, Node, NodeKind, Plan};
+use std::alloc::Global;
+
+/// Appends what the Writes of a plan took, in number order.
+pub(crate) fn push_writes(
+    alloc: Global,
+    plan: &Plan,
+    written: &[Arrival],
+    out: &mut Bytes,
+) -> Result<(), NoMemory>
+    ensures { OnOk result
+        (Adds (IsWritten (nat_lt 1 (length (writes plan.now))) written.now (writes plan.now)) out.old out.new) }
+{
+    let nodes = plan.nodes.as_slice();
+    let labelled = write_count(nodes) > 1;
+    let mut lists = elements_by_node(alloc, nodes.len(), written)?;
+    for (i, node) in nodes.iter().enumerate() {
+        let elements = &mut lists[i];
+        push_node(labelled, &node.kind, elements, out)?;
+    }
+    Ok(())
+}
+
+fn write_count(nodes: &[Node]) -> usize
+    ensures { result ≡ count_by (λ node. is_write node.kind) nodes.now }
+{
+    nodes.iter().filter(|node| is_write(&node.kind)).count()
+}
+
+fn is_write(kind: &NodeKind) -> bool
+    ensures { result ≡ is_write kind.now }
+{
+    matches!(kind, NodeKind::Write { .. })
+}
+
+/// For each node the elements that arrived at it, in the order in which they came: one list a node,
+/// so that an element finds its own by number.
+fn elements_by_node<'a>(
+    alloc: Global,
+    node_count: usize,
+    written: &'a [Arrival],
+) -> Result<Vec<Vec<&'a Element>>, NoMemory>
+    ensures { IfOk result (λ lists. IsByNode node_count written.now lists.items) }
+{
+    let mut lists = empty_lists(alloc, node_count)?;
+    for arrival in written {
+        push_at(&mut lists, arrival.node as usize, &arrival.element)?;
+    }
+    Ok(lists)
+}
+
+fn empty_lists<'a>(alloc: Global, count: usize) -> Result<Vec<Vec<&'a Element>>, NoMemory>
+    ensures { IfOk result (λ lists. IsByNode count [] lists.items) }
+{
+    let mut lists = Vec::with_capacity(alloc, count)?;
+    for _ in 0..count {
+        lists.push(Vec::new(alloc))?;
+    }
+    Ok(lists)
+}
+
+/// Adds an element to the list of its node, where the node has one.
+fn push_at<'a>(
+    lists: &mut Vec<Vec<&'a Element>>,
+    node: usize,
+    element: &'a Element,
+) -> Result<(), NoMemory>
+    ensures count { OnOk result (length lists.new.items ≡ length lists.old.items) }
+    ensures added { OnOk result
+        (node < length lists.old.items → slice_index_or (contents lists.new.items) node [] ≡ slice_index_or (contents lists.old.items) node [] ++ element.now ∷ []) }
+    ensures others { OnOk result
+        ((other : ℕ) → (other ≡ node → ⊥) → slice_index_or (contents lists.new.items) other [] ≡ slice_index_or (contents lists.old.items) other []) }
+{
+    if node < lists.len() {
+        let list = &mut lists[node];
+        list.push(element)?;
+    }
+    Ok(())
+}
+
+/// Appends the text of a node at which these elements arrived. Only a Write has one.
+fn push_node(
+    labelled: bool,
+    kind: &NodeKind,
+    elements: &mut Vec<&Element>,
+    out: &mut Bytes,
+) -> Result<(), NoMemory>
+    ensures { OnOk result (Adds (IsNodeText labelled kind.now (elements_in elements.old.items)) out.old out.new) }
+{
+    if let NodeKind::Write { label } = kind {
+        push_title(labelled, label.as_slice(), out)?;
+        push_lines(elements, out)?;
+    }
+    Ok(())
+}
+
+fn push_title(labelled: bool, label: &[u8], out: &mut Bytes) -> Result<(), NoMemory>
+    ensures { OnOk result (out.new ≡ out.old ++ title labelled label.now) }
+{
+    if labelled {
+        out.extend_from_slice(b"# ")?;
+        push_blob(label, out)?;
+        out.push(b'\n')?;
+    }
+    Ok(())
+}
+
+/// Appends the lines of elements in ascending order.
+fn push_lines(elements: &mut Vec<&Element>, out: &mut Bytes) -> Result<(), NoMemory>
+    ensures { OnOk result (Adds (IsLines (elements_in elements.old.items)) out.old out.new) }
+{
+    elements.sort()?;
+    push_sorted(elements.as_slice(), out)
+}
+
+fn push_sorted(elements: &[&Element], out: &mut Bytes) -> Result<(), NoMemory>
+    ensures { OnOk result (out.new ≡ out.old ++ flat_map element_line (elements_in elements.now)) }
+{
+    for element in elements {
+        push_element(element, out)?;
+    }
+    Ok(())
+}
