@@ -1,5 +1,5 @@
 -- A window by its two ends.
-use Rattle.std.proofs.Common.{◌≡◌, ℤ, ◌+ℤ◌, ◌-ℤ◌, ◌∙◌, ap, sym}
+use Rattle.std.proofs.Common.{◌≡◌, ℤ, ◌+ℤ◌, ◌-ℤ◌, ◌∙◌, ap}
 use Rattle.std.specs.Int.{int_rem_euclid}
 use Rattle.beam_values.specs.Intervals.{Interval}
 use Rattle.beam_values.specs.Functions.{fixed_window}

@@ -1,5 +1,5 @@
 -- The windows of a time are the spans of the strategy's kind that hold it, each once and in ascending order.
-use Rattle.std.proofs.Common.{◌≡◌, ℕ, zero, suc, ◌+◌, ◌<◌, ◌≤◌, ℤ, pos, negsuc, ◌+ℤ◌, ◌-ℤ◌, ◌*ℤ◌, ◌<ℤ◌, ◌≤ℤ◌, List, [], ◌∷◌, length, get_or, refl, sym, ap, subst, ◌∙◌, arith}
+use Rattle.std.proofs.Common.{◌≡◌, ℕ, ◌+◌, ◌<◌, ℤ, pos, ◌+ℤ◌, ◌-ℤ◌, ◌*ℤ◌, ◌<ℤ◌, ◌≤ℤ◌, [], ◌∷◌, length, get_or, refl, sym, ap, subst, ◌∙◌, arith}
 use Rattle.std.specs.List.{All, Contains, AllAdjacentBelow}
 use Rattle.std.specs.Int.{int_div_euclid, int_rem_euclid}
 use Rattle.std.proofs.lemmas.Int.{ints}
@@ -7,11 +7,11 @@ use Rattle.std.proofs.lemmas.List.Elements.{All-cons, All-nil}
 use Rattle.beam_values.specs.Intervals.{Interval}
 use Rattle.beam_values.specs.Times.{IsTime}
 use Rattle.beam_values.specs.Functions.{fixed_window}
-use Rattle.beam_values.specs.Windows.{global_window, HoldsTime, window_from, IsWindow, or_zero, windows_from, sliding_windows, windows_of}
+use Rattle.beam_values.specs.Windows.{global_window, HoldsTime, window_from, IsWindow, or_zero, sliding_windows, windows_of}
 use Rattle.beam_values.specs.declared.plan.Strategy.{Strategy}
 use Rattle.beam_values.specs.declared.plan.Strategy.TheVariants.{Global, Fixed, Sliding, Sessions, Kept}
-use Rattle.windowing.specs.Strategies.{IsLength, IsAllowed}
-use Rattle.windowing.proofs.Euclid.{rem_is, rem_low, rem_high, div_low, div_high, div_is, goes_within, goes_beyond, times_sum, times_more, times_rises, rem_of_times, times_of_rem}
+use Rattle.windowing.specs.Strategies.{IsAllowed}
+use Rattle.windowing.proofs.Euclid.{rem_is, div_low, div_high, div_is, goes_within, goes_beyond, times_sum, times_more, times_rises, rem_of_times, times_of_rem}
 use Rattle.windowing.proofs.Sliding.{or_zero-is, length-windows_from, windows_from-at}
 
 module _ {X : Type 0} where

@@ -1,10 +1,9 @@
 -- What the quotients of a sliding assignment are, and that their sums and products have 64 bits.
-use Rattle.std.proofs.Common.{◌≡◌, ℤ, pos, negsuc, nat_abs, ◌+ℤ◌, ◌-ℤ◌, ◌*ℤ◌, ◌≤ℤ◌, ◌<ℤ◌, List, T, Fits, ap, ◌∙◌, arith}
+use Rattle.std.proofs.Common.{◌≡◌, ℤ, pos, negsuc, nat_abs, ◌+ℤ◌, ◌-ℤ◌, ◌*ℤ◌, ◌≤ℤ◌, T, Fits, ap, ◌∙◌, arith}
 use Rattle.std.specs.Int.{w64, cast_signed, cast_unsigned, int_div_euclid}
 use Rattle.std.specs.Int.Signed.{non_neg}
 use Rattle.std.specs.Int.RustNames.{FitsSigned}
 use Rattle.std.proofs.lemmas.Int.{ints}
-use Rattle.beam_values.specs.Intervals.{Interval}
 use Rattle.beam_values.specs.Times.{IsTime}
 use Rattle.beam_values.specs.Windows.{sliding_windows}
 use Rattle.windowing.specs.Strategies.{IsLength, windows_up_to}

@@ -1,15 +1,14 @@
 -- The sliding windows of a time: how they go on from a start, where each of them lies, and how many there are.
-use Rattle.std.proofs.Common.{◌≡◌, ℕ, zero, suc, ◌+◌, ◌-◌, ◌*◌, ◌<◌, ◌≤◌, ℤ, pos, negsuc, ◌+ℤ◌, ◌-ℤ◌, ◌*ℤ◌, ◌<ℤ◌, ◌≤ℤ◌, List, [], ◌∷◌, length, get_or, inl, inr, refl, sym, ap, ◌∙◌, arith}
-use Rattle.std.specs.Int.{int_div_euclid, int_rem_euclid, div_ceil}
+use Rattle.std.proofs.Common.{◌≡◌, ℕ, zero, suc, ◌*◌, ◌<◌, ◌≤◌, ℤ, pos, negsuc, ◌+ℤ◌, ◌-ℤ◌, ◌*ℤ◌, ◌<ℤ◌, ◌≤ℤ◌, List, [], ◌∷◌, length, get_or, inl, inr, refl, sym, ap, ◌∙◌, arith}
+use Rattle.std.specs.Int.{int_div_euclid}
 use Rattle.std.proofs.lemmas.Int.{ints}
 use Rattle.std.proofs.lemmas.Bool.{cases_lt}
-use Rattle.std.proofs.lemmas.Bool.Decides.{nat_tests}
 use Rattle.beam_values.specs.Intervals.{Interval}
 use Rattle.beam_values.specs.Windows.{window_from, windows_from, or_zero, sliding_windows, windows_of}
 use Rattle.windowing.specs.Strategies.{IsLength, IsAllowed, most_windows, windows_up_to}
 use Rattle.beam_values.specs.declared.plan.Strategy.{Strategy}
 use Rattle.beam_values.specs.declared.plan.Strategy.TheVariants.{Global, Fixed, Sliding, Sessions, Kept}
-use Rattle.windowing.proofs.Euclid.{times_sum, times_more, times_rises, div_low, div_high, goes_within, goes_beyond, div_is, ceil_above}
+use Rattle.windowing.proofs.Euclid.{times_sum, times_more, div_low, div_high, goes_within, goes_beyond, div_is, ceil_above}
 
 windows_from-zero : (size period start : ℤ) → windows_from size period start zero ≡ []
 unfolding windows_from

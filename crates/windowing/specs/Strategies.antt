@@ -1,5 +1,5 @@
 -- Which windowing strategies are allowed (Beam Programming Guide, Windowing: setting a windowing function; the bounds are this profile's).
-use Rattle.std.specs.Prelude.{◌≡◌, ℕ, ◌≤◌, ℤ, pos, ◌+ℤ◌, ◌-ℤ◌, ◌≤ℤ◌, Bool, ◌&&◌, List, Option, Some, None, if◌then◌else◌, int_le, nat_lt}
+use Rattle.std.specs.Prelude.{ℕ, ◌≤◌, ℤ, pos, ◌+ℤ◌, ◌-ℤ◌, ◌≤ℤ◌, Bool, ◌&&◌, List, Option, Some, None, if◌then◌else◌, int_le, nat_lt}
 use Rattle.std.specs.Int.{int_div_euclid, div_ceil}
 use Rattle.beam_values.specs.Intervals.{Interval}
 use Rattle.beam_values.specs.Windows.{or_zero, windows_from}

@@ -1,5 +1,3 @@
-use Rattle.std.proofs.Common.{ap, rules, arith, subst}
-use Rattle.windowing.specs.Strategies.{IsAllowed}
 use Rattle.windowing.proofs.Sliding.{few_of}
 use Rattle.windowing.proofs.assignment.assign.Goals as goal
 

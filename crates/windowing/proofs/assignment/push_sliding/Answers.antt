@@ -1,4 +1,4 @@
-use Rattle.std.proofs.Common.{◌++◌, ap, ◌∙◌}
+use Rattle.std.proofs.Common.{◌++◌, ◌∙◌}
 use Rattle.windowing.proofs.Quotients.{quotients, difference_fits, difference_counts, next_fits, first_fits, from_first}
 use Rattle.windowing.proofs.assignment.push_sliding.Goals as goal
 
