@@ -1,5 +1,5 @@
 -- What a worked file comes to: the account, and plain grouping.
-use Rattle.std.proofs.Common.{◌==◌, ◌≡◌, ℕ, zero, suc, ℤ, Bool, true, false, Option, Some, None, List, [], ◌∷◌, ◌++◌, map, refl, sym, ap, subst, ◌∙◌, append_assoc, arith, eq-eqb}
+use Rattle.std.proofs.Common.{◌&&◌, cond, unwrap_or, ◌==◌, ◌≡◌, ℕ, zero, suc, ℤ, Bool, true, false, Option, Some, None, List, [], ◌∷◌, ◌++◌, map, refl, sym, ap, subst, ◌∙◌, append_assoc, arith, eq-eqb}
 use Rattle.std.specs.List.{All, AllByRecursion, flat_map, filter}
 use Rattle.std.proofs.lemmas.List.{append-nil, map-append}
 use Rattle.std.proofs.lemmas.List.Elements.{filter-append, recursion_from_All, All-from_recursion}
@@ -15,12 +15,28 @@ use Rattle.beam_values.specs.declared.outcome.Cell.{Cell}
 use Rattle.beam_values.specs.declared.outcome.Entry.{Entry}
 use Rattle.beam_values.specs.declared.outcome.Outcome.{Outcome}
 use Rattle.beam_values.specs.declared.outcome.Pane.{Pane}
-use Rattle.beam_model.specs.Account.{cell_arrivals, arrivals, IsAccounted}
+use Rattle.beam_model.specs.Account.{cell_arrivals, dropped_arrival, log_arrivals, arrivals, IsAccounted}
 use Rattle.beam_model.specs.Chains.{Brought, Came, chain}
 use Rattle.beam_model.specs.Flow.{elements_at, is_at, flow, pane_chains, log_chains}
 use Rattle.beam_model.specs.Plain.{IsPlainlyWritten, IsPlainRun, IsPlainAt, IsPlainGroup, IsGroupedBy, is_group, is_write, is_stateful, strategy_of, plain_flow}
 use Rattle.beam_model.specs.Plans.{panes_plan}
 use Rattle.beam_model.specs.Spread.{spread_all}
+use Rattle.std.specs.List.{sum_by}
+use Rattle.std.proofs.lemmas.Bool.Decides.{nat_tests}
+use Rattle.std.proofs.lemmas.List.Elements.{All-weaker}
+use Rattle.std.proofs.lemmas.List.Sums.{sum_by-cons}
+use Rattle.beam_values.specs.Cover.{times_done, times_listed}
+use Rattle.beam_values.specs.Files.{first_named}
+use Rattle.beam_values.specs.declared.file_text.FileText.{FileText}
+use Rattle.beam_values.specs.declared.outcome.Done.{Done}
+use Rattle.beam_values.specs.declared.outcome.FileLen.{FileLen}
+use Rattle.beam_model.specs.Positions.{item_len, items, told_bytes}
+use Rattle.beam_model.specs.Spread.{HasPoison}
+use Rattle.beam_model.proofs.Coverings.{covering_one}
+use Rattle.split_core.specs.Holding.{IsListed}
+use Rattle.run_engine.specs.Committing.{IsCommitted}
+use Rattle.run_engine.specs.declared.committing.Committed.{Committed}
+use Rattle.run_engine.specs.PanesRun.{IsPanesOutcome, IsPanesRun, FindsPoison}
 use Rattle.run_engine.specs.Working.{panes_item, came}
 
 -- an entry of the Group as it arrived; a pane as it was written, and as it left the Group
@@ -139,3 +155,76 @@ module _ (name : List ℕ) (size : ℤ) (file : List ℕ) (entries : List Entry)
 
       at_write : IsSameBag (elements_at node (map written_of panes)) (elements_at node (map arrival entries ++ map written_of panes))
       at_write = bag_from_same _ _ (subst (λ m. elements_at m (map written_of panes) ≡ elements_at m (map arrival entries ++ map written_of panes)) (sym (write-is-4 name size node is_write_node)) (came-to-write entries panes))
+
+-- only the one item is listed
+listed_one : (file : List ℕ) (node item : ℕ) → IsListed (item_len (panes_item file) ∷ []) node item → (node ≡ 0) × (item ≡ 0)
+listed_one file node item some = by_test (0 == node && 0 == item) refl
+  where
+    by_test : (b : Bool) → (0 == node && 0 == item) ≡ b → (node ≡ 0) × (item ≡ 0)
+    by_test true is = (grind (arith, nat_tests, is), grind (arith, nat_tests, is))
+    by_test false is = absurd (omega (arith, some, sum_by-cons (λ (f : FileLen). cond (f.node == node && f.item == item) 1 0) (item_len (panes_item file)) [], ap {B = ℕ} (λ b. cond b 1 0) is))
+
+-- what was committed of the whole file is what the file brings
+pub came_whole : (name : List ℕ) (size : ℤ) (file : List ℕ) (c : Committed) → IsCommitted size file [] c
+    → IsSameBag (map came c.entries) (spread_all (panes_plan name size) (panes_item file ∷ []))
+came_whole name size file c known =
+    bag_trans _ _ _ known.brought
+    (covering_one (panes_plan name size) (panes_item file) c.done
+      (All-weaker (λ (d : Done). IsListed (item_len (panes_item file) ∷ []) d.node d.item) (λ (d : Done). (d.node ≡ 0) × (d.item ≡ 0)) (λ d listed. listed_one file d.node d.item listed) c.done known.held.out_listed)
+      (λ place. omega (arith, known.held.times place)))
+
+-- the outcome of a file of which everything was committed, grouped and written
+pub outcome_is : (name : List ℕ) (size : ℤ) (file : List ℕ) (o : Outcome) (c : Committed) (commit : ℕ) → IsCommitted size file [] c
+    → o.plan ≡ panes_plan name size → o.files ≡ item_len (panes_item file) ∷ [] → o.done ≡ c.done → o.dropped ≡ [] → o.logs ≡ []
+    → o.written ≡ map written_of o.panes
+    → IsSameBag (flat_map cell_arrivals o.cells) (map arrival c.entries)
+    → IsPlainGrouping (map (λ (entry : Entry). entry.element) c.entries) (map (λ (pane : Pane). pane.element) o.panes)
+    → All (λ (pane : Pane). (pane.node ≡ 3) × (pane.commit ≡ commit)) o.panes
+    → IsPanesOutcome name size file o
+outcome_is name size file o c commit known plan_is files done dropped logs written held grouping fired =
+    let ours = recursion_from_All (λ (pane : Pane). pane.node ≡ 3) o.panes (All-weaker (λ (pane : Pane). (pane.node ≡ 3) × (pane.commit ≡ commit)) (λ (pane : Pane). pane.node ≡ 3) (λ pane f. f.0) o.panes fired) in
+    let came_all = came_whole name size file c known in
+    record {
+      plan = plan_is;
+      lengths = files;
+      cover = λ place. ap (λ ds. times_done ds place) done ∙ omega (arith, known.held.times place) ∙ ap (λ fs. times_listed fs place) (sym files);
+      account =
+        subst (λ plan. IsSameBag (flow plan (panes_item file ∷ []) o.panes o.logs) (map Came (arrivals o))) (sym plan_is)
+        (subst (λ logs. IsSameBag (flow (panes_plan name size) (panes_item file ∷ []) o.panes logs) (map Came (flat_map cell_arrivals o.cells ++ (map dropped_arrival o.dropped ++ (flat_map log_arrivals logs ++ o.written))))) (sym logs)
+        (subst (λ dropped. IsSameBag (flow (panes_plan name size) (panes_item file ∷ []) o.panes []) (map Came (flat_map cell_arrivals o.cells ++ (map dropped_arrival dropped ++ (flat_map log_arrivals [] ++ o.written))))) (sym dropped)
+        (subst (λ ws. IsSameBag (flow (panes_plan name size) (panes_item file ∷ []) o.panes []) (map Came (flat_map cell_arrivals o.cells ++ ([] ++ ([] ++ ws))))) (sym written)
+        (accounted name size file c.entries o.panes ours came_all o.cells held))));
+      plain = subst (λ ws. IsPlainlyWritten (panes_plan name size) (panes_item file ∷ []) ws) (sym written) (plainly name size file c.entries o.panes ours came_all grouping);
+    }
+
+-- it is the run of the file of that name, where the name's bytes are those
+pub run_is : (files : Option (List FileText)) (name : List ℕ) (size : ℤ) (file : List ℕ) (o : Outcome) → IsPanesOutcome name size file o
+    → ((told : List FileText) → files ≡ Some told → first_named name told ≡ Some file) → IsPanesRun files name size o
+run_is files name size file o known names =
+    let there : (told : List FileText) → files ≡ Some told → items told o.plan ≡ panes_item file ∷ [] = λ told is.
+      ap (items told) known.plan ∙ ap (λ bytes. panes_item bytes ∷ []) (ap (λ b. unwrap_or b []) (names told is)) in
+    record {
+      plan = known.plan;
+      lengths = λ told is. known.lengths ∙ ap (map item_len) (sym (there told is));
+      cover = known.cover;
+      account = λ told is. subst (λ its. IsAccounted its o) (sym (there told is)) known.account;
+      plain = λ told is.
+          subst (λ its. IsPlainlyWritten o.plan its o.written) (sym (there told is))
+          (subst (λ plan. IsPlainlyWritten plan (panes_item file ∷ []) o.written) (sym known.plan) known.plain);
+    }
+
+-- poison of the file is poison of the file of that name
+pub poison_is : (files : Option (List FileText)) (name : List ℕ) (size : ℤ) (file : List ℕ) → HasPoison (panes_plan [] size) (panes_item file ∷ [])
+    → ((told : List FileText) → files ≡ Some told → first_named name told ≡ Some file) → FindsPoison files name size
+poison_is files name size file poison names = λ told is.
+    (file, names told is, subst (λ bytes. HasPoison (panes_plan name size) (panes_item bytes ∷ [])) (sym (ap (λ b. unwrap_or b []) (names told is))) poison)
+
+-- the same under the size as the words have it
+pub outcome_at : (name : List ℕ) (size real : ℤ) (file : List ℕ) (o : Outcome) → size ≡ real → IsPanesOutcome name size file o → IsPanesOutcome name real file o
+outcome_at name size real file o same known = subst (λ (z : ℤ). IsPanesOutcome name z file o) same known
+
+pub run_at : (files : Option (List FileText)) (name : List ℕ) (size real : ℤ) (o : Outcome) → size ≡ real → IsPanesRun files name size o → IsPanesRun files name real o
+run_at files name size real o same known = subst (λ (z : ℤ). IsPanesRun files name z o) same known
+
+pub poison_at : (files : Option (List FileText)) (name : List ℕ) (size real : ℤ) → size ≡ real → FindsPoison files name size → FindsPoison files name real
+poison_at files name size real same found = subst (λ (z : ℤ). FindsPoison files name z) same found

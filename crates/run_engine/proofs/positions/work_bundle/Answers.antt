@@ -1,9 +1,11 @@
-use Rattle.std.proofs.Common.{Err, ◌≡◌, ◌<◌, ◌≤◌, ◌+◌, arith, ap, ◌∙◌, to_z, of_z, w64, inl, inr, refl}
+use Rattle.std.proofs.Common.{Err, Some, map, min, ◌++◌, sym, ◌≡◌, ◌<◌, ◌≤◌, ◌+◌, arith, ap, ◌∙◌, to_z, of_z, w64, inl, inr, refl}
 use Rattle.std.proofs.lemmas.Int.{ints}
 use Rattle.beam_values.specs.Tracking.{Tracked, first_open}
 use Rattle.run_engine.specs.declared.positions.WorkRefusal.TheVariants as refusal
 use Rattle.run_engine.proofs.Working.{worked_none, worked_more, worked_whole, poison_within}
+use Rattle.run_engine.specs.Working.{came, spread_of}
 use Rattle.run_engine.proofs.positions.work_bundle.Goals as goal
+use Rattle.run_engine.proofs.positions.work_bundle.Goals.{then-lines-test+else-try_claim, else-lines-test}
 
 pub lines-init : goal.lines-init
 lines-init c =
@@ -50,3 +52,23 @@ returns-in-Err-clause-poison c = λ is.
     let same : to_z w64 (of_z w64 c.args.size) ≡ c.args.size = omega (arith, ints) in
     let poison : c.in-Err.refusal ≡ refusal.Poison = cc in
     rw same at (poison_within (to_z w64 (of_z w64 c.args.size)) c.args.file.now from c.lines.p c.args.tracker.now.range.to low inside (c.in-Err.ensures.poison (ap (λ x. Err x) poison)))
+pub returns-clause-came : goal.returns-clause-came
+returns-clause-came c =
+    let known = c.lines.invariant in
+    let from = c.args.tracker.now.range.from in
+    let to = c.args.tracker.now.range.to in
+    let size = to_z w64 (of_z w64 c.args.size) in
+    let same : size ≡ c.args.size = omega (arith, ints) in
+    let came_is : map came c.lines.out ≡ map came c.args.out.now ++ spread_of size c.args.file.now from (min (first_open from c.lines-test.tracker.attempted) to) =
+      elim c.lines-test.branch [
+        | then-lines-test+else-try_claim w ↦
+          let range : c.lines.tracker.range.to ≡ to = ap (λ r. r.to) known.worked.range in
+          let past : to ≤ c.lines.p = grind (arith, w.try_claim.ensures.answer, w.if-try_claim.false) in
+          let is : c.lines-test.tracker ≡ record { range = c.lines.tracker.range; attempted = Some c.lines.p } = w.tracker-is ∙ w.try_claim.ensures.after in
+          worked_whole _ _ _ _ _ _ _ _ known.worked past is
+        | else-lines-test w ↦
+          let within : min (first_open from c.lines.tracker.attempted) to ≡ first_open from c.lines.tracker.attempted = omega (arith, known.worked.within) in
+          known.worked.arrived ∙ ap (λ end. map came c.args.out.now ++ spread_of size c.args.file.now from end) (sym within)
+            ∙ ap (λ (t : Tracked). map came c.args.out.now ++ spread_of size c.args.file.now from (min (first_open from t.attempted) to)) (sym w.tracker-is)
+      ] in
+    rw same at came_is
