@@ -1,90 +1,110 @@
--- What a cause leaves where nothing outside failed.
-use Rattle.std.proofs.Common.{◌≡◌, inl, inr, ℕ, ℤ, List, Option, Some, None, refl, sym, ap, subst, ◌∙◌}
-use Rattle.std.specs.List.{list_any}
+-- What a cause leaves where nothing outside failed, and what an end keeps when its note is written.
+use Rattle.std.proofs.Common.{IsSome, [], ◌∷◌, ◌++◌, ◌+◌, ◌<◌, map, cond, true, false, arith, ◌≡◌, inl, inr, ◌⊎◌, ℕ, ℤ, List, Option, Some, None, refl, sym, ap, subst, ◌∙◌}
+use Rattle.std.specs.List.{list_any, count_by}
 use Rattle.std.proofs.lemmas.Bool.{false≢true}
-use Rattle.beam_values.specs.Panes.{IsPanesText, HasPoison, is_spoiled}
-use Rattle.beam_values.proofs.Spreads.{list_any-came}
-use Rattle.beam_ports.specs.Counts.{Rose}
+use Rattle.std.proofs.lemmas.List.Sums.{sum_by-cons, sum_by-append}
+use Rattle.beam_values.proofs.Bags.{bag_count}
 use Rattle.beam_values.specs.Files.{first_named}
+use Rattle.beam_values.specs.declared.fault.Cause.TheVariants.{Call, Read}
 use Rattle.beam_values.specs.declared.file_text.FileText.{FileText}
+use Rattle.beam_values.specs.declared.outcome.Outcome.{Outcome}
+use Rattle.beam_ports.specs.Counts.{Rose}
+use Rattle.beam_model.specs.Account.{arrivals, IsAccounted}
+use Rattle.beam_model.specs.Chains.{Brought, Came, Spoiled}
+use Rattle.beam_model.specs.Flow.{flow, pane_chains, log_chains}
+use Rattle.beam_model.specs.Rendering.{IsRendering}
+use Rattle.beam_values.specs.declared.outcome.Arrival.{Arrival}
+use Rattle.beam_model.specs.Plans.{panes_plan}
+use Rattle.beam_model.specs.Positions.{SourceItem, items}
+use Rattle.beam_model.specs.Spread.{spread_all, is_spoiled, HasPoison}
+use Rattle.run_engine.specs.PanesRun.{StoreMet, IsPanesRun, IsRunEnd, Prevents, WorkFails, first_fault}
 use Rattle.run_engine.specs.declared.status.Status.{Status}
 use Rattle.run_engine.specs.declared.status.Status.TheVariants as status
-use Rattle.beam_values.specs.declared.fault.Cause.TheVariants.{Call, Read}
 use Rattle.beam_run.specs.Words.{TakesPanes, file_word}
-use Rattle.beam_run.specs.Ends.{Met, HasCause, Prevents, IsTextOf, IsWritten, IsUnwritten, WorkFails, StaysOrNoMemory, IsEndOfPoison, size_of, first_fault}
+use Rattle.beam_run.specs.Ends.{Met, SinkMet, HasCause, HasRun, IsWritten, IsPrinted, IsUnwritten, StaysOrNoMemory, IsEndOfPoison, IsEndOfAbsent, size_of}
+
+-- a text that was written is the print of the outcome that it renders
+pub printed_of : (out : SinkMet) (s : Status) (o : Outcome) (text shown : List ℕ) → IsRendering o text → shown ≡ text → IsWritten out shown s → HasRun s (Some o) (IsPrinted out s)
+printed_of out status.Ok o text shown rendering same written = (o, refl, (text, rendering, subst (λ t. IsWritten out t status.Ok) same written))
+printed_of out status.SinkFault o text shown rendering same written = (o, refl, (text, rendering, subst (λ t. IsWritten out t status.SinkFault) same written))
+printed_of out status.Usage o text shown rendering same written = absurd written
+printed_of out (status.NoSource name) o text shown rendering same written = absurd written
+printed_of out (status.SourceFault kit) o text shown rendering same written = absurd written
+printed_of out (status.WorkFault note) o text shown rendering same written = absurd written
+printed_of out status.NoMemory o text shown rendering same written = absurd written
 
 none_is_some : (found : Option (List ℕ)) (bytes : List ℕ) → found ≡ None → found ≡ Some bytes → ⊥
 none_is_some found bytes none some = cc
 
--- a file with a text has no poison
-pub text-no_poison : (size : ℤ) (bytes text : List ℕ) → IsPanesText size bytes text → HasPoison size bytes → ⊥
-text-no_poison size bytes text is poison =
-    false≢true (sym (list_any-came is.elements) ∙ ap (list_any is_spoiled) (sym is.clean) ∙ poison)
+none_is_no_some : (found : Option (List ℕ)) → found ≡ None → IsSome found → ⊥
+none_is_no_some found none some = false≢true (subst (λ f. IsSome f) none some)
 
--- a text that was written, and how far, is the cause of an end
-pub cause_of_writing : (words : List (List ℕ)) (met : Met) (text : List ℕ) (s : Status) → TakesPanes words
-    → IsTextOf met.store.files (file_word words) (size_of words) text
-    → IsWritten met.out text s → HasCause words met s
-cause_of_writing words met text status.Ok takes is written = (takes, (text, is, written))
-cause_of_writing words met text status.SinkFault takes is written = (takes, written.0, (text, written.1.0, is, written.1.1, written.1.2))
-cause_of_writing words met text status.Usage takes is written = absurd written
-cause_of_writing words met text (status.NoSource name) takes is written = absurd written
-cause_of_writing words met text (status.SourceFault kit) takes is written = absurd written
-cause_of_writing words met text (status.WorkFault note) takes is written = absurd written
-cause_of_writing words met text status.NoMemory takes is written = absurd written
+-- what is accounted for has no poison
+no_spoiled : (arrivals : List Arrival) → count_by is_spoiled (map Came arrivals) ≡ 0
+no_spoiled [] = refl
+no_spoiled (a ∷ more) = omega (arith, no_spoiled more, sum_by-cons (λ b. cond (is_spoiled b) 1 0) (Came a) (map Came more))
 
--- what prevents a text is the cause of an end
-pub cause_of_refusal : (words : List (List ℕ)) (met : Met) (s : Status) → TakesPanes words → IsUnwritten met
-    → Prevents met.store (file_word words) (size_of words) s → HasCause words met s
-cause_of_refusal words met status.Ok takes unwritten prevents = absurd prevents
-cause_of_refusal words met status.SinkFault takes unwritten prevents = absurd prevents
-cause_of_refusal words met status.Usage takes unwritten prevents = absurd prevents
-cause_of_refusal words met (status.NoSource name) takes unwritten prevents = (takes, unwritten, prevents)
-cause_of_refusal words met (status.SourceFault kit) takes unwritten prevents = (takes, unwritten, prevents)
-cause_of_refusal words met (status.WorkFault note) takes unwritten prevents = (takes, unwritten, prevents)
-cause_of_refusal words met status.NoMemory takes unwritten prevents = (takes, unwritten, prevents)
+spoiled_counts : (brought : List Brought) → list_any is_spoiled brought ≡ true → 0 < count_by is_spoiled brought
+spoiled_counts [] any = absurd (false≢true any)
+spoiled_counts (Came a ∷ rest) any = omega (arith, spoiled_counts rest any, sum_by-cons (λ b. cond (is_spoiled b) 1 0) (Came a) rest)
+spoiled_counts (Spoiled n ∷ rest) any = omega (arith, sum_by-cons (λ b. cond (is_spoiled b) 1 0) (Spoiled n) rest)
 
--- the same, where file, size and text were read from the words
-pub cause_of_writing_at : (words : List (List ℕ)) (met : Met) (file : List ℕ) (size : ℤ) (text shown : List ℕ) (s : Status) → TakesPanes words
-    → file ≡ file_word words → size ≡ size_of words → shown ≡ text → IsTextOf met.store.files file size text
-    → IsWritten met.out shown s → HasCause words met s
-cause_of_writing_at words met file size text shown s takes file_is size_is text_is is written =
-    cause_of_writing words met text s takes
-    (subst (λ (f : List ℕ). IsTextOf met.store.files f (size_of words) text) file_is (subst (λ (z : ℤ). IsTextOf met.store.files file z text) size_is is))
-    (subst (λ (t : List ℕ). IsWritten met.out t s) text_is written)
+accounted-no_poison : (items : List SourceItem) (o : Outcome) → IsAccounted items o → HasPoison o.plan items → ⊥
+accounted-no_poison items o account poison =
+    let rest = pane_chains o.plan o.panes ++ log_chains o.plan o.logs in
+    let some = spoiled_counts (spread_all o.plan items) poison in
+    let none : count_by is_spoiled (flow o.plan items o.panes o.logs) ≡ 0 = bag_count is_spoiled _ _ account ∙ no_spoiled (arrivals o) in
+    let both : count_by is_spoiled (flow o.plan items o.panes o.logs) ≡ count_by is_spoiled (spread_all o.plan items) + count_by is_spoiled rest =
+      sum_by-append (λ b. cond (is_spoiled b) 1 0) (spread_all o.plan items) rest in
+    absurd (omega (arith, some, none, both))
 
-pub cause_of_refusal_at : (words : List (List ℕ)) (met : Met) (file : List ℕ) (size : ℤ) (s : Status) → TakesPanes words
-    → file ≡ file_word words → size ≡ size_of words → IsUnwritten met → Prevents met.store file size s → HasCause words met s
-cause_of_refusal_at words met file size s takes file_is size_is unwritten prevents =
-    cause_of_refusal words met s takes unwritten
-    (subst (λ (f : List ℕ). Prevents met.store f (size_of words) s) file_is (subst (λ (z : ℤ). Prevents met.store file z s) size_is prevents))
-
--- an end of poison stays one when its note is written
+-- an end of poison or of an absent name stays one when its note is written
 pub poison_noted : (before after : Status) → StaysOrNoMemory before after → IsEndOfPoison before → IsEndOfPoison after
 poison_noted before after stays poison = elim stays [
   | inl same ↦ subst (λ (s : Status). IsEndOfPoison s) (sym same) poison
   | inr none ↦ inr none.0
 ]
 
-module _ (words : List (List ℕ)) (met : Met) (told : List FileText) (bytes : List ℕ) (tells : met.store.files ≡ Some told)
-    (found : first_named (file_word words) told ≡ Some bytes) (poison : HasPoison (size_of words) bytes) where
-  no_text : (text : List ℕ) → IsTextOf met.store.files (file_word words) (size_of words) text → ⊥
-  no_text text is =
-      let there = is told tells in
-      let same : there.0 ≡ bytes = cc in
-      text-no_poison (size_of words) bytes text (subst (λ b. IsPanesText (size_of words) b text) same there.2) poison
+pub absent_noted : (name : List ℕ) (before after : Status) → StaysOrNoMemory before after → IsEndOfAbsent name before → IsEndOfAbsent name after
+absent_noted name before after stays absent = elim stays [
+  | inl same ↦ subst (λ (s : Status). IsEndOfAbsent name s) (sym same) absent
+  | inr none ↦ inr none.0
+]
 
-  -- a poison line ends the command so, where the store did not fail
-  pub end_of_poison : (s : Status) → TakesPanes words → (Rose met.store.before met.store.after → ⊥) → HasCause words met s → IsEndOfPoison s
-  end_of_poison status.Ok takes whole cause = absurd (no_text cause.1.0 cause.1.1)
-  end_of_poison status.SinkFault takes whole cause = absurd (no_text cause.2.0 cause.2.2)
-  end_of_poison status.Usage takes whole cause = absurd (cause.0 takes)
-  end_of_poison (status.NoSource name) takes whole cause =
-      absurd (none_is_some _ bytes (cause.2.1 told tells) found)
-  end_of_poison (status.SourceFault kit) takes whole cause = absurd (whole cause.2.1)
-  end_of_poison (status.WorkFault note) takes whole cause =
-      elim note.cause as (λ k. note ≡ first_fault k → WorkFails met.store (file_word words) (size_of words) k → IsEndOfPoison (status.WorkFault note)) [
-        | Call ↦ λ is fails. inl (ap (λ n. status.WorkFault n) is)
-        | Read ↦ λ is fails. absurd (whole fails)
-      ] cause.2.0 cause.2.1
-  end_of_poison status.NoMemory takes whole cause = inr refl
+module _ (words : List (List ℕ)) (met : Met) (told : List FileText) (tells : met.store.files ≡ Some told) (takes : TakesPanes words)
+    (whole : Rose met.store.before met.store.after → ⊥) where
+  abbrev Ran : Status → Option Outcome → Type 0
+  Ran s outcome = HasRun s outcome (IsPanesRun met.store.files (file_word words) (size_of words))
+
+  -- an absent name ends the command so, where the store did not fail
+  pub end_of_absent : first_named (file_word words) told ≡ None → (s : Status) (outcome : Option Outcome) → HasCause words met s → Ran s outcome → IsEndOfAbsent (file_word words) s
+  end_of_absent absent status.Ok outcome cause ran = absurd (none_is_no_some _ absent (ran.2.found told tells))
+  end_of_absent absent status.SinkFault outcome cause ran = absurd (none_is_no_some _ absent (ran.2.found told tells))
+  end_of_absent absent status.Usage outcome cause ran = absurd (cause.0 takes)
+  end_of_absent absent (status.NoSource name) outcome cause ran = inl (ap (λ n. status.NoSource n) cause.2.0)
+  end_of_absent absent (status.SourceFault kit) outcome cause ran = absurd (whole cause.2.1)
+  end_of_absent absent (status.WorkFault note) outcome cause ran =
+      elim note.cause as (λ k. WorkFails met.store (file_word words) (size_of words) k → IsEndOfAbsent (file_word words) (status.WorkFault note)) [
+        | Call ↦ λ fails. absurd (none_is_some _ _ absent (fails told tells).1)
+        | Read ↦ λ fails. absurd (whole fails)
+      ] cause.2.1
+  end_of_absent absent status.NoMemory outcome cause ran = inr refl
+
+  module _ (bytes : List ℕ) (found : first_named (file_word words) told ≡ Some bytes)
+      (poison : HasPoison (panes_plan (file_word words) (size_of words)) (items told (panes_plan (file_word words) (size_of words)))) where
+    no_outcome : (o : Outcome) → IsPanesRun met.store.files (file_word words) (size_of words) o → ⊥
+    no_outcome o is = accounted-no_poison (items told o.plan) o (is.account told tells) (subst (λ plan. HasPoison plan (items told plan)) (sym is.plan) poison)
+
+    -- a poison line ends the command so, where the store did not fail
+    pub end_of_poison : (s : Status) (outcome : Option Outcome) → HasCause words met s → Ran s outcome → IsEndOfPoison s
+    end_of_poison status.Ok outcome cause ran = absurd (no_outcome ran.0 ran.2)
+    end_of_poison status.SinkFault outcome cause ran = absurd (no_outcome ran.0 ran.2)
+    end_of_poison status.Usage outcome cause ran = absurd (cause.0 takes)
+    end_of_poison (status.NoSource name) outcome cause ran = absurd (none_is_some _ bytes (cause.2.1 told tells) found)
+    end_of_poison (status.SourceFault kit) outcome cause ran = absurd (whole cause.2.1)
+    end_of_poison (status.WorkFault note) outcome cause ran =
+        elim note.cause as (λ k. note ≡ first_fault k → WorkFails met.store (file_word words) (size_of words) k → IsEndOfPoison (status.WorkFault note)) [
+          | Call ↦ λ is fails. inl (ap (λ n. status.WorkFault n) is)
+          | Read ↦ λ is fails. absurd (whole fails)
+        ] cause.2.0 cause.2.1
+    end_of_poison status.NoMemory outcome cause ran = inr refl

@@ -1,4 +1,4 @@
-ghost use Rattle.std.specs.Prelude.{◌≡◌, ◌↔◌, ◌≤◌, ℕ, List, Option, Some, None, map};
+ghost use Rattle.std.specs.Prelude.{◌≡◌, ◌↔◌, ◌≤◌, ℕ, List, Option, Some, None, IsSome, map};
 ghost use Rattle.std.specs.String.{string_bytes};
 ghost use Rattle.beam_values.specs.Files.{first_named};
 ghost use Rattle.beam_values.specs.declared.file_text.FileText.{FileText};
@@ -41,9 +41,11 @@ pub fn beam_main<S: Store, W: Sink, N: Sink>(
     out: &mut W,
     notes: &mut N,
 ) -> RunEnd
-    // The outcome is of the plan of the command and of the items that it names.
+    // The outcome is of the plan of the command and of the items that it names, which are there.
     ensures plan { HasRun result.status result.outcome
         (λ o. o.plan ≡ panes_plan (file_word (map string_bytes words.now)) (size_of (map string_bytes words.now))) }
+    ensures found { HasRun result.status result.outcome
+        (λ o. (told : List FileText) → S.files store.old ≡ Some told → IsSome (first_named (file_word (map string_bytes words.now)) told)) }
     ensures lengths { HasRun result.status result.outcome
         (λ o. (told : List FileText) → S.files store.old ≡ Some told → o.files ≡ map item_len (items told o.plan)) }
 

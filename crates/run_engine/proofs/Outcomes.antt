@@ -1,5 +1,5 @@
 -- What a worked file comes to: the account, and plain grouping.
-use Rattle.std.proofs.Common.{◌&&◌, cond, unwrap_or, ◌==◌, ◌≡◌, ℕ, zero, suc, ℤ, Bool, true, false, Option, Some, None, List, [], ◌∷◌, ◌++◌, map, refl, sym, ap, subst, ◌∙◌, append_assoc, arith, eq-eqb}
+use Rattle.std.proofs.Common.{◌&&◌, cond, IsSome, unwrap_or, ◌==◌, ◌≡◌, ℕ, zero, suc, ℤ, Bool, true, false, Option, Some, None, List, [], ◌∷◌, ◌++◌, map, refl, sym, ap, subst, ◌∙◌, append_assoc, arith, eq-eqb}
 use Rattle.std.specs.List.{All, AllByRecursion, flat_map, filter}
 use Rattle.std.proofs.lemmas.List.{append-nil, map-append}
 use Rattle.std.proofs.lemmas.List.Elements.{filter-append, recursion_from_All, All-from_recursion}
@@ -205,6 +205,7 @@ run_is files name size file o known names =
       ap (items told) known.plan ∙ ap (λ bytes. panes_item bytes ∷ []) (ap (λ b. unwrap_or b []) (names told is)) in
     record {
       plan = known.plan;
+      found = λ told is. subst (λ b. IsSome b) (sym (names told is)) refl;
       lengths = λ told is. known.lengths ∙ ap (map item_len) (sym (there told is));
       cover = known.cover;
       account = λ told is. subst (λ its. IsAccounted its o) (sym (there told is)) known.account;

@@ -1,5 +1,5 @@
 -- What a run of `panes FILE SIZE` did where it ended Ok, and why it ended otherwise.
-use Rattle.std.specs.Prelude.{◌≡◌, ◌⊎◌, ℕ, ℤ, List, [], ◌∷◌, map, Option, Some, None}
+use Rattle.std.specs.Prelude.{◌≡◌, ◌⊎◌, ℕ, ℤ, List, [], ◌∷◌, map, Option, Some, None, IsSome}
 use Rattle.beam_values.specs.Files.{first_named}
 use Rattle.beam_values.specs.declared.fault.Cause.{Cause}
 use Rattle.beam_values.specs.declared.fault.Cause.TheVariants.{Call, Read}
@@ -28,6 +28,7 @@ pub record IsPanesOutcome (name : List ℕ) (size : ℤ) (file : List ℕ) (o : 
 -- the outcome of the file of that name: of these files, where they are told
 pub record IsPanesRun (files : Option (List FileText)) (name : List ℕ) (size : ℤ) (o : Outcome) : Type 0 where
   pub plan : o.plan ≡ panes_plan name size
+  pub found : (told : List FileText) → files ≡ Some told → IsSome (first_named name told)
   pub lengths : (told : List FileText) → files ≡ Some told → o.files ≡ map item_len (items told o.plan)
   pub cover : IsCovered o
   pub account : (told : List FileText) → files ≡ Some told → IsAccounted (items told o.plan) o
