@@ -170,8 +170,8 @@ pub came_whole : (name : List ℕ) (size : ℤ) (file : List ℕ) (c : Committed
 came_whole name size file c known =
     bag_trans _ _ _ known.brought
     (covering_one (panes_plan name size) (panes_item file) c.done
-      (All-weaker (λ (d : Done). IsListed (item_len (panes_item file) ∷ []) d.node d.item) (λ (d : Done). (d.node ≡ 0) × (d.item ≡ 0)) (λ d listed. listed_one file d.node d.item listed) c.done known.held.out_listed)
-      (λ place. omega (arith, known.held.times place)))
+    (All-weaker (λ (d : Done). IsListed (item_len (panes_item file) ∷ []) d.node d.item) (λ (d : Done). (d.node ≡ 0) × (d.item ≡ 0)) (λ d listed. listed_one file d.node d.item listed) c.done known.held.out_listed)
+    (λ place. omega (arith, known.held.times place)))
 
 -- the outcome of a file of which everything was committed, grouped and written
 pub outcome_is : (name : List ℕ) (size : ℤ) (file : List ℕ) (o : Outcome) (c : Committed) (commit : ℕ) → IsCommitted size file [] c
@@ -189,11 +189,11 @@ outcome_is name size file o c commit known plan_is files done dropped logs writt
       lengths = files;
       cover = λ place. ap (λ ds. times_done ds place) done ∙ omega (arith, known.held.times place) ∙ ap (λ fs. times_listed fs place) (sym files);
       account =
-        subst (λ plan. IsSameBag (flow plan (panes_item file ∷ []) o.panes o.logs) (map Came (arrivals o))) (sym plan_is)
-        (subst (λ logs. IsSameBag (flow (panes_plan name size) (panes_item file ∷ []) o.panes logs) (map Came (flat_map cell_arrivals o.cells ++ (map dropped_arrival o.dropped ++ (flat_map log_arrivals logs ++ o.written))))) (sym logs)
-        (subst (λ dropped. IsSameBag (flow (panes_plan name size) (panes_item file ∷ []) o.panes []) (map Came (flat_map cell_arrivals o.cells ++ (map dropped_arrival dropped ++ (flat_map log_arrivals [] ++ o.written))))) (sym dropped)
-        (subst (λ ws. IsSameBag (flow (panes_plan name size) (panes_item file ∷ []) o.panes []) (map Came (flat_map cell_arrivals o.cells ++ ([] ++ ([] ++ ws))))) (sym written)
-        (accounted name size file c.entries o.panes ours came_all o.cells held))));
+          subst (λ plan. IsSameBag (flow plan (panes_item file ∷ []) o.panes o.logs) (map Came (arrivals o))) (sym plan_is)
+          (subst (λ logs. IsSameBag (flow (panes_plan name size) (panes_item file ∷ []) o.panes logs) (map Came (flat_map cell_arrivals o.cells ++ (map dropped_arrival o.dropped ++ (flat_map log_arrivals logs ++ o.written))))) (sym logs)
+          (subst (λ dropped. IsSameBag (flow (panes_plan name size) (panes_item file ∷ []) o.panes []) (map Came (flat_map cell_arrivals o.cells ++ (map dropped_arrival dropped ++ (flat_map log_arrivals [] ++ o.written))))) (sym dropped)
+          (subst (λ ws. IsSameBag (flow (panes_plan name size) (panes_item file ∷ []) o.panes []) (map Came (flat_map cell_arrivals o.cells ++ ([] ++ ([] ++ ws))))) (sym written)
+          (accounted name size file c.entries o.panes ours came_all o.cells held))));
       plain = subst (λ ws. IsPlainlyWritten (panes_plan name size) (panes_item file ∷ []) ws) (sym written) (plainly name size file c.entries o.panes ours came_all grouping);
     }
 
@@ -202,7 +202,7 @@ pub run_is : (files : Option (List FileText)) (name : List ℕ) (size : ℤ) (fi
     → ((told : List FileText) → files ≡ Some told → first_named name told ≡ Some file) → IsPanesRun files name size o
 run_is files name size file o known names =
     let there : (told : List FileText) → files ≡ Some told → items told o.plan ≡ panes_item file ∷ [] = λ told is.
-      ap (items told) known.plan ∙ ap (λ bytes. panes_item bytes ∷ []) (ap (λ b. unwrap_or b []) (names told is)) in
+    ap (items told) known.plan ∙ ap (λ bytes. panes_item bytes ∷ []) (ap (λ b. unwrap_or b []) (names told is)) in
     record {
       plan = known.plan;
       found = λ told is. subst (λ b. IsSome b) (sym (names told is)) refl;

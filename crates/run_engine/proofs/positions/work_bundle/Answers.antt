@@ -52,6 +52,7 @@ returns-in-Err-clause-poison c = λ is.
     let same : to_z w64 (of_z w64 c.args.size) ≡ c.args.size = omega (arith, ints) in
     let poison : c.in-Err.refusal ≡ refusal.Poison = cc in
     rw same at (poison_within (to_z w64 (of_z w64 c.args.size)) c.args.file.now from c.lines.p c.args.tracker.now.range.to low inside (c.in-Err.ensures.poison (ap (λ x. Err x) poison)))
+
 pub returns-clause-came : goal.returns-clause-came
 returns-clause-came c =
     let known = c.lines.invariant in
@@ -60,15 +61,15 @@ returns-clause-came c =
     let size = to_z w64 (of_z w64 c.args.size) in
     let same : size ≡ c.args.size = omega (arith, ints) in
     let came_is : map came c.lines.out ≡ map came c.args.out.now ++ spread_of size c.args.file.now from (min (first_open from c.lines-test.tracker.attempted) to) =
-      elim c.lines-test.branch [
-        | then-lines-test+else-try_claim w ↦
+    elim c.lines-test.branch [
+      | then-lines-test+else-try_claim w ↦
           let range : c.lines.tracker.range.to ≡ to = ap (λ r. r.to) known.worked.range in
           let past : to ≤ c.lines.p = grind (arith, w.try_claim.ensures.answer, w.if-try_claim.false) in
           let is : c.lines-test.tracker ≡ record { range = c.lines.tracker.range; attempted = Some c.lines.p } = w.tracker-is ∙ w.try_claim.ensures.after in
           worked_whole _ _ _ _ _ _ _ _ known.worked past is
-        | else-lines-test w ↦
+      | else-lines-test w ↦
           let within : min (first_open from c.lines.tracker.attempted) to ≡ first_open from c.lines.tracker.attempted = omega (arith, known.worked.within) in
           known.worked.arrived ∙ ap (λ end. map came c.args.out.now ++ spread_of size c.args.file.now from end) (sym within)
-            ∙ ap (λ (t : Tracked). map came c.args.out.now ++ spread_of size c.args.file.now from (min (first_open from t.attempted) to)) (sym w.tracker-is)
-      ] in
+          ∙ ap (λ (t : Tracked). map came c.args.out.now ++ spread_of size c.args.file.now from (min (first_open from t.attempted) to)) (sym w.tracker-is)
+    ] in
     rw same at came_is
