@@ -37,6 +37,7 @@ span_sound a b e =
 
 session_moved : (xs ys : List Interval) (session : Interval) → IsSameBag xs ys → IsSession xs session → IsSession ys session
 session_moved xs ys session same h = record {
+  ordered = h.ordered;
   begins = any_moved spans_equal span_itself span_sound (λ span. span.start ≡ session.start) xs ys same h.begins;
   ends = any_moved spans_equal span_itself span_sound (λ span. span.end ≡ session.end) xs ys same h.ends;
   joined = λ x inside. any_moved spans_equal span_itself span_sound (λ span. IsInside span x) xs ys same (h.joined x inside);

@@ -53,6 +53,13 @@ sessions_apart spans a b first second x y =
     both : a.start ≡ b.start → a.end ≡ b.end → a ≡ b
     both p q = λ i. record { start = p i; end = q i }
 
+-- no session is empty, so two of them are one or apart
+pub sessions_one_or_apart : (spans : List Interval) (a b : Interval) → IsSession spans a → IsSession spans b → (a ≡ b) ⊎ IsApart a b
+sessions_one_or_apart spans a b x y =
+    let first : IsOrdered a = omega (arith, ints, x.ordered) in
+    let second : IsOrdered b = omega (arith, ints, y.ordered) in
+    sessions_apart spans a b first second x y
+
 pub session_ordered : (span session : Interval) → IsOrdered span → LiesIn span session → IsOrdered session
 session_ordered span session ordered lies = omega (arith, ints)
 

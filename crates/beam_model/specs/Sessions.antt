@@ -21,6 +21,7 @@ IsInside span x = (span.start <ℤ x) × (x <ℤ span.end)
 -- One of the windows into which these merge: it begins where one of them begins and ends where one ends, no point inside it is a gap between
 -- them, and each of them lies in it or is apart from it. Of `[0, 10)` and `[9, 19)` that is `[0, 19)`; of `[0, 10)` and `[10, 20)` it is each.
 pub record IsSession (spans : List Interval) (session : Interval) : Type 0 where
+  pub ordered : session.start <ℤ session.end
   pub begins : Any (λ span. span.start ≡ session.start) spans
   pub ends : Any (λ span. span.end ≡ session.end) spans
   pub joined : (x : ℤ) → IsInside session x → Any (λ span. IsInside span x) spans

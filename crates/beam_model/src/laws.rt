@@ -124,8 +124,7 @@ pub fn plain_groupings_agree()
 
 /// Two sessions of the same windows are one, or they don't overlap.
 pub fn sessions_are_apart()
-    ensures { (spans : List Interval) (a b : Interval) → IsOrdered a → IsOrdered b
-        → IsSession spans a → IsSession spans b → (a ≡ b) ⊎ IsApart a b }
+    ensures { (spans : List Interval) (a b : Interval) → IsSession spans a → IsSession spans b → (a ≡ b) ⊎ IsApart a b }
 {}
 
 /// Merging leaves no two windows of a key that overlap, unless they are the same.

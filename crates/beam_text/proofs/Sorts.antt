@@ -4,14 +4,11 @@ use Rattle.std.specs.Borrow.{Bor}
 use Rattle.std.specs.declared.cmp.Ordering.{Ordering}
 use Rattle.std.specs.Ordering.{is_lt}
 use Rattle.std.specs.Cmp.{IsTotalOrder}
-use Rattle.std.specs.Fn.{Called}
 use Rattle.std.specs.List.{flat_map, filter}
-use Rattle.std.specs.List.Sorted.{IsSorted, IsSortedByClosure, IsPermutation}
+use Rattle.std.specs.List.Sorted.{IsSorted, IsPermutation}
 use Rattle.std.proofs.lemmas.Cmp.{int_cmp_total, nat_cmp_total, nat_list_cmp_total, on_total, then_total}
-use Rattle.std.proofs.lemmas.Fn.{always_returns_same}
 use Rattle.std.proofs.lemmas.List.{get_or-map, length-map}
-use Rattle.std.proofs.lemmas.List.Sorted.{IsPermutation-map, ranks_by}
-use denote.Param.Members.{Mut}
+use Rattle.std.proofs.lemmas.List.Sorted.{IsPermutation-map}
 use Rattle.beam_values.specs.Bags.{IsSameBag}
 use Rattle.beam_values.specs.Elements.{element_cmp}
 use Rattle.beam_values.specs.Spelling.{spelling}
@@ -22,15 +19,6 @@ use Rattle.beam_values.specs.declared.plan.Plan.{Plan}
 use Rattle.beam_values.proofs.Bags.{bag_from_permutation, bag_sym}
 use Rattle.beam_model.specs.Rendering.{IsLines, IsLogged, is_printed, log_cmp, log_lines}
 use Rattle.beam_text.specs.Parts.{Adds, elements_in, logs_in}
-
--- where the closure of `sort_by` answers by a total order
-pub sorted_from_sort_by : {X F : Type 0} (R : X → X → Ordering) → IsTotalOrder R → {g : Mut F (Bor X × (Bor X × Unit {0})) Ordering} {f : F} (xs : List X)
-    → IsSortedByClosure g f xs
-    → ((a : Bor X × (Bor X × Unit {0})) (r : Ordering) (f' : F) → Called g f a r f' → (r ≡ R a.0.now a.1.0.now) × (f' ≡ f))
-    → IsSorted R xs
-sorted_from_sort_by {X} R o {g = g} {f = f} xs up h =
-    up (λ x y. is_lt (R x y)) (ranks_by o (λ (x : X). x))
-    (always_returns_same g (λ a r. is_lt r ≡ is_lt (R a.0.now a.1.0.now)) f (λ a r f' k. (ap is_lt (h a r f' k).0, (h a r f' k).1)))
 
 pub sorted_map : {A B : Type 0} (f : A → B) (R : B → B → Ordering) (xs : List A) → IsSorted (λ x y. R (f x) (f y)) xs → IsSorted R (map f xs)
 sorted_map f R [] up k d z l = absurd (omega arith)

@@ -3,6 +3,7 @@ pub mod Induction
 pub mod Lexicographic
 pub mod OneSpelling
 pub mod SignedBits
+pub mod Sorts
 pub mod Spellings
 pub mod Spreads
 pub mod Varints

@@ -1,18 +1,12 @@
 -- Spreads over ranges of offsets: how they join, and what a step from one line to the next leaves out.
-use Rattle.beam_values.specs.Functions.{timed_line}
-use Rattle.beam_values.specs.Panes.{Brought, Came, Spoiled, is_spoiled, brought_at, brought_by}
-use Rattle.beam_values.specs.declared.element.Element.{Element}
-use Rattle.std.specs.List.{list_any}
-use Rattle.std.proofs.lemmas.List.Folds.{list_any-append}
-use Rattle.std.proofs.lemmas.Bool.{false≢true}
-use Rattle.std.proofs.Common.{◌≡◌, Bool, true, false, ◌||◌, map, ℤ, if◌then◌else◌, not, ℕ, zero, suc, ◌+◌, ◌-◌, ◌<◌, ◌≤◌, ◌⊎◌, inl, inr, false, List, [], ◌∷◌, ◌++◌, length, drop, get_or, refl, ap, sym, ◌∙◌, arith}
+use Rattle.std.proofs.Common.{◌≡◌, false, not, ℕ, zero, suc, ◌+◌, ◌-◌, ◌<◌, ◌≤◌, ◌⊎◌, inl, inr, false, List, [], ◌∷◌, ◌++◌, length, drop, get_or, refl, ap, sym, ◌∙◌, arith}
 use Rattle.std.proofs.lemmas.List.{append-nil}
 use Rattle.std.proofs.lemmas.Bool.{cases_lt, not-true}
 use Rattle.std.proofs.lemmas.List.{get_or-drop}
 use Rattle.std.proofs.lemmas.List.Sums.{prefix_len_passes}
 use Rattle.std.specs.List.{flat_map}
 use Rattle.std.proofs.lemmas.Grind.{flat_map-append}
-use Rattle.beam_values.specs.Lines.{offsets, spread, is_line_feed, starts_line, line_at, line_len, next_start}
+use Rattle.beam_values.specs.Lines.{offsets, spread, is_line_feed, starts_line, line_len, next_start}
 
 offsets-zero : (from : ℕ) → offsets from 0 ≡ []
 unfolding offsets
@@ -88,30 +82,3 @@ starts_line-between file p (suc r) above below =
 -- the next line start lies above
 pub next_start-above : (file : List ℕ) (p : ℕ) → p < length file → p < next_start file p
 next_start-above file p inside = omega arith
-
--- what a file's offsets bring from one on: what it brings, and then what those from the next line start on bring
-pub brought-step : (size : ℤ) (file : List ℕ) (p to : ℕ) → p < to → to ≤ length file
-    → spread (brought_at size file) p to ≡ brought_at size file p ++ spread (brought_at size file) (next_start file p) to
-brought-step size file p to inside within =
-    spread-step (brought_at size file) p (next_start file p) to inside (next_start-above file p (omega arith))
-    (λ q above below. ap (λ starts. if starts then brought_by size (timed_line (line_at file q)) else []) (starts_line-between file p q above below))
-
-any_or-false : (a b : Bool) → (a || b) ≡ true → a ≡ false → b ≡ true
-any_or-false true b holds never = absurd (false≢true (sym never))
-any_or-false false b holds never = holds
-
--- elements that came are no poison
-pub list_any-came : (elements : List Element) → list_any is_spoiled (map Came elements) ≡ false
-list_any-came [] = refl
-list_any-came (e ∷ es) = list_any-came es
-
--- where only elements came before, the poison is in the rest
-pub poison_behind : (elements : List Element) (rest : List Brought) → list_any is_spoiled (map Came elements ++ rest) ≡ true → list_any is_spoiled rest ≡ true
-poison_behind elements rest holds =
-    any_or-false _ _ (sym (list_any-append is_spoiled (map Came elements) rest) ∙ holds) (list_any-came elements)
-
--- what is among the first is among all, whatever came before
-pub poison_among : (came here rest : List Brought) → list_any is_spoiled here ≡ true → list_any is_spoiled (came ++ (here ++ rest)) ≡ true
-poison_among [] here rest holds = list_any-append is_spoiled here rest ∙ ap (λ b. b || list_any is_spoiled rest) holds
-poison_among (Came e ∷ came) here rest holds = poison_among came here rest holds
-poison_among (Spoiled ∷ came) here rest holds = refl

@@ -7,7 +7,6 @@ pub mod Grouping
 pub mod Intervals
 pub mod Lines
 pub mod Orders
-pub mod Panes
 pub mod Spelled
 pub mod Spelling
 pub mod States

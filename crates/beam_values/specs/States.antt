@@ -1,5 +1,5 @@
 -- The state of a key: eight cells and eight timers, named 0 to 7 (Beam Programming Guide, State and Timers: value state, bag state, event-time timers).
-use Rattle.std.specs.Prelude.{◌≡◌, ◌⊎◌, ℕ, ◌≤◌, ℤ, ◌<ℤ◌, ◌≤ℤ◌, List, [], Option, Some, None}
+use Rattle.std.specs.Prelude.{◌≡◌, ◌⊎◌, ℕ, ◌≤◌, ℤ, ◌<ℤ◌, List, [], Option, Some, None}
 use Rattle.std.specs.List.{slice_index_or}
 use Rattle.beam_values.specs.declared.value.Value.{Value}
 use Rattle.beam_values.specs.declared.state_cell.StateCell.{StateCell}

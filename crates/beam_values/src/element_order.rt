@@ -1,22 +1,39 @@
 ghost use Rattle.std.specs.Prelude.{◌≡◌};
-ghost use Rattle.std.specs.Ordering.{as_partial_cmp, eq_by_cmp};
+ghost use Rattle.std.specs.Ordering.{as_partial_cmp, eq_by_cmp, on, then_cmp, int_cmp};
 ghost use Rattle.std.specs.Cmp.{partial_order_from_own_ties};
 ghost use Rattle.std.specs.Cmp.Rules.{comparing};
 ghost use Rattle.std.proofs.Common.{rules};
-ghost use Rattle.beam_values.specs.Elements.{element_cmp, place_cmp};
+ghost use Rattle.beam_values.specs.Elements.{element_cmp, place_cmp, tag_cmp};
 
 use crate::{Element, PaneTag, Timing, cmp_values};
 use std::cmp::Ordering;
 
+// Most elements differ by their windows already.
 fn cmp_places(a: &Element, b: &Element) -> Ordering
     ensures { result ≡ place_cmp a.now b.now }
 {
-    let by_start = a.span.start().cmp(&b.span.start());
-    let by_end = a.span.end().cmp(&b.span.end());
+    match a.span.start().cmp(&b.span.start()) {
+        Ordering::Equal => cmp_from_end(a, b),
+        decided => decided,
+    }
+}
+
+fn cmp_from_end(a: &Element, b: &Element) -> Ordering
+    ensures { result ≡ then_cmp (on (λ e. e.span.end) int_cmp) tag_cmp a.now b.now }
+{
+    match a.span.end().cmp(&b.span.end()) {
+        Ordering::Equal => cmp_tags(a, b),
+        decided => decided,
+    }
+}
+
+fn cmp_tags(a: &Element, b: &Element) -> Ordering
+    ensures { result ≡ tag_cmp a.now b.now }
+{
     let by_index = a.pane.index.cmp(&b.pane.index);
     let by_timing = a.pane.timing.number().cmp(&b.pane.timing.number());
     let by_time = a.time.ms().cmp(&b.time.ms());
-    by_start.then(by_end.then(by_index.then(by_timing.then(by_time))))
+    by_index.then(by_timing.then(by_time))
 }
 
 impl PartialEq for Element {

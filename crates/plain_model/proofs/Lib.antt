@@ -5,4 +5,3 @@ pub mod Cells
 pub mod Groupings
 pub mod Runs
 mod Merging
-pub mod Sorts

@@ -87,8 +87,9 @@ spans_alike a b elements h =
     ap (λ (key : List ℕ). map (λ (x : Element). x.span) (filter (λ (x : Element). bytes_eq (spelling (key_of x)) key) elements))
     (sym ((bytes_eq-Decides (spelling (key_of b)) (spelling (key_of a))).0 h))
 
-pub part_first : (spans : List Interval) (span : Interval) → IsOneOf spans span → IsPart spans span
-part_first spans span one = record {
+pub part_first : (spans : List Interval) (span : Interval) → span.start <ℤ span.end → IsOneOf spans span → IsPart spans span
+part_first spans span ordered one = record {
+  ordered = ordered;
   begins = any_one (λ s. s.start ≡ span.start) spans span one refl;
   ends = any_one (λ s. s.end ≡ span.end) spans span one refl;
   joined = λ x inside. any_one (λ s. IsInside s x) spans span one inside;
@@ -99,6 +100,7 @@ int_cases a b = by_lt_z a b (λ h. inl h) (λ h. inr h)
 
 pub part_more : (spans : List Interval) (part span : Interval) → IsPart spans part → IsOneOf spans span → Overlaps part span → IsPart spans (hull part span)
 part_more spans part span h one over = record {
+  ordered = omega (arith, ints, clamps, h.ordered);
   begins = begins_by (int_lt span.start part.start);
   ends = ends_by (int_lt span.end part.end);
   joined = λ x inside. joined_by x inside (int_cases part.start x) (int_cases x part.end);
@@ -121,7 +123,7 @@ pub in_hull : (inner part span : Interval) → LiesIn inner part → LiesIn inne
 in_hull inner part span h = (omega (arith, ints, clamps), omega (arith, ints, clamps))
 
 pub session_from_part : (spans : List Interval) (session : Interval) → IsPart spans session → All (IsSettled session) spans → IsSession spans session
-session_from_part spans session h apart = record { begins = h.begins; ends = h.ends; joined = h.joined; apart = apart }
+session_from_part spans session h apart = record { ordered = h.ordered; begins = h.begins; ends = h.ends; joined = h.joined; apart = apart }
 
 -- how much longer a window of 64-bit numbers can grow
 abbrev left : Interval → ℤ

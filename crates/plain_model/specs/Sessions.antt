@@ -24,6 +24,7 @@ IsOneOf spans span = Any (λ other. other ≡ span) spans
 
 -- a part of a session: it begins and ends where windows do, and has no gap
 pub record IsPart (spans : List Interval) (part : Interval) : Type 0 where
+  pub ordered : part.start <ℤ part.end
   pub begins : Any (λ span. span.start ≡ part.start) spans
   pub ends : Any (λ span. span.end ≡ part.end) spans
   pub joined : (x : ℤ) → IsInside part x → Any (λ span. IsInside span x) spans

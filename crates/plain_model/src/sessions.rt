@@ -80,6 +80,8 @@ fn merged_span(element: &Element, elements: &[Element]) -> Span
     ensures within { LiesIn element.now.span result }
 {
     let mut session = element.span;
+    // What is read of the window is that it isn't empty.
+    let _start = session.start();
     while let Some(span) = first_extending(session, element, elements) {
         session = hull(session, span);
     }

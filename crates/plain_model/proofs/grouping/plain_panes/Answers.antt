@@ -6,7 +6,7 @@ use Rattle.beam_values.specs.declared.element.Element.{Element}
 use Rattle.plain_model.specs.Cells.{grouped_cmp}
 use Rattle.plain_model.proofs.Cells.{grouped_total}
 use Rattle.plain_model.proofs.Groupings.{grouping_of_permutation}
-use Rattle.plain_model.proofs.Sorts.{sorted_from_sort_by}
+use Rattle.beam_values.proofs.Sorts.{sorted_from_sort_by}
 use Rattle.plain_model.proofs.grouping.plain_panes.Goals as goal
 
 pub panes_of-requires : goal.panes_of-requires

@@ -1,7 +1,7 @@
 use Rattle.std.proofs.Common.{sym, subst, map, rules}
 use Rattle.beam_values.specs.Grouping.{IsPlainGrouping}
 use Rattle.beam_values.specs.declared.outcome.Entry.{Entry}
-use Rattle.plain_model.proofs.Sorts.{sorted_from_sort_by}
+use Rattle.beam_values.proofs.Sorts.{sorted_from_sort_by}
 use Rattle.run_engine.specs.Grouped.{entry_cmp}
 use Rattle.run_engine.proofs.Cells.{entry_total}
 use Rattle.run_engine.proofs.PlainPanes.{held_of_sorted, plain_of_cells, account_of_cells, panes_as_cells, panes_fired}
