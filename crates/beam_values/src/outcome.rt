@@ -180,13 +180,13 @@ pub struct Outcome {
     pub files: List<FileLen>,
     /// By node, item and range.
     pub done: List<Done>,
-    /// By node, key and window.
+    /// By node.
     pub cells: List<Cell>,
     /// In the order in which they fired.
     pub panes: List<Pane>,
     /// In the order in which they came.
     pub dropped: List<Dropped>,
-    /// By node, key and window.
+    /// By node.
     pub logs: List<KeyLog>,
     /// What reached the Writes, in the order in which it came.
     pub written: List<Arrival>,

@@ -27,16 +27,16 @@ span_total : IsTotalOrder span_cmp
 span_total = then_total (on_total (λ (s : Interval). s.start) int_cmp_total) (on_total (λ (s : Interval). s.end) int_cmp_total)
 
 pub cell_total : IsTotalOrder cell_cmp
-cell_total = then_total (on_total (λ (c : Cell). spelling c.key) nat_list_cmp_total) (on_total (λ (c : Cell). c.span) span_total)
+cell_total = then_total (on_total (λ (c : Cell). c.span) span_total) (on_total (λ (c : Cell). spelling c.key) nat_list_cmp_total)
 
 pub entry_total : IsTotalOrder entry_cmp
 entry_total =
-    then_total (then_total (on_total (λ (e : Entry). spelling (key_of e.element)) nat_list_cmp_total) (on_total (λ (e : Entry). e.element.span) span_total))
+    then_total (then_total (on_total (λ (e : Entry). e.element.span) span_total) (on_total (λ (e : Entry). spelling (key_of e.element)) nat_list_cmp_total))
     (on_total (λ (e : Entry). spelling (part_of e.element)) nat_list_cmp_total)
 
 -- keys and windows, side by side
 abbrev at_cmp : Value → Interval → Value → Interval → Ordering
-at_cmp k s l t = ordering_then (value_cmp k l) (span_cmp s t)
+at_cmp k s l t = ordering_then (span_cmp s t) (value_cmp k l)
 
 at_entry : (c : Cell) (h : Entry) (k : Value) (s : Interval) → IsEntryOf c.key c.span h → at_cmp k s (key_of h.element) h.element.span ≡ at_cmp k s c.key c.span
 at_entry c h k s is = ap (λ (l : Value). at_cmp k s l h.element.span) is.keys ∙ ap (λ (t : Interval). at_cmp k s c.key t) is.windows

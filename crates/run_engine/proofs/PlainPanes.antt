@@ -65,7 +65,7 @@ same_cell key window a b h k = record {
 }
 
 abbrev parts_cmp : List ℕ → ℤ → ℤ → Cell → Ordering
-parts_cmp key start end d = ordering_then (bytes_cmp key (spelling d.key)) (ordering_then (int_cmp start d.span.start) (int_cmp end d.span.end))
+parts_cmp key start end d = ordering_then (ordering_then (int_cmp start d.span.start) (int_cmp end d.span.end)) (bytes_cmp key (spelling d.key))
 
 -- cells tie where an entry of one and an entry of the other are of one key and window
 cells_tied : (c d : Cell) (a b : Entry) → IsEntryOf c.key c.span a → IsEntryOf d.key d.span b → IsSameCell a.element b.element → cell_cmp c d ≡ Equal

@@ -69,18 +69,18 @@ fired_pane node commit cell = record { node = node; element = pane_of_cell cell;
 abbrev pub span_cmp : Interval → Interval → Ordering
 span_cmp = then_cmp (on (λ span. span.start) int_cmp) (on (λ span. span.end) int_cmp)
 
--- cells by their keys, and then by their windows
+-- cells by their windows, and then by their keys
 abbrev pub cell_cmp : Cell → Cell → Ordering
-cell_cmp = then_cmp (on (λ cell. cell.key) value_cmp) (on (λ cell. cell.span) span_cmp)
+cell_cmp = then_cmp (on (λ cell. cell.span) span_cmp) (on (λ cell. cell.key) value_cmp)
 
--- the key and the window of an entry beside those of a cell
+-- the window and the key of an entry beside those of a cell
 abbrev pub place_cmp : Entry → Cell → Ordering
-place_cmp entry cell = ordering_then (value_cmp (key_of entry.element) cell.key) (span_cmp entry.element.span cell.span)
+place_cmp entry cell = ordering_then (span_cmp entry.element.span cell.span) (value_cmp (key_of entry.element) cell.key)
 
 -- entries by the order of their cells, and then by what they bring
 abbrev pub entry_cmp : Entry → Entry → Ordering
 entry_cmp =
-    then_cmp (then_cmp (on (λ entry. key_of entry.element) value_cmp) (on (λ entry. entry.element.span) span_cmp)) (on (λ entry. part_of entry.element) value_cmp)
+    then_cmp (then_cmp (on (λ entry. entry.element.span) span_cmp) (on (λ entry. key_of entry.element) value_cmp)) (on (λ entry. part_of entry.element) value_cmp)
 
 -- no entry of the cells stands after this one
 abbrev pub HasNoneAfter : Entry → List Cell → Type 0

@@ -2,7 +2,9 @@ ghost use Rattle.std.specs.Prelude.{◌≡◌, ◌++◌, ◌∷◌, [], All, IfO
 ghost use Rattle.std.specs.List.{flat_map};
 ghost use Rattle.std.specs.List.Sorted.{IsSorted, IsStrictlySortedBy};
 ghost use Rattle.beam_values.specs.Bags.{IsSameBag};
+ghost use Rattle.std.specs.Ordering.{ordering_then};
 ghost use Rattle.beam_values.specs.Grouping.{key_of, part_of, IsPlainGrouping};
+ghost use Rattle.beam_values.specs.Orders.{value_cmp};
 ghost use Rattle.beam_model.specs.Account.{cell_arrivals};
 ghost use Rattle.run_engine.specs.Grouped.{entry_arrival, as_shown, entries_of, IsEntryOf, IsFiredCell, parts_of, pane_of_cell, fired_pane, fresh_cell, span_cmp, place_cmp, cell_cmp, entry_cmp, HasNoneAfter, AreCells};
 
@@ -54,10 +56,19 @@ fn cmp_entries(a: &Entry, b: &Entry) -> Ordering
     ensures { result ≡ entry_cmp a.now b.now }
 {
     let (a, b) = (&a.element, &b.element);
-    let null = Value::Null;
-    let keys = cmp_values(key_or(a, &null), key_or(b, &null));
-    match keys.then(cmp_spans(a.span, b.span)) {
+    match cmp_cells(a, b) {
         Ordering::Equal => cmp_values(part_of(a), part_of(b)),
+        decided => decided,
+    }
+}
+
+// Most entries differ by their windows already, which are at hand; keys and parts lie elsewhere.
+fn cmp_cells(a: &Element, b: &Element) -> Ordering
+    ensures { result ≡ ordering_then (span_cmp a.now.span b.now.span) (value_cmp (key_of a.now) (key_of b.now)) }
+{
+    let null = Value::Null;
+    match cmp_spans(a.span, b.span) {
+        Ordering::Equal => cmp_values(key_or(a, &null), key_or(b, &null)),
         decided => decided,
     }
 }
@@ -100,14 +111,16 @@ fn place(alloc: Global, node: u32, cells: &mut Vec<Cell>, entry: Entry) -> Resul
     Ok(())
 }
 
-/// The order of an entry and a cell, by key and window.
+/// The order of an entry and a cell, by window and key.
 fn cmp_place(entry: &Entry, cell: &Cell) -> Ordering
     ensures same { result ≡ Ordering.Equal → IsEntryOf cell.now.key cell.now.span entry.now }
     ensures order { result ≡ place_cmp entry.now cell.now }
 {
     let null = Value::Null;
-    let keys = cmp_values(key_or(&entry.element, &null), &cell.key);
-    keys.then(cmp_spans(entry.element.span, cell.span))
+    match cmp_spans(entry.element.span, cell.span) {
+        Ordering::Equal => cmp_values(key_or(&entry.element, &null), &cell.key),
+        decided => decided,
+    }
 }
 
 fn copy_key(alloc: Global, element: &Element) -> Result<Value, NoMemory>

@@ -132,20 +132,20 @@ fn a_cell_and_a_pane_for_each_key_and_window(rt: HostRuntime) -> Result<(), Fail
         alloc,
         cells.get(2),
         panes.get(2),
-        10,
-        Some(1),
-        &[8],
-        &[2],
+        0,
+        Some(2),
+        &[6],
+        &[1],
     )?;
     expect(
         &rt,
         alloc,
         cells.get(3),
         panes.get(3),
-        0,
-        Some(2),
-        &[6],
-        &[1],
+        10,
+        Some(1),
+        &[8],
+        &[2],
     )?;
     expect(
         &rt,
