@@ -55,7 +55,7 @@ accounted-no_poison items o account poison =
     let some = spoiled_counts (spread_all o.plan items) poison in
     let none : count_by is_spoiled (flow o.plan items o.panes o.logs) ≡ 0 = bag_count is_spoiled _ _ account ∙ no_spoiled (arrivals o) in
     let both : count_by is_spoiled (flow o.plan items o.panes o.logs) ≡ count_by is_spoiled (spread_all o.plan items) + count_by is_spoiled rest =
-      sum_by-append (λ b. cond (is_spoiled b) 1 0) (spread_all o.plan items) rest in
+    sum_by-append (λ b. cond (is_spoiled b) 1 0) (spread_all o.plan items) rest in
     absurd (omega (arith, some, none, both))
 
 -- an end of poison or of an absent name stays one when its note is written

@@ -1,11 +1,11 @@
 -- What a commit leaves: the rest of a piece is cut out of its range, and fewer offsets are left.
-use Rattle.std.proofs.Common.{◌⊎◌, inl, inr, ◌≡◌, ℕ, ℤ, ◌+◌, ◌-◌, ◌<◌, ◌≤◌, Bool, true, false, cond, ◌&&◌, ◌==◌, Option, Some, None, List, [], ◌∷◌, ◌++◌, map, length, take, min, refl, sym, ap, subst, ◌∙◌, arith, append_assoc}
+use Rattle.std.proofs.Common.{inl, inr, ◌≡◌, ℕ, ℤ, ◌+◌, ◌-◌, ◌<◌, ◌≤◌, Bool, true, false, cond, ◌&&◌, ◌==◌, Option, Some, None, List, [], ◌∷◌, ◌++◌, map, length, take, min, refl, sym, ap, subst, ◌∙◌, arith}
 use Rattle.std.proofs.Math.Seq.{take-append-add}
-use Rattle.std.specs.List.{All, sum_by, flat_map, list_any}
+use Rattle.std.specs.List.{All, list_any}
 use Rattle.std.proofs.lemmas.Bool.{cases_lt, lt-ltb, le-ltb}
 use Rattle.std.proofs.lemmas.Bool.Decides.{nat_tests}
 use Rattle.std.proofs.lemmas.List.{append-nil}
-use Rattle.std.proofs.lemmas.List.Elements.{All-take, All-cons, All-nil}
+use Rattle.std.proofs.lemmas.List.Elements.{All-take}
 use Rattle.std.proofs.lemmas.List.Sums.{sum_by-cons, sum_by-append}
 use Rattle.std.proofs.lemmas.Grind.{flat_map-append}
 use Rattle.std.proofs.lemmas.Bool.{false≢true}
@@ -23,7 +23,7 @@ use Rattle.beam_values.specs.Bags.{IsSameBag}
 use Rattle.beam_values.specs.Cover.{Place, times_at, times_done, whole}
 use Rattle.beam_values.specs.Intervals.{Offsets, times_in}
 use Rattle.beam_values.specs.Tracking.{Tracked, first_open, residual, primary, split_point_of}
-use Rattle.beam_values.proofs.Bags.{bag_trans, bag_sym, bag_append, bag_middle, bag_swap, bag_cons, bag_from_same, bag_refl}
+use Rattle.beam_values.proofs.Bags.{bag_trans, bag_append, bag_middle, bag_swap, bag_from_same, bag_refl}
 use Rattle.beam_values.specs.declared.outcome.Done.{Done}
 use Rattle.beam_values.specs.declared.outcome.FileLen.{FileLen}
 use Rattle.beam_values.specs.declared.outcome.Piece.{Piece}

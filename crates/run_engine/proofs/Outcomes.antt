@@ -1,9 +1,8 @@
 -- What a worked file comes to: the account, and plain grouping.
-use Rattle.std.proofs.Common.{◌&&◌, cond, IsSome, unwrap_or, ◌==◌, ◌≡◌, ℕ, zero, suc, ℤ, Bool, true, false, Option, Some, None, List, [], ◌∷◌, ◌++◌, map, refl, sym, ap, subst, ◌∙◌, append_assoc, arith, eq-eqb}
+use Rattle.std.proofs.Common.{◌&&◌, cond, IsSome, unwrap_or, ◌==◌, ◌≡◌, ℕ, zero, suc, ℤ, Bool, true, false, Option, Some, List, [], ◌∷◌, ◌++◌, map, refl, sym, ap, subst, ◌∙◌, arith, eq-eqb}
 use Rattle.std.specs.List.{All, AllByRecursion, flat_map, filter}
 use Rattle.std.proofs.lemmas.List.{append-nil, map-append}
 use Rattle.std.proofs.lemmas.List.Elements.{filter-append, recursion_from_All, All-from_recursion}
-use Rattle.std.proofs.lemmas.List.Folds.{flat_map-map}
 use Rattle.std.proofs.lemmas.Bool.{false≢true}
 use Rattle.std.proofs.lemmas.Simd.{map-map}
 use Rattle.beam_values.specs.Bags.{IsSameBag}
@@ -16,12 +15,11 @@ use Rattle.beam_values.specs.declared.outcome.Entry.{Entry}
 use Rattle.beam_values.specs.declared.outcome.Outcome.{Outcome}
 use Rattle.beam_values.specs.declared.outcome.Pane.{Pane}
 use Rattle.beam_model.specs.Account.{cell_arrivals, dropped_arrival, log_arrivals, arrivals, IsAccounted}
-use Rattle.beam_model.specs.Chains.{Brought, Came, chain}
-use Rattle.beam_model.specs.Flow.{elements_at, is_at, flow, pane_chains, log_chains}
-use Rattle.beam_model.specs.Plain.{IsPlainlyWritten, IsPlainRun, IsPlainAt, IsPlainGroup, IsGroupedBy, is_group, is_write, is_stateful, strategy_of, plain_flow}
+use Rattle.beam_model.specs.Chains.{Came, chain}
+use Rattle.beam_model.specs.Flow.{elements_at, is_at, flow, pane_chains}
+use Rattle.beam_model.specs.Plain.{IsPlainlyWritten, IsPlainRun, IsPlainGroup, IsGroupedBy, is_group, is_write, strategy_of}
 use Rattle.beam_model.specs.Plans.{panes_plan}
 use Rattle.beam_model.specs.Spread.{spread_all}
-use Rattle.std.specs.List.{sum_by}
 use Rattle.std.proofs.lemmas.Bool.Decides.{nat_tests}
 use Rattle.std.proofs.lemmas.List.Elements.{All-weaker}
 use Rattle.std.proofs.lemmas.List.Sums.{sum_by-cons}
@@ -30,7 +28,7 @@ use Rattle.beam_values.specs.Files.{first_named}
 use Rattle.beam_values.specs.declared.file_text.FileText.{FileText}
 use Rattle.beam_values.specs.declared.outcome.Done.{Done}
 use Rattle.beam_values.specs.declared.outcome.FileLen.{FileLen}
-use Rattle.beam_model.specs.Positions.{item_len, items, told_bytes}
+use Rattle.beam_model.specs.Positions.{item_len, items}
 use Rattle.beam_model.specs.Spread.{HasPoison}
 use Rattle.beam_model.proofs.Coverings.{covering_one}
 use Rattle.split_core.specs.Holding.{IsListed}

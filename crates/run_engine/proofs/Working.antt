@@ -1,19 +1,16 @@
 -- The work on a range, one line after another.
-use Rattle.std.proofs.Common.{Bool, false, ◌||◌, Some, None, subst, if◌then◌else◌, ◌≡◌, ℕ, ℤ, ◌+◌, ◌<◌, ◌≤◌, true, List, [], ◌∷◌, ◌++◌, map, min, length, sym, ap, ◌∙◌, append_assoc, arith, refl}
+use Rattle.std.proofs.Common.{Bool, false, ◌||◌, Some, None, subst, if◌then◌else◌, ◌≡◌, ℕ, ℤ, ◌+◌, ◌<◌, ◌≤◌, true, List, [], ◌++◌, map, min, length, sym, ap, ◌∙◌, append_assoc, arith, refl}
 use Rattle.std.proofs.lemmas.List.{append-nil}
 use Rattle.std.specs.List.{list_any}
 use Rattle.std.proofs.lemmas.List.Folds.{list_any-append}
 use Rattle.beam_values.specs.Tracking.{Tracked, MayClaim, IsAbove, first_open}
 use Rattle.beam_values.specs.declared.outcome.Entry.{Entry}
-use Rattle.beam_values.specs.declared.value.Value.TheViews.{out-roll-Value}
-use Rattle.beam_values.specs.Lines.{spread, next_start, starts_line, line_at}
-use Rattle.beam_values.specs.Functions.{TimedLine, Timed, Declared, Poison, timed_line}
-use Rattle.beam_values.proofs.Spreads.{spread-empty, spread-join, spread-single, spread-nothing, spread-step, starts_line-between, next_start-above}
-use Rattle.beam_model.specs.Chains.{Brought, Came, Spoiled, chain}
-use Rattle.beam_model.specs.Values.{blob}
+use Rattle.beam_values.specs.Lines.{spread, next_start, line_at}
+use Rattle.beam_values.specs.Functions.{timed_line}
+use Rattle.beam_values.proofs.Spreads.{spread-empty, spread-join, spread-single, spread-nothing, starts_line-between, next_start-above}
 use Rattle.beam_model.specs.Plans.{panes_plan}
-use Rattle.beam_model.specs.Positions.{Emission, line_emission, nothing}
-use Rattle.beam_model.specs.Spread.{brought_by, brought_at, from_source, is_spoiled}
+use Rattle.beam_model.specs.Positions.{line_emission, nothing}
+use Rattle.beam_model.specs.Spread.{brought_by, is_spoiled}
 use Rattle.run_engine.specs.Working.{brought, spread_of, came}
 
 -- the positions of a range bring nothing

@@ -1,7 +1,6 @@
 -- What the positions of the file of `panes` bring to its Group.
-use Rattle.std.specs.Prelude.{◌≡◌, ℕ, true, ℤ, List, [], length}
-use Rattle.std.specs.List.{flat_map, list_any}
-use Rattle.beam_values.specs.Bags.{IsSameBag}
+use Rattle.std.specs.Prelude.{ℕ, ℤ, List, [], length}
+use Rattle.std.specs.List.{flat_map}
 use Rattle.beam_values.specs.Lines.{spread}
 use Rattle.beam_values.specs.declared.outcome.Done.{Done}
 use Rattle.beam_values.specs.declared.outcome.Entry.{Entry}
@@ -14,7 +13,7 @@ use Rattle.beam_model.specs.Functions.{keyed_text}
 use Rattle.beam_values.specs.Functions.{fixed_window}
 use Rattle.beam_values.specs.declared.element.Element.{Element}
 use Rattle.beam_values.specs.declared.element.Timing.TheVariants.{Unknown}
-use Rattle.beam_model.specs.Spread.{brought_at, is_spoiled}
+use Rattle.beam_model.specs.Spread.{brought_at}
 
 -- the one item of its source
 abbrev pub panes_item : List ℕ → SourceItem

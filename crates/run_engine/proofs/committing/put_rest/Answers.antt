@@ -1,7 +1,6 @@
-use Rattle.std.proofs.Common.{◌≡◌, ◌<◌, ◌≤◌, ◌+◌, ◌++◌, ◌∷◌, [], min, arith, ap, sym, subst, ◌∙◌, refl}
+use Rattle.std.proofs.Common.{◌≤◌, ◌++◌, ◌∷◌, [], arith, ap, sym, subst, ◌∙◌}
 use Rattle.beam_values.specs.Intervals.{Offsets}
 use Rattle.beam_values.specs.Tracking.{Tracked, first_open}
-use Rattle.split_core.specs.Cuts.{part}
 use Rattle.split_core.specs.Holding.{IsHeld}
 use Rattle.run_engine.proofs.Commits.{worked_whole_range, left_range, left_cut, left_less}
 use Rattle.run_engine.specs.Committing.{offsets_left}

@@ -1,4 +1,4 @@
-use Rattle.std.proofs.Common.{◌≡◌, [], ◌∷◌, map, to_z, of_z, w64, ap, sym, subst, ◌∙◌, refl}
+use Rattle.std.proofs.Common.{[], ◌∷◌, map, to_z, of_z, w64, ap, sym, subst}
 use Rattle.beam_values.proofs.Bags.{bag_refl}
 use Rattle.beam_values.specs.Bags.{IsSameBag}
 use Rattle.beam_model.specs.Positions.{item_len}

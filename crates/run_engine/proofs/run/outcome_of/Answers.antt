@@ -1,4 +1,4 @@
-use Rattle.std.proofs.Common.{◌≡◌, arith, to_z, of_z, w64, map, ap, sym, ◌∙◌, refl}
+use Rattle.std.proofs.Common.{◌≡◌, arith, to_z, of_z, w64, map, ap, ◌∙◌, refl}
 use Rattle.std.proofs.lemmas.Int.{ints}
 use Rattle.run_engine.proofs.Outcomes.{outcome_is, outcome_at, written_of}
 use Rattle.run_engine.proofs.run.outcome_of.Goals as goal
