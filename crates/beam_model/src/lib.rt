@@ -1,8 +1,13 @@
-//! What pipelines mean, over whole runs: the definitions that every promise of the runner is stated in, and the laws that hold of them.
+//! What pipelines mean, over whole runs: the definitions that every promise of the runner is stated in,
+//! and the laws that hold of them.
 //!
-//! `specs/` takes the positions of each whole restriction one after another and filters complete lists; nothing in it knows of pieces, trackers, bundles, retries or indexes. The
-//! product runs none of it. Read `specs/Positions.antt`, `Functions.antt`, `Steps.antt` and `Chains.antt` for what single positions and elements give, then `Spread.antt`,
-//! `Flow.antt`, `Plain.antt`, `Covers.antt`, `Account.antt` and `Rendering.antt` for whole runs. The layer above may rely on these definitions and on the laws in `laws.rt`.
+//! `specs/` takes the positions of each whole restriction one after another and filters complete
+//! lists; nothing in it knows of pieces, trackers, bundles, retries or indexes, and the product runs
+//! none of it. Read `specs/Positions.antt`, `Functions.antt`, `Steps.antt` and `Chains.antt` for what
+//! single positions and elements give, then `Spread.antt`, `Flow.antt`, `Plain.antt`, `Covers.antt`,
+//! `Account.antt` and `Rendering.antt` for whole runs; `Vectors.antt` computes each function and
+//! source. The layer above may rely on these definitions and on the laws in `laws.rt` and
+//! `covering_laws.rt`, each the contract of a function without a body.
 #![tactic(auto)]
 
 mod covering_laws;

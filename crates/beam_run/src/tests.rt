@@ -1,5 +1,6 @@
 //! The command over stores and sinks in memory, with texts and notes counted by hand.
 use crate::beam_main;
+use crate::sinks::{ErrSink, OutSink};
 use beam_ports::{FileText, MemorySink, MemoryStore};
 use beam_values::{Bytes, List, NoMemory};
 use std::alloc::Global;
@@ -200,19 +201,28 @@ fn a_failing_sink_keeps_what_it_took(rt: HostRuntime) -> Result<(), Fail> {
     Ok(())
 }
 
-// Run this one with each allocation failing in turn: `tests/every_allocation_fails.sh`.
+// Run this one with each allocation failing in turn: `tests/every_allocation_fails.sh`. The sinks have
+// places of their own, so that no allocation is theirs.
 #[test]
 fn four_lines_give_their_panes_or_no_memory(rt: HostRuntime) -> Result<(), Fail> {
-    let Ok(ended) = run(rt.alloc(), "f", "60000", FOUR_LINES, &[]) else {
-        // Memory was short already for the store, or for what is looked at below.
+    let alloc = rt.alloc();
+    let (Ok(mut store), Ok(words)) = (store(alloc, FOUR_LINES, &[]), words(alloc, "f", "60000"))
+    else {
+        // Memory was short before the command began.
         return Ok(());
     };
-    if ended.number == 8 {
-        assert_eq!(rt; ended.out.as_slice(), b"".as_slice());
-        assert_eq!(rt; ended.notes.as_slice(), b"no memory\n".as_slice());
+    let mut text = [0u8; 256];
+    let mut note = [0u8; 64];
+    let mut out = OutSink::new(text.as_mut_slice());
+    let mut notes = ErrSink::new(note.as_mut_slice());
+    let end = beam_main(alloc, words.as_slice(), &mut store, &mut out, &mut notes);
+    if end.status.number() == 8 {
+        assert_eq!(rt; text.split_at(1).0, b"\0".as_slice());
+        assert_eq!(rt; note.split_at(11).0, b"no memory\n\0".as_slice());
     } else {
-        assert_eq!(rt; ended.number, 0);
-        assert_eq!(rt; ended.out.as_slice(), THREE_PANES);
+        assert_eq!(rt; end.status.number(), 0);
+        assert_eq!(rt; text.split_at(THREE_PANES.len()).0, THREE_PANES);
+        assert_eq!(rt; note.split_at(1).0, b"\0".as_slice());
     }
     Ok(())
 }

@@ -1,5 +1,11 @@
-//! The runner on a kit of work functions, a store and a sink: reading a source, working its positions,
-//! grouping, and writing the whole text.
+//! A run on one thread: a source is read, its pieces are worked in bundles and committed, the entries
+//! of the Group become cells and panes, and these are written.
+//!
+//! [`run_panes`] ends with an outcome of which the layer above may rely on what `specs/PanesRun.antt`
+//! says: the committed ranges partition the file, every position's outputs came to each barrier
+//! exactly once, and what was written is plain grouping of the whole file; or with a status that has
+//! its cause. [`put`] writes a text whole, or says how far. Nothing depends on how large pieces and
+//! bundles are. Read `run.rt` first, then `committing.rt` and `positions.rt`.
 #![tactic(auto)]
 
 mod batches;
