@@ -18,12 +18,6 @@ mod run;
 mod status;
 mod writing;
 
-pub use batches::written;
-pub use committing::{Committed, work_pieces};
-pub use grouping::{Grouped, group};
-pub use plan::panes_plan;
-pub use positions::{WorkRefusal, work_bundle};
-pub use reading::{ReadRefusal, read_whole};
 pub use run::run_panes;
 pub use status::{RunEnd, Status};
 pub use writing::put;
