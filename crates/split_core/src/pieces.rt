@@ -106,6 +106,7 @@ impl Pieces {
     pub fn keep_room(&mut self, places: u32) -> Result<(), NoMemory>
         ensures pending { self.new.pending ≡ self.old.pending }
         ensures ok { OnOk result (self.old.room + places ≤ self.new.room) }
+        ensures err { OnErr result (self.new ≡ self.old) }
         ensures kept { self.old.room ≤ self.new.room }
     {
         self.keep_more(places as usize)
