@@ -7,9 +7,9 @@ use Rattle.std.proofs.lemmas.List.Concat.{flat_map-cons}
 use Rattle.beam_values.specs.declared.value.Value.{Value}
 use Rattle.beam_values.specs.declared.value.Value.TheVariants.{Null, Int, Blob, Pair, Seq}
 use Rattle.beam_values.specs.Spelling.{varint, two's_complement, spelling}
-use Rattle.beam_values.specs.Words.{FitsWords}
+use Rattle.beam_values.specs.Storable.{IsStorable}
 use Rattle.beam_values.proofs.Induction.{value_ind, spelling-Null, spelling-Int, spelling-Blob, spelling-Pair, spelling-Seq}
-use Rattle.beam_values.proofs.Words.{Null-fits, Int-fits, Blob-fits, Pair-fits, Seq-fits, fits-Int, fits-Pair, fits-Seq}
+use Rattle.beam_values.proofs.Storable.{Null-fits, Int-fits, Blob-fits, Pair-fits, Seq-fits, fits-Int, fits-Pair, fits-Seq}
 use Rattle.beam_coders.specs.declared.refusal.CoderRefusal.TheVariants.{Short, Tag}
 use Rattle.beam_coders.specs.Readable.{nesting}
 use Rattle.beam_coders.specs.Reading.{◌>>=◌, Reading, varint_at, signed, blob_at, items_at, tagged_at, value_at}
@@ -43,7 +43,7 @@ signed_again (negsuc n) f =
 pub record ReadSo (depth : ℕ) (bytes : List ℕ) (x : Value × List ℕ) : Type 0 where
   pub takes : Takes bytes (spelling x.0) x.1
   pub within : nesting x.0 ≤ depth
-  pub words : FitsWords x.0
+  pub words : IsStorable x.0
 
 abbrev ReadsSo : ℕ → (List ℕ → Reading Value) → Type 0
 ReadsSo depth value = (bytes : List ℕ) (x : Value × List ℕ) → IsBytes bytes → value bytes ≡ Ok x → ReadSo depth bytes x
@@ -52,7 +52,7 @@ record ItemsReadSo (depth count : ℕ) (bytes : List ℕ) (x : List Value × Lis
   takes : Takes bytes (flat_map spelling x.0) x.1
   long : length x.0 ≡ count
   within : AllByRecursion (λ v. nesting v ≤ depth) x.0
-  words : AllByRecursion FitsWords x.0
+  words : AllByRecursion IsStorable x.0
 
 blob_takes : (bytes : List ℕ) (x : List ℕ × List ℕ) → IsBytes bytes → blob_at bytes ≡ Ok x → Takes bytes (varint (length x.0) ++ x.0) x.1
 unfolding blob_at
@@ -155,11 +155,11 @@ items_long (v ∷ vs) = rw (flat_map-cons spelling v vs) (omega (arith, length-a
 
 -- a value is read again at any depth that is enough, whatever follows it
 record IsReadAgain (v : Value) : Type 0 where
-  again : (depth : ℕ) (rest : List ℕ) → nesting v ≤ depth → FitsWords v → length (spelling v) < 2 ^ 64 → value_at depth (spelling v ++ rest) ≡ Ok (v, rest)
+  again : (depth : ℕ) (rest : List ℕ) → nesting v ≤ depth → IsStorable v → length (spelling v) < 2 ^ 64 → value_at depth (spelling v ++ rest) ≡ Ok (v, rest)
 
 -- by the tag that it begins with
 tagged : (v : Value) (tag : ℕ) (text : List ℕ) → spelling v ≡ tag ∷ text → 1 ≤ nesting v
-    → ((depth : ℕ) (rest : List ℕ) → nesting v ≤ suc depth → FitsWords v → length text < 2 ^ 64 → tagged_at (value_at depth) tag (text ++ rest) ≡ Ok (v, rest)) → IsReadAgain v
+    → ((depth : ℕ) (rest : List ℕ) → nesting v ≤ suc depth → IsStorable v → length text < 2 ^ 64 → tagged_at (value_at depth) tag (text ++ rest) ≡ Ok (v, rest)) → IsReadAgain v
 tagged v tag text is deep reads = record {
   again = λ depth rest within words small.
       let front : spelling v ++ rest ≡ tag ∷ (text ++ rest) = ap (λ (t : List ℕ). t ++ rest) is in
@@ -175,7 +175,7 @@ blob_again bytes rest small =
     let long : nat_lt (length (bytes ++ rest)) (length bytes) ≡ false = le-ltb _ _ (omega (arith, length-append bytes rest)) in
     rw (append_assoc (varint (length bytes)) bytes rest, front, long, take_at bytes rest (length bytes) refl, drop_at bytes rest (length bytes) refl) refl
 
-items_again : (depth : ℕ) (items : List Value) (rest : List ℕ) → AllByRecursion IsReadAgain items → AllByRecursion (λ v. nesting v ≤ depth) items → AllByRecursion FitsWords items
+items_again : (depth : ℕ) (items : List Value) (rest : List ℕ) → AllByRecursion IsReadAgain items → AllByRecursion (λ v. nesting v ≤ depth) items → AllByRecursion IsStorable items
     → length (flat_map spelling items) < 2 ^ 64 → items_at (value_at depth) (length items) (flat_map spelling items ++ rest) ≡ Ok (items, rest)
 unfolding items_at
 items_again depth [] rest h within words small = refl
@@ -194,7 +194,7 @@ blob_reads : (bytes : List ℕ) (depth : ℕ) (rest : List ℕ) → length (vari
 unfolding tagged_at
 blob_reads bytes depth rest small = rw (blob_again bytes rest (omega (arith, length-append (varint (length bytes)) bytes))) refl
 
-pair_reads : (key value : Value) → IsReadAgain key → IsReadAgain value → (depth : ℕ) (rest : List ℕ) → nesting (Pair key value) ≤ suc depth → FitsWords (Pair key value)
+pair_reads : (key value : Value) → IsReadAgain key → IsReadAgain value → (depth : ℕ) (rest : List ℕ) → nesting (Pair key value) ≤ suc depth → IsStorable (Pair key value)
     → length (spelling key ++ spelling value) < 2 ^ 64 → tagged_at (value_at depth) 3 ((spelling key ++ spelling value) ++ rest) ≡ Ok (Pair key value, rest)
 unfolding tagged_at
 pair_reads key value k v depth rest within words small =
@@ -205,7 +205,7 @@ pair_reads key value k v depth rest within words small =
     let second = v.again depth rest (omega arith) fits.1 (omega arith) in
     rw (append_assoc (spelling key) (spelling value) rest, first, second) refl
 
-seq_reads : (items : List Value) → AllByRecursion IsReadAgain items → (depth : ℕ) (rest : List ℕ) → nesting (Seq items) ≤ suc depth → FitsWords (Seq items)
+seq_reads : (items : List Value) → AllByRecursion IsReadAgain items → (depth : ℕ) (rest : List ℕ) → nesting (Seq items) ≤ suc depth → IsStorable (Seq items)
     → length (varint (length items) ++ flat_map spelling items) < 2 ^ 64 → tagged_at (value_at depth) 4 ((varint (length items) ++ flat_map spelling items) ++ rest) ≡ Ok (Seq items, rest)
 unfolding tagged_at
 seq_reads items h depth rest within words small =
@@ -229,5 +229,5 @@ read_again =
     (λ key value k v. tagged (Pair key value) 3 (spelling key ++ spelling value) (spelling-Pair key value) (omega (arith, nesting-Pair key value)) (pair_reads key value k v))
     (λ items h. tagged (Seq items) 4 (varint (length items) ++ flat_map spelling items) (spelling-Seq items) (omega (arith, nesting-Seq items)) (seq_reads items h))
 
-pub value_again : (v : Value) (depth : ℕ) (rest : List ℕ) → nesting v ≤ depth → FitsWords v → length (spelling v) < 2 ^ 64 → value_at depth (spelling v ++ rest) ≡ Ok (v, rest)
+pub value_again : (v : Value) (depth : ℕ) (rest : List ℕ) → nesting v ≤ depth → IsStorable v → length (spelling v) < 2 ^ 64 → value_at depth (spelling v ++ rest) ≡ Ok (v, rest)
 value_again v = (read_again v).again

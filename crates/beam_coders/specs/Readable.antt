@@ -7,7 +7,7 @@ use Rattle.beam_values.specs.declared.value.Value.{Value}
 use Rattle.beam_values.specs.declared.value.Value.TheOpen as layer
 use Rattle.beam_values.specs.declared.value.Value.TheFolds.{fold-Value}
 use Rattle.beam_values.specs.Times.{IsTime}
-use Rattle.beam_values.specs.Words.{FitsWords}
+use Rattle.beam_values.specs.Storable.{IsStorable}
 
 abbrev pub greatest_of : List ℕ → ℕ
 greatest_of [] = 0
@@ -30,7 +30,7 @@ depth_limit = 256
 
 pub record IsReadable (v : Value) : Type 0 where
   pub within : nesting v ≤ depth_limit
-  pub words : FitsWords v
+  pub words : IsStorable v
 
 -- an element with numbers that its places can hold
 pub record FitsPlaces (e : Element) : Type 0 where
@@ -39,7 +39,7 @@ pub record FitsPlaces (e : Element) : Type 0 where
   pub end : FitsSigned w64 e.span.end
   pub ordered : e.span.start <ℤ e.span.end
   pub index : e.pane.index < 2 ^ 32
-  pub words : FitsWords e.value
+  pub words : IsStorable e.value
 
 pub record IsReadableElement (e : Element) : Type 0 where
   pub within : nesting e.value ≤ depth_limit

@@ -3,7 +3,7 @@ ghost use Rattle.std.specs.List.{flat_map, AllByRecursion};
 ghost use Rattle.std.specs.Int.{w64};
 ghost use Rattle.std.specs.Int.RustNames.{FitsSigned};
 ghost use Rattle.beam_values.specs.Spelling.{varint, two's_complement, blob_spelling, spelling};
-ghost use Rattle.beam_values.specs.Words.{FitsWords};
+ghost use Rattle.beam_values.specs.Storable.{IsStorable};
 ghost use Rattle.beam_coders.specs.Kept.{Keeps};
 
 use crate::varint::append_varint;
@@ -41,7 +41,7 @@ fn append_count(count: u64, out: &mut Bytes) -> Result<(), NoMemory>
 #[cycle(appends)]
 pub fn append_value(value: &Value, out: &mut Bytes) -> Result<(), NoMemory>
     ensures ok { OnOk result (out.new ≡ out.old ++ spelling value.now) }
-    ensures words { OnOk result (FitsWords value.now) }
+    ensures words { OnOk result (IsStorable value.now) }
     ensures kept { Keeps out.old out.new }
 {
     match value {
@@ -64,7 +64,7 @@ pub fn append_value(value: &Value, out: &mut Bytes) -> Result<(), NoMemory>
 #[tactic(auto, using(crate::proofs::Written::seq_written, crate::proofs::Keeping::keeps_on))]
 fn append_seq(items: &[Value], out: &mut Bytes) -> Result<(), NoMemory>
     ensures ok { OnOk result (out.new ≡ out.old ++ spelling (Value.Seq items.now)) }
-    ensures words { OnOk result (AllByRecursion FitsWords items.now) }
+    ensures words { OnOk result (AllByRecursion IsStorable items.now) }
     ensures kept { Keeps out.old out.new }
 {
     append_count(items.len() as u64, out)?;
@@ -75,7 +75,7 @@ fn append_seq(items: &[Value], out: &mut Bytes) -> Result<(), NoMemory>
 #[cycle(appends)]
 fn append_items(items: &[Value], out: &mut Bytes) -> Result<(), NoMemory>
     ensures ok { OnOk result (out.new ≡ out.old ++ flat_map spelling items.now) }
-    ensures words { OnOk result (AllByRecursion FitsWords items.now) }
+    ensures words { OnOk result (AllByRecursion IsStorable items.now) }
     ensures kept { Keeps out.old out.new }
 {
     for item in items {
@@ -87,7 +87,7 @@ fn append_items(items: &[Value], out: &mut Bytes) -> Result<(), NoMemory>
 /// Appends the spelling of a value, which is read again where its nesting is at most 256.
 pub fn write_value(value: &Value, out: &mut Bytes) -> Result<(), NoMemory>
     ensures ok { OnOk result (out.new ≡ out.old ++ spelling value.now) }
-    ensures words { OnOk result (FitsWords value.now) }
+    ensures words { OnOk result (IsStorable value.now) }
     ensures err { OnErr result (out.new ≡ out.old) }
 {
     let before = out.len();

@@ -13,7 +13,7 @@ use Rattle.beam_values.specs.Grouping.{key_of, part_of, is_in_cell, pane_with, I
 use Rattle.beam_values.specs.Intervals.{Interval}
 use Rattle.beam_values.specs.Orders.{value_cmp}
 use Rattle.beam_values.specs.Spelling.{spelling}
-use Rattle.beam_values.specs.Words.{FitsWords}
+use Rattle.beam_values.specs.Storable.{IsStorable}
 use Rattle.beam_values.specs.declared.value.Value.{Value}
 use Rattle.beam_values.specs.declared.value.Value.TheOpen as layer
 use Rattle.beam_values.specs.declared.value.Value.TheVariants.{Pair, Seq, rolls-Pair, rolls-Seq}
@@ -21,7 +21,7 @@ use Rattle.beam_values.specs.declared.value.Value.TheViews.{roll-Value}
 use Rattle.beam_values.specs.declared.element.Element.{Element}
 use Rattle.beam_values.proofs.Bags.{bag_sym, bag_trans, bag_cancel, bag_map, bag_filter, bag_count}
 use Rattle.beam_values.proofs.Lexicographic.{same_where_tied}
-use Rattle.beam_values.proofs.Words.{values_same, fits-Pair, fits-Seq}
+use Rattle.beam_values.proofs.Storable.{values_same, fits-Pair, fits-Seq}
 use Rattle.beam_model.proofs.Lists.{sum_none}
 use Rattle.beam_model.proofs.Matching.{matched}
 use Rattle.beam_model.proofs.Ascending.{value_total}
@@ -63,7 +63,7 @@ tied_alike x y a b = by_order (value_cmp x y) refl a (sym (ap is_lt (value_total
     by_order Equal e p q = same_where_tied (spelling x) (spelling y) e
     by_order Greater e p q = absurd cc
 
-same_ascending : (xs ys : List Value) → AllByRecursion FitsWords xs → AllByRecursion FitsWords ys → IsSorted value_cmp xs → IsSorted value_cmp ys
+same_ascending : (xs ys : List Value) → AllByRecursion IsStorable xs → AllByRecursion IsStorable ys → IsSorted value_cmp xs → IsSorted value_cmp ys
     → IsSameBag xs ys → xs ≡ ys
 same_ascending [] [] f g up rising same = refl
 same_ascending [] (y ∷ ys) f g up rising same = absurd (omega (arith, same.weighs (λ v. 1), sum_by-cons (λ (v : Value). 1) y ys))
@@ -76,15 +76,15 @@ same_ascending (x ∷ xs) (y ∷ ys) f g up rising same =
 -- ---- panes of one cell are the same
 
 -- what a pane holds fits where the pane does
-pane_fits : (pane : Element) (key : Value) (span : Interval) (parts : List Value) → pane ≡ pane_with key span parts → FitsWords pane.value
-    → FitsWords key × AllByRecursion FitsWords parts
+pane_fits : (pane : Element) (key : Value) (span : Interval) (parts : List Value) → pane ≡ pane_with key span parts → IsStorable pane.value
+    → IsStorable key × AllByRecursion IsStorable parts
 pane_fits pane key span parts is fits =
     let form : pane.value ≡ Pair key (Seq parts) = ap (λ (e : Element). e.value) is ∙ rolls-Pair key (roll-Value (layer.Seq parts)) ∙ ap (Pair key) (rolls-Seq parts) in
-    let inner = fits-Pair key (Seq parts) (subst FitsWords form fits) in
+    let inner = fits-Pair key (Seq parts) (subst IsStorable form fits) in
     (inner.0, fits-Seq parts inner.1)
 
 abbrev IsFitPane : List Element → Element → Type 0
-IsFitPane elements pane = IsPlainPane elements pane × FitsWords pane.value
+IsFitPane elements pane = IsPlainPane elements pane × IsStorable pane.value
 
 same_pane : (xs ys : List Element) → IsSameBag xs ys → (p q : Element) → IsFitPane xs p → IsFitPane ys q → own_cell p q ≡ true → p ≡ q
 same_pane xs ys same p q h k inside =
@@ -105,7 +105,7 @@ same_pane xs ys same p q h k inside =
     h.0.holds ∙ middle ∙ sym k.0.holds
 
 pub groupings_agree : (xs ys ps qs : List Element) → IsSameBag xs ys → IsPlainGrouping xs ps → IsPlainGrouping ys qs
-    → All (λ p. FitsWords p.value) ps → All (λ q. FitsWords q.value) qs → IsSameBag ps qs
+    → All (λ p. IsStorable p.value) ps → All (λ q. IsStorable q.value) qs → IsSameBag ps qs
 groupings_agree xs ys ps qs same g h f k =
     matched own_cell in_own_cell (IsFitPane xs) (IsFitPane ys) (same_pane xs ys same) ps qs
     (recursion_from_All (IsFitPane xs) ps (λ i d within. (g.each i d within, f i d within)))

@@ -10,16 +10,16 @@ use Rattle.beam_values.specs.declared.plan.Node.{Node}
 use Rattle.beam_values.specs.declared.plan.NodeKind.{NodeKind}
 use Rattle.beam_values.specs.declared.plan.NodeKind.TheVariants.{Source, ParDo, Flatten, WindowInto, Group, Stateful, Write}
 use Rattle.beam_values.specs.declared.plan.Plan.{Plan}
-use Rattle.beam_model.specs.Chains.{Brought, Came, Spoiled, carried, through, chain_from, chain}
+use Rattle.beam_model.specs.Chains.{Output, Arrives, PoisonAt, carried, through, chain_from, chain}
 use Rattle.beam_model.specs.Functions.{emits}
-use Rattle.beam_model.specs.Lawful.{is_barrier, is_par_do, EndsAfter}
+use Rattle.beam_model.specs.Premises.{is_barrier, is_par_do, EndsAfter}
 use Rattle.beam_model.proofs.Lists.{each-append, each-flat_map}
 
-module _ (P : Brought → Type 0) where
+module _ (P : Output → Type 0) where
   -- what may come of an element at a node: its arrival at a barrier, or its poison at a ParDo
   record MayEnd (node : ℕ) (kind : NodeKind) : Type 0 where
-    arrived : (e : Element) → is_barrier kind ≡ true → P (Came (record { node = node; element = e }))
-    spoiled : is_par_do kind ≡ true → P (Spoiled node)
+    arrived : (e : Element) → is_barrier kind ≡ true → P (Arrives (record { node = node; element = e }))
+    spoiled : is_par_do kind ≡ true → P (PoisonAt node)
 
   -- the same of all nodes, the first of which has the number `next`
   abbrev AllMayEnd : List Node → ℕ → Type 0
@@ -31,12 +31,12 @@ module _ (P : Brought → Type 0) where
   ends_later : (node : Node) (later : List Node) (next : ℕ) → AllMayEnd (node ∷ later) next → AllMayEnd later (next + 1)
   ends_later node later next may k other here = subst (λ (j : ℕ). MayEnd j other.kind) (omega arith) (may (suc k) other here)
 
-  carried_ends : (node : ℕ) (onward : Element → List Brought) → ((e : Element) → AllByRecursion P (onward e)) → P (Spoiled node)
+  carried_ends : (node : ℕ) (onward : Element → List Output) → ((e : Element) → AllByRecursion P (onward e)) → P (PoisonAt node)
       → (given : Option (List Element)) → AllByRecursion P (carried node onward given)
   carried_ends node onward ends spoiled None = (spoiled, tt)
   carried_ends node onward ends spoiled (Some outputs) = each-flat_map P onward ends outputs
 
-  through_ends : (node : ℕ) (kind : NodeKind) → MayEnd node kind → (onward : Element → List Brought) → ((e : Element) → AllByRecursion P (onward e))
+  through_ends : (node : ℕ) (kind : NodeKind) → MayEnd node kind → (onward : Element → List Output) → ((e : Element) → AllByRecursion P (onward e))
       → (e : Element) → AllByRecursion P (through node kind onward e)
   through_ends node (Source work args files estimator) may onward ends e = tt
   through_ends node (ParDo work args) may onward ends e = carried_ends node onward ends (may.spoiled refl) (emits work args e)
@@ -47,9 +47,9 @@ module _ (P : Brought → Type 0) where
   through_ends node (Stateful work args log) may onward ends e = (may.arrived e refl, tt)
   through_ends node (Write label) may onward ends e = (may.arrived e refl, tt)
 
-  if_ends : (taken : Bool) (brought : List Brought) → AllByRecursion P brought → AllByRecursion P (cond taken brought [])
-  if_ends true brought ends = ends
-  if_ends false brought ends = tt
+  if_ends : (taken : Bool) (outputs : List Output) → AllByRecursion P outputs → AllByRecursion P (cond taken outputs [])
+  if_ends true outputs ends = ends
+  if_ends false outputs ends = tt
 
   chain_ends : (nodes : List Node) (next : ℕ) → AllMayEnd nodes next → (from : ℕ) (e : Element) → AllByRecursion P (chain_from nodes next from e)
   chain_ends [] next may from e = tt

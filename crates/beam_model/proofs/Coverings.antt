@@ -12,7 +12,7 @@ use Rattle.beam_values.specs.Bags.{IsSameBag}
 use Rattle.beam_values.specs.Cover.{Place, times_at, times_done, whole, times_listed}
 use Rattle.beam_values.specs.Intervals.{Offsets, times_in}
 use Rattle.beam_values.specs.Lines.{spread}
-use Rattle.beam_values.specs.declared.outcome.Done.{Done}
+use Rattle.beam_values.specs.declared.piece.Done.{Done}
 use Rattle.beam_values.specs.declared.file_text.FileText.{FileText}
 use Rattle.beam_values.specs.declared.plan.Args.{Args}
 use Rattle.beam_values.specs.declared.plan.Node.{Node}
@@ -23,10 +23,10 @@ use Rattle.beam_values.specs.declared.plan.SourceKind.{SourceKind}
 use Rattle.beam_values.specs.declared.plan.SourceKind.TheVariants.{Lines, TimedLines, Count, Made}
 use Rattle.beam_values.proofs.Bags.{sum_by-map, sum_by-flat_map, sum_by-filter}
 use Rattle.beam_values.proofs.Spreads.{spread-empty, spread-join, spread-single}
-use Rattle.beam_model.specs.Chains.{Brought}
+use Rattle.beam_model.specs.Chains.{Output}
 use Rattle.beam_model.specs.Coverings.{is_item, item_at, spread_of, spread_done, spread_dones, AreDistinct}
 use Rattle.beam_model.specs.Positions.{SourceItem, file_item, file_items, made_item, items_of_source, items_of_kind, items_of_node, items, item_len}
-use Rattle.beam_model.specs.Spread.{brought_at, spread_range, spread_all}
+use Rattle.beam_model.specs.Spread.{outputs_at, spread_range, spread_all}
 
 times_in-inside : (r : Offsets) (p : ℕ) → r.from ≤ p → p < r.to → times_in r p ≡ 1
 times_in-inside r p low high = grind (arith, nat_tests)
@@ -146,7 +146,7 @@ times_at-own item r p = ap (λ own. if own then times_in r p else 0) (and_from _
 abbrev ranges_of : SourceItem → List Done → List Offsets
 ranges_of item dones = map (λ d. d.range) (filter (is_of item) dones)
 
-module _ (plan : Plan) (w : Brought → ℕ) where
+module _ (plan : Plan) (w : Output → ℕ) where
   -- what a range of an item weighs
   abbrev worked : SourceItem → Offsets → ℕ
   worked item r = sum_by w (spread_range plan item r.from r.to)
@@ -155,7 +155,7 @@ module _ (plan : Plan) (w : Brought → ℕ) where
   item_covered : (item : SourceItem) (dones : List Done) → ((p : ℕ) → times_done dones (place item p) ≡ times_in (whole item.len) p)
       → sum_by (λ d. if is_of item d then worked item d.range else 0) dones ≡ worked item (whole item.len)
   item_covered item dones covers =
-      sym (over_ranges (worked item)) ∙ covering_weight (brought_at plan item) w (ranges_of item dones) (whole item.len) (λ p. over_ranges (λ r. times_in r p) ∙ covers p)
+      sym (over_ranges (worked item)) ∙ covering_weight (outputs_at plan item) w (ranges_of item dones) (whole item.len) (λ p. over_ranges (λ r. times_in r p) ∙ covers p)
     where
       over_ranges : (f : Offsets → ℕ) → sum_by f (ranges_of item dones) ≡ sum_by (λ d. if is_of item d then f d.range else 0) dones
       over_ranges f = sum_by-map f (λ d. d.range) (filter (is_of item) dones) ∙ sum_by-filter (λ d. f d.range) (is_of item) dones
@@ -170,7 +170,7 @@ covering_one plan item dones of covers = record { weighs = weighs }
     covers_item : (p : ℕ) → times_done dones (place item p) ≡ times_in (whole item.len) p
     covers_item p = covers (place item p) ∙ zero-add _ ∙ times_at-own item (whole item.len) p
 
-    weighs : (w : Brought → ℕ) → sum_by w (flat_map (λ d. spread_range plan item d.range.from d.range.to) dones) ≡ sum_by w (spread_all plan (item ∷ []))
+    weighs : (w : Output → ℕ) → sum_by w (flat_map (λ d. spread_range plan item d.range.from d.range.to) dones) ≡ sum_by w (spread_all plan (item ∷ []))
     weighs w =
         sum_by-flat_map w (λ d. spread_range plan item d.range.from d.range.to) dones
         ∙ sum_by-same (IsOf item) (λ d. worked plan w item d.range) (λ d. if is_of item d then worked plan w item d.range else 0)
@@ -271,7 +271,7 @@ listed_own items distinct item found p =
     ∙ ap (weight_of (λ x. times_in (whole x.len) p)) found
 
 module _ (plan : Plan) (items : List SourceItem) (dones : List Done) (distinct : AreDistinct items) where
-  done_weight : (w : Brought → ℕ) (d : Done) → sum_by w (spread_done plan items d) ≡ sum_by (λ item. if is_of item d then worked plan w item d.range else 0) items
+  done_weight : (w : Output → ℕ) (d : Done) → sum_by w (spread_done plan items d) ≡ sum_by (λ item. if is_of item d then worked plan w item d.range else 0) items
   done_weight w d =
       of_what (item_at items d.node d.item)
       ∙ sym (one_found d.node d.item (λ item. worked plan w item d.range) items distinct)

@@ -7,12 +7,12 @@ use Rattle.std.proofs.lemmas.Bool.Decides.{nat_tests}
 use Rattle.beam_values.specs.Bags.{IsSameBag}
 use Rattle.beam_values.specs.Cover.{Place, times_done}
 use Rattle.beam_values.specs.Intervals.{times_in}
-use Rattle.beam_values.specs.declared.outcome.KeyLog.{KeyLog}
-use Rattle.beam_values.specs.declared.outcome.Pane.{Pane}
+use Rattle.beam_values.specs.declared.log.KeyLog.{KeyLog}
+use Rattle.beam_values.specs.declared.cell.Pane.{Pane}
 use Rattle.beam_values.specs.declared.plan.Plan.{Plan}
 use Rattle.beam_model.specs.Chains.{chain}
 use Rattle.beam_model.specs.Flow.{pane_chains, log_chains, flow}
-use Rattle.beam_model.specs.Lawful.{done_range}
+use Rattle.beam_model.specs.Premises.{done_range}
 use Rattle.beam_model.specs.Positions.{SourceItem}
 use Rattle.beam_model.specs.Spread.{spread_range, spread_all}
 

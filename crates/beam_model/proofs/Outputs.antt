@@ -11,9 +11,9 @@ use Rattle.beam_values.specs.Times.{greatest_time}
 use Rattle.beam_values.specs.Windows.{or_zero}
 use Rattle.beam_values.specs.declared.value.Value.{Value}
 use Rattle.beam_values.specs.declared.element.Element.{Element}
-use Rattle.beam_values.specs.declared.outcome.LogInput.{LogInput}
-use Rattle.beam_values.specs.declared.outcome.LogInput.TheVariants.{Arrived, Fired}
-use Rattle.beam_values.specs.declared.outcome.Timer.{Timer}
+use Rattle.beam_values.specs.declared.log.LogInput.{LogInput}
+use Rattle.beam_values.specs.declared.log.LogInput.TheVariants.{Arrived, Fired}
+use Rattle.beam_values.specs.declared.log.Timer.{Timer}
 use Rattle.beam_values.specs.declared.state_cell.StateCell.TheVariants.{Number}
 use Rattle.beam_values.specs.declared.plan.Args.{Args}
 use Rattle.beam_values.specs.declared.plan.FnKind.{FnKind}
@@ -23,7 +23,7 @@ use Rattle.beam_values.specs.declared.plan.StateKind.TheVariants.{Dedupe, Runnin
 use Rattle.beam_model.specs.Values.{KeyedValue, blob, int, pair, seq, as_blob, as_pair, as_seq, as_int}
 use Rattle.beam_model.specs.Functions.{number_arg, text_arg, later_by, in_word, valued, one, keyed_text, on_part, int_in, sum_in, count_in, greatest_in, from_blob, from_pair, kept_prefix, emits}
 use Rattle.beam_model.specs.Texts.{words, fields, begins_with}
-use Rattle.beam_model.specs.Lawful.{KeepsPlace, IsForward, IsOfCall}
+use Rattle.beam_model.specs.Premises.{KeepsPlace, IsForward, IsOfCall}
 use Rattle.beam_model.specs.Steps.{KeptState, Stepped, bag, with_cell, stepped, timer_output, holds_value, ascending, sum_so_far, collected, last_batch, on_element, on_first_timer, steps}
 use Rattle.beam_model.proofs.Lists.{each-map}
 

@@ -9,9 +9,9 @@ use Rattle.beam_values.specs.declared.plan.Plan.{Plan}
 use Rattle.beam_values.specs.declared.plan.SourceKind.{SourceKind}
 use Rattle.beam_values.specs.declared.plan.SourceKind.TheVariants.{Lines, TimedLines, Count, Made}
 use Rattle.beam_values.proofs.Spreads.{starts_line-between, next_start-above, spread-step}
-use Rattle.beam_model.specs.Lawful.{IsWithin}
+use Rattle.beam_model.specs.Premises.{IsWithin}
 use Rattle.beam_model.specs.Positions.{nothing, emits_one, line_emission, emission, next_position, SourceItem}
-use Rattle.beam_model.specs.Spread.{brought_by, brought_at, spread_range}
+use Rattle.beam_model.specs.Spread.{emission_outputs, outputs_at, spread_range}
 use Rattle.beam_model.specs.Values.{blob}
 
 pub between_nothing : (kind : SourceKind) (args : Args) (file : List ℕ) (p q : ℕ) → p < q → q < next_position kind file p → emission kind args file q ≡ nothing
@@ -36,8 +36,8 @@ within_below Count file m n below within = tt
 within_below Made file m n below within = tt
 
 pub brought_step : (plan : Plan) (item : SourceItem) (p to : ℕ) → p < to → IsWithin item.work item.file to
-    → spread_range plan item p to ≡ brought_at plan item p ++ spread_range plan item (next_position item.work item.file p) to
+    → spread_range plan item p to ≡ outputs_at plan item p ++ spread_range plan item (next_position item.work item.file p) to
 brought_step plan item p to inside within =
-    spread-step (brought_at plan item) p (next_position item.work item.file p) to inside
+    spread-step (outputs_at plan item) p (next_position item.work item.file p) to inside
     (next_rises item.work item.file p (within_below item.work item.file (p + 1) to (omega arith) within)).0
-    (λ q above below. ap (brought_by plan item.node) (between_nothing item.work item.args item.file p q above below))
+    (λ q above below. ap (emission_outputs plan item.node) (between_nothing item.work item.args item.file p q above below))

@@ -7,16 +7,16 @@ use Rattle.std.proofs.lemmas.Bool.Decides.{nat_tests}
 use Rattle.std.proofs.lemmas.List.Elements.{All-map, All-filter, All-weaker}
 use Rattle.std.proofs.lemmas.List.Sums.{sum_by-append}
 use Rattle.beam_values.specs.Bags.{IsSameBag}
-use Rattle.beam_values.specs.Words.{FitsWords}
+use Rattle.beam_values.specs.Storable.{IsStorable}
 use Rattle.beam_values.specs.declared.element.Element.{Element}
-use Rattle.beam_values.specs.declared.outcome.Arrival.{Arrival}
+use Rattle.beam_values.specs.declared.arrival.Arrival.{Arrival}
 use Rattle.beam_values.specs.declared.plan.Plan.{Plan}
 use Rattle.beam_values.specs.declared.plan.Strategy.{Strategy}
 use Rattle.beam_values.specs.declared.plan.Strategy.TheVariants.{Global, Fixed, Sliding, Sessions, Kept}
 use Rattle.beam_values.proofs.Bags.{sum_by-map, sum_by-flat_map, sum_by-filter}
-use Rattle.beam_model.specs.Chains.{Brought, Came, Spoiled, chain}
+use Rattle.beam_model.specs.Chains.{Output, Arrives, PoisonAt, chain}
 use Rattle.beam_model.specs.Flow.{is_at, elements_at}
-use Rattle.beam_model.specs.Lawful.{EndsAfter, IsNonEmpty, IsSoundRun}
+use Rattle.beam_model.specs.Premises.{EndsAfter, IsNonEmpty, IsSoundRun}
 use Rattle.beam_model.specs.Plain.{is_group, is_stateful, strategy_of, IsPlainGroup, IsGroupedBy, plain_flow}
 use Rattle.beam_model.specs.Positions.{SourceItem}
 use Rattle.beam_model.specs.Spread.{spread_all}
@@ -33,9 +33,9 @@ at_node node w arrivals = sum_by-map w (λ a. a.element) (filter (is_at node) ar
 -- ---- what panes bring to a node
 
 module _ (plan : Plan) (node : ℕ) (w : Element → ℕ) where
-  abbrev weight_at : Brought → ℕ
-  weight_at (Came arrival) = cond (is_at node arrival) (w arrival.element) 0
-  weight_at (Spoiled other) = 0
+  abbrev weight_at : Output → ℕ
+  weight_at (Arrives arrival) = cond (is_at node arrival) (w arrival.element) 0
+  weight_at (PoisonAt other) = 0
 
   -- what an output of a node weighs at this one
   abbrev brings : ℕ → Element → ℕ
@@ -46,9 +46,9 @@ module _ (plan : Plan) (node : ℕ) (w : Element → ℕ) where
   none_back from e back =
       sum_none weight_at (chain plan from e) (All-weaker (EndsAfter plan from) (λ b. weight_at b ≡ 0) elsewhere (chain plan from e) (chains_end plan from e))
     where
-      elsewhere : (b : Brought) → EndsAfter plan from b → weight_at b ≡ 0
-      elsewhere (Came arrival) h = cond-false (arrival.node == node) (w arrival.element) 0 (ne_eqb arrival.node node (λ same. absurd (omega (arith, h.0))))
-      elsewhere (Spoiled other) h = refl
+      elsewhere : (b : Output) → EndsAfter plan from b → weight_at b ≡ 0
+      elsewhere (Arrives arrival) h = cond-false (arrival.node == node) (w arrival.element) 0 (ne_eqb arrival.node node (λ same. absurd (omega (arith, h.0))))
+      elsewhere (PoisonAt other) h = refl
 
   -- what panes of the nodes below a number bring
   abbrev below : ℕ → Arrival → ℕ
@@ -93,17 +93,17 @@ module _ (plan : Plan) (node : ℕ) (w : Element → ℕ) where
         ∙ sym (sum_by-same (λ p. brings p.node p.element) (below node) more all_below)
 
   -- what arrives at the node is what the positions bring there, and what the panes do
-  arrivals_weigh : (items : List SourceItem) (arrivals panes : List Arrival) → IsSameBag (plain_flow plan items panes) (map Came arrivals)
+  arrivals_weigh : (items : List SourceItem) (arrivals panes : List Arrival) → IsSameBag (plain_flow plan items panes) (map Arrives arrivals)
       → sum_by w (elements_at node arrivals) ≡ sum_by weight_at (spread_all plan items) + sum_by (λ p. brings p.node p.element) panes
   arrivals_weigh items arrivals panes clean =
-      at_node node w arrivals ∙ sym (sum_by-map weight_at Came arrivals) ∙ sym (clean.weighs weight_at)
+      at_node node w arrivals ∙ sym (sum_by-map weight_at Arrives arrivals) ∙ sym (clean.weighs weight_at)
       ∙ sum_by-append weight_at (spread_all plan items) (flat_map (λ p. chain plan p.node p.element) panes)
       ∙ ap (λ (n : ℕ). sum_by weight_at (spread_all plan items) + n) (sum_by-flat_map weight_at (λ p. chain plan p.node p.element) panes)
 
 -- ---- what Groups put out
 
 grouped_agree : (strategy : Strategy) (xs ys ps qs : List Element) → IsSameBag xs ys → All (λ e. IsNonEmpty e.span) xs
-    → All (λ p. FitsWords p.value) ps → All (λ q. FitsWords q.value) qs → IsGroupedBy strategy xs ps → IsGroupedBy strategy ys qs → IsSameBag ps qs
+    → All (λ p. IsStorable p.value) ps → All (λ q. IsStorable q.value) qs → IsGroupedBy strategy xs ps → IsGroupedBy strategy ys qs → IsSameBag ps qs
 grouped_agree Global xs ys ps qs same some f k g h = groupings_agree xs ys ps qs same g h f k
 grouped_agree (Fixed size) xs ys ps qs same some f k g h = groupings_agree xs ys ps qs same g h f k
 grouped_agree (Sliding size period) xs ys ps qs same some f k g h = groupings_agree xs ys ps qs same g h f k
@@ -134,7 +134,7 @@ module _ (plan : Plan) (items : List SourceItem) (arrivals panes others more : L
       grouped plain =
           grouped_agree (strategy_of plan node) (elements_at node arrivals) (elements_at node others) (elements_at node panes) (elements_at node more) same
           (elements_all (λ e. IsNonEmpty e.span) node arrivals run.held)
-          (elements_all (λ e. FitsWords e.value) node panes run.fits) (elements_all (λ e. FitsWords e.value) node more other.fits)
+          (elements_all (λ e. IsStorable e.value) node panes run.fits) (elements_all (λ e. IsStorable e.value) node more other.fits)
           (run.plain.grouped node plain) (other.plain.grouped node plain)
 
       empty : (IsPlainGroup plan node → ⊥) → IsSameBag (elements_at node panes) (elements_at node more)

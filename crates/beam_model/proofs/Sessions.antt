@@ -10,7 +10,7 @@ use Rattle.beam_values.specs.Grouping.{key_of}
 use Rattle.beam_values.specs.Spelling.{spelling}
 use Rattle.beam_values.specs.declared.value.Value.{Value}
 use Rattle.beam_values.specs.declared.element.Element.{Element}
-use Rattle.beam_model.specs.Lawful.{IsOrdered, AreOneOrApart}
+use Rattle.beam_model.specs.Premises.{IsOrdered, AreOneOrApart}
 use Rattle.beam_model.specs.Sessions.{IsApart, LiesIn, IsInside, IsSession, spans_of, Merged, IsMergedIn, in_session, IsMerging}
 
 -- what covers the start of a session is part of it, so it doesn't start before it

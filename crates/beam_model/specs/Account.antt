@@ -2,14 +2,14 @@
 use Rattle.std.specs.Prelude.{ℕ, List, [], ◌∷◌, ◌++◌, map}
 use Rattle.std.specs.List.{flat_map}
 use Rattle.beam_values.specs.Bags.{IsSameBag}
-use Rattle.beam_values.specs.declared.outcome.Arrival.{Arrival}
-use Rattle.beam_values.specs.declared.outcome.Cell.{Cell}
-use Rattle.beam_values.specs.declared.outcome.Dropped.{Dropped}
-use Rattle.beam_values.specs.declared.outcome.KeyLog.{KeyLog}
-use Rattle.beam_values.specs.declared.outcome.LogInput.{LogInput}
-use Rattle.beam_values.specs.declared.outcome.LogInput.TheVariants.{Arrived, Fired}
+use Rattle.beam_values.specs.declared.arrival.Arrival.{Arrival}
+use Rattle.beam_values.specs.declared.cell.Cell.{Cell}
+use Rattle.beam_values.specs.declared.cell.Dropped.{Dropped}
+use Rattle.beam_values.specs.declared.log.KeyLog.{KeyLog}
+use Rattle.beam_values.specs.declared.log.LogInput.{LogInput}
+use Rattle.beam_values.specs.declared.log.LogInput.TheVariants.{Arrived, Fired}
 use Rattle.beam_values.specs.declared.outcome.Outcome.{Outcome}
-use Rattle.beam_model.specs.Chains.{Came}
+use Rattle.beam_model.specs.Chains.{Arrives}
 use Rattle.beam_model.specs.Flow.{flow}
 use Rattle.beam_model.specs.Positions.{SourceItem}
 
@@ -35,4 +35,4 @@ arrivals o = flat_map cell_arrivals o.cells ++ (map dropped_arrival o.dropped ++
 -- It is one bag with the flow of the outcome, and nothing of that is poison. So every position's outputs, every pane and every stateful output
 -- came to each barrier that it reaches exactly once, and nothing else came.
 abbrev pub IsAccounted : List SourceItem → Outcome → Type 0
-IsAccounted items o = IsSameBag (flow o.plan items o.panes o.logs) (map Came (arrivals o))
+IsAccounted items o = IsSameBag (flow o.plan items o.panes o.logs) (map Arrives (arrivals o))

@@ -4,7 +4,7 @@ use Rattle.std.specs.Prelude.{ℕ, ◌+◌, ◌==◌, if◌then◌else◌, List,
 use Rattle.std.specs.List.{flat_map}
 use Rattle.beam_values.specs.Windows.{windows_of}
 use Rattle.beam_values.specs.declared.element.Element.{Element}
-use Rattle.beam_values.specs.declared.outcome.Arrival.{Arrival}
+use Rattle.beam_values.specs.declared.arrival.Arrival.{Arrival}
 use Rattle.beam_values.specs.declared.plan.Node.{Node}
 use Rattle.beam_values.specs.declared.plan.NodeKind.{NodeKind}
 use Rattle.beam_values.specs.declared.plan.NodeKind.TheVariants.{Source, ParDo, Flatten, WindowInto, Group, Stateful, Write}
@@ -12,20 +12,20 @@ use Rattle.beam_values.specs.declared.plan.Plan.{Plan}
 use Rattle.beam_model.specs.Functions.{emits}
 
 -- what comes of an element: it arrived at a barrier, which is a Group, a Stateful node or a Write; or a node found it to be poison
-pub data Brought : Type 0 where
-  Came : Arrival → Brought
-  Spoiled : ℕ → Brought
+pub data Output : Type 0 where
+  Arrives : Arrival → Output
+  PoisonAt : ℕ → Output
 
-abbrev pub arrives : ℕ → Element → List Brought
-arrives node e = Came (record { node = node; element = e }) ∷ []
+abbrev pub arrives : ℕ → Element → List Output
+arrives node e = Arrives (record { node = node; element = e }) ∷ []
 
 -- what comes of what a function gives, each in turn
-abbrev pub carried : ℕ → (Element → List Brought) → Option (List Element) → List Brought
-carried node onward None = Spoiled node ∷ []
+abbrev pub carried : ℕ → (Element → List Output) → Option (List Element) → List Output
+carried node onward None = PoisonAt node ∷ []
 carried node onward (Some outputs) = flat_map onward outputs
 
 -- what a node of this number makes of an element, where `onward` is the chain of what it puts out
-abbrev pub through : ℕ → NodeKind → (Element → List Brought) → Element → List Brought
+abbrev pub through : ℕ → NodeKind → (Element → List Output) → Element → List Output
 through node (Source work args files estimator) onward e = []
 through node (ParDo work args) onward e = carried node onward (emits work args e)
 through node Flatten onward e = onward e
@@ -37,12 +37,12 @@ through node (Write label) onward e = arrives node e
 
 -- What an output of the node `from` brings by way of these nodes, the first of which has the number `next`: each node that names `from` as an
 -- input takes it, ascending, and as often as it names it.
-abbrev pub chain_from : List Node → ℕ → ℕ → Element → List Brought
+abbrev pub chain_from : List Node → ℕ → ℕ → Element → List Output
 chain_from [] next from e = []
 chain_from (node ∷ later) next from e =
     flat_map (λ input. if input == from then through next node.kind (chain_from later (next + 1) next) e else []) node.inputs
     ++ chain_from later (next + 1) from e
 
 -- what an output of a node brings; only nodes after it take it
-abbrev pub chain : Plan → ℕ → Element → List Brought
+abbrev pub chain : Plan → ℕ → Element → List Output
 chain plan n e = chain_from (drop (n + 1) plan.nodes) (n + 1) n e

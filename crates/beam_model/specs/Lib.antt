@@ -4,7 +4,7 @@ pub mod Coverings
 pub mod Covers
 pub mod Flow
 pub mod Functions
-pub mod Lawful
+pub mod Premises
 pub mod Plain
 pub mod Plans
 pub mod Positions

@@ -6,7 +6,7 @@ use Rattle.std.specs.Option.{option_map}
 use Rattle.beam_values.specs.Bags.{IsSameBag}
 use Rattle.beam_values.specs.Grouping.{IsPlainGrouping}
 use Rattle.beam_values.specs.declared.element.Element.{Element}
-use Rattle.beam_values.specs.declared.outcome.Arrival.{Arrival}
+use Rattle.beam_values.specs.declared.arrival.Arrival.{Arrival}
 use Rattle.beam_values.specs.declared.plan.Node.{Node}
 use Rattle.beam_values.specs.declared.plan.NodeKind.{NodeKind}
 use Rattle.beam_values.specs.declared.plan.NodeKind.TheVariants.{Source, ParDo, Flatten, WindowInto, Group, Stateful, Write}
@@ -14,7 +14,7 @@ use Rattle.beam_values.specs.declared.plan.Plan.{Plan}
 use Rattle.beam_values.specs.declared.plan.Strategy.{Strategy}
 use Rattle.beam_values.specs.declared.plan.Strategy.TheVariants.{Global, Sessions, Kept}
 use Rattle.beam_model.specs.Positions.{SourceItem}
-use Rattle.beam_model.specs.Chains.{Brought, Came, chain}
+use Rattle.beam_model.specs.Chains.{Output, Arrives, chain}
 use Rattle.beam_model.specs.Spread.{spread_all}
 use Rattle.beam_model.specs.Flow.{elements_at}
 use Rattle.beam_model.specs.Sessions.{IsMerging}
@@ -80,13 +80,13 @@ IsGroupedBy (Sessions gap) elements panes = (sessioned : List Element) × IsMerg
 IsGroupedBy strategy elements panes = IsPlainGrouping elements panes
 
 -- what these panes bring from their Groups
-abbrev pub plain_flow : Plan → List SourceItem → List Arrival → List Brought
+abbrev pub plain_flow : Plan → List SourceItem → List Arrival → List Output
 plain_flow plan items panes = spread_all plan items ++ flat_map (λ pane. chain plan pane.node pane.element) panes
 
 -- A pipeline over whole inputs: all positions of all items come through, nothing of it is poison, and each Group gives the plain grouping of all
 -- that arrives at it. Panes go only to later nodes, so this says of each node in turn what arrives at it.
 pub record IsPlainRun (plan : Plan) (items : List SourceItem) (arrivals panes : List Arrival) : Type 0 where
-  pub clean : IsSameBag (plain_flow plan items panes) (map Came arrivals)
+  pub clean : IsSameBag (plain_flow plan items panes) (map Arrives arrivals)
   pub from_groups : All (λ pane. IsPlainGroup plan pane.node) panes
   pub grouped : (node : ℕ) → IsPlainGroup plan node → IsGroupedBy (strategy_of plan node) (elements_at node arrivals) (elements_at node panes)
 

@@ -7,7 +7,7 @@ use Rattle.beam_values.specs.Lines.{starts_line, line_at, next_start}
 use Rattle.beam_values.specs.Times.{least_time}
 use Rattle.beam_values.specs.declared.value.Value.{Value}
 use Rattle.beam_values.specs.declared.file_text.FileText.{FileText}
-use Rattle.beam_values.specs.declared.outcome.FileLen.{FileLen}
+use Rattle.beam_values.specs.declared.piece.FileLen.{FileLen}
 use Rattle.beam_values.specs.declared.plan.Args.{Args}
 use Rattle.beam_values.specs.declared.plan.Node.{Node}
 use Rattle.beam_values.specs.declared.plan.NodeKind.{NodeKind}
@@ -26,7 +26,7 @@ pub record TimedValue : Type 0 where
 -- what a position gives: values in order, and the watermark that it declares, if any; or it is poison
 pub data Emission : Type 0 where
   Emits : List TimedValue → Option ℤ → Emission
-  Poisoned : Emission
+  Poison : Emission
 
 abbrev pub nothing : Emission
 nothing = Emits [] None
@@ -38,7 +38,7 @@ emits_one v time = Emits (record { value = v; time = time } ∷ []) None
 abbrev pub line_emission : TimedLine → Emission
 line_emission (Timed time text) = emits_one (blob text) time
 line_emission (Declared mark) = Emits [] (Some mark)
-line_emission Poison = Poisoned
+line_emission Poison = Poison
 
 -- The made-up line of a position, after a number that the plan chooses: a time that rises from line to line, one of 16 keys, and a number
 -- below 1000. With number 7 the line of 0 is `59 TAB k7 TAB 7`.

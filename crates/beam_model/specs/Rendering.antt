@@ -11,11 +11,11 @@ use Rattle.beam_values.specs.Elements.{element_cmp}
 use Rattle.beam_values.specs.Orders.{value_cmp}
 use Rattle.beam_values.specs.Texts.{blob_text, element_line, value_text}
 use Rattle.beam_values.specs.declared.element.Element.{Element}
-use Rattle.beam_values.specs.declared.outcome.Arrival.{Arrival}
-use Rattle.beam_values.specs.declared.outcome.KeyLog.{KeyLog}
-use Rattle.beam_values.specs.declared.outcome.LogEntry.{LogEntry}
-use Rattle.beam_values.specs.declared.outcome.LogInput.{LogInput}
-use Rattle.beam_values.specs.declared.outcome.LogInput.TheVariants.{Arrived, Fired}
+use Rattle.beam_values.specs.declared.arrival.Arrival.{Arrival}
+use Rattle.beam_values.specs.declared.log.KeyLog.{KeyLog}
+use Rattle.beam_values.specs.declared.log.LogEntry.{LogEntry}
+use Rattle.beam_values.specs.declared.log.LogInput.{LogInput}
+use Rattle.beam_values.specs.declared.log.LogInput.TheVariants.{Arrived, Fired}
 use Rattle.beam_values.specs.declared.outcome.Outcome.{Outcome}
 use Rattle.beam_values.specs.declared.plan.Node.{Node}
 use Rattle.beam_values.specs.declared.plan.NodeKind.{NodeKind}

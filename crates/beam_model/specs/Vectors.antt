@@ -8,7 +8,7 @@ use Rattle.beam_values.specs.declared.value.Value.TheFolds.{fold-roll-Value}
 use Rattle.beam_values.specs.Spelling.{groups}
 use Rattle.beam_values.specs.declared.element.Element.{Element}
 use Rattle.beam_values.specs.declared.element.Timing.TheVariants.{OnTime, Unknown}
-use Rattle.beam_values.specs.declared.outcome.LogInput.TheVariants.{Arrived, Fired}
+use Rattle.beam_values.specs.declared.log.LogInput.TheVariants.{Arrived, Fired}
 use Rattle.beam_values.specs.declared.plan.Args.TheVariants.{Nothing, Text, Number, Two}
 use Rattle.beam_values.specs.declared.plan.FnKind.TheVariants.{KeyField, Words, Field, KeepPrefix, FieldInt, Swap, Shift, SumSeq, CountSeq, MaxSeq, Unseq, Values}
 use Rattle.beam_values.specs.declared.plan.SourceKind.TheVariants.{Lines, TimedLines, Count, Made}
@@ -18,7 +18,7 @@ use Rattle.beam_values.specs.declared.state_cell.StateCell.TheVariants.{Unset, N
 use Rattle.beam_model.specs.Values.{null, int, blob, pair, seq}
 use Rattle.beam_model.specs.Functions.{emits}
 use Rattle.beam_model.specs.Steps.{KeptState, Stepped, steps}
-use Rattle.beam_model.specs.Positions.{Poisoned, nothing, Emits, emission, emits_one, next_position, made_line}
+use Rattle.beam_model.specs.Positions.{Poison, nothing, Emits, emission, emits_one, next_position, made_line}
 
 -- the element under test: at time 500, in the window [0, 1000)
 abbrev span : Interval
@@ -242,7 +242,7 @@ lines_next_of_the_last = refl
 timed_lines : emission TimedLines Nothing file 0 ≡ emits_one (text (codes "x")) (pos 5)
 timed_lines = refl
 
-timed_lines_of_an_empty_line : emission TimedLines Nothing file 5 ≡ Poisoned
+timed_lines_of_an_empty_line : emission TimedLines Nothing file 5 ≡ Poison
 timed_lines_of_an_empty_line = refl
 
 timed_lines_of_a_mark : emission TimedLines Nothing file 6 ≡ Emits [] (Some (pos 7))

@@ -5,7 +5,7 @@ ghost use Rattle.std.specs.Prelude.{◌≡◌, List, map};
 ghost use Rattle.beam_values.specs.Bags.{IsSameBag};
 ghost use Rattle.beam_values.specs.Cover.{Place, times_done, times_listed};
 ghost use Rattle.beam_values.specs.declared.file_text.FileText.{FileText};
-ghost use Rattle.beam_values.specs.declared.outcome.Done.{Done};
+ghost use Rattle.beam_values.specs.declared.piece.Done.{Done};
 ghost use Rattle.beam_values.specs.declared.plan.Plan.{Plan};
 ghost use Rattle.beam_model.specs.Coverings.{AreDistinct, spread_dones};
 ghost use Rattle.beam_model.specs.Positions.{SourceItem, items, item_len};

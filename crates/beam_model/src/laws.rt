@@ -9,13 +9,13 @@ ghost use Rattle.beam_values.specs.Grouping.{key_of, is_in_cell, IsPlainGrouping
 ghost use Rattle.beam_values.specs.Intervals.{Interval};
 ghost use Rattle.beam_values.specs.Orders.{value_cmp};
 ghost use Rattle.beam_values.specs.Times.{greatest_time};
-ghost use Rattle.beam_values.specs.Words.{FitsWords};
+ghost use Rattle.beam_values.specs.Storable.{IsStorable};
 ghost use Rattle.beam_values.specs.declared.element.Element.{Element};
-ghost use Rattle.beam_values.specs.declared.outcome.Arrival.{Arrival};
-ghost use Rattle.beam_values.specs.declared.outcome.Done.{Done};
-ghost use Rattle.beam_values.specs.declared.outcome.KeyLog.{KeyLog};
-ghost use Rattle.beam_values.specs.declared.outcome.LogInput.{LogInput};
-ghost use Rattle.beam_values.specs.declared.outcome.Pane.{Pane};
+ghost use Rattle.beam_values.specs.declared.arrival.Arrival.{Arrival};
+ghost use Rattle.beam_values.specs.declared.piece.Done.{Done};
+ghost use Rattle.beam_values.specs.declared.log.KeyLog.{KeyLog};
+ghost use Rattle.beam_values.specs.declared.log.LogInput.{LogInput};
+ghost use Rattle.beam_values.specs.declared.cell.Pane.{Pane};
 ghost use Rattle.beam_values.specs.declared.plan.Args.{Args};
 ghost use Rattle.beam_values.specs.declared.plan.FnKind.{FnKind};
 ghost use Rattle.beam_values.specs.declared.plan.Plan.{Plan};
@@ -25,10 +25,10 @@ ghost use Rattle.beam_values.specs.declared.value.Value.{Value};
 ghost use Rattle.beam_model.specs.Chains.{chain};
 ghost use Rattle.beam_model.specs.Flow.{elements_at, pane_chains, log_chains, flow};
 ghost use Rattle.beam_model.specs.Functions.{emits};
-ghost use Rattle.beam_model.specs.Lawful.{IsWithin, EndsAfter, done_range, KeepsPlace, IsForward, IsOfCall, IsOrdered, IsNonEmpty, AreOneOrApart, IsSoundRun};
+ghost use Rattle.beam_model.specs.Premises.{IsWithin, EndsAfter, done_range, KeepsPlace, IsForward, IsOfCall, IsOrdered, IsNonEmpty, AreOneOrApart, IsSoundRun};
 ghost use Rattle.beam_model.specs.Positions.{nothing, emission, next_position, SourceItem};
 ghost use Rattle.beam_model.specs.Sessions.{IsApart, IsSession, IsMerging};
-ghost use Rattle.beam_model.specs.Spread.{brought_at, spread_range, spread_all};
+ghost use Rattle.beam_model.specs.Spread.{outputs_at, spread_range, spread_all};
 ghost use Rattle.beam_model.specs.Steps.{KeptState, Stepped, ascending, steps};
 
 /// Between a position and the one that is worked after it nothing is emitted, and nothing is poison.
@@ -54,7 +54,7 @@ pub fn spreads_join()
 pub fn a_spread_steps_over_positions()
     ensures { (plan : Plan) (item : SourceItem) (p to : ℕ) → p < to → IsWithin item.work item.file to
         → spread_range plan item p to
-        ≡ brought_at plan item p ++ spread_range plan item (next_position item.work item.file p) to }
+        ≡ outputs_at plan item p ++ spread_range plan item (next_position item.work item.file p) to }
 {}
 
 /// What comes of an output of a node ends at a later node of the plan: at a Group, a Stateful node or a
@@ -118,7 +118,7 @@ pub fn plain_groupings_have_each_cell_once()
 pub fn plain_groupings_agree()
     ensures { (elements others panes more : List Element) → IsSameBag elements others
         → IsPlainGrouping elements panes → IsPlainGrouping others more
-        → All (λ pane. FitsWords pane.value) panes → All (λ pane. FitsWords pane.value) more
+        → All (λ pane. IsStorable pane.value) panes → All (λ pane. IsStorable pane.value) more
         → IsSameBag panes more }
 {}
 

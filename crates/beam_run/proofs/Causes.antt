@@ -10,21 +10,21 @@ use Rattle.beam_values.specs.declared.file_text.FileText.{FileText}
 use Rattle.beam_values.specs.declared.outcome.Outcome.{Outcome}
 use Rattle.beam_ports.specs.Counts.{Rose}
 use Rattle.beam_model.specs.Account.{arrivals, IsAccounted}
-use Rattle.beam_model.specs.Chains.{Brought, Came, Spoiled}
+use Rattle.beam_model.specs.Chains.{Output, Arrives, PoisonAt}
 use Rattle.beam_model.specs.Flow.{flow, pane_chains, log_chains}
 use Rattle.beam_model.specs.Rendering.{IsRendering}
-use Rattle.beam_values.specs.declared.outcome.Arrival.{Arrival}
+use Rattle.beam_values.specs.declared.arrival.Arrival.{Arrival}
 use Rattle.beam_model.specs.Plans.{panes_plan}
 use Rattle.beam_model.specs.Positions.{SourceItem, items}
-use Rattle.beam_model.specs.Spread.{spread_all, is_spoiled, HasPoison}
-use Rattle.run_engine.specs.PanesRun.{StoreMet, IsPanesRun, IsRunEnd, Prevents, WorkFails, first_fault}
+use Rattle.beam_model.specs.Spread.{spread_all, is_poison, HasPoison}
+use Rattle.run_engine.specs.PanesRun.{ObservedStore, IsPanesRun, IsRunEnd, Prevents, WorkFails, first_fault}
 use Rattle.run_engine.specs.declared.status.Status.{Status}
 use Rattle.run_engine.specs.declared.status.Status.TheVariants as status
 use Rattle.beam_run.specs.Words.{TakesPanes, file_word}
-use Rattle.beam_run.specs.Ends.{Met, SinkMet, HasCause, HasRun, IsWritten, IsPrinted, IsUnwritten, StaysOrNoMemory, IsEndOfPoison, IsEndOfAbsent, size_of}
+use Rattle.beam_run.specs.Ends.{Observed, ObservedSink, HasCause, HasRun, IsWritten, IsPrinted, IsUnwritten, StaysOrNoMemory, IsEndOfPoison, IsEndOfAbsent, size_of}
 
 -- a text that was written is the print of the outcome that it renders
-pub printed_of : (out : SinkMet) (s : Status) (o : Outcome) (text shown : List ℕ) → IsRendering o text → shown ≡ text → IsWritten out shown s → HasRun s (Some o) (IsPrinted out s)
+pub printed_of : (out : ObservedSink) (s : Status) (o : Outcome) (text shown : List ℕ) → IsRendering o text → shown ≡ text → IsWritten out shown s → HasRun s (Some o) (IsPrinted out s)
 printed_of out status.Ok o text shown rendering same written = (o, refl, (text, rendering, subst (λ t. IsWritten out t status.Ok) same written))
 printed_of out status.SinkFault o text shown rendering same written = (o, refl, (text, rendering, subst (λ t. IsWritten out t status.SinkFault) same written))
 printed_of out status.Usage o text shown rendering same written = absurd written
@@ -40,22 +40,22 @@ none_is_no_some : (found : Option (List ℕ)) → found ≡ None → IsSome foun
 none_is_no_some found none some = false≢true (subst (λ f. IsSome f) none some)
 
 -- what is accounted for has no poison
-no_spoiled : (arrivals : List Arrival) → count_by is_spoiled (map Came arrivals) ≡ 0
+no_spoiled : (arrivals : List Arrival) → count_by is_poison (map Arrives arrivals) ≡ 0
 no_spoiled [] = refl
-no_spoiled (a ∷ more) = omega (arith, no_spoiled more, sum_by-cons (λ b. cond (is_spoiled b) 1 0) (Came a) (map Came more))
+no_spoiled (a ∷ more) = omega (arith, no_spoiled more, sum_by-cons (λ b. cond (is_poison b) 1 0) (Arrives a) (map Arrives more))
 
-spoiled_counts : (brought : List Brought) → list_any is_spoiled brought ≡ true → 0 < count_by is_spoiled brought
-spoiled_counts [] any = absurd (false≢true any)
-spoiled_counts (Came a ∷ rest) any = omega (arith, spoiled_counts rest any, sum_by-cons (λ b. cond (is_spoiled b) 1 0) (Came a) rest)
-spoiled_counts (Spoiled n ∷ rest) any = omega (arith, sum_by-cons (λ b. cond (is_spoiled b) 1 0) (Spoiled n) rest)
+poison_counts : (brought : List Output) → list_any is_poison brought ≡ true → 0 < count_by is_poison brought
+poison_counts [] any = absurd (false≢true any)
+poison_counts (Arrives a ∷ rest) any = omega (arith, poison_counts rest any, sum_by-cons (λ b. cond (is_poison b) 1 0) (Arrives a) rest)
+poison_counts (PoisonAt n ∷ rest) any = omega (arith, sum_by-cons (λ b. cond (is_poison b) 1 0) (PoisonAt n) rest)
 
 accounted-no_poison : (items : List SourceItem) (o : Outcome) → IsAccounted items o → HasPoison o.plan items → ⊥
 accounted-no_poison items o account poison =
     let rest = pane_chains o.plan o.panes ++ log_chains o.plan o.logs in
-    let some = spoiled_counts (spread_all o.plan items) poison in
-    let none : count_by is_spoiled (flow o.plan items o.panes o.logs) ≡ 0 = bag_count is_spoiled _ _ account ∙ no_spoiled (arrivals o) in
-    let both : count_by is_spoiled (flow o.plan items o.panes o.logs) ≡ count_by is_spoiled (spread_all o.plan items) + count_by is_spoiled rest =
-    sum_by-append (λ b. cond (is_spoiled b) 1 0) (spread_all o.plan items) rest in
+    let some = poison_counts (spread_all o.plan items) poison in
+    let none : count_by is_poison (flow o.plan items o.panes o.logs) ≡ 0 = bag_count is_poison _ _ account ∙ no_spoiled (arrivals o) in
+    let both : count_by is_poison (flow o.plan items o.panes o.logs) ≡ count_by is_poison (spread_all o.plan items) + count_by is_poison rest =
+    sum_by-append (λ b. cond (is_poison b) 1 0) (spread_all o.plan items) rest in
     absurd (omega (arith, some, none, both))
 
 -- an end of poison or of an absent name stays one when its note is written
@@ -71,7 +71,7 @@ absent_noted name before after stays absent = elim stays [
   | inr none ↦ inr none.0
 ]
 
-module _ (words : List (List ℕ)) (met : Met) (told : List FileText) (tells : met.store.files ≡ Some told) (takes : TakesPanes words)
+module _ (words : List (List ℕ)) (met : Observed) (told : List FileText) (tells : met.store.files ≡ Some told) (takes : TakesPanes words)
     (whole : Rose met.store.before met.store.after → ⊥) where
   abbrev Ran : Status → Option Outcome → Type 0
   Ran s outcome = HasRun s outcome (IsPanesRun met.store.files (file_word words) (size_of words))

@@ -6,33 +6,33 @@ use Rattle.beam_values.specs.declared.outcome.Outcome.{Outcome}
 use Rattle.beam_ports.specs.Counts.{Rose}
 use Rattle.beam_ports.specs.Sinks.{then_taken}
 use Rattle.beam_model.specs.Rendering.{IsRendering}
-use Rattle.run_engine.specs.PanesRun.{StoreMet, Prevents, first_fault}
+use Rattle.run_engine.specs.PanesRun.{ObservedStore, Prevents, first_fault}
 use Rattle.run_engine.specs.declared.status.Status.{Status}
 use Rattle.run_engine.specs.declared.status.Status.TheVariants as status
 use Rattle.beam_run.specs.Notes.{note_line}
 use Rattle.beam_run.specs.Words.{TakesPanes, file_word, size_word, number_of_text}
 
 -- what a command met at a sink: its count of faults before and after, and what it had taken
-pub record SinkMet : Type 0 where
+pub record ObservedSink : Type 0 where
   pub before : ℕ
   pub after : ℕ
   pub taken_before : Option (List ℕ)
   pub taken_after : Option (List ℕ)
 
-pub record Met : Type 0 where
-  pub store : StoreMet
-  pub out : SinkMet
+pub record Observed : Type 0 where
+  pub store : ObservedStore
+  pub out : ObservedSink
 
 -- the size that the words name, in milliseconds
 abbrev pub size_of : List (List ℕ) → ℤ
 size_of words = pos (number_of_text (size_word words))
 
 -- nothing was written
-abbrev pub IsUnwritten : Met → Type 0
+abbrev pub IsUnwritten : Observed → Type 0
 IsUnwritten met = met.out.taken_after ≡ met.out.taken_before
 
 -- an end comes only so
-abbrev pub HasCause : List (List ℕ) → Met → Status → Type 0
+abbrev pub HasCause : List (List ℕ) → Observed → Status → Type 0
 -- the run came to its end, and its text was written
 HasCause words met status.Ok = TakesPanes words
 -- the same, and the sink failed
@@ -49,23 +49,23 @@ HasRun status.SinkFault outcome P = (o : Outcome) × (outcome ≡ Some o) × P o
 HasRun s outcome P = outcome ≡ None
 
 -- a text was written whole, or less of it where the sink failed
-abbrev pub IsWritten : SinkMet → List ℕ → Status → Type 0
+abbrev pub IsWritten : ObservedSink → List ℕ → Status → Type 0
 IsWritten out text status.Ok = out.taken_after ≡ then_taken out.taken_before text
 IsWritten out text status.SinkFault = Rose out.before out.after × ((n : ℕ) × (n < length text) × (out.taken_after ≡ then_taken out.taken_before (take n text)))
 IsWritten out text _ = ⊥
 
 -- the rendering of an outcome was written so
-abbrev pub IsPrinted : SinkMet → Status → Outcome → Type 0
+abbrev pub IsPrinted : ObservedSink → Status → Outcome → Type 0
 IsPrinted out s o = (text : List ℕ) × IsRendering o text × IsWritten out text s
 
 -- a line was taken, or its first n bytes where the sink failed
-pub record IsNotedUpTo (line : List ℕ) (notes : SinkMet) (n : ℕ) : Type 0 where
+pub record IsNotedUpTo (line : List ℕ) (notes : ObservedSink) (n : ℕ) : Type 0 where
   pub within : n ≤ length line
   pub taken : notes.taken_after ≡ then_taken notes.taken_before (take n line)
   pub cut_short : n < length line → Rose notes.before notes.after
 
 -- what the notes took: nothing where the end is Ok, and else its line, or the front of it where the notes failed
-abbrev pub IsNoted : Status → SinkMet → Type 0
+abbrev pub IsNoted : Status → ObservedSink → Type 0
 IsNoted status.Ok notes = notes.taken_after ≡ notes.taken_before
 IsNoted s notes = (n : ℕ) × IsNotedUpTo (note_line s) notes n
 

@@ -11,7 +11,7 @@ ghost use Rattle.beam_model.specs.Positions.{items, item_len};
 ghost use Rattle.beam_model.specs.Spread.{HasPoison};
 ghost use Rattle.run_engine.specs.PanesRun.{IsPanesRun};
 ghost use Rattle.beam_run.specs.Words.{TakesPanes, file_word};
-ghost use Rattle.beam_run.specs.Ends.{Met, HasCause, HasRun, IsPrinted, IsNoted, IsNotedUpTo, IsWritten, StaysOrNoMemory, IsEndOfPoison, IsEndOfClean, IsEndOfAbsent, size_of};
+ghost use Rattle.beam_run.specs.Ends.{Observed, HasCause, HasRun, IsPrinted, IsNoted, IsNotedUpTo, IsWritten, StaysOrNoMemory, IsEndOfPoison, IsEndOfClean, IsEndOfAbsent, size_of};
 
 use crate::notes::{fixed_line, note_line};
 use crate::words::panes_command;

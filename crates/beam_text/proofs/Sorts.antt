@@ -14,11 +14,11 @@ use Rattle.beam_values.specs.Elements.{element_cmp}
 use Rattle.beam_values.specs.Spelling.{spelling}
 use Rattle.beam_values.specs.Texts.{element_line}
 use Rattle.beam_values.specs.declared.element.Element.{Element}
-use Rattle.beam_values.specs.declared.outcome.KeyLog.{KeyLog}
+use Rattle.beam_values.specs.declared.log.KeyLog.{KeyLog}
 use Rattle.beam_values.specs.declared.plan.Plan.{Plan}
 use Rattle.beam_values.proofs.Bags.{bag_from_permutation, bag_sym}
 use Rattle.beam_model.specs.Rendering.{IsLines, IsLogged, is_printed, log_cmp, log_lines}
-use Rattle.beam_text.specs.Parts.{Adds, elements_in, logs_in}
+use Rattle.beam_text.specs.Parts.{AppendsText, elements_in, logs_in}
 
 pub sorted_map : {A B : Type 0} (f : A → B) (R : B → B → Ordering) (xs : List A) → IsSorted (λ x y. R (f x) (f y)) xs → IsSorted R (map f xs)
 sorted_map f R [] up k d z l = absurd (omega arith)
@@ -40,7 +40,7 @@ log_total =
 -- sorted references to elements, printed in their order
 pub adds_lines : (elements sorted printed : List (Bor Element)) (before after : List ℕ) → IsPermutation elements sorted
     → IsSorted (λ x y. element_cmp x.now y.now) sorted → printed ≡ sorted → after ≡ before ++ flat_map element_line (elements_in printed)
-    → Adds (IsLines (elements_in elements)) before after
+    → AppendsText (IsLines (elements_in elements)) before after
 adds_lines elements sorted printed before after moved up same added = (
   flat_map element_line (elements_in sorted),
   record {
@@ -56,7 +56,7 @@ adds_lines elements sorted printed before after moved up same added = (
 pub adds_logs : (plan : Plan) (logs : List KeyLog) (chosen sorted printed : List (Bor KeyLog)) (before after : List ℕ)
     → logs_in chosen ≡ filter (is_printed plan) logs → IsPermutation chosen sorted → IsSorted (λ x y. log_cmp x.now y.now) sorted → printed ≡ sorted
     → after ≡ before ++ flat_map log_lines (logs_in printed)
-    → Adds (IsLogged plan logs) before after
+    → AppendsText (IsLogged plan logs) before after
 adds_logs plan logs chosen sorted printed before after filtered moved up same added = (
   flat_map log_lines (logs_in sorted),
   record {

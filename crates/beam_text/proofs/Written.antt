@@ -5,14 +5,14 @@ use Rattle.std.specs.declared.alloc.Global.{Global}
 use Rattle.std.proofs.lemmas.List.{drop_all, length-map, map-append, get_or-map, map-set, get_or-set_same, get_or-set_other}
 use Rattle.std.proofs.lemmas.List.Sums.{sum_by-cons}
 use Rattle.beam_values.specs.declared.element.Element.{Element}
-use Rattle.beam_values.specs.declared.outcome.Arrival.{Arrival}
+use Rattle.beam_values.specs.declared.arrival.Arrival.{Arrival}
 use Rattle.beam_values.specs.declared.plan.Node.{Node}
 use Rattle.beam_values.specs.declared.plan.NodeKind.{NodeKind}
 use Rattle.beam_values.specs.declared.plan.NodeKind.TheVariants.{Source, ParDo, Flatten, WindowInto, Group, Stateful, Write}
 use Rattle.beam_values.specs.declared.plan.Plan.{Plan}
 use Rattle.beam_model.specs.Flow.{elements_at}
 use Rattle.beam_model.specs.Rendering.{IsLines, IsWritten, Labelled, label_of, writes, writes_from, title}
-use Rattle.beam_text.specs.Parts.{Adds, IsNodeText, contents, elements_in, is_write}
+use Rattle.beam_text.specs.Parts.{AppendsText, IsNodeText, contents, elements_in, is_write}
 
 -- an element that is put at the end of one list
 pub put_here : (lists : List (Vec (Bor Element) Global)) (n : ℕ) (old new : Vec (Bor Element) Global) (element : Bor Element) → n < length lists
@@ -82,7 +82,7 @@ pub begun_none : (labelled : Bool) (written : List Arrival) (nodes : List Node) 
 begun_none labelled written nodes before = record { front = []; added = sym (append-nil before); whole = λ rest h. h }
 
 pub begun_more : (labelled : Bool) (written : List Arrival) (nodes : List Node) (i : ℕ) (node : Node) (elements : List Element) (before after more : List ℕ)
-    → i < length nodes → node ≡ get_or nodes i node → elements ≡ elements_at i written → Adds (IsNodeText labelled node.kind elements) after more
+    → i < length nodes → node ≡ get_or nodes i node → elements ≡ elements_at i written → AppendsText (IsNodeText labelled node.kind elements) after more
     → IsBegun labelled written nodes i before after → IsBegun labelled written nodes (i + 1) before more
 begun_more labelled written nodes i node elements before after more within is same (text, at_node, grown) g =
     let left : drop i nodes ≡ node ∷ drop (i + 1) nodes = rw (add-one, drop-cons nodes i node) (ap (λ (n : Node). n ∷ drop (suc i) nodes) (sym is)) in
@@ -97,7 +97,7 @@ begun_more labelled written nodes i node elements before after more within is sa
     }
 
 pub begun_all : (labelled : Bool) (written : List Arrival) (nodes : List Node) (i : ℕ) (before after : List ℕ) → length nodes ≤ i
-    → IsBegun labelled written nodes i before after → Adds (IsWritten labelled written (writes_from 0 nodes)) before after
+    → IsBegun labelled written nodes i before after → AppendsText (IsWritten labelled written (writes_from 0 nodes)) before after
 begun_all labelled written nodes i before after end g = (
   g.front,
   subst (λ (l : List ℕ). IsWritten labelled written (writes_from 0 nodes) l) (append-nil g.front)
@@ -126,9 +126,9 @@ next_list i count written lists list within found g =
 -- all nodes are written
 pub adds_writes : (plan : Plan) (written : List Arrival) (nodes : List Node) (write_count i : ℕ) (before after : List ℕ) → nodes ≡ plan.nodes
     → write_count ≡ count_by (λ node. is_write node.kind) nodes → length nodes ≤ i → IsBegun (nat_lt 1 write_count) written nodes i before after
-    → Adds (IsWritten (nat_lt 1 (length (writes plan))) written (writes plan)) before after
+    → AppendsText (IsWritten (nat_lt 1 (length (writes plan))) written (writes plan)) before after
 adds_writes plan written nodes write_count i before after same counted end g =
     let count_is : write_count ≡ length (writes plan) = counted ∙ count_writes 0 nodes ∙ ap (λ l. length (writes_from 0 l)) same in
-    subst (λ (n : ℕ). Adds (IsWritten (nat_lt 1 n) written (writes plan)) before after) count_is
-    (subst (λ (l : List Node). Adds (IsWritten (nat_lt 1 write_count) written (writes_from 0 l)) before after) same
+    subst (λ (n : ℕ). AppendsText (IsWritten (nat_lt 1 n) written (writes plan)) before after) count_is
+    (subst (λ (l : List Node). AppendsText (IsWritten (nat_lt 1 write_count) written (writes_from 0 l)) before after) same
     (begun_all (nat_lt 1 write_count) written nodes i before after end g))

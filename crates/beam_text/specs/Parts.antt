@@ -4,16 +4,16 @@ use Rattle.std.specs.Fmt.{signed_decimal}
 use Rattle.std.specs.Borrow.{Bor}
 use Rattle.std.specs.declared.alloc.Global.{Global}
 use Rattle.beam_values.specs.declared.element.Element.{Element}
-use Rattle.beam_values.specs.declared.outcome.Arrival.{Arrival}
-use Rattle.beam_values.specs.declared.outcome.KeyLog.{KeyLog}
+use Rattle.beam_values.specs.declared.arrival.Arrival.{Arrival}
+use Rattle.beam_values.specs.declared.log.KeyLog.{KeyLog}
 use Rattle.beam_values.specs.declared.plan.NodeKind.{NodeKind}
 use Rattle.beam_values.specs.declared.plan.NodeKind.TheVariants.{Write}
 use Rattle.beam_model.specs.Flow.{elements_at}
 use Rattle.beam_model.specs.Rendering.{IsLines, title}
 
 -- such a text was added at the end
-abbrev pub Adds : (List ℕ → Type 0) → List ℕ → List ℕ → Type 0
-Adds IsText before after = (text : List ℕ) × IsText text × (after ≡ before ++ text)
+abbrev pub AppendsText : (List ℕ → Type 0) → List ℕ → List ℕ → Type 0
+AppendsText IsText before after = (text : List ℕ) × IsText text × (after ≡ before ++ text)
 
 -- what references point to
 abbrev pub elements_in : List (Bor Element) → List Element

@@ -3,7 +3,7 @@ ghost use Rattle.std.specs.List.{filter, flat_map};
 ghost use Rattle.std.specs.Ordering.{int_cmp, ordering_then};
 ghost use Rattle.beam_values.specs.Orders.{value_cmp};
 ghost use Rattle.beam_model.specs.Rendering.{IsLogged, input_text, is_logged_kind, is_printed, log_cmp, log_line, log_lines};
-ghost use Rattle.beam_text.specs.Parts.{Adds, call_place, logs_in};
+ghost use Rattle.beam_text.specs.Parts.{AppendsText, call_place, logs_in};
 
 use crate::element::push_field;
 use crate::push_value;
@@ -19,7 +19,7 @@ pub(crate) fn push_logs(
     logs: &[KeyLog],
     out: &mut Bytes,
 ) -> Result<(), NoMemory>
-    ensures { OnOk result (Adds (IsLogged plan.now logs.now) out.old out.new) }
+    ensures { OnOk result (AppendsText (IsLogged plan.now logs.now) out.old out.new) }
 {
     let mut printed = printed_logs(alloc, plan, logs)?;
     printed.sort_by(|a, b| cmp_log_refs(a, b))?;

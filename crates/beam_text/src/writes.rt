@@ -2,7 +2,7 @@ ghost use Rattle.std.specs.Prelude.{◌≡◌, ◌++◌, ◌∷◌, [], ◌<◌,
 ghost use Rattle.std.specs.List.{flat_map};
 ghost use Rattle.beam_values.specs.Texts.{element_line};
 ghost use Rattle.beam_model.specs.Rendering.{IsLines, IsWritten, title, writes};
-ghost use Rattle.beam_text.specs.Parts.{Adds, IsByNode, IsNodeText, contents, elements_in, is_write};
+ghost use Rattle.beam_text.specs.Parts.{AppendsText, IsByNode, IsNodeText, contents, elements_in, is_write};
 
 use crate::element::push_element;
 use crate::push_blob;
@@ -17,7 +17,7 @@ pub(crate) fn push_writes(
     out: &mut Bytes,
 ) -> Result<(), NoMemory>
     ensures { OnOk result
-        (Adds (IsWritten (nat_lt 1 (length (writes plan.now))) written.now (writes plan.now)) out.old out.new) }
+        (AppendsText (IsWritten (nat_lt 1 (length (writes plan.now))) written.now (writes plan.now)) out.old out.new) }
 {
     let nodes = plan.nodes.as_slice();
     let labelled = write_count(nodes) > 1;
@@ -93,7 +93,7 @@ fn push_node(
     elements: &mut Vec<&Element>,
     out: &mut Bytes,
 ) -> Result<(), NoMemory>
-    ensures { OnOk result (Adds (IsNodeText labelled kind.now (elements_in elements.old.items)) out.old out.new) }
+    ensures { OnOk result (AppendsText (IsNodeText labelled kind.now (elements_in elements.old.items)) out.old out.new) }
 {
     if let NodeKind::Write { label } = kind {
         push_title(labelled, label.as_slice(), out)?;
@@ -115,7 +115,7 @@ fn push_title(labelled: bool, label: &[u8], out: &mut Bytes) -> Result<(), NoMem
 
 /// Appends the lines of elements in ascending order.
 fn push_lines(elements: &mut Vec<&Element>, out: &mut Bytes) -> Result<(), NoMemory>
-    ensures { OnOk result (Adds (IsLines (elements_in elements.old.items)) out.old out.new) }
+    ensures { OnOk result (AppendsText (IsLines (elements_in elements.old.items)) out.old out.new) }
 {
     elements.sort()?;
     push_sorted(elements.as_slice(), out)

@@ -7,4 +7,4 @@ pub mod Sorts
 pub mod Spellings
 pub mod Spreads
 pub mod Varints
-pub mod Words
+pub mod Storable

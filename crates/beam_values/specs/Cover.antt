@@ -1,9 +1,9 @@
 -- How often ranges of source items hold an offset. What is worked once, and only once, is held once (Splittable DoFn: restrictions partition their element).
 use Rattle.std.specs.Prelude.{ℕ, List, ◌==◌, ◌&&◌, if◌then◌else◌, sum_by}
 use Rattle.beam_values.specs.Intervals.{Offsets, times_in}
-use Rattle.beam_values.specs.declared.outcome.Done.{Done}
-use Rattle.beam_values.specs.declared.outcome.FileLen.{FileLen}
-use Rattle.beam_values.specs.declared.outcome.Piece.{Piece}
+use Rattle.beam_values.specs.declared.piece.Done.{Done}
+use Rattle.beam_values.specs.declared.piece.FileLen.{FileLen}
+use Rattle.beam_values.specs.declared.piece.Piece.{Piece}
 
 -- an offset of a source item
 pub record Place : Type 0 where

@@ -1,10 +1,10 @@
 -- The state of a key: eight cells and eight timers, named 0 to 7 (Beam Programming Guide, State and Timers: value state, bag state, event-time timers).
-use Rattle.std.specs.Prelude.{◌≡◌, ◌⊎◌, ℕ, ◌≤◌, ℤ, ◌<ℤ◌, List, [], Option, Some, None}
+use Rattle.std.specs.Prelude.{◌≡◌, ◌⊎◌, ℕ, ◌≤◌, ℤ, ◌<ℤ◌, List, [], replicate, Option, Some, None}
 use Rattle.std.specs.List.{slice_index_or}
 use Rattle.beam_values.specs.declared.value.Value.{Value}
 use Rattle.beam_values.specs.declared.state_cell.StateCell.{StateCell}
 use Rattle.beam_values.specs.declared.state_cell.StateCell.TheVariants.{Unset, Number, Text, Bag}
-use Rattle.beam_values.specs.declared.outcome.Timer.{Timer}
+use Rattle.beam_values.specs.declared.log.Timer.{Timer}
 
 -- the cell of a name
 abbrev pub cell_of : List StateCell → ℕ → StateCell
@@ -52,3 +52,12 @@ pub record IsFirstTimer (timers : List (Option ℤ)) (timer : Timer) : Type 0 wh
 -- no timer is set at or before a time
 abbrev pub IsNoneDue : List (Option ℤ) → ℤ → Type 0
 IsNoneDue timers mark = (name : ℕ) (time : ℤ) → timer_of timers name ≡ Some time → mark <ℤ time
+
+-- the state of a key: its cells, and the times that its timers are set to
+pub record KeptState : Type 0 where
+  pub cells : List StateCell
+  pub timers : List (Option ℤ)
+
+-- before the first call nothing is kept, and no timer is set
+abbrev pub fresh_state : KeptState
+fresh_state = record { cells = replicate 8 Unset; timers = replicate 8 None }

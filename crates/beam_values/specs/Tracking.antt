@@ -1,5 +1,5 @@
 -- The rules of a tracker over a restriction of offsets (Splittable DoFn, OffsetRangeTracker; how a fraction is rounded is this profile's).
-use Rattle.std.specs.Prelude.{ℕ, ◌+◌, ◌-◌, ◌*◌, ◌/◌, ◌<◌, ◌≤◌, ◌⊎◌, min, max, Option, Some, None, if◌then◌else◌, nat_lt}
+use Rattle.std.specs.Prelude.{ℕ, ◌+◌, ◌-◌, ◌*◌, ◌/◌, ◌<◌, ◌≤◌, ◌⊎◌, Bool, min, max, Option, Some, None, if◌then◌else◌, nat_lt}
 use Rattle.beam_values.specs.Intervals.{Offsets}
 
 -- the restriction that is worked, and the last position that was attempted in it
@@ -18,9 +18,9 @@ pub record MayClaim (t : Tracked) (p : ℕ) : Type 0 where
   pub ascending : IsAbove t.attempted p
 
 -- the first offset above the last attempted position; the start of the restriction where none was attempted
-abbrev pub first_open : ℕ → Option ℕ → ℕ
-first_open from None = from
-first_open from (Some last) = last + 1
+abbrev pub first_unattempted : ℕ → Option ℕ → ℕ
+first_unattempted from None = from
+first_unattempted from (Some last) = last + 1
 
 -- Where `cur` is the last attempted position, or one before the restriction, the first offset of the residual is
 -- `cur` and then the part `num / den` of what is left, `to - cur`, rounded down, and at least 1. Here `cur + 1` is `next`.
@@ -29,7 +29,7 @@ abbrev pub split_point : ℕ → ℕ → ℕ → ℕ → ℕ
 split_point next to num den = next + max 1 ((to + 1 - next) * num / den) - 1
 
 abbrev pub split_point_of : Tracked → ℕ → ℕ → ℕ
-split_point_of t num den = split_point (first_open t.range.from t.attempted) t.range.to num den
+split_point_of t num den = split_point (first_unattempted t.range.from t.attempted) t.range.to num den
 
 -- the residual `[s, to)`, where s lies in the restriction
 abbrev pub residual : ℕ → ℕ → Option Offsets
@@ -41,4 +41,11 @@ primary t s = record { range = record { from = t.range.from; to = min s t.range.
 
 -- the work on a restriction is done: nothing is in it, or its last offset was attempted or passed
 abbrev pub IsDone : Tracked → Type 0
-IsDone t = (t.range.to ≤ t.range.from) ⊎ (t.range.to ≤ first_open t.range.from t.attempted)
+IsDone t = (t.range.to ≤ t.range.from) ⊎ (t.range.to ≤ first_unattempted t.range.from t.attempted)
+
+-- a position that is attempted is recorded, and granted where it lies before the end of the restriction
+abbrev pub claimed : Tracked → ℕ → Tracked
+claimed t p = record { range = t.range; attempted = Some p }
+
+abbrev pub is_granted : Tracked → ℕ → Bool
+is_granted t p = nat_lt p t.range.to

@@ -1,7 +1,7 @@
 ghost use Rattle.std.specs.Prelude.{◌≡◌, ◌↔◌, ◌++◌, List, ℕ};
 ghost use Rattle.beam_values.specs.Spelled.{Spells, SpellsElement};
 ghost use Rattle.beam_values.specs.Spelling.{spelling, element_spelling};
-ghost use Rattle.beam_values.specs.Words.{FitsWords};
+ghost use Rattle.beam_values.specs.Storable.{IsStorable};
 
 use crate::{Element, Value};
 
@@ -29,5 +29,5 @@ pub fn no_spelling_begins_another(a: &Value, b: &Value)
 /// Values whose whole numbers have 64 bits, as every value that was written or read has them, are the
 /// same where they are spelled alike.
 pub fn values_spelled_alike_are_the_same(a: &Value, b: &Value)
-    ensures { FitsWords a.now → FitsWords b.now → spelling a.now ≡ spelling b.now → a.now ≡ b.now }
+    ensures { IsStorable a.now → IsStorable b.now → spelling a.now ≡ spelling b.now → a.now ≡ b.now }
 {}

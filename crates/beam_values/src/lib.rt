@@ -8,14 +8,23 @@
 //! value lies in memory. Read `value.rt` and `element.rt` first.
 #![tactic(auto)]
 
+mod arrival;
 mod bits;
+mod cell;
+mod cell_order;
 mod compare;
 mod element;
 mod element_order;
 mod fault;
 mod file_text;
+mod graph_refusal;
+mod keys;
 mod laws;
+mod log;
+mod marks;
+mod options;
 mod outcome;
+mod piece;
 mod plan;
 mod range;
 mod span;
@@ -24,19 +33,25 @@ mod time;
 mod value;
 
 pub use beam_containers::{Boxed, Bytes, Duplicate, List, NoMemory, RoomyList};
+pub use arrival::Arrival;
 pub use bits::unsigned_bits;
+pub use cell::{Cell, Dropped, Entry, Pane};
+pub use cell_order::{cmp_grouped, cmp_keys, cmp_spans, cmp_window_keys};
 pub use compare::{cmp_blobs, cmp_values};
 pub use element::{Element, PaneTag, Timing};
 pub use fault::{Cause, FaultNote};
 pub use file_text::FileText;
+pub use graph_refusal::GraphRefusal;
+pub use keys::{copy_key, key_or, last_time, part_of};
 pub use laws::{
     element_has_one_spelling, no_spelling_begins_another, value_has_one_spelling,
     values_spelled_alike_are_the_same,
 };
-pub use outcome::{
-    Arrival, Cell, CommitMarks, Done, Dropped, Entry, FileLen, KeyLog, LogEntry, LogInput, Options,
-    Outcome, Pane, Piece, StageMarks, StopCause, Timer,
-};
+pub use log::{KeyLog, LogEntry, LogInput, Timer};
+pub use marks::{CommitMarks, StageMarks};
+pub use options::Options;
+pub use outcome::{Outcome, StopCause};
+pub use piece::{Done, FileLen, Piece};
 pub use plan::{
     Args, Estimator, FnKind, Mode, Node, NodeKind, Plan, SourceKind, StateKind, Strategy, Trigger,
 };

@@ -37,7 +37,7 @@ pub enum Mode {
 }
 
 /// When the panes of a window fire (Beam Programming Guide, Triggers).
-#[derive(Clone, Copy, Debug, PartialEq, Eq)]
+#[derive(Debug, PartialEq, Eq, Drop)]
 pub struct Trigger {
     /// Before the watermark passes the window's end: as soon as this many elements are unseen.
     pub early: Option<u32>,
@@ -127,7 +127,8 @@ pub enum NodeKind {
     },
 }
 
-/// A node and the nodes that it takes its elements from, by their numbers, which are below its own.
+/// A node and the nodes that it takes its elements from, by their numbers, which are below its own in a
+/// checked plan.
 #[derive(Debug, Drop)]
 pub struct Node {
     pub kind: NodeKind,
@@ -189,7 +190,9 @@ impl Duplicate for NodeKind {
             NodeKind::WindowInto { strategy } => Ok(NodeKind::WindowInto {
                 strategy: *strategy,
             }),
-            NodeKind::Group { trigger } => Ok(NodeKind::Group { trigger: *trigger }),
+            NodeKind::Group { trigger } => Ok(NodeKind::Group {
+                trigger: trigger.duplicate(alloc)?,
+            }),
             NodeKind::Stateful { work, args, log } => Ok(NodeKind::Stateful {
                 work: *work,
                 args: args.duplicate(alloc)?,
@@ -199,6 +202,17 @@ impl Duplicate for NodeKind {
                 label: label.duplicate(alloc)?,
             }),
         }
+    }
+}
+
+impl Duplicate for Trigger {
+    fn duplicate(&self, _alloc: Global) -> Result<Trigger, NoMemory> {
+        Ok(Trigger {
+            early: self.early,
+            late: self.late,
+            lateness: self.lateness,
+            mode: self.mode,
+        })
     }
 }
 

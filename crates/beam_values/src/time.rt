@@ -31,6 +31,14 @@ impl Time {
 
     pub const GREATEST_MS: i64 = 9_223_372_036_854_775;
 
+    pub const LEAST: Time = Time {
+        ms: Time::LEAST_MS,
+    };
+
+    pub const GREATEST: Time = Time {
+        ms: Time::GREATEST_MS,
+    };
+
     /// `None` exactly where `ms` is out of the bounds of a time.
     pub fn new(ms: i64) -> Option<Time>
         ensures { SomeIff result (IsTime ms) ms }

@@ -1,5 +1,5 @@
 ghost use Rattle.std.specs.Prelude.{◌≡◌, ◌+◌, ◌-◌, ◌^◌, ◌<◌, ◌≤◌, ◌↔◌, Some, None, IsTrue, IfSome};
-ghost use Rattle.beam_values.specs.Tracking.{Tracked, MayClaim, first_open, split_point_of, residual, primary, IsDone};
+ghost use Rattle.beam_values.specs.Tracking.{Tracked, MayClaim, first_unattempted, split_point_of, residual, primary, IsDone};
 
 use beam_values::Range;
 use std::marker::Model;
@@ -105,12 +105,12 @@ impl Tracker {
         ensures { IsTrue result ↔ IsDone self.now }
     {
         let range = self.range;
-        range.to() <= range.from() || u128::from(range.to()) <= self.first_open()
+        range.to() <= range.from() || u128::from(range.to()) <= self.first_unattempted()
     }
 
     // One above the last attempted position. It may be 2^64.
-    fn first_open(&self) -> u128
-        ensures value { result ≡ first_open self.now.range.from self.now.attempted }
+    fn first_unattempted(&self) -> u128
+        ensures value { result ≡ first_unattempted self.now.range.from self.now.attempted }
         ensures from_start { self.now.range.from ≤ result }
         ensures small { result ≤ 2 ^ 64 }
     {
@@ -126,7 +126,7 @@ impl Tracker {
         requires small { den ≤ 1000000 }
         ensures { result ≡ split_point_of self.now num den }
     {
-        let open = self.first_open();
+        let open = self.first_unattempted();
         let left = (u128::from(self.range.to()) + 1).saturating_sub(open);
         let part = left * u128::from(num) / u128::from(den);
         open + part.max(1) - 1

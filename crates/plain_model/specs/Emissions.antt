@@ -7,7 +7,7 @@ use Rattle.beam_values.specs.declared.plan.SourceKind.TheVariants.{Lines, TimedL
 use Rattle.beam_model.specs.Functions.{first_arg, second_arg}
 use Rattle.beam_model.specs.Positions as model
 use Rattle.plain_model.specs.declared.positions.Emitted.{Emitted}
-use Rattle.plain_model.specs.declared.positions.Emitted.TheVariants.{Emits, Poisoned}
+use Rattle.plain_model.specs.declared.positions.Emitted.TheVariants.{Emits, Poison}
 use Rattle.plain_model.specs.declared.positions.TimedValue.{TimedValue}
 
 -- the line that starts at an offset, if one does
@@ -24,7 +24,7 @@ shown_value v = record { value = v.value; time = v.time }
 -- what a program's answer says of a position
 abbrev pub shown : Emitted → model.Emission
 shown (Emits values declared) = model.Emits (map shown_value values) declared
-shown Poisoned = model.Poisoned
+shown Poison = model.Poison
 
 -- a position of a file, or one below a count, where the arguments are in their limits
 abbrev pub IsWorkable : SourceKind → Args → List ℕ → ℕ → Type 0

@@ -29,7 +29,7 @@ pub enum Emitted {
         declared: Option<Time>,
     },
     /// The position can't be worked: its line is no timed line.
-    Poisoned,
+    Poison,
 }
 
 /// What a position of a source emits. `file` is what a file's source reads; the other sources look at
@@ -122,7 +122,7 @@ fn timed_emission(alloc: Global, line: &[u8]) -> Result<Emitted, NoMemory>
             emits_one(alloc, Value::Blob(text), time)
         }
         TimedLine::Declared(mark) => Ok(emits_nothing(alloc, Some(mark))),
-        TimedLine::Poison => Ok(Emitted::Poisoned),
+        TimedLine::Poison => Ok(Emitted::Poison),
     }
 }
 

@@ -213,7 +213,7 @@ fn declares(emitted: &Emitted, ms: Option<i64>) -> bool {
 
 fn is_poisoned(emitted: &Emitted) -> bool {
     match emitted {
-        Emitted::Poisoned => true,
+        Emitted::Poison => true,
         _ => false,
     }
 }

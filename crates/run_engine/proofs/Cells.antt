@@ -18,8 +18,8 @@ use Rattle.beam_values.specs.Spelling.{spelling}
 use Rattle.beam_values.specs.Orders.{value_cmp}
 use Rattle.beam_values.specs.Grouping.{key_of, part_of}
 use Rattle.beam_values.specs.declared.value.Value.{Value}
-use Rattle.beam_values.specs.declared.outcome.Cell.{Cell}
-use Rattle.beam_values.specs.declared.outcome.Entry.{Entry}
+use Rattle.beam_values.specs.declared.cell.Cell.{Cell}
+use Rattle.beam_values.specs.declared.cell.Entry.{Entry}
 use Rattle.run_engine.specs.Grouped.{as_shown, entries_of, IsEntryOf, IsFiredCell, fresh_cell, parts_of, span_cmp, cell_cmp, place_cmp, entry_cmp, HasNoneAfter, AreCells}
 use Rattle.run_engine.proofs.Ascents.{ascends_nil, ascends_push, ascends_front}
 

@@ -12,30 +12,30 @@ use Rattle.std.proofs.lemmas.Bool.{false≢true}
 use Rattle.std.proofs.lemmas.List.Folds.{list_any-append}
 use Rattle.beam_values.specs.Lines.{spread}
 use Rattle.beam_values.proofs.Spreads.{spread-join, spread-empty}
-use Rattle.beam_values.specs.declared.outcome.Entry.{Entry}
-use Rattle.beam_model.specs.Chains.{Brought}
+use Rattle.beam_values.specs.declared.cell.Entry.{Entry}
+use Rattle.beam_model.specs.Chains.{Output}
 use Rattle.beam_model.specs.Positions.{item_len}
-use Rattle.beam_model.specs.Spread.{is_spoiled}
-use Rattle.split_core.proofs.Holding.{both_same}
-use Rattle.run_engine.specs.Working.{panes_item, brought, came, spread_of, spread_of_done}
+use Rattle.beam_model.specs.Spread.{is_poison}
+use Rattle.split_core.proofs.Partition.{both_same}
+use Rattle.run_engine.specs.Working.{panes_item, file_outputs_at, entry_output, spread_of, spread_of_done}
 use Rattle.run_engine.proofs.Working.{any_or-left, any_or-right}
 use Rattle.beam_values.specs.Bags.{IsSameBag}
 use Rattle.beam_values.specs.Cover.{Place, times_at, times_done, whole}
 use Rattle.beam_values.specs.Intervals.{Offsets, times_in}
-use Rattle.beam_values.specs.Tracking.{Tracked, first_open, residual, primary, split_point_of}
+use Rattle.beam_values.specs.Tracking.{Tracked, first_unattempted, residual, primary, split_point_of}
 use Rattle.beam_values.proofs.Bags.{bag_trans, bag_append, bag_middle, bag_swap, bag_from_same, bag_refl}
-use Rattle.beam_values.specs.declared.outcome.Done.{Done}
-use Rattle.beam_values.specs.declared.outcome.FileLen.{FileLen}
-use Rattle.beam_values.specs.declared.outcome.Piece.{Piece}
+use Rattle.beam_values.specs.declared.piece.Done.{Done}
+use Rattle.beam_values.specs.declared.piece.FileLen.{FileLen}
+use Rattle.beam_values.specs.declared.piece.Piece.{Piece}
 use Rattle.split_core.specs.Cuts.{part}
-use Rattle.split_core.specs.Holding.{IsHeld, IsCutOut, IsOut, range_of}
+use Rattle.split_core.specs.Partition.{IsPartition, IsCutOut, IsOut, range_of}
 use Rattle.split_core.specs.Order.{with_piece}
 use Rattle.split_core.proofs.Cutting.{middle_cut_out}
 use Rattle.split_core.proofs.Ordered.{bag_with_piece}
 use Rattle.run_engine.specs.Committing.{offsets_of, offsets_left}
 
 -- a checkpoint cuts right behind the last attempted position
-pub checkpoint_point : (t : Tracked) → split_point_of t 0 1 ≡ first_open t.range.from t.attempted
+pub checkpoint_point : (t : Tracked) → split_point_of t 0 1 ≡ first_unattempted t.range.from t.attempted
 checkpoint_point t = omega arith
 
 -- a range without offsets has none
@@ -101,13 +101,13 @@ residual_some s to rest is = elim (cases_lt s to) [
   | inr above ↦ absurd (none_is_some _ _ is (ap (λ b. cond b (Some (record { from = s; to = to })) None) (le-ltb s to above)))
 ]
 
-module _ (piece : Piece) (t : Tracked) (range : Offsets) (whole : t.range ≡ piece.range) (begun : piece.range.from < first_open piece.range.from t.attempted)
+module _ (piece : Piece) (t : Tracked) (range : Offsets) (whole : t.range ≡ piece.range) (begun : piece.range.from < first_unattempted piece.range.from t.attempted)
     (worked : range ≡ (primary t (split_point_of t 0 1)).range) where
   abbrev reached : ℕ
-  reached = first_open piece.range.from t.attempted
+  reached = first_unattempted piece.range.from t.attempted
 
   point : split_point_of t 0 1 ≡ reached
-  point = checkpoint_point t ∙ ap (λ (r : Offsets). first_open r.from t.attempted) whole
+  point = checkpoint_point t ∙ ap (λ (r : Offsets). first_unattempted r.from t.attempted) whole
 
   pub worked_range : range ≡ record { from = piece.range.from; to = min reached piece.range.to }
   worked_range = worked ∙ (λ i. record { from = (whole i).from; to = min (point i) (whole i).to })
@@ -159,7 +159,7 @@ positive_cond : (b : Bool) (n : ℕ) → 0 < cond b n 0 → 0 < n
 positive_cond true n some = some
 positive_cond false n some = absurd (omega (arith, some))
 
-pub in_file : (file : List ℕ) (piece : Piece) (pending : List Piece) (done : List Done) → IsHeld (item_len (panes_item file) ∷ []) pending (done ++ range_of piece ∷ [])
+pub in_file : (file : List ℕ) (piece : Piece) (pending : List Piece) (done : List Done) → IsPartition (item_len (panes_item file) ∷ []) pending (done ++ range_of piece ∷ [])
     → piece.range.from < piece.range.to → piece.range.to ≤ length file
 in_file file piece pending done held some =
     let place : Place = record { node = piece.node; item = piece.item; offset = piece.range.to - 1 } in
@@ -173,26 +173,26 @@ in_file file piece pending done held some =
     omega arith
 
 -- poison of a part is poison of the whole
-pub poison_in_part : (size : ℤ) (file : List ℕ) (from to len : ℕ) → (from < to → to ≤ len) → list_any is_spoiled (spread_of size file from to) ≡ true
-    → list_any is_spoiled (spread_of size file 0 len) ≡ true
+pub poison_in_part : (size : ℤ) (file : List ℕ) (from to len : ℕ) → (from < to → to ≤ len) → list_any is_poison (spread_of size file from to) ≡ true
+    → list_any is_poison (spread_of size file 0 len) ≡ true
 poison_in_part size file from to len within poison = elim (cases_lt from to) [
   | inl some ↦
-      ap (list_any is_spoiled) (spread-join at 0 from len (omega arith) (omega (arith, within some)) ∙ ap (λ t. spread at 0 from ++ t) (spread-join at from to len (omega arith) (within some)))
-      ∙ list_any-append is_spoiled (spread at 0 from) (spread at from to ++ spread at to len)
-      ∙ any_or-right (list_any is_spoiled (spread at 0 from)) _
-      (list_any-append is_spoiled (spread at from to) (spread at to len) ∙ any_or-left _ (list_any is_spoiled (spread at to len)) poison)
-  | inr none ↦ absurd (false≢true (sym (ap (list_any is_spoiled) (spread-empty at from to none)) ∙ poison))
+      ap (list_any is_poison) (spread-join at 0 from len (omega arith) (omega (arith, within some)) ∙ ap (λ t. spread at 0 from ++ t) (spread-join at from to len (omega arith) (within some)))
+      ∙ list_any-append is_poison (spread at 0 from) (spread at from to ++ spread at to len)
+      ∙ any_or-right (list_any is_poison (spread at 0 from)) _
+      (list_any-append is_poison (spread at from to) (spread at to len) ∙ any_or-left _ (list_any is_poison (spread at to len)) poison)
+  | inr none ↦ absurd (false≢true (sym (ap (list_any is_poison) (spread-empty at from to none)) ∙ poison))
 ]
   where
-    at : ℕ → List Brought
-    at = brought size file
+    at : ℕ → List Output
+    at = file_outputs_at size file
 
 -- what a commit adds is what its range brings
-pub brought_more : (size : ℤ) (file : List ℕ) (done : List Done) (d : Done) (old new : List Entry) (from to : ℕ) → d.range ≡ record { from = from; to = to }
-    → IsSameBag (map came old) (spread_of_done size file done)
-    → map came new ≡ map came old ++ spread_of size file from to
-    → IsSameBag (map came new) (spread_of_done size file (done ++ d ∷ []))
-brought_more size file done d old new from to is before more =
+pub outputs_more : (size : ℤ) (file : List ℕ) (done : List Done) (d : Done) (old new : List Entry) (from to : ℕ) → d.range ≡ record { from = from; to = to }
+    → IsSameBag (map entry_output old) (spread_of_done size file done)
+    → map entry_output new ≡ map entry_output old ++ spread_of size file from to
+    → IsSameBag (map entry_output new) (spread_of_done size file (done ++ d ∷ []))
+outputs_more size file done d old new from to is before more =
     bag_trans _ _ _ (bag_from_same _ _ more)
     (bag_trans _ _ _ (bag_append _ _ _ _ before (bag_refl (spread_of size file from to)))
     (bag_from_same _ _

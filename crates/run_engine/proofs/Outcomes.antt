@@ -9,13 +9,13 @@ use Rattle.beam_values.specs.Bags.{IsSameBag}
 use Rattle.beam_values.specs.Grouping.{IsPlainGrouping}
 use Rattle.beam_values.proofs.Bags.{bag_trans, bag_sym, bag_append, bag_map, bag_from_same, bag_refl}
 use Rattle.beam_values.specs.declared.element.Element.{Element}
-use Rattle.beam_values.specs.declared.outcome.Arrival.{Arrival}
-use Rattle.beam_values.specs.declared.outcome.Cell.{Cell}
-use Rattle.beam_values.specs.declared.outcome.Entry.{Entry}
+use Rattle.beam_values.specs.declared.arrival.Arrival.{Arrival}
+use Rattle.beam_values.specs.declared.cell.Cell.{Cell}
+use Rattle.beam_values.specs.declared.cell.Entry.{Entry}
 use Rattle.beam_values.specs.declared.outcome.Outcome.{Outcome}
-use Rattle.beam_values.specs.declared.outcome.Pane.{Pane}
+use Rattle.beam_values.specs.declared.cell.Pane.{Pane}
 use Rattle.beam_model.specs.Account.{cell_arrivals, dropped_arrival, log_arrivals, arrivals, IsAccounted}
-use Rattle.beam_model.specs.Chains.{Came, chain}
+use Rattle.beam_model.specs.Chains.{Arrives, chain}
 use Rattle.beam_model.specs.Flow.{elements_at, is_at, flow, pane_chains}
 use Rattle.beam_model.specs.Plain.{IsPlainlyWritten, IsPlainRun, IsPlainGroup, IsGroupedBy, is_group, is_write, strategy_of}
 use Rattle.beam_model.specs.Plans.{panes_plan}
@@ -26,16 +26,16 @@ use Rattle.std.proofs.lemmas.List.Sums.{sum_by-cons}
 use Rattle.beam_values.specs.Cover.{times_done, times_listed}
 use Rattle.beam_values.specs.Files.{first_named}
 use Rattle.beam_values.specs.declared.file_text.FileText.{FileText}
-use Rattle.beam_values.specs.declared.outcome.Done.{Done}
-use Rattle.beam_values.specs.declared.outcome.FileLen.{FileLen}
+use Rattle.beam_values.specs.declared.piece.Done.{Done}
+use Rattle.beam_values.specs.declared.piece.FileLen.{FileLen}
 use Rattle.beam_model.specs.Positions.{item_len, items}
 use Rattle.beam_model.specs.Spread.{HasPoison}
 use Rattle.beam_model.proofs.Coverings.{covering_one}
-use Rattle.split_core.specs.Holding.{IsListed}
+use Rattle.split_core.specs.Partition.{IsListed}
 use Rattle.run_engine.specs.Committing.{IsCommitted}
 use Rattle.run_engine.specs.declared.committing.Committed.{Committed}
 use Rattle.run_engine.specs.PanesRun.{IsPanesOutcome, IsPanesRun, FindsPoison}
-use Rattle.run_engine.specs.Working.{panes_item, came}
+use Rattle.run_engine.specs.Working.{panes_item, entry_output}
 
 -- an entry of the Group as it arrived; a pane as it was written, and as it left the Group
 abbrev pub arrival : Entry → Arrival
@@ -48,7 +48,7 @@ abbrev pub grouped_of : Pane → Arrival
 grouped_of pane = record { node = 3; element = pane.element }
 
 -- what leaves the Group is written
-pub chain-group : (name : List ℕ) (size : ℤ) (e : Element) → chain (panes_plan name size) 3 e ≡ Came (record { node = 4; element = e }) ∷ []
+pub chain-group : (name : List ℕ) (size : ℤ) (e : Element) → chain (panes_plan name size) 3 e ≡ Arrives (record { node = 4; element = e }) ∷ []
 chain-group name size e = refl
 
 -- the nodes of the plan that are Groups, and those that are Writes
@@ -89,49 +89,49 @@ at-append : (n : ℕ) (xs ys : List Arrival) → elements_at n (xs ++ ys) ≡ el
 at-append n xs ys = ap (map (λ (a : Arrival). a.element)) (filter-append (is_at n) xs ys) ∙ map-append (λ (a : Arrival). a.element) (filter (is_at n) xs) (filter (is_at n) ys)
 
 -- panes of the Group are written
-pub chains-of-panes : (name : List ℕ) (size : ℤ) (panes : List Pane) → AllByRecursion (λ pane. pane.node ≡ 3) panes → pane_chains (panes_plan name size) panes ≡ map Came (map written_of panes)
+pub chains-of-panes : (name : List ℕ) (size : ℤ) (panes : List Pane) → AllByRecursion (λ pane. pane.node ≡ 3) panes → pane_chains (panes_plan name size) panes ≡ map Arrives (map written_of panes)
 chains-of-panes name size [] all = refl
 chains-of-panes name size (pane ∷ panes) all =
     ap (λ n. chain (panes_plan name size) n pane.element ++ pane_chains (panes_plan name size) panes) all.0
-    ∙ ap (λ t. Came (written_of pane) ∷ t) (chains-of-panes name size panes all.1)
+    ∙ ap (λ t. Arrives (written_of pane) ∷ t) (chains-of-panes name size panes all.1)
 
-chains-of-grouped : (name : List ℕ) (size : ℤ) (panes : List Pane) → flat_map (λ (pane : Arrival). chain (panes_plan name size) pane.node pane.element) (map grouped_of panes) ≡ map Came (map written_of panes)
+chains-of-grouped : (name : List ℕ) (size : ℤ) (panes : List Pane) → flat_map (λ (pane : Arrival). chain (panes_plan name size) pane.node pane.element) (map grouped_of panes) ≡ map Arrives (map written_of panes)
 chains-of-grouped name size [] = refl
-chains-of-grouped name size (pane ∷ panes) = ap (λ t. Came (written_of pane) ∷ t) (chains-of-grouped name size panes)
+chains-of-grouped name size (pane ∷ panes) = ap (λ t. Arrives (written_of pane) ∷ t) (chains-of-grouped name size panes)
 
 from-groups : (name : List ℕ) (size : ℤ) (panes : List Pane) → AllByRecursion (λ (pane : Arrival). IsPlainGroup (panes_plan name size) pane.node) (map grouped_of panes)
 from-groups name size [] = tt
 from-groups name size (pane ∷ panes) = ((refl, refl), from-groups name size panes)
 
 -- what came to the Group, and to the Write
-came-to-group : (entries : List Entry) (panes : List Pane) → elements_at 3 (map arrival entries ++ map written_of panes) ≡ map (λ (entry : Entry). entry.element) entries
-came-to-group entries panes =
+arrived-at-group : (entries : List Entry) (panes : List Pane) → elements_at 3 (map arrival entries ++ map written_of panes) ≡ map (λ (entry : Entry). entry.element) entries
+arrived-at-group entries panes =
     at-append 3 (map arrival entries) (map written_of panes)
     ∙ ap (λ t. t ++ elements_at 3 (map written_of panes)) (at-same 3 (λ (entry : Entry). entry.element) entries)
     ∙ ap (λ t. map (λ (entry : Entry). entry.element) entries ++ t) (at-other 3 4 (λ (pane : Pane). pane.element) panes refl)
     ∙ append-nil _
 
-came-to-write : (entries : List Entry) (panes : List Pane) → elements_at 4 (map written_of panes) ≡ elements_at 4 (map arrival entries ++ map written_of panes)
-came-to-write entries panes =
+arrived-at-write : (entries : List Entry) (panes : List Pane) → elements_at 4 (map written_of panes) ≡ elements_at 4 (map arrival entries ++ map written_of panes)
+arrived-at-write entries panes =
     sym (at-append 4 (map arrival entries) (map written_of panes)
     ∙ ap (λ t. t ++ elements_at 4 (map written_of panes)) (at-other 4 3 (λ (entry : Entry). entry.element) entries refl))
 
 module _ (name : List ℕ) (size : ℤ) (file : List ℕ) (entries : List Entry) (panes : List Pane) (ours : AllByRecursion (λ pane. pane.node ≡ 3) panes)
-    (came_all : IsSameBag (map came entries) (spread_all (panes_plan name size) (panes_item file ∷ []))) where
+    (all_arrived : IsSameBag (map entry_output entries) (spread_all (panes_plan name size) (panes_item file ∷ []))) where
   -- all that is brought to the Group and the Write came, and nothing of it is poison
-  clean : IsSameBag (spread_all (panes_plan name size) (panes_item file ∷ []) ++ map Came (map written_of panes)) (map Came (map arrival entries ++ map written_of panes))
+  clean : IsSameBag (spread_all (panes_plan name size) (panes_item file ∷ []) ++ map Arrives (map written_of panes)) (map Arrives (map arrival entries ++ map written_of panes))
   clean =
       bag_trans _ _ _
-      (bag_append _ _ _ _ (bag_trans _ _ _ (bag_sym _ _ came_all) (bag_from_same _ _ (sym (map-map Came arrival entries)))) (bag_refl (map Came (map written_of panes))))
-      (bag_from_same _ _ (sym (map-append Came (map arrival entries) (map written_of panes))))
+      (bag_append _ _ _ _ (bag_trans _ _ _ (bag_sym _ _ all_arrived) (bag_from_same _ _ (sym (map-map Arrives arrival entries)))) (bag_refl (map Arrives (map written_of panes))))
+      (bag_from_same _ _ (sym (map-append Arrives (map arrival entries) (map written_of panes))))
 
   -- what came to the Group in cells, and what was written, is all that flows
   pub accounted : (cells : List Cell) → IsSameBag (flat_map cell_arrivals cells) (map arrival entries)
-      → IsSameBag (flow (panes_plan name size) (panes_item file ∷ []) panes []) (map Came (flat_map cell_arrivals cells ++ ([] ++ ([] ++ map written_of panes))))
+      → IsSameBag (flow (panes_plan name size) (panes_item file ∷ []) panes []) (map Arrives (flat_map cell_arrivals cells ++ ([] ++ ([] ++ map written_of panes))))
   accounted cells held =
       bag_trans _ _ _
       (bag_from_same _ _ (ap (λ t. spread_all (panes_plan name size) (panes_item file ∷ []) ++ t) (append-nil _ ∙ chains-of-panes name size panes ours)))
-      (bag_trans _ _ _ clean (bag_map Came _ _ (bag_append _ _ _ _ (bag_sym _ _ held) (bag_refl (map written_of panes)))))
+      (bag_trans _ _ _ clean (bag_map Arrives _ _ (bag_append _ _ _ _ (bag_sym _ _ held) (bag_refl (map written_of panes)))))
 
   -- the Write took what plain grouping brings there
   pub plainly : IsPlainGrouping (map (λ (entry : Entry). entry.element) entries) (map (λ (pane : Pane). pane.element) panes)
@@ -146,13 +146,13 @@ module _ (name : List ℕ) (size : ℤ) (file : List ℕ) (entries : List Entry)
             let A = map arrival entries ++ map written_of panes in
             let P = map grouped_of panes in
             let at : IsPlainGrouping (elements_at 3 A) (elements_at 3 P) =
-            subst (λ es. IsPlainGrouping es (elements_at 3 P)) (sym (came-to-group entries panes))
+            subst (λ es. IsPlainGrouping es (elements_at 3 P)) (sym (arrived-at-group entries panes))
             (subst (λ ps. IsPlainGrouping (map (λ (entry : Entry). entry.element) entries) ps) (sym (at-same 3 (λ (pane : Pane). pane.element) panes)) grouping) in
             subst (λ m. IsGroupedBy (strategy_of (panes_plan name size) m) (elements_at m A) (elements_at m P)) (sym (group-is-3 name size n is.0)) at;
       }
 
       at_write : IsSameBag (elements_at node (map written_of panes)) (elements_at node (map arrival entries ++ map written_of panes))
-      at_write = bag_from_same _ _ (subst (λ m. elements_at m (map written_of panes) ≡ elements_at m (map arrival entries ++ map written_of panes)) (sym (write-is-4 name size node is_write_node)) (came-to-write entries panes))
+      at_write = bag_from_same _ _ (subst (λ m. elements_at m (map written_of panes) ≡ elements_at m (map arrival entries ++ map written_of panes)) (sym (write-is-4 name size node is_write_node)) (arrived-at-write entries panes))
 
 -- only the one item is listed
 listed_one : (file : List ℕ) (node item : ℕ) → IsListed (item_len (panes_item file) ∷ []) node item → (node ≡ 0) × (item ≡ 0)
@@ -164,9 +164,9 @@ listed_one file node item some = by_test (0 == node && 0 == item) refl
 
 -- what was committed of the whole file is what the file brings
 pub came_whole : (name : List ℕ) (size : ℤ) (file : List ℕ) (c : Committed) → IsCommitted size file [] c
-    → IsSameBag (map came c.entries) (spread_all (panes_plan name size) (panes_item file ∷ []))
+    → IsSameBag (map entry_output c.entries) (spread_all (panes_plan name size) (panes_item file ∷ []))
 came_whole name size file c known =
-    bag_trans _ _ _ known.brought
+    bag_trans _ _ _ known.outputs
     (covering_one (panes_plan name size) (panes_item file) c.done
     (All-weaker (λ (d : Done). IsListed (item_len (panes_item file) ∷ []) d.node d.item) (λ (d : Done). (d.node ≡ 0) × (d.item ≡ 0)) (λ d listed. listed_one file d.node d.item listed) c.done known.held.out_listed)
     (λ place. omega (arith, known.held.times place)))
@@ -181,18 +181,18 @@ pub outcome_is : (name : List ℕ) (size : ℤ) (file : List ℕ) (o : Outcome) 
     → IsPanesOutcome name size file o
 outcome_is name size file o c commit known plan_is files done dropped logs written held grouping fired =
     let ours = recursion_from_All (λ (pane : Pane). pane.node ≡ 3) o.panes (All-weaker (λ (pane : Pane). (pane.node ≡ 3) × (pane.commit ≡ commit)) (λ (pane : Pane). pane.node ≡ 3) (λ pane f. f.0) o.panes fired) in
-    let came_all = came_whole name size file c known in
+    let all_arrived = came_whole name size file c known in
     record {
       plan = plan_is;
       lengths = files;
       cover = λ place. ap (λ ds. times_done ds place) done ∙ omega (arith, known.held.times place) ∙ ap (λ fs. times_listed fs place) (sym files);
       account =
-          subst (λ plan. IsSameBag (flow plan (panes_item file ∷ []) o.panes o.logs) (map Came (arrivals o))) (sym plan_is)
-          (subst (λ logs. IsSameBag (flow (panes_plan name size) (panes_item file ∷ []) o.panes logs) (map Came (flat_map cell_arrivals o.cells ++ (map dropped_arrival o.dropped ++ (flat_map log_arrivals logs ++ o.written))))) (sym logs)
-          (subst (λ dropped. IsSameBag (flow (panes_plan name size) (panes_item file ∷ []) o.panes []) (map Came (flat_map cell_arrivals o.cells ++ (map dropped_arrival dropped ++ (flat_map log_arrivals [] ++ o.written))))) (sym dropped)
-          (subst (λ ws. IsSameBag (flow (panes_plan name size) (panes_item file ∷ []) o.panes []) (map Came (flat_map cell_arrivals o.cells ++ ([] ++ ([] ++ ws))))) (sym written)
-          (accounted name size file c.entries o.panes ours came_all o.cells held))));
-      plain = subst (λ ws. IsPlainlyWritten (panes_plan name size) (panes_item file ∷ []) ws) (sym written) (plainly name size file c.entries o.panes ours came_all grouping);
+          subst (λ plan. IsSameBag (flow plan (panes_item file ∷ []) o.panes o.logs) (map Arrives (arrivals o))) (sym plan_is)
+          (subst (λ logs. IsSameBag (flow (panes_plan name size) (panes_item file ∷ []) o.panes logs) (map Arrives (flat_map cell_arrivals o.cells ++ (map dropped_arrival o.dropped ++ (flat_map log_arrivals logs ++ o.written))))) (sym logs)
+          (subst (λ dropped. IsSameBag (flow (panes_plan name size) (panes_item file ∷ []) o.panes []) (map Arrives (flat_map cell_arrivals o.cells ++ (map dropped_arrival dropped ++ (flat_map log_arrivals [] ++ o.written))))) (sym dropped)
+          (subst (λ ws. IsSameBag (flow (panes_plan name size) (panes_item file ∷ []) o.panes []) (map Arrives (flat_map cell_arrivals o.cells ++ ([] ++ ([] ++ ws))))) (sym written)
+          (accounted name size file c.entries o.panes ours all_arrived o.cells held))));
+      plain = subst (λ ws. IsPlainlyWritten (panes_plan name size) (panes_item file ∷ []) ws) (sym written) (plainly name size file c.entries o.panes ours all_arrived grouping);
     }
 
 -- it is the run of the file of that name, where the name's bytes are those

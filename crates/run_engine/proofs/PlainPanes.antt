@@ -15,10 +15,10 @@ use Rattle.beam_values.specs.Orders.{bytes_cmp, value_cmp}
 use Rattle.beam_values.specs.Grouping.{part_of, is_in_cell, pane_with, IsPlainGrouping}
 use Rattle.beam_values.specs.declared.value.Value.{Value}
 use Rattle.beam_values.specs.declared.element.Element.{Element}
-use Rattle.beam_values.specs.declared.outcome.Arrival.{Arrival}
-use Rattle.beam_values.specs.declared.outcome.Cell.{Cell}
-use Rattle.beam_values.specs.declared.outcome.Entry.{Entry}
-use Rattle.beam_values.specs.declared.outcome.Pane.{Pane}
+use Rattle.beam_values.specs.declared.arrival.Arrival.{Arrival}
+use Rattle.beam_values.specs.declared.cell.Cell.{Cell}
+use Rattle.beam_values.specs.declared.cell.Entry.{Entry}
+use Rattle.beam_values.specs.declared.cell.Pane.{Pane}
 use Rattle.beam_values.proofs.Bags.{bag_sym, bag_trans, bag_from_same, bag_from_permutation, bag_map}
 use Rattle.beam_model.specs.Account.{cell_arrivals}
 use Rattle.plain_model.specs.Cells.{cell_cmp as element_cell_cmp}

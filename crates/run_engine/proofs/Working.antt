@@ -3,15 +3,15 @@ use Rattle.std.proofs.Common.{Bool, false, ◌||◌, Some, None, subst, if◌the
 use Rattle.std.proofs.lemmas.List.{append-nil}
 use Rattle.std.specs.List.{list_any}
 use Rattle.std.proofs.lemmas.List.Folds.{list_any-append}
-use Rattle.beam_values.specs.Tracking.{Tracked, MayClaim, IsAbove, first_open}
-use Rattle.beam_values.specs.declared.outcome.Entry.{Entry}
+use Rattle.beam_values.specs.Tracking.{Tracked, MayClaim, IsAbove, first_unattempted}
+use Rattle.beam_values.specs.declared.cell.Entry.{Entry}
 use Rattle.beam_values.specs.Lines.{spread, next_start, line_at}
 use Rattle.beam_values.specs.Functions.{timed_line}
 use Rattle.beam_values.proofs.Spreads.{spread-empty, spread-join, spread-single, spread-nothing, starts_line-between, next_start-above}
 use Rattle.beam_model.specs.Plans.{panes_plan}
 use Rattle.beam_model.specs.Positions.{line_emission, nothing}
-use Rattle.beam_model.specs.Spread.{brought_by, is_spoiled}
-use Rattle.run_engine.specs.Working.{brought, spread_of, came}
+use Rattle.beam_model.specs.Spread.{emission_outputs, is_poison}
+use Rattle.run_engine.specs.Working.{file_outputs_at, spread_of, entry_output}
 
 -- the positions of a range bring nothing
 abbrev pub Quiet : {X : Type 0} → (ℕ → List X) → ℕ → ℕ → Type 0
@@ -33,9 +33,9 @@ module _ {X : Type 0} (at : ℕ → List X) where
       ∙ append-nil (spread at from reached)
 
 -- up to the next line start after a position nothing is brought
-pub quiet_behind : (size : ℤ) (file : List ℕ) (p next : ℕ) → next ≡ next_start file p → Quiet (brought size file) (p + 1) next
+pub quiet_behind : (size : ℤ) (file : List ℕ) (p next : ℕ) → next ≡ next_start file p → Quiet (file_outputs_at size file) (p + 1) next
 quiet_behind size file p next is q above below =
-    ap (λ starts. brought_by (panes_plan [] size) 0 (if starts then line_emission (timed_line (line_at file q)) else nothing))
+    ap (λ starts. emission_outputs (panes_plan [] size) 0 (if starts then line_emission (timed_line (line_at file q)) else nothing))
     (starts_line-between file p q (omega arith) (omega (arith, is)))
 
 pub any_or-right : (a b : Bool) → b ≡ true → (a || b) ≡ true
@@ -46,33 +46,33 @@ pub any_or-left : (a b : Bool) → a ≡ true → (a || b) ≡ true
 any_or-left a b holds = ap (λ x. x || b) holds
 
 -- poison at a position is poison of a range that has it
-pub poison_within : (size : ℤ) (file : List ℕ) (from p to : ℕ) → from ≤ p → p < to → list_any is_spoiled (brought size file p) ≡ true → list_any is_spoiled (spread_of size file from to) ≡ true
+pub poison_within : (size : ℤ) (file : List ℕ) (from p to : ℕ) → from ≤ p → p < to → list_any is_poison (file_outputs_at size file p) ≡ true → list_any is_poison (spread_of size file from to) ≡ true
 poison_within size file from p to low high poison =
-    let at = brought size file in
-    ap (list_any is_spoiled) (spread-join at from p to low (omega arith) ∙ ap (λ t. spread at from p ++ t) (spread-join at p (p + 1) to (omega arith) (omega arith) ∙ ap (λ t. t ++ spread at (p + 1) to) (spread-single at p)))
-    ∙ list_any-append is_spoiled (spread at from p) (at p ++ spread at (p + 1) to)
-    ∙ any_or-right (list_any is_spoiled (spread at from p)) _
-    (list_any-append is_spoiled (at p) (spread at (p + 1) to) ∙ any_or-left _ (list_any is_spoiled (spread at (p + 1) to)) poison)
+    let at = file_outputs_at size file in
+    ap (list_any is_poison) (spread-join at from p to low (omega arith) ∙ ap (λ t. spread at from p ++ t) (spread-join at p (p + 1) to (omega arith) (omega arith) ∙ ap (λ t. t ++ spread at (p + 1) to) (spread-single at p)))
+    ∙ list_any-append is_poison (spread at from p) (at p ++ spread at (p + 1) to)
+    ∙ any_or-right (list_any is_poison (spread at from p)) _
+    (list_any-append is_poison (at p) (spread at (p + 1) to) ∙ any_or-left _ (list_any is_poison (spread at (p + 1) to)) poison)
 
 -- How far the work on a range has come: what came is what the attempted positions bring, and those up to the next one to claim bring nothing.
 pub record IsWorked (size : ℤ) (file : List ℕ) (before : Tracked) (old new : List Entry) (now : Tracked) (p : ℕ) : Type 0 where
   pub may : MayClaim now p
   pub range : now.range ≡ before.range
-  pub arrived : map came new ≡ map came old ++ spread_of size file before.range.from (first_open before.range.from now.attempted)
-  pub quiet : Quiet (brought size file) (first_open before.range.from now.attempted) p
-  pub above : before.range.from ≤ first_open before.range.from now.attempted
-  pub ordered : first_open before.range.from now.attempted ≤ p
-  pub within : first_open before.range.from now.attempted ≤ before.range.to
+  pub arrived : map entry_output new ≡ map entry_output old ++ spread_of size file before.range.from (first_unattempted before.range.from now.attempted)
+  pub quiet : Quiet (file_outputs_at size file) (first_unattempted before.range.from now.attempted) p
+  pub above : before.range.from ≤ first_unattempted before.range.from now.attempted
+  pub ordered : first_unattempted before.range.from now.attempted ≤ p
+  pub within : first_unattempted before.range.from now.attempted ≤ before.range.to
 
 module _ (size : ℤ) (file : List ℕ) (before : Tracked) (old : List Entry) where
   -- nothing is worked of a range that nothing was claimed of
   pub worked_none : (p : ℕ) → before.attempted ≡ None → p ≡ before.range.from → before.range.from ≤ before.range.to → IsWorked size file before old old before p
   worked_none p unstarted at ends =
-      let first : first_open before.range.from before.attempted ≡ before.range.from = ap (first_open before.range.from) unstarted in
+      let first : first_unattempted before.range.from before.attempted ≡ before.range.from = ap (first_unattempted before.range.from) unstarted in
       record {
         may = record { from_start = omega arith; ascending = subst (λ attempted. IsAbove attempted p) (sym unstarted) tt };
         range = refl;
-        arrived = sym (ap (λ t. map came old ++ t) (spread-empty (brought size file) before.range.from (first_open before.range.from before.attempted) (omega arith)) ∙ append-nil _);
+        arrived = sym (ap (λ t. map entry_output old ++ t) (spread-empty (file_outputs_at size file) before.range.from (first_unattempted before.range.from before.attempted) (omega arith)) ∙ append-nil _);
         quiet = λ q above below. absurd (omega arith);
         above = omega arith;
         ordered = omega arith;
@@ -82,21 +82,21 @@ module _ (size : ℤ) (file : List ℕ) (before : Tracked) (old : List Entry) wh
   -- one more position is claimed and worked
   pub worked_more : (mid new : List Entry) (now claimed : Tracked) (p next : ℕ) → IsWorked size file before old mid now p → p < before.range.to → before.range.to ≤ length file
       → claimed ≡ record { range = now.range; attempted = Some p } → next ≡ next_start file p
-      → map came new ≡ map came mid ++ brought size file p
+      → map entry_output new ≡ map entry_output mid ++ file_outputs_at size file p
       → IsWorked size file before old new claimed next
   worked_more mid new now claimed p next known inside in_file is next_is more =
       let from = before.range.from in
-      let first : first_open from claimed.attempted ≡ p + 1 = ap (λ (t : Tracked). first_open from t.attempted) is in
+      let first : first_unattempted from claimed.attempted ≡ p + 1 = ap (λ (t : Tracked). first_unattempted from t.attempted) is in
       let rises : p < next = omega (arith, next_start-above file p (omega arith), next_is) in
       let start = known.may.from_start in
       record {
         may = subst (λ (t : Tracked). MayClaim t next) (sym is) (record { from_start = omega arith; ascending = rises });
         range = ap (λ (t : Tracked). t.range) is ∙ known.range;
         arrived =
-            more ∙ ap (λ t. t ++ brought size file p) known.arrived
-            ∙ append_assoc (map came old) (spread_of size file from (first_open from now.attempted)) (brought size file p)
-            ∙ ap (λ t. map came old ++ t) (sym (spread_more (brought size file) from (first_open from now.attempted) p known.above known.ordered known.quiet))
-            ∙ ap (λ end. map came old ++ spread_of size file from end) (sym first);
+            more ∙ ap (λ t. t ++ file_outputs_at size file p) known.arrived
+            ∙ append_assoc (map entry_output old) (spread_of size file from (first_unattempted from now.attempted)) (file_outputs_at size file p)
+            ∙ ap (λ t. map entry_output old ++ t) (sym (spread_more (file_outputs_at size file) from (first_unattempted from now.attempted) p known.above known.ordered known.quiet))
+            ∙ ap (λ end. map entry_output old ++ spread_of size file from end) (sym first);
         quiet = λ q above below. quiet_behind size file p next next_is q (omega arith) below;
         above = omega (arith, known.above, known.ordered);
         ordered = omega arith;
@@ -106,11 +106,11 @@ module _ (size : ℤ) (file : List ℕ) (before : Tracked) (old : List Entry) wh
   -- where a claim is refused, the whole range is worked
   pub worked_whole : (new : List Entry) (now claimed : Tracked) (p : ℕ) → IsWorked size file before old new now p → before.range.to ≤ p
       → claimed ≡ record { range = now.range; attempted = Some p }
-      → map came new ≡ map came old ++ spread_of size file before.range.from (min (first_open before.range.from claimed.attempted) before.range.to)
+      → map entry_output new ≡ map entry_output old ++ spread_of size file before.range.from (min (first_unattempted before.range.from claimed.attempted) before.range.to)
   worked_whole new now claimed p known past is =
       let from = before.range.from in
       let to = before.range.to in
-      let first : min (first_open from claimed.attempted) to ≡ to = ap (λ (t : Tracked). min (first_open from t.attempted) to) is ∙ omega arith in
+      let first : min (first_unattempted from claimed.attempted) to ≡ to = ap (λ (t : Tracked). min (first_unattempted from t.attempted) to) is ∙ omega arith in
       known.arrived
-      ∙ ap (λ t. map came old ++ t) (sym (spread_rest (brought size file) from (first_open from now.attempted) p to known.above known.within past known.quiet))
-      ∙ ap (λ end. map came old ++ spread_of size file from end) (sym first)
+      ∙ ap (λ t. map entry_output old ++ t) (sym (spread_rest (file_outputs_at size file) from (first_unattempted from now.attempted) p to known.above known.within past known.quiet))
+      ∙ ap (λ end. map entry_output old ++ spread_of size file from end) (sym first)

@@ -9,10 +9,10 @@ use Rattle.beam_values.specs.Orders.{value_cmp}
 use Rattle.beam_values.specs.Grouping.{key_of, part_of, pane_with}
 use Rattle.beam_values.specs.declared.value.Value.{Value}
 use Rattle.beam_values.specs.declared.element.Element.{Element}
-use Rattle.beam_values.specs.declared.outcome.Arrival.{Arrival}
-use Rattle.beam_values.specs.declared.outcome.Cell.{Cell}
-use Rattle.beam_values.specs.declared.outcome.Entry.{Entry}
-use Rattle.beam_values.specs.declared.outcome.Pane.{Pane}
+use Rattle.beam_values.specs.declared.arrival.Arrival.{Arrival}
+use Rattle.beam_values.specs.declared.cell.Cell.{Cell}
+use Rattle.beam_values.specs.declared.cell.Entry.{Entry}
+use Rattle.beam_values.specs.declared.cell.Pane.{Pane}
 
 -- what an entry was when it came to the Group
 abbrev pub entry_arrival : ℕ → Entry → Arrival

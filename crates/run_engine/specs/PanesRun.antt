@@ -35,7 +35,7 @@ pub record IsPanesRun (files : Option (List FileText)) (name : List ℕ) (size :
   pub plain : (told : List FileText) → files ≡ Some told → IsPlainlyWritten o.plan (items told o.plan) o.written
 
 -- what a run met at the store: the files that it tells, and its count of faults before and after
-pub record StoreMet : Type 0 where
+pub record ObservedStore : Type 0 where
   pub files : Option (List FileText)
   pub before : ℕ
   pub after : ℕ
@@ -54,12 +54,12 @@ abbrev pub first_fault : Cause → FaultNote
 first_fault cause = record { node = 0; item = 0; at = 0; attempt = 1; cause = cause }
 
 -- work failed because the store did, or because of a line
-abbrev pub WorkFails : StoreMet → List ℕ → ℤ → Cause → Type 0
+abbrev pub WorkFails : ObservedStore → List ℕ → ℤ → Cause → Type 0
 WorkFails store name size Read = Rose store.before store.after
 WorkFails store name size Call = FindsPoison store.files name size
 
 -- why the file of this name was not worked to its end
-abbrev pub Prevents : StoreMet → List ℕ → ℤ → Status → Type 0
+abbrev pub Prevents : ObservedStore → List ℕ → ℤ → Status → Type 0
 -- it isn't there
 Prevents store name size (status.NoSource absent) = (absent ≡ name) × Lacks store.files name
 -- opening it failed
@@ -71,7 +71,7 @@ Prevents store name size status.NoMemory = Unit {0}
 Prevents store name size _ = ⊥
 
 -- the end of a run, and its outcome where there is one
-abbrev pub IsRunEnd : StoreMet → List ℕ → ℤ → Status → Option Outcome → Type 0
+abbrev pub IsRunEnd : ObservedStore → List ℕ → ℤ → Status → Option Outcome → Type 0
 IsRunEnd store name size status.Ok outcome = (o : Outcome) × (outcome ≡ Some o) × IsPanesRun store.files name size o
 IsRunEnd store name size s outcome = (outcome ≡ None) × Prevents store name size s
 

@@ -2,36 +2,36 @@
 use Rattle.std.specs.Prelude.{ℕ, ℤ, List, [], length}
 use Rattle.std.specs.List.{flat_map}
 use Rattle.beam_values.specs.Lines.{spread}
-use Rattle.beam_values.specs.declared.outcome.Done.{Done}
-use Rattle.beam_values.specs.declared.outcome.Entry.{Entry}
+use Rattle.beam_values.specs.declared.piece.Done.{Done}
+use Rattle.beam_values.specs.declared.cell.Entry.{Entry}
 use Rattle.beam_values.specs.declared.plan.Args.TheVariants.{Nothing}
 use Rattle.beam_values.specs.declared.plan.SourceKind.TheVariants.{TimedLines}
-use Rattle.beam_model.specs.Chains.{Brought, Came}
+use Rattle.beam_model.specs.Chains.{Output, Arrives}
 use Rattle.beam_model.specs.Plans.{panes_plan}
 use Rattle.beam_model.specs.Positions.{SourceItem}
 use Rattle.beam_model.specs.Functions.{keyed_text}
 use Rattle.beam_values.specs.Functions.{fixed_window}
 use Rattle.beam_values.specs.declared.element.Element.{Element}
 use Rattle.beam_values.specs.declared.element.Timing.TheVariants.{Unknown}
-use Rattle.beam_model.specs.Spread.{brought_at}
+use Rattle.beam_model.specs.Spread.{outputs_at}
 
 -- the one item of its source
 abbrev pub panes_item : List ℕ → SourceItem
 panes_item file = record { node = 0; item = 0; work = TimedLines; args = Nothing; file = file; len = length file }
 
 -- what a position brings; the name of the file is no matter
-abbrev pub brought : ℤ → List ℕ → ℕ → List Brought
-brought size file = brought_at (panes_plan [] size) (panes_item file)
+abbrev pub outputs : ℤ → List ℕ → ℕ → List Output
+file_outputs_at size file = outputs_at (panes_plan [] size) (panes_item file)
 
-abbrev pub spread_of : ℤ → List ℕ → ℕ → ℕ → List Brought
-spread_of size file from to = spread (brought size file) from to
+abbrev pub spread_of : ℤ → List ℕ → ℕ → ℕ → List Output
+spread_of size file from to = spread (file_outputs_at size file) from to
 
 -- an entry of the Group, as it was brought
-abbrev pub came : Entry → Brought
-came entry = Came (record { node = 3; element = entry.element })
+abbrev pub entry_output : Entry → Output
+entry_output entry = Arrives (record { node = 3; element = entry.element })
 
 -- what committed ranges bring
-abbrev pub spread_of_done : ℤ → List ℕ → List Done → List Brought
+abbrev pub spread_of_done : ℤ → List ℕ → List Done → List Output
 spread_of_done size file done = flat_map (λ d. spread_of size file d.range.from d.range.to) done
 
 -- a timed text on its way to the Group: split at its first TAB, in the fixed window of its time

@@ -1,11 +1,11 @@
 ghost use Rattle.std.specs.Prelude.{◌≡◌, ◌≤◌, ◌<◌, ◌+◌, ◌-◌, ◌++◌, ◌≤ℤ◌, pos, [], ◌∷◌, List as ListOf, length, true, min, map, None, OnOk, IfOk, IsErrOf};
 ghost use Rattle.std.specs.List.{list_any};
-ghost use Rattle.beam_values.specs.Tracking.{first_open};
-ghost use Rattle.beam_values.specs.declared.outcome.Done.{Done};
-ghost use Rattle.beam_values.specs.declared.outcome.FileLen.{FileLen};
-ghost use Rattle.beam_model.specs.Spread.{is_spoiled};
-ghost use Rattle.split_core.specs.Holding.{IsHeld, range_of};
-ghost use Rattle.run_engine.specs.Working.{came, spread_of};
+ghost use Rattle.beam_values.specs.Tracking.{first_unattempted};
+ghost use Rattle.beam_values.specs.declared.piece.Done.{Done};
+ghost use Rattle.beam_values.specs.declared.piece.FileLen.{FileLen};
+ghost use Rattle.beam_model.specs.Spread.{is_poison};
+ghost use Rattle.split_core.specs.Partition.{IsPartition, range_of};
+ghost use Rattle.run_engine.specs.Working.{entry_output, spread_of};
 ghost use Rattle.run_engine.specs.Committing.{IsCommitted, IsTaken, offsets_left, offsets_of};
 
 use crate::positions::{WorkRefusal, work_bundle};
@@ -41,7 +41,7 @@ pub fn work_pieces(
     requires held { IsCommitted size file.now pieces.old.pending committed.old }
     ensures finished { OnOk result (pieces.new.pending ≡ []) }
     ensures held { OnOk result (IsCommitted size file.now pieces.new.pending committed.new) }
-    ensures poison { IsErrOf result WorkRefusal.Poison → list_any is_spoiled (spread_of size file.now 0 (length file.now)) ≡ true }
+    ensures poison { IsErrOf result WorkRefusal.Poison → list_any is_poison (spread_of size file.now 0 (length file.now)) ≡ true }
 {
     while let Some(piece) = pieces.take() {
         work_piece(alloc, size, file, bundle, piece, pieces, committed)?;
@@ -66,7 +66,7 @@ fn work_piece(
     requires taken { IsTaken size file.now piece pieces.old.pending committed.old }
     ensures held { OnOk result (IsCommitted size file.now pieces.new.pending committed.new) }
     ensures less { OnOk result (offsets_left pieces.new.pending < offsets_left pieces.old.pending + offsets_of piece) }
-    ensures poison { IsErrOf result WorkRefusal.Poison → list_any is_spoiled (spread_of size file.now 0 (length file.now)) ≡ true }
+    ensures poison { IsErrOf result WorkRefusal.Poison → list_any is_poison (spread_of size file.now 0 (length file.now)) ≡ true }
 {
     let Some(commit) = committed.commits.checked_add(1) else {
         return Err(WorkRefusal::NoMemory);
@@ -97,12 +97,12 @@ impl Committed {
         requires some { 1 ≤ bundle }
         requires unstarted { tracker.old.attempted ≡ None }
         requires in_file { tracker.old.range.from < tracker.old.range.to → tracker.old.range.to ≤ length file.now }
-        ensures came { OnOk result (map came self.new.entries ≡ map came self.old.entries
-            ++ spread_of size file.now tracker.old.range.from (min (first_open tracker.old.range.from tracker.new.attempted) tracker.old.range.to)) }
-        ensures some { OnOk result (tracker.old.range.from < first_open tracker.old.range.from tracker.new.attempted) }
+        ensures outputs { OnOk result (map entry_output self.new.entries ≡ map entry_output self.old.entries
+            ++ spread_of size file.now tracker.old.range.from (min (first_unattempted tracker.old.range.from tracker.new.attempted) tracker.old.range.to)) }
+        ensures some { OnOk result (tracker.old.range.from < first_unattempted tracker.old.range.from tracker.new.attempted) }
         ensures range { tracker.new.range ≡ tracker.old.range }
         ensures poison { IsErrOf result WorkRefusal.Poison
-            → list_any is_spoiled (spread_of size file.now tracker.old.range.from tracker.old.range.to) ≡ true }
+            → list_any is_poison (spread_of size file.now tracker.old.range.from tracker.old.range.to) ≡ true }
         ensures done { self.new.done ≡ self.old.done }
     {
         work_bundle(
@@ -130,14 +130,14 @@ impl Committed {
 // the range is done, nothing is left.
 fn put_rest(piece: Piece, tracker: Tracker, pieces: &mut Pieces) -> Result<Done, NoMemory>
     requires whole { tracker.range ≡ piece.range }
-    requires begun { piece.range.from < first_open piece.range.from tracker.attempted }
+    requires begun { piece.range.from < first_unattempted piece.range.from tracker.attempted }
     ensures range { IfOk result (λ done. done ≡ record {
       node = piece.node;
       item = piece.item;
-      range = record { from = piece.range.from; to = min (first_open piece.range.from tracker.attempted) piece.range.to };
+      range = record { from = piece.range.from; to = min (first_unattempted piece.range.from tracker.attempted) piece.range.to };
     }) }
-    ensures cover { IfOk result (λ done. (items : ListOf FileLen) (out : ListOf Done) → IsHeld items pieces.old.pending (out ++ range_of piece ∷ [])
-        → IsHeld items pieces.new.pending (out ++ done ∷ [])) }
+    ensures cover { IfOk result (λ done. (items : ListOf FileLen) (out : ListOf Done) → IsPartition items pieces.old.pending (out ++ range_of piece ∷ [])
+        → IsPartition items pieces.new.pending (out ++ done ∷ [])) }
     ensures less { OnOk result (offsets_left pieces.new.pending < offsets_left pieces.old.pending + offsets_of piece) }
 {
     let mut tracker = tracker;

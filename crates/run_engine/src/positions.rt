@@ -1,9 +1,9 @@
 ghost use Rattle.std.specs.Prelude.{◌≡◌, ◌≤◌, ◌<◌, ◌+◌, ◌++◌, ◌⊎◌, ℕ, ◌≤ℤ◌, pos, List, [], ◌∷◌, length, map, min, None, true, IsTrue, ◌↔◌, OnOk, IfOk, IsErrOf};
 ghost use Rattle.std.specs.List.{list_any};
 ghost use Rattle.beam_values.specs.Lines.{starts_line, next_start};
-ghost use Rattle.beam_values.specs.Tracking.{first_open};
-ghost use Rattle.beam_model.specs.Spread.{is_spoiled};
-ghost use Rattle.run_engine.specs.Working.{brought, spread_of, came, panes_element};
+ghost use Rattle.beam_values.specs.Tracking.{first_unattempted};
+ghost use Rattle.beam_model.specs.Spread.{is_poison};
+ghost use Rattle.run_engine.specs.Working.{file_outputs_at, spread_of, entry_output, panes_element};
 
 use beam_lines::{TimedLine, first_line, key_field, timed_line};
 use beam_values::{
@@ -49,12 +49,12 @@ pub fn work_bundle(
     requires unstarted { tracker.old.attempted ≡ None }
     requires in_file { tracker.old.range.from < tracker.old.range.to → tracker.old.range.to ≤ length file.now }
     // What came is what the positions up to the last attempted one bring.
-    ensures came { OnOk result (map came out.new ≡ map came out.old
-        ++ spread_of size file.now tracker.old.range.from (min (first_open tracker.old.range.from tracker.new.attempted) tracker.old.range.to)) }
-    ensures some { OnOk result (tracker.old.range.from < first_open tracker.old.range.from tracker.new.attempted) }
+    ensures outputs { OnOk result (map entry_output out.new ≡ map entry_output out.old
+        ++ spread_of size file.now tracker.old.range.from (min (first_unattempted tracker.old.range.from tracker.new.attempted) tracker.old.range.to)) }
+    ensures some { OnOk result (tracker.old.range.from < first_unattempted tracker.old.range.from tracker.new.attempted) }
     ensures range { tracker.new.range ≡ tracker.old.range }
     ensures poison { IsErrOf result WorkRefusal.Poison
-        → list_any is_spoiled (spread_of size file.now tracker.old.range.from tracker.old.range.to) ≡ true }
+        → list_any is_poison (spread_of size file.now tracker.old.range.from tracker.old.range.to) ≡ true }
 {
     let mut p = tracker.range().from();
     let mut emitted = 0;
@@ -95,10 +95,10 @@ fn work_position(
     requires in_file { p < length file.now }
     requires unused { windows.old ≡ [] }
     ensures unused { OnOk result (windows.new ≡ []) }
-    ensures came { OnOk result (map came out.new ≡ map came out.old ++ brought size file.now p) }
+    ensures outputs { OnOk result (map entry_output out.new ≡ map entry_output out.old ++ file_outputs_at size file.now p) }
     ensures next { IfOk result (λ step. step.next ≡ next_start file.now p) }
-    ensures emitted { IfOk result (λ step. IsTrue step.emitted ↔ (0 < length (brought size file.now p))) }
-    ensures poison { IsErrOf result WorkRefusal.Poison → list_any is_spoiled (brought size file.now p) ≡ true }
+    ensures emitted { IfOk result (λ step. IsTrue step.emitted ↔ (0 < length (file_outputs_at size file.now p))) }
+    ensures poison { IsErrOf result WorkRefusal.Poison → list_any is_poison (file_outputs_at size file.now p) ≡ true }
 {
     let line = first_line(file.split_at(p).1);
     let next = p + line.next;

@@ -1,7 +1,7 @@
 ghost use Rattle.std.specs.Prelude.{◌≡◌, ◌≤◌, ◌≤ℤ◌, pos, IfOk, IfErr, IsErrOf, [], ◌∷◌, length, true};
 ghost use Rattle.beam_model.specs.Plans.{panes_plan};
 ghost use Rattle.std.specs.List.{list_any};
-ghost use Rattle.beam_model.specs.Spread.{HasPoison, is_spoiled};
+ghost use Rattle.beam_model.specs.Spread.{HasPoison, is_poison};
 ghost use Rattle.run_engine.specs.Committing.{IsCommitted};
 ghost use Rattle.run_engine.specs.PanesRun.{IsPanesOutcome, IsPanesRun, IsRunEnd, Prevents, first_fault, IsNoSourceOrNoMemory};
 ghost use Rattle.run_engine.specs.Working.{panes_item, spread_of};
@@ -171,7 +171,7 @@ fn committed_of(
     requires bundle { 1 ≤ options.now.bundle }
     requires chunk { 1 ≤ options.now.chunk }
     ensures held { IfOk result (IsCommitted size bytes.now []) }
-    ensures poison { IsErrOf result WorkRefusal.Poison → list_any is_spoiled (spread_of size bytes.now 0 (length bytes.now)) ≡ true }
+    ensures poison { IsErrOf result WorkRefusal.Poison → list_any is_poison (spread_of size bytes.now 0 (length bytes.now)) ≡ true }
 {
     let mut pieces = Pieces::new(alloc);
     pieces.initial(0, 0, bytes.len() as u64, options.chunk)?;

@@ -14,7 +14,7 @@ use Rattle.std.proofs.Math.Nat.{mul-le-mul_right}
 use Rattle.beam_values.specs.Cover.{Place, times_at, times_pending, whole}
 use Rattle.beam_values.specs.Intervals.{times_in}
 use Rattle.beam_values.specs.Lines.{offsets}
-use Rattle.beam_values.specs.declared.outcome.Piece.{Piece}
+use Rattle.beam_values.specs.declared.piece.Piece.{Piece}
 use Rattle.split_core.specs.Order.{is_lower, with_piece, with_pieces, first_piece, first_pieces}
 use Rattle.split_core.proofs.Ordered.{nat_less, with_pieces-more, with_piece-behind}
 

@@ -7,12 +7,12 @@ use Rattle.std.proofs.lemmas.List.Sums.{sum_by-cons}
 use Rattle.beam_values.specs.Bags.{IsSameBag}
 use Rattle.beam_values.specs.Cover.{times_at, whole}
 use Rattle.beam_values.specs.Intervals.{times_in}
-use Rattle.beam_values.specs.declared.outcome.Done.{Done}
-use Rattle.beam_values.specs.declared.outcome.FileLen.{FileLen}
-use Rattle.beam_values.specs.declared.outcome.Piece.{Piece}
-use Rattle.split_core.specs.Holding.{IsListed, IsOut, IsHeld, IsCutOut}
+use Rattle.beam_values.specs.declared.piece.Done.{Done}
+use Rattle.beam_values.specs.declared.piece.FileLen.{FileLen}
+use Rattle.beam_values.specs.declared.piece.Piece.{Piece}
+use Rattle.split_core.specs.Partition.{IsListed, IsOut, IsPartition, IsCutOut}
 use Rattle.split_core.specs.Cuts.{part}
-use Rattle.split_core.proofs.Holding.{file_at, part_at, counted, both_same, listed_where_out}
+use Rattle.split_core.proofs.Partition.{file_at, part_at, counted, both_same, listed_where_out}
 
 three_parts : (from s t to p : ℕ) → from ≤ s → s ≤ t → t ≤ to
     → times_in (record { from = from; to = to }) p
@@ -77,14 +77,14 @@ module _ (out rest others : List Done) (node item from s t to attempts : ℕ) (s
         );
   }
 
-pub held_at_first : IsHeld [] [] []
+pub held_at_first : IsPartition [] [] []
 held_at_first = record { pending_listed = All-nil (λ p. IsListed [] p.node p.item); out_listed = All-nil (λ d. IsListed [] d.node d.item); times = λ place. refl }
 
 listed_same : (items others : List FileLen) → IsSameBag items others → (node item : ℕ) → IsListed items node item → IsListed others node item
 listed_same items others same node item h = omega (arith, h, same.weighs (λ f. counted (file_at node item f)))
 
 pub held_same : (items others : List FileLen) (pending : List Piece) (out outs : List Done) → IsSameBag items others → IsSameBag out outs
-    → IsHeld items pending out → IsHeld others pending outs
+    → IsPartition items pending out → IsPartition others pending outs
 held_same items others pending out outs same alike held = record {
   pending_listed = All-weaker (λ p. IsListed items p.node p.item) (λ p. IsListed others p.node p.item) (λ p h. listed_same items others same p.node p.item h) pending held.pending_listed;
   out_listed = All-weaker (λ d. IsOut outs d.node d.item) (λ d. IsListed others d.node d.item)

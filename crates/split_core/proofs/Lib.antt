@@ -1,4 +1,4 @@
 pub mod Ordered
 pub mod Chunks
-pub mod Holding
+pub mod Partition
 pub mod Cutting

@@ -17,7 +17,7 @@ use Rattle.std.proofs.lemmas.List.Sorted.{ranks_by, All-permutation, IsPermutati
 use Rattle.std.proofs.lemmas.List.Sums.{fold-append}
 use Rattle.beam_values.specs.Bags.{IsSameBag}
 use Rattle.beam_values.proofs.Bags.{bag_refl, bag_trans, bag_cons, bag_middle}
-use Rattle.beam_values.specs.declared.outcome.Piece.{Piece}
+use Rattle.beam_values.specs.declared.piece.Piece.{Piece}
 use Rattle.split_core.specs.Front.{first_is_lower}
 use Rattle.split_core.specs.Order.{piece_cmp, is_lower, with_piece, with_pieces, first_piece, IsAscending}
 

@@ -1,6 +1,6 @@
 -- The parts that a range is cut into.
 use Rattle.std.specs.Prelude.{ℕ}
-use Rattle.beam_values.specs.declared.outcome.Done.{Done}
+use Rattle.beam_values.specs.declared.piece.Done.{Done}
 
 -- the range [from, to) of an item
 abbrev pub part : ℕ → ℕ → ℕ → ℕ → Done

@@ -1,6 +1,6 @@
 -- The front of pending pieces.
 use Rattle.std.specs.Prelude.{Bool, false, List, [], ◌∷◌}
-use Rattle.beam_values.specs.declared.outcome.Piece.{Piece}
+use Rattle.beam_values.specs.declared.piece.Piece.{Piece}
 use Rattle.split_core.specs.Order.{is_lower}
 
 -- there is a first piece, and it is lower than this one

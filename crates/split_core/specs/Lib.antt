@@ -1,5 +1,5 @@
 pub mod Cuts
 pub mod Front
-pub mod Held
-pub mod Holding
+pub mod SeenPieces
+pub mod Partition
 pub mod Order

@@ -5,7 +5,7 @@ use Rattle.std.specs.declared.cmp.Ordering.{Ordering}
 use Rattle.std.specs.Ordering.{on, then_cmp, nat_cmp, int_cmp, is_lt}
 use Rattle.beam_values.specs.Lines.{offsets}
 use Rattle.beam_values.specs.Times.{least_time}
-use Rattle.beam_values.specs.declared.outcome.Piece.{Piece}
+use Rattle.beam_values.specs.declared.piece.Piece.{Piece}
 
 -- pieces by their node, their item, the ends of their range, what was seen before them, and how often they failed
 abbrev pub piece_cmp : Piece → Piece → Ordering

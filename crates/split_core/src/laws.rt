@@ -3,10 +3,10 @@
 
 ghost use Rattle.std.specs.Prelude.{◌≤◌, ℕ, ℤ, [], ◌∷◌, List};
 ghost use Rattle.beam_values.specs.Bags.{IsSameBag};
-ghost use Rattle.beam_values.specs.declared.outcome.Done.{Done};
-ghost use Rattle.beam_values.specs.declared.outcome.FileLen.{FileLen};
-ghost use Rattle.beam_values.specs.declared.outcome.Piece.{Piece};
-ghost use Rattle.split_core.specs.Holding.{IsHeld, IsCutOut};
+ghost use Rattle.beam_values.specs.declared.piece.Done.{Done};
+ghost use Rattle.beam_values.specs.declared.piece.FileLen.{FileLen};
+ghost use Rattle.beam_values.specs.declared.piece.Piece.{Piece};
+ghost use Rattle.split_core.specs.Partition.{IsPartition, IsCutOut};
 ghost use Rattle.split_core.specs.Cuts.{part};
 
 /// A range `[from, to)` that is out, wherever it stands among the others, may be cut into `[from, s)`,
@@ -22,11 +22,11 @@ pub fn the_middle_of_a_range_may_be_cut_out()
 
 /// Where no item is listed, nothing is pending and nothing is out.
 pub fn nothing_is_held_at_first()
-    ensures { IsHeld [] [] [] }
+    ensures { IsPartition [] [] [] }
 {}
 
 /// In which order the items are listed, and the ranges that are out, is no matter.
 pub fn the_order_of_items_and_ranges_is_no_matter()
     ensures { (items others : List FileLen) (pending : List Piece) (out outs : List Done)
-        → IsSameBag items others → IsSameBag out outs → IsHeld items pending out → IsHeld others pending outs }
+        → IsSameBag items others → IsSameBag out outs → IsPartition items pending out → IsPartition others pending outs }
 {}

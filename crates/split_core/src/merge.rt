@@ -1,6 +1,6 @@
 ghost use Rattle.std.specs.Prelude.{◌≡◌, ◌+◌, ◌≤◌, ◌<◌, [], ◌∷◌, ◌++◌, true, length, reverse, All};
 ghost use Rattle.std.specs.Int.{div_ceil};
-ghost use Rattle.beam_values.specs.declared.outcome.Piece.{Piece};
+ghost use Rattle.beam_values.specs.declared.piece.Piece.{Piece};
 ghost use Rattle.split_core.specs.Order.{is_lower, with_piece, with_pieces, first_pieces, IsAscending};
 ghost use Rattle.split_core.specs.Front.{first_is_lower};
 

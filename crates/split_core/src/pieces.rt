@@ -1,8 +1,8 @@
 ghost use Rattle.std.specs.Prelude.{◌≡◌, ◌↔◌, ◌≢◌, ◌+◌, ◌<◌, ◌≤◌, [], ◌∷◌, ◌++◌, List, false, length, reverse, All, IsTrue, OnOk, OnErr, IfNone, IfSome, MatchOption};
-ghost use Rattle.beam_values.specs.declared.outcome.Done.{Done};
-ghost use Rattle.beam_values.specs.declared.outcome.FileLen.{FileLen};
+ghost use Rattle.beam_values.specs.declared.piece.Done.{Done};
+ghost use Rattle.beam_values.specs.declared.piece.FileLen.{FileLen};
 ghost use Rattle.split_core.specs.Order.{is_lower, with_piece, with_pieces, first_pieces};
-ghost use Rattle.split_core.specs.Holding.{range_of, IsHeld, IsCutOut};
+ghost use Rattle.split_core.specs.Partition.{range_of, IsPartition, IsCutOut};
 
 use crate::merge::{put_first_pieces, put_in_order};
 use beam_values::{NoMemory, Piece, RoomyList};
@@ -22,9 +22,9 @@ pub struct Pieces {
 
 impl Model for Pieces {
     ghost use Rattle.std.specs.Prelude.{◌-◌, length, reverse};
-    ghost use Rattle.split_core.specs.Held.{Held, IsKept};
+    ghost use Rattle.split_core.specs.SeenPieces.{SeenPieces, IsKept};
 
-    ghost Value = { Held };
+    ghost Value = { SeenPieces };
 
     ghost view = { λ p. record { pending = reverse p.items.items; room = p.places - length p.items.items } };
 
@@ -51,8 +51,8 @@ impl Pieces {
         ensures ok { OnOk result (self.new.pending ≡ with_pieces (first_pieces node item len chunk) self.old.pending) }
         ensures err { OnErr result (self.new ≡ self.old) }
         ensures kept { self.old.room ≤ self.new.room }
-        ensures cover { OnOk result ((items : List FileLen) (out : List Done) → IsHeld items self.old.pending out
-            → IsHeld (items ++ record { node = node; item = item; len = len } ∷ []) self.new.pending out) }
+        ensures cover { OnOk result ((items : List FileLen) (out : List Done) → IsPartition items self.old.pending out
+            → IsPartition (items ++ record { node = node; item = item; len = len } ∷ []) self.new.pending out) }
     {
         let count = len.div_ceil(chunk) as usize;
         let Some(all) = self.items.len().checked_add(count) else {
@@ -71,8 +71,8 @@ impl Pieces {
         ensures lowest { IfSome result (λ piece. All (λ other. is_lower other piece ≡ false) self.new.pending) }
         ensures none { IfNone result (self.new ≡ self.old) }
         ensures kept { IfSome result (λ _. self.old.room + 1 ≤ self.new.room) }
-        ensures cover { IfSome result (λ piece. (items : List FileLen) (out : List Done) → IsHeld items self.old.pending out
-            → IsHeld items self.new.pending (out ++ range_of piece ∷ [])) }
+        ensures cover { IfSome result (λ piece. (items : List FileLen) (out : List Done) → IsPartition items self.old.pending out
+            → IsPartition items self.new.pending (out ++ range_of piece ∷ [])) }
     {
         self.items.pop()
     }
@@ -82,8 +82,8 @@ impl Pieces {
         requires { 0 < self.old.room }
         ensures pending { self.new.pending ≡ with_piece piece self.old.pending }
         ensures used { self.old.room ≤ self.new.room + 1 }
-        ensures cover { (items : List FileLen) (out rest : List Done) → IsCutOut out piece rest → IsHeld items self.old.pending out
-            → IsHeld items self.new.pending rest }
+        ensures cover { (items : List FileLen) (out rest : List Done) → IsCutOut out piece rest → IsPartition items self.old.pending out
+            → IsPartition items self.new.pending rest }
     {
         put_in_order(&mut self.items, piece);
     }
@@ -95,7 +95,7 @@ impl Pieces {
         ensures err { OnErr result (self.new ≡ self.old) }
         ensures kept { self.old.room ≤ self.new.room }
         ensures cover { OnOk result ((items : List FileLen) (out rest : List Done) → IsCutOut out piece rest
-            → IsHeld items self.old.pending out → IsHeld items self.new.pending rest) }
+            → IsPartition items self.old.pending out → IsPartition items self.new.pending rest) }
     {
         self.keep_more(1)?;
         self.give_back(piece);

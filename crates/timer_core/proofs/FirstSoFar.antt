@@ -6,7 +6,7 @@ use Rattle.std.proofs.lemmas.Int.{ints, by_lt_z}
 use Rattle.std.proofs.lemmas.Bool.{cases_lt}
 use Rattle.std.proofs.lemmas.List.{get_or_past}
 use Rattle.beam_values.specs.States.{timer_of, ComesNoLater, IsFirstTimer, IsNoneDue}
-use Rattle.beam_values.specs.declared.outcome.Timer.{Timer}
+use Rattle.beam_values.specs.declared.log.Timer.{Timer}
 use Rattle.timer_core.specs.FirstTimers.{IsNoneSet, IsLeastTime, earlier}
 
 pub record IsFirstBelow (timers : List (Option ℤ)) (k : ℕ) (timer : Timer) : Type 0 where

@@ -1,7 +1,7 @@
 -- Which timer comes first, and the least time that one is set to (Beam Programming Guide, State and Timers: event-time timers).
 use Rattle.std.specs.Prelude.{◌≡◌, ℕ, ℤ, ◌≤ℤ◌, List, Option, Some, None, if◌then◌else◌, int_le}
 use Rattle.beam_values.specs.States.{timer_of}
-use Rattle.beam_values.specs.declared.outcome.Timer.{Timer}
+use Rattle.beam_values.specs.declared.log.Timer.{Timer}
 
 -- no timer is set
 abbrev pub IsNoneSet : List (Option ℤ) → Type 0

@@ -1,6 +1,6 @@
 use Rattle.std.proofs.lemmas.List.Sums.{sum_by-append}
 use Rattle.beam_values.specs.Cover.{times_at}
-use Rattle.beam_values.specs.declared.outcome.Done.{Done}
+use Rattle.beam_values.specs.declared.piece.Done.{Done}
 use Rattle.beam_model.proofs.laws.covers_append.Goals as goal
 
 pub returns : goal.returns

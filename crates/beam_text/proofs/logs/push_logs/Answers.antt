@@ -2,7 +2,7 @@ use Rattle.std.proofs.Common.{rules}
 use Rattle.std.specs.Borrow.{Bor}
 use Rattle.std.proofs.lemmas.Cmp.{on_total}
 use Rattle.std.proofs.lemmas.Result.{on_ok_weaker}
-use Rattle.beam_values.specs.declared.outcome.KeyLog.{KeyLog}
+use Rattle.beam_values.specs.declared.log.KeyLog.{KeyLog}
 use Rattle.beam_model.specs.Rendering.{log_cmp}
 use Rattle.beam_text.proofs.Sorts.{adds_logs, log_total}
 use Rattle.beam_values.proofs.Sorts.{sorted_from_sort_by}

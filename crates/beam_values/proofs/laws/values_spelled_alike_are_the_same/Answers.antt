@@ -1,4 +1,4 @@
-use Rattle.beam_values.proofs.Words.{values_same}
+use Rattle.beam_values.proofs.Storable.{values_same}
 use Rattle.beam_values.proofs.laws.values_spelled_alike_are_the_same.Goals as goal
 
 pub returns : goal.returns

@@ -1,16 +1,16 @@
 use Rattle.std.proofs.Common.{ℤ, ◌≡◌, map, min, ◌<◌, ◌≤◌, ◌++◌, ◌∷◌, [], length, Err, ap, sym, subst, ◌∙◌, arith, true, to_z, of_z, w64}
 use Rattle.std.proofs.lemmas.Int.{ints}
 use Rattle.std.specs.List.{list_any}
-use Rattle.beam_model.specs.Spread.{is_spoiled}
-use Rattle.run_engine.specs.Working.{came, panes_item, spread_of, spread_of_done}
+use Rattle.beam_model.specs.Spread.{is_poison}
+use Rattle.run_engine.specs.Working.{entry_output, panes_item, spread_of, spread_of_done}
 use Rattle.run_engine.specs.declared.positions.WorkRefusal.TheVariants as refusal
 use Rattle.beam_values.specs.Intervals.{Offsets}
-use Rattle.beam_values.specs.Tracking.{Tracked, first_open}
+use Rattle.beam_values.specs.Tracking.{Tracked, first_unattempted}
 use Rattle.beam_values.specs.Bags.{IsSameBag}
 use Rattle.beam_model.specs.Positions.{item_len}
-use Rattle.beam_values.specs.declared.outcome.Done.{Done}
-use Rattle.split_core.specs.Holding.{IsHeld}
-use Rattle.run_engine.proofs.Commits.{in_file, poison_in_part, brought_more}
+use Rattle.beam_values.specs.declared.piece.Done.{Done}
+use Rattle.split_core.specs.Partition.{IsPartition}
+use Rattle.run_engine.proofs.Commits.{in_file, poison_in_part, outputs_more}
 use Rattle.run_engine.proofs.committing.work_piece.Goals as goal
 
 pub work_bundle-requires-clause-in_file : goal.work_bundle-requires-clause-in_file
@@ -25,7 +25,7 @@ returns-in-Err-clause-poison c = λ is.
     let poison : c.in-Err.refusal ≡ refusal.Poison = cc in
     let same : to_z w64 (of_z w64 c.args.size) ≡ c.args.size = omega (arith, ints) in
     let size = to_z w64 (of_z w64 c.args.size) in
-    let found = subst (λ (r : Offsets). list_any is_spoiled (spread_of size c.args.file.now r.from r.to) ≡ true) range (c.in-Err.ensures.poison (ap (λ x. Err x) poison)) in
+    let found = subst (λ (r : Offsets). list_any is_poison (spread_of size c.args.file.now r.from r.to) ≡ true) range (c.in-Err.ensures.poison (ap (λ x. Err x) poison)) in
     rw same at (poison_in_part size c.args.file.now c.args.piece.range.from c.args.piece.range.to (length c.args.file.now)
     (in_file c.args.file.now c.args.piece _ _ c.requires.taken.held) found)
 
@@ -36,11 +36,11 @@ returns-clause-held c =
     let same : to_z w64 (of_z w64 c.args.size) ≡ c.args.size = omega (arith, ints) in
     let size = to_z w64 (of_z w64 c.args.size) in
     let done_is = c.in_ok-commit.ensures.done ∙ ap (λ ds. ds ++ d ∷ []) c.work_bundle.ensures.done in
-    let came_is = subst (λ (t : Tracked). map came c.work_bundle.new.self.entries ≡ map came c.args.committed.now.entries
-    ++ spread_of size file t.range.from (min (first_open t.range.from c.work_bundle.new.tracker.attempted) t.range.to)) c.new-tracker.ensures c.in-Ok.ensures.came in
+    let outputs_are = subst (λ (t : Tracked). map entry_output c.work_bundle.new.self.entries ≡ map entry_output c.args.committed.now.entries
+    ++ spread_of size file t.range.from (min (first_unattempted t.range.from c.work_bundle.new.tracker.attempted) t.range.to)) c.new-tracker.ensures c.in-Ok.ensures.outputs in
     let range_is = ap (λ (x : Done). x.range) c.in_ok-done.ensures.range in
-    let more = brought_more size file c.args.committed.now.done d _ _ _ _ range_is (subst (λ (z : ℤ). IsSameBag (map came c.args.committed.now.entries) (spread_of_done z file c.args.committed.now.done)) (sym same) c.requires.taken.brought) (ap (map came) c.in_ok-commit.ensures.entries ∙ came_is) in
+    let more = outputs_more size file c.args.committed.now.done d _ _ _ _ range_is (subst (λ (z : ℤ). IsSameBag (map entry_output c.args.committed.now.entries) (spread_of_done z file c.args.committed.now.done)) (sym same) c.requires.taken.outputs) (ap (map entry_output) c.in_ok-commit.ensures.entries ∙ outputs_are) in
     record {
-      held = subst (λ ds. IsHeld (item_len (panes_item file) ∷ []) c.put_rest.new.pieces.pending ds) (sym done_is) (c.in_ok-done.ensures.cover _ _ c.requires.taken.held);
-      brought = subst (λ (z : ℤ). IsSameBag (map came c.commit.new.self.entries) (spread_of_done z file c.commit.new.self.done)) same (subst (λ ds. IsSameBag (map came c.commit.new.self.entries) (spread_of_done size file ds)) (sym done_is) more);
+      held = subst (λ ds. IsPartition (item_len (panes_item file) ∷ []) c.put_rest.new.pieces.pending ds) (sym done_is) (c.in_ok-done.ensures.cover _ _ c.requires.taken.held);
+      outputs = subst (λ (z : ℤ). IsSameBag (map entry_output c.commit.new.self.entries) (spread_of_done z file c.commit.new.self.done)) same (subst (λ ds. IsSameBag (map entry_output c.commit.new.self.entries) (spread_of_done size file ds)) (sym done_is) more);
     }

@@ -1,6 +1,6 @@
 use Rattle.std.proofs.Common.{◌∙◌, ◌++◌, List, sym, ap, subst}
-use Rattle.beam_values.specs.declared.outcome.Cell.{Cell}
-use Rattle.beam_values.specs.declared.outcome.Entry.{Entry}
+use Rattle.beam_values.specs.declared.cell.Cell.{Cell}
+use Rattle.beam_values.specs.declared.cell.Entry.{Entry}
 use Rattle.run_engine.specs.Grouped.{entries_of, AreCells}
 use Rattle.run_engine.proofs.Cells.{no_cells, none_after_comes}
 use Rattle.run_engine.proofs.grouping.cells_of.Goals as goal

@@ -1,6 +1,6 @@
 use Rattle.std.proofs.Common.{sym, subst, map, rules}
 use Rattle.beam_values.specs.Grouping.{IsPlainGrouping}
-use Rattle.beam_values.specs.declared.outcome.Entry.{Entry}
+use Rattle.beam_values.specs.declared.cell.Entry.{Entry}
 use Rattle.beam_values.proofs.Sorts.{sorted_from_sort_by}
 use Rattle.run_engine.specs.Grouped.{entry_cmp}
 use Rattle.run_engine.proofs.Cells.{entry_total}

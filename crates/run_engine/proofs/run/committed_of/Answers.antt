@@ -3,19 +3,19 @@ use Rattle.beam_values.proofs.Bags.{bag_refl}
 use Rattle.beam_values.specs.Bags.{IsSameBag}
 use Rattle.beam_model.specs.Positions.{item_len}
 use Rattle.split_core.proofs.Cutting.{held_at_first}
-use Rattle.split_core.specs.Holding.{IsHeld}
-use Rattle.run_engine.specs.Working.{came, panes_item, spread_of_done}
+use Rattle.split_core.specs.Partition.{IsPartition}
+use Rattle.run_engine.specs.Working.{entry_output, panes_item, spread_of_done}
 use Rattle.run_engine.proofs.run.committed_of.Goals as goal
 
 pub work_pieces-requires-clause-held : goal.work_pieces-requires-clause-held
 work_pieces-requires-clause-held c =
     let size = to_z w64 (of_z w64 c.args.size) in
     let file = c.args.bytes.now in
-    let none = subst (λ pending. IsHeld [] pending []) (sym (ap (λ p. p.pending) c.new-pieces.ensures)) held_at_first in
+    let none = subst (λ pending. IsPartition [] pending []) (sym (ap (λ p. p.pending) c.new-pieces.ensures)) held_at_first in
     let held = c.in_ok-initial.ensures.cover [] [] none in
     record {
-      held = subst (λ done. IsHeld (item_len (panes_item file) ∷ []) c.initial.new.self.pending done) (sym c.new.ensures) held;
-      brought =
-          subst (λ done. IsSameBag (map came c.new-2.result) (spread_of_done size file done)) (sym c.new.ensures)
-          (subst (λ entries. IsSameBag (map came entries) (spread_of_done size file [])) (sym c.new-2.ensures) (bag_refl []));
+      held = subst (λ done. IsPartition (item_len (panes_item file) ∷ []) c.initial.new.self.pending done) (sym c.new.ensures) held;
+      outputs =
+          subst (λ done. IsSameBag (map entry_output c.new-2.result) (spread_of_done size file done)) (sym c.new.ensures)
+          (subst (λ entries. IsSameBag (map entry_output entries) (spread_of_done size file [])) (sym c.new-2.ensures) (bag_refl []));
     }

@@ -1,6 +1,6 @@
 use Rattle.std.proofs.Common.{◌≡◌, ◌+◌, ◌≤◌, ◌<◌, ◌++◌, true, length, reverse}
 use Rattle.std.specs.List.{All}
-use Rattle.beam_values.specs.declared.outcome.Piece.{Piece}
+use Rattle.beam_values.specs.declared.piece.Piece.{Piece}
 use Rattle.split_core.specs.Order.{is_lower, with_piece}
 use Rattle.split_core.proofs.merge.pass_lower.Given as goal
 

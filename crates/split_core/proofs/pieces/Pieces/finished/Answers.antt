@@ -3,8 +3,8 @@ use Rattle.std.specs.List.{All}
 use Rattle.std.specs.Ordering.{nat_cmp}
 use Rattle.std.specs.Result.{is_err}
 use Rattle.std.proofs.lemmas.Fn.{always_returns_same}
-use Rattle.beam_values.specs.declared.outcome.Piece.{Piece}
-use Rattle.split_core.specs.Held.{Held}
+use Rattle.beam_values.specs.declared.piece.Piece.{Piece}
+use Rattle.split_core.specs.SeenPieces.{SeenPieces}
 use Rattle.split_core.specs.Order.{IsAscending}
 use Rattle.split_core.proofs.Ordered.{search_fails}
 use Rattle.split_core.proofs.pieces.Pieces.finished.Goals as goal
@@ -13,7 +13,7 @@ pub returns : goal.returns
 returns c =
     let items = c.as_slice.result.now in
     let node = c.args.node in
-    let same = ap (λ (h : Held). h.pending) c.self.view_is in
+    let same = ap (λ (h : SeenPieces). h.pending) c.self.view_is in
     let found =
     c.binary_search_by.ensures.position (λ y. nat_cmp node y.node)
     (always_returns_same _ (λ a r. r ≡ nat_cmp node a.0.now.node) _ (λ a r f k. search rules)) in

@@ -1,9 +1,9 @@
 -- Where the offsets of the source items are: each lies in one pending piece or in one range that is out (Splittable DoFn: restrictions partition their element).
 use Rattle.std.specs.Prelude.{◌≡◌, ℕ, ◌+◌, ◌<◌, ◌&&◌, ◌==◌, List, All, count_by}
 use Rattle.beam_values.specs.Cover.{Place, times_at, times_done, times_pending, times_listed}
-use Rattle.beam_values.specs.declared.outcome.Done.{Done}
-use Rattle.beam_values.specs.declared.outcome.FileLen.{FileLen}
-use Rattle.beam_values.specs.declared.outcome.Piece.{Piece}
+use Rattle.beam_values.specs.declared.piece.Done.{Done}
+use Rattle.beam_values.specs.declared.piece.FileLen.{FileLen}
+use Rattle.beam_values.specs.declared.piece.Piece.{Piece}
 
 -- a length is listed for this item of this node
 abbrev pub IsListed : List FileLen → ℕ → ℕ → Type 0
@@ -18,7 +18,7 @@ abbrev pub range_of : Piece → Done
 range_of piece = record { node = piece.node; item = piece.item; range = piece.range }
 
 -- pending pieces and the ranges that are out hold each offset of each listed item as often as it is listed, and no other
-pub record IsHeld (items : List FileLen) (pending : List Piece) (out : List Done) : Type 0 where
+pub record IsPartition (items : List FileLen) (pending : List Piece) (out : List Done) : Type 0 where
   pub pending_listed : All (λ piece. IsListed items piece.node piece.item) pending
   pub out_listed : All (λ part. IsListed items part.node part.item) out
   pub times : (place : Place) → times_pending pending place + times_done out place ≡ times_listed items place

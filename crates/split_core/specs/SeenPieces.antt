@@ -1,10 +1,10 @@
 -- What contracts see of the pending pieces.
 use Rattle.std.specs.Prelude.{ℕ, ◌+◌, ◌≤◌, List, length, reverse}
-use Rattle.beam_values.specs.declared.outcome.Piece.{Piece}
+use Rattle.beam_values.specs.declared.piece.Piece.{Piece}
 use Rattle.split_core.specs.Order.{IsAscending}
 
 -- the pieces in the order in which they are taken, and how many more can come before memory is asked for
-pub record Held : Type 0 where
+pub record SeenPieces : Type 0 where
   pub pending : List Piece
   pub room : ℕ
 

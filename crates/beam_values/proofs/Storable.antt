@@ -7,7 +7,7 @@ use Rattle.beam_values.specs.declared.value.Value.TheVariants.{Null, Int, Blob, 
 use Rattle.beam_values.specs.declared.value.Value.TheOpen as layer
 use Rattle.beam_values.specs.declared.value.Value.TheViews.{out-Value, out-roll-Value}
 use Rattle.beam_values.specs.declared.value.Value.TheFolds.{map-Value, every-Value, every_here-Value, every_held-Value, every_made-Value}
-use Rattle.beam_values.specs.Words.{LayerFitsWords, FitsWords}
+use Rattle.beam_values.specs.Storable.{IsStorableLayer, IsStorable}
 use Rattle.beam_values.specs.Spelling.{varint, two's_complement, spelling}
 use Rattle.beam_values.proofs.Lexicographic.{split_same}
 use Rattle.beam_values.proofs.SignedBits.{bits-same}
@@ -19,41 +19,41 @@ use Rattle.beam_values.proofs.Spellings.{values_decide}
 
 -- a value with the fact beside it
 abbrev Fitting : Type 0
-Fitting = (v : Value) × every-Value LayerFitsWords v
+Fitting = (v : Value) × every-Value IsStorableLayer v
 
-pub Null-fits : FitsWords Null
-Null-fits = record { every = subst (every-Value LayerFitsWords) rolls-Null (every_made-Value LayerFitsWords layer.Null layer.Null refl tt) }
+pub Null-fits : IsStorable Null
+Null-fits = record { every = subst (every-Value IsStorableLayer) rolls-Null (every_made-Value IsStorableLayer layer.Null layer.Null refl tt) }
 
-pub Int-fits : (n : ℤ) → FitsSigned w64 n → FitsWords (Int n)
-Int-fits n f = record { every = subst (every-Value LayerFitsWords) (rolls-Int n) (every_made-Value LayerFitsWords (layer.Int n) (layer.Int n) refl f) }
+pub Int-fits : (n : ℤ) → FitsSigned w64 n → IsStorable (Int n)
+Int-fits n f = record { every = subst (every-Value IsStorableLayer) (rolls-Int n) (every_made-Value IsStorableLayer (layer.Int n) (layer.Int n) refl f) }
 
-pub Blob-fits : (bytes : List ℕ) → FitsWords (Blob bytes)
-Blob-fits bytes = record { every = subst (every-Value LayerFitsWords) (rolls-Blob bytes) (every_made-Value LayerFitsWords (layer.Blob bytes) (layer.Blob bytes) refl tt) }
+pub Blob-fits : (bytes : List ℕ) → IsStorable (Blob bytes)
+Blob-fits bytes = record { every = subst (every-Value IsStorableLayer) (rolls-Blob bytes) (every_made-Value IsStorableLayer (layer.Blob bytes) (layer.Blob bytes) refl tt) }
 
-pub Pair-fits : (key value : Value) → FitsWords key → FitsWords value → FitsWords (Pair key value)
-Pair-fits key value k v = record { every = subst (every-Value LayerFitsWords) (rolls-Pair key value) (every_made-Value LayerFitsWords (layer.Pair key value) (layer.Pair (key, k.every) (value, v.every)) refl tt) }
+pub Pair-fits : (key value : Value) → IsStorable key → IsStorable value → IsStorable (Pair key value)
+Pair-fits key value k v = record { every = subst (every-Value IsStorableLayer) (rolls-Pair key value) (every_made-Value IsStorableLayer (layer.Pair key value) (layer.Pair (key, k.every) (value, v.every)) refl tt) }
 
-fitting : (items : List Value) → AllByRecursion FitsWords items → List Fitting
+fitting : (items : List Value) → AllByRecursion IsStorable items → List Fitting
 fitting [] h = []
 fitting (v ∷ vs) h = (v, h.0.every) ∷ fitting vs h.1
 
-fitting_of : (items : List Value) (h : AllByRecursion FitsWords items) → map (λ e. e.0) (fitting items h) ≡ items
+fitting_of : (items : List Value) (h : AllByRecursion IsStorable items) → map (λ e. e.0) (fitting items h) ≡ items
 unfolding fitting
 fitting_of [] h = refl
 fitting_of (v ∷ vs) h = ap (λ (rest : List Value). v ∷ rest) (fitting_of vs h.1)
 
-pub Seq-fits : (items : List Value) → AllByRecursion FitsWords items → FitsWords (Seq items)
-Seq-fits items h = record { every = subst (every-Value LayerFitsWords) (rolls-Seq items) (every_made-Value LayerFitsWords (layer.Seq items) (layer.Seq (fitting items h)) (ap layer.Seq (fitting_of items h)) tt) }
+pub Seq-fits : (items : List Value) → AllByRecursion IsStorable items → IsStorable (Seq items)
+Seq-fits items h = record { every = subst (every-Value IsStorableLayer) (rolls-Seq items) (every_made-Value IsStorableLayer (layer.Seq items) (layer.Seq (fitting items h)) (ap layer.Seq (fitting_of items h)) tt) }
 
 -- ---- what is inside
 
-pub fits-Int : (n : ℤ) → FitsWords (Int n) → FitsSigned w64 n
-fits-Int n f = subst LayerFitsWords (ap out-Value (sym (rolls-Int n)) ∙ out-roll-Value (layer.Int n)) (every_here-Value LayerFitsWords (Int n) f.every)
+pub fits-Int : (n : ℤ) → IsStorable (Int n) → FitsSigned w64 n
+fits-Int n f = subst IsStorableLayer (ap out-Value (sym (rolls-Int n)) ∙ out-roll-Value (layer.Int n)) (every_here-Value IsStorableLayer (Int n) f.every)
 
-pub fits-Pair : (key value : Value) → FitsWords (Pair key value) → FitsWords key × FitsWords value
-fits-Pair key value f = let held = every_held-Value LayerFitsWords (Pair key value) f.every in parts held.0 (held.1 ∙ ap out-Value (sym (rolls-Pair key value)) ∙ out-roll-Value (layer.Pair key value))
+pub fits-Pair : (key value : Value) → IsStorable (Pair key value) → IsStorable key × IsStorable value
+fits-Pair key value f = let held = every_held-Value IsStorableLayer (Pair key value) f.every in parts held.0 (held.1 ∙ ap out-Value (sym (rolls-Pair key value)) ∙ out-roll-Value (layer.Pair key value))
   where
-    parts : (y : layer.Value-F Fitting) → map-Value Fitting Value (λ e. e.0) y ≡ layer.Pair key value → FitsWords key × FitsWords value
+    parts : (y : layer.Value-F Fitting) → map-Value Fitting Value (λ e. e.0) y ≡ layer.Pair key value → IsStorable key × IsStorable value
     parts layer.Null e = absurd cc
     parts (layer.Int n) e = absurd cc
     parts (layer.Blob bytes) e = absurd cc
@@ -61,39 +61,39 @@ fits-Pair key value f = let held = every_held-Value LayerFitsWords (Pair key val
     parts (layer.Pair k v) e =
         let first : k.0 ≡ key = cc in
         let second : v.0 ≡ value = cc in
-        (record { every = subst (every-Value LayerFitsWords) first k.1 }, record { every = subst (every-Value LayerFitsWords) second v.1 })
+        (record { every = subst (every-Value IsStorableLayer) first k.1 }, record { every = subst (every-Value IsStorableLayer) second v.1 })
 
-all_fit : (es : List Fitting) → AllByRecursion FitsWords (map (λ e. e.0) es)
+all_fit : (es : List Fitting) → AllByRecursion IsStorable (map (λ e. e.0) es)
 all_fit [] = tt
 all_fit (e ∷ es) = (record { every = e.1 }, all_fit es)
 
-pub fits-Seq : (items : List Value) → FitsWords (Seq items) → AllByRecursion FitsWords items
-fits-Seq items f = let held = every_held-Value LayerFitsWords (Seq items) f.every in parts held.0 (held.1 ∙ ap out-Value (sym (rolls-Seq items)) ∙ out-roll-Value (layer.Seq items))
+pub fits-Seq : (items : List Value) → IsStorable (Seq items) → AllByRecursion IsStorable items
+fits-Seq items f = let held = every_held-Value IsStorableLayer (Seq items) f.every in parts held.0 (held.1 ∙ ap out-Value (sym (rolls-Seq items)) ∙ out-roll-Value (layer.Seq items))
   where
-    parts : (y : layer.Value-F Fitting) → map-Value Fitting Value (λ e. e.0) y ≡ layer.Seq items → AllByRecursion FitsWords items
+    parts : (y : layer.Value-F Fitting) → map-Value Fitting Value (λ e. e.0) y ≡ layer.Seq items → AllByRecursion IsStorable items
     parts layer.Null e = absurd cc
     parts (layer.Int n) e = absurd cc
     parts (layer.Blob bytes) e = absurd cc
     parts (layer.Pair k v) e = absurd cc
     parts (layer.Seq es) e =
         let same : map (λ (x : Fitting). x.0) es ≡ items = cc in
-        subst (AllByRecursion FitsWords) same (all_fit es)
+        subst (AllByRecursion IsStorable) same (all_fit es)
 
 -- ---- one value for each spelling
 
 abbrev IsAlone : Value → Type 0
-IsAlone v = (other : Value) → FitsWords v → FitsWords other → spelling v ≡ spelling other → v ≡ other
+IsAlone v = (other : Value) → IsStorable v → IsStorable other → spelling v ≡ spelling other → v ≡ other
 
 -- a value that is spelled by a tag and a text, against each form of value
 against : (v : Value) (tag : ℕ) (text : List ℕ) → spelling v ≡ tag ∷ text
     → (tag ≡ 0 → v ≡ Null)
-    → ((n : ℤ) → FitsWords (Int n) → tag ≡ 1 → text ≡ varint (two's_complement n) → v ≡ Int n)
+    → ((n : ℤ) → IsStorable (Int n) → tag ≡ 1 → text ≡ varint (two's_complement n) → v ≡ Int n)
     → ((bytes : List ℕ) → tag ≡ 2 → text ≡ varint (length bytes) ++ bytes → v ≡ Blob bytes)
-    → ((key value : Value) → FitsWords (Pair key value) → tag ≡ 3 → text ≡ spelling key ++ spelling value → v ≡ Pair key value)
-    → ((items : List Value) → FitsWords (Seq items) → tag ≡ 4 → text ≡ varint (length items) ++ flat_map spelling items → v ≡ Seq items)
-    → (other : Value) → FitsWords other → spelling v ≡ spelling other → v ≡ other
+    → ((key value : Value) → IsStorable (Pair key value) → tag ≡ 3 → text ≡ spelling key ++ spelling value → v ≡ Pair key value)
+    → ((items : List Value) → IsStorable (Seq items) → tag ≡ 4 → text ≡ varint (length items) ++ flat_map spelling items → v ≡ Seq items)
+    → (other : Value) → IsStorable other → spelling v ≡ spelling other → v ≡ other
 against v tag text is null int blob pair seq =
-    value_ind (λ other. FitsWords other → spelling v ≡ spelling other → v ≡ other)
+    value_ind (λ other. IsStorable other → spelling v ≡ spelling other → v ≡ other)
     (λ f e. null (heads_same tag 0 text [] (sym is ∙ e ∙ spelling-Null)).0)
     (λ n f e. let h = heads_same tag 1 text (varint (two's_complement n)) (sym is ∙ e ∙ spelling-Int n) in int n f h.0 h.1)
     (λ bytes f e. let h = heads_same tag 2 text (varint (length bytes) ++ bytes) (sym is ∙ e ∙ spelling-Blob bytes) in blob bytes h.0 h.1)
@@ -106,7 +106,7 @@ ints_same m n f g e = bits-same m n f g (varint-same (two's_complement m) (two's
 blobs_same : (a b : List ℕ) → varint (length a) ++ a ≡ varint (length b) ++ b → a ≡ b
 blobs_same a b e = (split_same (varint (length a)) (varint (length b)) a b (varints_decide (length a) (length b)) e).1
 
-items_same : (xs ys : List Value) → AllByRecursion IsAlone xs → AllByRecursion FitsWords xs → AllByRecursion FitsWords ys → length xs ≡ length ys → flat_map spelling xs ≡ flat_map spelling ys → xs ≡ ys
+items_same : (xs ys : List Value) → AllByRecursion IsAlone xs → AllByRecursion IsStorable xs → AllByRecursion IsStorable ys → length xs ≡ length ys → flat_map spelling xs ≡ flat_map spelling ys → xs ≡ ys
 items_same [] [] h f g l e = refl
 items_same [] (y ∷ ys) h f g l e = absurd (omega arith)
 items_same (x ∷ xs) [] h f g l e = absurd (omega arith)
@@ -114,13 +114,13 @@ items_same (x ∷ xs) (y ∷ ys) h f g l e =
     let parts = split_same (spelling x) (spelling y) (flat_map spelling xs) (flat_map spelling ys) (values_decide x y) (sym (flat_map-cons spelling x xs) ∙ e ∙ flat_map-cons spelling y ys) in
     ap₂ (λ (a : Value) (b : List Value). a ∷ b) (h.0 y f.0 g.0 parts.0) (items_same xs ys h.1 f.1 g.1 (omega arith) parts.1)
 
-seqs_same : (xs ys : List Value) → AllByRecursion IsAlone xs → FitsWords (Seq xs) → FitsWords (Seq ys) → varint (length xs) ++ flat_map spelling xs ≡ varint (length ys) ++ flat_map spelling ys → xs ≡ ys
+seqs_same : (xs ys : List Value) → AllByRecursion IsAlone xs → IsStorable (Seq xs) → IsStorable (Seq ys) → varint (length xs) ++ flat_map spelling xs ≡ varint (length ys) ++ flat_map spelling ys → xs ≡ ys
 seqs_same xs ys h f g e =
     let parts = split_same (varint (length xs)) (varint (length ys)) (flat_map spelling xs) (flat_map spelling ys) (varints_decide (length xs) (length ys)) e in
     items_same xs ys h (fits-Seq xs f) (fits-Seq ys g) (varint-same (length xs) (length ys) parts.0) parts.1
 
 -- values of 64 bits that are spelled alike are the same
-pub values_same : (v other : Value) → FitsWords v → FitsWords other → spelling v ≡ spelling other → v ≡ other
+pub values_same : (v other : Value) → IsStorable v → IsStorable other → spelling v ≡ spelling other → v ≡ other
 values_same =
     value_ind IsAlone
     (λ other f. against Null 0 [] spelling-Null (λ _. refl) (λ _ _ e _. absurd (omega arith)) (λ _ e _. absurd (omega arith)) (λ _ _ _ e _. absurd (omega arith)) (λ _ _ e _. absurd (omega arith)) other)

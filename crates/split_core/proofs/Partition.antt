@@ -6,11 +6,11 @@ use Rattle.std.proofs.lemmas.Bool.{false≢true, eqb-true}
 use Rattle.std.proofs.lemmas.List.Elements.{All-nil, All-cons, All-head, All-tail, All-weaker, All-append, All-map}
 use Rattle.std.proofs.lemmas.List.Sums.{sum_by-cons, sum_by_push}
 use Rattle.beam_values.specs.Cover.{times_at, whole}
-use Rattle.beam_values.specs.declared.outcome.Done.{Done}
-use Rattle.beam_values.specs.declared.outcome.FileLen.{FileLen}
-use Rattle.beam_values.specs.declared.outcome.Piece.{Piece}
+use Rattle.beam_values.specs.declared.piece.Done.{Done}
+use Rattle.beam_values.specs.declared.piece.FileLen.{FileLen}
+use Rattle.beam_values.specs.declared.piece.Piece.{Piece}
 use Rattle.split_core.specs.Order.{with_piece, with_pieces, first_piece, first_pieces}
-use Rattle.split_core.specs.Holding.{IsListed, IsOut, range_of, IsHeld, IsCutOut}
+use Rattle.split_core.specs.Partition.{IsListed, IsOut, range_of, IsPartition, IsCutOut}
 use Rattle.split_core.proofs.Ordered.{All-with_piece, bag_with_piece, reverse-push}
 use Rattle.split_core.proofs.Chunks.{first_times}
 
@@ -63,8 +63,8 @@ module _ (items : List FileLen) where
   abbrev part_listed : Done → Type 0
   part_listed part = IsListed items part.node part.item
 
-  pub held_take : (piece : Piece) (pending : List Piece) (out : List Done) → IsHeld items (piece ∷ pending) out
-      → IsHeld items pending (out ++ range_of piece ∷ [])
+  pub held_take : (piece : Piece) (pending : List Piece) (out : List Done) → IsPartition items (piece ∷ pending) out
+      → IsPartition items pending (out ++ range_of piece ∷ [])
   held_take piece pending out held = record {
     pending_listed = All-tail piece_listed piece pending held.pending_listed;
     out_listed = All-append part_listed out (range_of piece ∷ []) held.out_listed
@@ -75,8 +75,8 @@ module _ (items : List FileLen) where
         omega (arith, held.times place, sum_by-cons w piece pending, sum_by_push v out (range_of piece));
   }
 
-  pub held_initial : (node item len chunk : ℕ) (pending : List Piece) (out : List Done) → 1 ≤ chunk → IsHeld items pending out
-      → IsHeld (items ++ record { node = node; item = item; len = len } ∷ []) (with_pieces (first_pieces node item len chunk) pending) out
+  pub held_initial : (node item len chunk : ℕ) (pending : List Piece) (out : List Done) → 1 ≤ chunk → IsPartition items pending out
+      → IsPartition (items ++ record { node = node; item = item; len = len } ∷ []) (with_pieces (first_pieces node item len chunk) pending) out
   held_initial node item len chunk pending out some held =
       let file : FileLen = record { node = node; item = item; len = len } in
       let pieces = first_pieces node item len chunk in
@@ -105,8 +105,8 @@ module _ (items : List FileLen) where
       by_test false e behind =
           behind (omega (arith, here, sum_by-cons (λ d. counted (part_at node item d)) part parts, ap counted e))
 
-  pub held_put : (piece : Piece) (pending : List Piece) (out rest : List Done) → IsCutOut out piece rest → IsHeld items pending out
-      → IsHeld items (with_piece piece pending) rest
+  pub held_put : (piece : Piece) (pending : List Piece) (out rest : List Done) → IsCutOut out piece rest → IsPartition items pending out
+      → IsPartition items (with_piece piece pending) rest
   held_put piece pending out rest cut held = record {
     pending_listed = All-with_piece piece_listed piece pending (listed_where_out piece.node piece.item out held.out_listed cut.piece_out) held.pending_listed;
     out_listed = All-weaker (λ d. IsOut out d.node d.item) part_listed (λ d h. listed_where_out d.node d.item out held.out_listed h) rest cut.rest_out;
@@ -118,8 +118,8 @@ module _ (items : List FileLen) where
 -- what a pop takes is out
 pub popped_cover : (before after pending : List Piece) (r : Option Piece) → reverse before ≡ pending
     → MatchOption r (before ≡ []) (λ last. before ≡ after ++ last ∷ [])
-    → IfSome r (λ piece. (items : List FileLen) (out : List Done) → IsHeld items pending out → IsHeld items (reverse after) (out ++ range_of piece ∷ []))
+    → IfSome r (λ piece. (items : List FileLen) (out : List Done) → IsPartition items pending out → IsPartition items (reverse after) (out ++ range_of piece ∷ []))
 popped_cover before after pending None same popped = tt
 popped_cover before after pending (Some last) same popped = λ items out held.
     held_take items last (reverse after) out
-    (subst (λ (l : List Piece). IsHeld items l out) (sym same ∙ ap reverse popped ∙ reverse-push after last) held)
+    (subst (λ (l : List Piece). IsPartition items l out) (sym same ∙ ap reverse popped ∙ reverse-push after last) held)

@@ -3,12 +3,12 @@ use Rattle.std.specs.Prelude.{◌≡◌, ◌⊎◌, ℕ, ◌<◌, ◌≤◌, ℤ
 use Rattle.std.specs.List.{All}
 use Rattle.std.specs.Option.{option_map}
 use Rattle.beam_values.specs.Intervals.{Interval}
-use Rattle.beam_values.specs.Words.{FitsWords}
+use Rattle.beam_values.specs.Storable.{IsStorable}
 use Rattle.beam_values.specs.declared.element.Element.{Element}
-use Rattle.beam_values.specs.declared.outcome.Arrival.{Arrival}
-use Rattle.beam_values.specs.declared.outcome.Done.{Done}
-use Rattle.beam_values.specs.declared.outcome.LogInput.{LogInput}
-use Rattle.beam_values.specs.declared.outcome.LogInput.TheVariants.{Arrived, Fired}
+use Rattle.beam_values.specs.declared.arrival.Arrival.{Arrival}
+use Rattle.beam_values.specs.declared.piece.Done.{Done}
+use Rattle.beam_values.specs.declared.log.LogInput.{LogInput}
+use Rattle.beam_values.specs.declared.log.LogInput.TheVariants.{Arrived, Fired}
 use Rattle.beam_values.specs.declared.plan.Args.{Args}
 use Rattle.beam_values.specs.declared.plan.FnKind.{FnKind}
 use Rattle.beam_values.specs.declared.plan.FnKind.TheVariants.{Shift}
@@ -18,7 +18,7 @@ use Rattle.beam_values.specs.declared.plan.Plan.{Plan}
 use Rattle.beam_values.specs.declared.plan.SourceKind.{SourceKind}
 use Rattle.beam_values.specs.declared.value.Value.{Value}
 use Rattle.beam_values.specs.declared.plan.SourceKind.TheVariants.{Lines, TimedLines, Count, Made}
-use Rattle.beam_model.specs.Chains.{Brought, Came, Spoiled}
+use Rattle.beam_model.specs.Chains.{Output, Arrives, PoisonAt}
 use Rattle.beam_model.specs.Functions.{number_arg}
 use Rattle.beam_model.specs.Plain.{IsPlainRun}
 use Rattle.beam_model.specs.Positions.{SourceItem}
@@ -51,9 +51,9 @@ abbrev pub IsAfter : (NodeKind → Bool) → Plan → ℕ → ℕ → Type 0
 IsAfter passes plan n node = (n < node) × (option_map (λ it. passes it.kind) (slice_get plan.nodes node) ≡ Some true)
 
 -- what comes of an output of the node n ends at a barrier after it, or a ParDo after it finds it to be poison
-abbrev pub EndsAfter : Plan → ℕ → Brought → Type 0
-EndsAfter plan n (Came arrival) = IsAfter is_barrier plan n arrival.node
-EndsAfter plan n (Spoiled node) = IsAfter is_par_do plan n node
+abbrev pub EndsAfter : Plan → ℕ → Output → Type 0
+EndsAfter plan n (Arrives arrival) = IsAfter is_barrier plan n arrival.node
+EndsAfter plan n (PoisonAt node) = IsAfter is_par_do plan n node
 
 -- with the window and the pane's tag of an element, and not before it
 pub record KeepsPlace (e output : Element) : Type 0 where
@@ -94,5 +94,5 @@ IsNonEmpty span = span.start <ℤ span.end
 -- a plain run of values that a program can hold, in windows that are not empty
 pub record IsSoundRun (plan : Plan) (items : List SourceItem) (arrivals panes : List Arrival) : Type 0 where
   pub plain : IsPlainRun plan items arrivals panes
-  pub fits : All (λ pane. FitsWords pane.element.value) panes
+  pub fits : All (λ pane. IsStorable pane.element.value) panes
   pub held : All (λ arrival. IsNonEmpty arrival.element.span) arrivals

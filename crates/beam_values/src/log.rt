@@ -1,0 +1,33 @@
+use crate::{Element, Span, Time, Value};
+use beam_containers::List;
+
+/// A timer of a key and window: its name, 0 to 7, and the time at which it is due.
+#[derive(Clone, Copy, Debug, PartialEq, Eq)]
+pub struct Timer {
+    pub name: u8,
+    pub time: Time,
+}
+
+/// What a stateful function is called on.
+#[derive(Debug, Drop)]
+pub enum LogInput {
+    Arrived(Element),
+    Fired(Timer),
+}
+
+/// A call of a stateful function, and the commit that it belongs to.
+#[derive(Debug, Drop)]
+pub struct LogEntry {
+    pub input: LogInput,
+    pub commit: u32,
+    pub outputs: List<Element>,
+}
+
+/// The calls of a stateful node for one key and window, in their order.
+#[derive(Debug, Drop)]
+pub struct KeyLog {
+    pub node: u32,
+    pub key: Value,
+    pub span: Span,
+    pub entries: List<LogEntry>,
+}
