@@ -13,7 +13,7 @@ use Rattle.beam_values.specs.Orders.{value_cmp}
 use Rattle.beam_values.specs.Spelling.{spelling}
 use Rattle.beam_values.specs.declared.value.Value.{Value}
 use Rattle.beam_values.proofs.Bags.{bag_refl, bag_cons, bag_trans}
-use Rattle.beam_model.specs.Steps.{insert_value, ascending}
+use Rattle.beam_model.specs.Functions.{insert_value, ascending}
 
 pub value_total : IsTotalOrder value_cmp
 value_total = on_total spelling nat_list_cmp_total

@@ -12,14 +12,15 @@ use Rattle.beam_values.specs.declared.plan.NodeKind.TheVariants.{Source, ParDo, 
 use Rattle.beam_values.specs.declared.plan.Plan.{Plan}
 use Rattle.beam_model.specs.Chains.{Output, Arrives, PoisonAt, carried, through, chain_from, chain}
 use Rattle.beam_model.specs.Functions.{emits}
-use Rattle.beam_model.specs.Premises.{is_barrier, is_par_do, EndsAfter}
+use Rattle.beam_values.specs.Nodes.{is_barrier_kind, is_par_do_kind}
+use Rattle.beam_model.specs.Premises.{EndsAfter}
 use Rattle.beam_model.proofs.Lists.{each-append, each-flat_map}
 
 module _ (P : Output → Type 0) where
   -- what may come of an element at a node: its arrival at a barrier, or its poison at a ParDo
   record MayEnd (node : ℕ) (kind : NodeKind) : Type 0 where
-    arrived : (e : Element) → is_barrier kind ≡ true → P (Arrives (record { node = node; element = e }))
-    spoiled : is_par_do kind ≡ true → P (PoisonAt node)
+    arrived : (e : Element) → is_barrier_kind kind ≡ true → P (Arrives (record { node = node; element = e }))
+    poisoned : is_par_do_kind kind ≡ true → P (PoisonAt node)
 
   -- the same of all nodes, the first of which has the number `next`
   abbrev AllMayEnd : List Node → ℕ → Type 0
@@ -33,13 +34,13 @@ module _ (P : Output → Type 0) where
 
   carried_ends : (node : ℕ) (onward : Element → List Output) → ((e : Element) → AllByRecursion P (onward e)) → P (PoisonAt node)
       → (given : Option (List Element)) → AllByRecursion P (carried node onward given)
-  carried_ends node onward ends spoiled None = (spoiled, tt)
-  carried_ends node onward ends spoiled (Some outputs) = each-flat_map P onward ends outputs
+  carried_ends node onward ends poisoned None = (poisoned, tt)
+  carried_ends node onward ends poisoned (Some outputs) = each-flat_map P onward ends outputs
 
   through_ends : (node : ℕ) (kind : NodeKind) → MayEnd node kind → (onward : Element → List Output) → ((e : Element) → AllByRecursion P (onward e))
       → (e : Element) → AllByRecursion P (through node kind onward e)
   through_ends node (Source work args files estimator) may onward ends e = tt
-  through_ends node (ParDo work args) may onward ends e = carried_ends node onward ends (may.spoiled refl) (emits work args e)
+  through_ends node (ParDo work args) may onward ends e = carried_ends node onward ends (may.poisoned refl) (emits work args e)
   through_ends node Flatten may onward ends e = ends e
   through_ends node (WindowInto strategy) may onward ends e =
       each-flat_map P (λ span. onward (record e { span = span })) (λ span. ends (record e { span = span })) (windows_of strategy e.time)
@@ -79,6 +80,6 @@ chains_end plan n e =
 
     may : AllMayEnd (EndsAfter plan n) (drop (n + 1) plan.nodes) (n + 1)
     may k node here = record {
-      arrived = λ e barrier. (omega arith, ap (option_map (λ (it : Node). is_barrier it.kind)) (at k node here) ∙ ap Some barrier);
-      spoiled = λ function. (omega arith, ap (option_map (λ (it : Node). is_par_do it.kind)) (at k node here) ∙ ap Some function);
+      arrived = λ e barrier. (omega arith, ap (option_map (λ (it : Node). is_barrier_kind it.kind)) (at k node here) ∙ ap Some barrier);
+      poisoned = λ function. (omega arith, ap (option_map (λ (it : Node). is_par_do_kind it.kind)) (at k node here) ∙ ap Some function);
     }

@@ -14,8 +14,10 @@ use Rattle.beam_values.specs.Intervals.{Interval}
 use Rattle.beam_values.specs.Grouping.{key_of}
 use Rattle.beam_values.specs.declared.element.Element.{Element}
 use Rattle.beam_values.proofs.Bags.{bag_refl, bag_sym, bag_trans, bag_from_same, bag_map, bag_filter, bag_count, sum_by-map}
-use Rattle.beam_model.specs.Premises.{IsOrdered, IsNonEmpty}
-use Rattle.beam_model.specs.Sessions.{IsApart, LiesIn, IsInside, IsSession, is_keyed, spans_of, Merged, IsMergedIn, in_session, IsMerging}
+use Rattle.beam_values.specs.Sessions.{IsNonEmpty}
+use Rattle.beam_model.specs.Premises.{IsOrdered}
+use Rattle.beam_values.specs.Sessions.{IsApart, LiesIn, IsInside, IsSession}
+use Rattle.beam_model.specs.Sessions.{is_keyed, spans_of, Merged, IsMergedIn, in_session, IsMerging}
 use Rattle.beam_model.proofs.Groupings.{own_cell, in_own_cell, same_cell, same_span}
 use Rattle.beam_model.proofs.Matching.{any_moved, all_moved, count_member}
 use Rattle.beam_model.proofs.Sessions.{sessions_apart, spans_alike}

@@ -24,7 +24,9 @@ use Rattle.beam_model.specs.Values.{KeyedValue, blob, int, pair, seq, as_blob, a
 use Rattle.beam_model.specs.Functions.{number_arg, text_arg, later_by, in_word, valued, one, keyed_text, on_part, int_in, sum_in, count_in, greatest_in, from_blob, from_pair, kept_prefix, emits}
 use Rattle.beam_model.specs.Texts.{words, fields, begins_with}
 use Rattle.beam_model.specs.Premises.{KeepsPlace, IsForward, IsOfCall}
-use Rattle.beam_model.specs.Steps.{KeptState, Stepped, bag, with_cell, stepped, timer_output, holds_value, ascending, sum_so_far, collected, last_batch, on_element, on_first_timer, steps}
+use Rattle.beam_values.specs.States.{KeptState}
+use Rattle.beam_model.specs.Functions.{ascending}
+use Rattle.beam_model.specs.Steps.{Stepped, bag, with_cell, stepped, timer_output, holds_value, sum_so_far, collected, last_batch, on_element, on_first_timer, steps}
 use Rattle.beam_model.proofs.Lists.{each-map}
 
 -- of what an option gives, where it gives something

@@ -35,9 +35,9 @@ within_below TimedLines file m n below within = omega arith
 within_below Count file m n below within = tt
 within_below Made file m n below within = tt
 
-pub brought_step : (plan : Plan) (item : SourceItem) (p to : ℕ) → p < to → IsWithin item.work item.file to
+pub spread_steps : (plan : Plan) (item : SourceItem) (p to : ℕ) → p < to → IsWithin item.work item.file to
     → spread_range plan item p to ≡ outputs_at plan item p ++ spread_range plan item (next_position item.work item.file p) to
-brought_step plan item p to inside within =
+spread_steps plan item p to inside within =
     spread-step (outputs_at plan item) p (next_position item.work item.file p) to inside
     (next_rises item.work item.file p (within_below item.work item.file (p + 1) to (omega arith) within)).0
     (λ q above below. ap (emission_outputs plan item.node) (between_nothing item.work item.args item.file p q above below))

@@ -16,8 +16,10 @@ use Rattle.beam_values.specs.declared.plan.Strategy.TheVariants.{Global, Fixed, 
 use Rattle.beam_values.proofs.Bags.{sum_by-map, sum_by-flat_map, sum_by-filter}
 use Rattle.beam_model.specs.Chains.{Output, Arrives, PoisonAt, chain}
 use Rattle.beam_model.specs.Flow.{is_at, elements_at}
-use Rattle.beam_model.specs.Premises.{EndsAfter, IsNonEmpty, IsSoundRun}
-use Rattle.beam_model.specs.Plain.{is_group, is_stateful, strategy_of, IsPlainGroup, IsGroupedBy, plain_flow}
+use Rattle.beam_values.specs.Sessions.{IsNonEmpty}
+use Rattle.beam_model.specs.Premises.{EndsAfter, IsSoundRun}
+use Rattle.beam_values.specs.Nodes.{is_group, is_stateful, strategy_of}
+use Rattle.beam_model.specs.Plain.{IsPlainGroup, IsGroupedBy, plain_flow}
 use Rattle.beam_model.specs.Positions.{SourceItem}
 use Rattle.beam_model.specs.Spread.{spread_all}
 use Rattle.beam_model.proofs.Agreement.{groupings_agree}

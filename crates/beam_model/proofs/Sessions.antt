@@ -11,7 +11,8 @@ use Rattle.beam_values.specs.Spelling.{spelling}
 use Rattle.beam_values.specs.declared.value.Value.{Value}
 use Rattle.beam_values.specs.declared.element.Element.{Element}
 use Rattle.beam_model.specs.Premises.{IsOrdered, AreOneOrApart}
-use Rattle.beam_model.specs.Sessions.{IsApart, LiesIn, IsInside, IsSession, spans_of, Merged, IsMergedIn, in_session, IsMerging}
+use Rattle.beam_values.specs.Sessions.{IsApart, LiesIn, IsInside, IsSession}
+use Rattle.beam_model.specs.Sessions.{spans_of, Merged, IsMergedIn, in_session, IsMerging}
 
 -- what covers the start of a session is part of it, so it doesn't start before it
 no_cover_of_start : (span session : Interval) → IsOrdered session → IsInside span session.start → (LiesIn span session ⊎ IsApart span session) → ⊥

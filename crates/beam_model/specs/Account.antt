@@ -1,7 +1,8 @@
--- The account: what came to the barriers of a run is what flows to them, each once.
-use Rattle.std.specs.Prelude.{ℕ, List, [], ◌∷◌, ◌++◌, map}
-use Rattle.std.specs.List.{flat_map}
+-- The account: what arrived at the barriers of a run is what flows to them, each once.
+use Rattle.std.specs.Prelude.{◌≡◌, ℕ, true, List, [], ◌∷◌, ◌++◌, map}
+use Rattle.std.specs.List.{All, flat_map}
 use Rattle.beam_values.specs.Bags.{IsSameBag}
+use Rattle.beam_values.specs.Nodes.{is_group, is_stateful, is_write}
 use Rattle.beam_values.specs.declared.arrival.Arrival.{Arrival}
 use Rattle.beam_values.specs.declared.cell.Cell.{Cell}
 use Rattle.beam_values.specs.declared.cell.Dropped.{Dropped}
@@ -28,11 +29,17 @@ input_arrival node (Fired timer) = []
 abbrev pub log_arrivals : KeyLog → List Arrival
 log_arrivals log = flat_map (λ entry. input_arrival log.node entry.input) log.entries
 
--- what came to the Groups, also what they dropped, to the Stateful nodes and to the Writes
+-- what arrived at the Groups, also what they dropped, at the Stateful nodes and at the Writes
 abbrev pub arrivals : Outcome → List Arrival
 arrivals o = flat_map cell_arrivals o.cells ++ (map dropped_arrival o.dropped ++ (flat_map log_arrivals o.logs ++ o.written))
 
--- It is one bag with the flow of the outcome, and nothing of that is poison. So every position's outputs, every pane and every stateful output
--- came to each barrier that it reaches exactly once, and nothing else came.
-abbrev pub IsAccounted : List SourceItem → Outcome → Type 0
-IsAccounted items o = IsSameBag (flow o.plan items o.panes o.logs) (map Arrives (arrivals o))
+-- What arrived is one bag with the flow of the outcome, and nothing of that is poison: every position's outputs, every pane and every stateful output
+-- came to each barrier that it reaches exactly once, and nothing else did. Each part of the record is of nodes of its kind, so what a Group took is in
+-- its cells or dropped, what a Stateful node took in its logs, and what a Write took is written.
+pub record IsAccounted (items : List SourceItem) (o : Outcome) : Type 0 where
+  pub cells : All (λ cell. is_group o.plan cell.node ≡ true) o.cells
+  pub dropped : All (λ dropped. is_group o.plan dropped.node ≡ true) o.dropped
+  pub panes : All (λ pane. is_group o.plan pane.node ≡ true) o.panes
+  pub logs : All (λ log. is_stateful o.plan log.node ≡ true) o.logs
+  pub written : All (λ arrival. is_write o.plan arrival.node ≡ true) o.written
+  pub flow : IsSameBag (flow o.plan items o.panes o.logs) (map Arrives (arrivals o))

@@ -11,15 +11,15 @@ use Rattle.beam_values.specs.declared.plan.NodeKind.TheVariants.{Source, ParDo, 
 use Rattle.beam_values.specs.declared.plan.Plan.{Plan}
 use Rattle.beam_model.specs.Functions.{emits}
 
--- what comes of an element: it arrived at a barrier, which is a Group, a Stateful node or a Write; or a node found it to be poison
+-- an output at the end of its way: it arrives at a barrier, which is a Group, a Stateful node or a Write; or it is poison at the node of this number
 pub data Output : Type 0 where
   Arrives : Arrival → Output
   PoisonAt : ℕ → Output
 
-abbrev pub arrives : ℕ → Element → List Output
-arrives node e = Arrives (record { node = node; element = e }) ∷ []
+abbrev pub arrives_at : ℕ → Element → List Output
+arrives_at node e = Arrives (record { node = node; element = e }) ∷ []
 
--- what comes of what a function gives, each in turn
+-- where the outputs of a function get to, each in turn; without outputs the element is poison at its node
 abbrev pub carried : ℕ → (Element → List Output) → Option (List Element) → List Output
 carried node onward None = PoisonAt node ∷ []
 carried node onward (Some outputs) = flat_map onward outputs
@@ -31,9 +31,9 @@ through node (ParDo work args) onward e = carried node onward (emits work args e
 through node Flatten onward e = onward e
 -- once in each window of its time, ascending; time, value and pane stay
 through node (WindowInto strategy) onward e = flat_map (λ span. onward (record e { span = span })) (windows_of strategy e.time)
-through node (Group trigger) onward e = arrives node e
-through node (Stateful work args log) onward e = arrives node e
-through node (Write label) onward e = arrives node e
+through node (Group trigger) onward e = arrives_at node e
+through node (Stateful work args log) onward e = arrives_at node e
+through node (Write label) onward e = arrives_at node e
 
 -- What an output of the node `from` brings by way of these nodes, the first of which has the number `next`: each node that names `from` as an
 -- input takes it, ascending, and as often as it names it.

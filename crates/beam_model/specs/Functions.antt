@@ -2,6 +2,8 @@
 use Rattle.std.specs.Prelude.{ℕ, ℤ, pos, negsuc, ◌+ℤ◌, ◌&&◌, if◌then◌else◌, int_le, List, [], ◌∷◌, length, map, fold, slice_get, Option, Some, None}
 use Rattle.std.specs.Option.{option_map, option_and_then}
 use Rattle.std.specs.Int.{int_min, int_max}
+use Rattle.std.specs.Ordering.{is_lt}
+use Rattle.beam_values.specs.Orders.{value_cmp}
 use Rattle.beam_values.specs.Times.{greatest_time}
 use Rattle.beam_values.specs.Windows.{or_zero}
 use Rattle.beam_values.specs.Functions.{key_field}
@@ -73,6 +75,16 @@ count_in part = option_map (λ items. int (pos (length items))) (as_seq part)
 
 abbrev pub greatest_in : Value → Option Value
 greatest_in part = option_map greatest_of (option_and_then numbers_in (as_seq part))
+
+-- a value put before the first one that it is less than or equal to
+abbrev pub insert_value : Value → List Value → List Value
+insert_value v [] = v ∷ []
+insert_value v (w ∷ ws) = if is_lt (value_cmp w v) then w ∷ insert_value v ws else v ∷ w ∷ ws
+
+-- values in ascending order
+abbrev pub ascending : List Value → List Value
+ascending [] = []
+ascending (v ∷ vs) = insert_value v (ascending vs)
 
 -- the elements that a value gives where it has the form that the function takes; poison is None
 abbrev pub from_blob : Element → (List ℕ → Option (List Element)) → Option (List Element)

@@ -1,4 +1,4 @@
--- What the laws speak of.
+-- The premises of the laws, and what they say of.
 use Rattle.std.specs.Prelude.{◌≡◌, ◌⊎◌, ℕ, ◌<◌, ◌≤◌, ℤ, pos, ◌≤ℤ◌, ◌<ℤ◌, Bool, true, false, List, length, slice_get, Some}
 use Rattle.std.specs.List.{All}
 use Rattle.std.specs.Option.{option_map}
@@ -22,29 +22,13 @@ use Rattle.beam_model.specs.Chains.{Output, Arrives, PoisonAt}
 use Rattle.beam_model.specs.Functions.{number_arg}
 use Rattle.beam_model.specs.Plain.{IsPlainRun}
 use Rattle.beam_model.specs.Positions.{SourceItem}
-use Rattle.beam_model.specs.Sessions.{is_keyed, IsApart}
-
--- at most the length of the file, where the source reads one
-abbrev pub IsWithin : SourceKind → List ℕ → ℕ → Type 0
-IsWithin Lines file n = n ≤ length file
-IsWithin TimedLines file n = n ≤ length file
-IsWithin Count file n = Unit {0}
-IsWithin Made file n = Unit {0}
+use Rattle.beam_values.specs.Nodes.{is_barrier_kind, is_par_do_kind}
+use Rattle.beam_values.specs.Sessions.{IsApart}
+use Rattle.beam_model.specs.Sessions.{is_keyed}
 
 -- the range `[from, to)` of an item, committed
 abbrev pub done_range : ℕ → ℕ → ℕ → ℕ → Done
 done_range node item from to = record { node = node; item = item; range = record { from = from; to = to } }
-
--- where elements end: at a Group, a Stateful node or a Write
-abbrev pub is_barrier : NodeKind → Bool
-is_barrier (Group trigger) = true
-is_barrier (Stateful work args log) = true
-is_barrier (Write label) = true
-is_barrier _ = false
-
-abbrev pub is_par_do : NodeKind → Bool
-is_par_do (ParDo work args) = true
-is_par_do _ = false
 
 -- a node of the plan, after the node n, whose kind passes a test
 abbrev pub IsAfter : (NodeKind → Bool) → Plan → ℕ → ℕ → Type 0
@@ -52,8 +36,8 @@ IsAfter passes plan n node = (n < node) × (option_map (λ it. passes it.kind) (
 
 -- what comes of an output of the node n ends at a barrier after it, or a ParDo after it finds it to be poison
 abbrev pub EndsAfter : Plan → ℕ → Output → Type 0
-EndsAfter plan n (Arrives arrival) = IsAfter is_barrier plan n arrival.node
-EndsAfter plan n (PoisonAt node) = IsAfter is_par_do plan n node
+EndsAfter plan n (Arrives arrival) = IsAfter is_barrier_kind plan n arrival.node
+EndsAfter plan n (PoisonAt node) = IsAfter is_par_do_kind plan n node
 
 -- with the window and the pane's tag of an element, and not before it
 pub record KeepsPlace (e output : Element) : Type 0 where
@@ -86,13 +70,3 @@ IsOrdered span = span.start ≤ℤ span.end
 -- elements of this key are in one window, or in two that are apart
 abbrev pub AreOneOrApart : Value → Element → Element → Type 0
 AreOneOrApart key a b = is_keyed key a ≡ true → is_keyed key b ≡ true → (a.span ≡ b.span) ⊎ IsApart a.span b.span
-
--- it holds some time
-abbrev pub IsNonEmpty : Interval → Type 0
-IsNonEmpty span = span.start <ℤ span.end
-
--- a plain run of values that a program can hold, in windows that are not empty
-pub record IsSoundRun (plan : Plan) (items : List SourceItem) (arrivals panes : List Arrival) : Type 0 where
-  pub plain : IsPlainRun plan items arrivals panes
-  pub fits : All (λ pane. IsStorable pane.element.value) panes
-  pub held : All (λ arrival. IsNonEmpty arrival.element.span) arrivals

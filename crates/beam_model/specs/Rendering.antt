@@ -1,10 +1,10 @@
 -- The text of an outcome: what its Writes took, and the calls of its logged stateful nodes.
-use Rattle.std.specs.Prelude.{◌≡◌, ℕ, ◌+◌, Bool, false, if◌then◌else◌, nat_lt, List, [], ◌∷◌, ◌++◌, length, slice_get, unwrap_or, codes, decimal}
+use Rattle.std.specs.Prelude.{◌≡◌, ℕ, ℤ, pos, ◌+◌, sum_by, map, Bool, false, if◌then◌else◌, nat_lt, List, [], ◌∷◌, ◌++◌, length, slice_get, unwrap_or, codes, decimal}
 use Rattle.std.specs.declared.cmp.Ordering.{Ordering}
 use Rattle.std.specs.Fmt.{signed_decimal}
 use Rattle.std.specs.List.{flat_map, filter}
 use Rattle.std.specs.List.Sorted.{IsSorted}
-use Rattle.std.specs.Option.{option_map}
+use Rattle.std.specs.Option.{option_map, option_and_then}
 use Rattle.std.specs.Ordering.{on, then_cmp, nat_cmp, int_cmp}
 use Rattle.beam_values.specs.Bags.{IsSameBag}
 use Rattle.beam_values.specs.Elements.{element_cmp}
@@ -21,7 +21,10 @@ use Rattle.beam_values.specs.declared.plan.Node.{Node}
 use Rattle.beam_values.specs.declared.plan.NodeKind.{NodeKind}
 use Rattle.beam_values.specs.declared.plan.NodeKind.TheVariants.{Stateful, Write}
 use Rattle.beam_values.specs.declared.plan.Plan.{Plan}
+use Rattle.beam_values.specs.declared.value.Value.{Value}
 use Rattle.beam_model.specs.Flow.{elements_at}
+use Rattle.beam_model.specs.Functions.{sum_of}
+use Rattle.beam_model.specs.Values.{as_int, as_pair, as_seq}
 
 -- the number of a Write and its label
 pub record Labelled : Type 0 where
@@ -97,3 +100,24 @@ abbrev pub IsRendering : Outcome → List ℕ → Type 0
 IsRendering o text =
     (front : List ℕ) × (back : List ℕ) × IsWritten (nat_lt 1 (length (writes o.plan))) o.written (writes o.plan) front
     × IsLogged o.plan o.logs back × (text ≡ front ++ back)
+
+-- The summary of an outcome: how many positions its source items have, how many elements were written, how many items the sequences of these have,
+-- and the sum of the whole numbers among them. What is written as a key and a sequence is a pane of a Group.
+abbrev pub items_written : Element → List Value
+items_written e = unwrap_or (option_and_then (λ keyed. as_seq keyed.part) (as_pair e.value)) []
+
+abbrev pub all_items_written : Outcome → List Value
+all_items_written o = flat_map (λ arrival. items_written arrival.element) o.written
+
+abbrev pub number_or_zero : Value → ℤ
+number_or_zero v = unwrap_or (as_int v) (pos 0)
+
+abbrev pub summary_line : List ℕ → List ℕ → List ℕ
+summary_line name number = name ++ 32 ∷ (number ++ 10 ∷ [])
+
+abbrev pub summary : Outcome → List ℕ
+summary o =
+    summary_line (codes "lines") (decimal (sum_by (λ file. file.len) o.files))
+    ++ (summary_line (codes "panes") (decimal (length o.written))
+    ++ (summary_line (codes "values") (decimal (length (all_items_written o)))
+    ++ summary_line (codes "sum") (signed_decimal (sum_of (map number_or_zero (all_items_written o))))))

@@ -2,12 +2,10 @@
 use Rattle.std.specs.Prelude.{ℕ, ℤ, pos, ◌+ℤ◌, Bool, true, ◌==◌, if◌then◌else◌, int_le, List, [], ◌∷◌, ◌++◌, length, map, slice_set, bytes_eq, Option, Some, None, unwrap_or}
 use Rattle.std.specs.List.{list_any}
 use Rattle.std.specs.Option.{option_map, option_and_then}
-use Rattle.std.specs.Ordering.{is_lt}
 use Rattle.beam_values.specs.Grouping.{part_of, last_time}
 use Rattle.beam_values.specs.Intervals.{Interval}
-use Rattle.beam_values.specs.Orders.{value_cmp}
 use Rattle.beam_values.specs.Spelling.{spelling}
-use Rattle.beam_values.specs.States.{cell_of, number_in, values_in}
+use Rattle.beam_values.specs.States.{KeptState, cell_of, number_in, values_in}
 use Rattle.beam_values.specs.Windows.{or_zero}
 use Rattle.beam_values.specs.declared.value.Value.{Value}
 use Rattle.beam_values.specs.declared.element.Element.{Element}
@@ -20,12 +18,7 @@ use Rattle.beam_values.specs.declared.plan.StateKind.TheVariants.{Dedupe, Runnin
 use Rattle.beam_values.specs.declared.state_cell.StateCell.{StateCell}
 use Rattle.beam_values.specs.declared.state_cell.StateCell.TheVariants.{Unset, Number, Bag}
 use Rattle.beam_model.specs.Values.{int, pair, seq, as_int}
-use Rattle.beam_model.specs.Functions.{number_arg, later_by, in_word, valued}
-
--- the state of a key: eight cells, and eight timers with the times that they are set to
-pub record KeptState : Type 0 where
-  pub cells : List StateCell
-  pub timers : List (Option ℤ)
+use Rattle.beam_model.specs.Functions.{number_arg, later_by, in_word, valued, ascending}
 
 -- what a call leaves, and what it gives, in order
 pub record Stepped : Type 0 where
@@ -51,16 +44,6 @@ timer_output span time v = record { value = v; time = time; span = span; pane = 
 -- values are equal where their spellings are
 abbrev pub holds_value : List Value → Value → Bool
 holds_value values v = list_any (λ held. bytes_eq (spelling held) (spelling v)) values
-
--- a value put before the first one that it is less than or equal to
-abbrev pub insert_value : Value → List Value → List Value
-insert_value v [] = v ∷ []
-insert_value v (w ∷ ws) = if is_lt (value_cmp w v) then w ∷ insert_value v ws else v ∷ w ∷ ws
-
--- values in ascending order
-abbrev pub ascending : List Value → List Value
-ascending [] = []
-ascending (v ∷ vs) = insert_value v (ascending vs)
 
 -- Dedupe: a value comes through once
 abbrev pub dedupe : Value → Element → KeptState → Stepped

@@ -17,7 +17,8 @@ use Rattle.beam_values.specs.declared.state_cell.StateCell.{StateCell}
 use Rattle.beam_values.specs.declared.state_cell.StateCell.TheVariants.{Unset, Number as NumberCell, Bag}
 use Rattle.beam_model.specs.Values.{null, int, blob, pair, seq}
 use Rattle.beam_model.specs.Functions.{emits}
-use Rattle.beam_model.specs.Steps.{KeptState, Stepped, steps}
+use Rattle.beam_values.specs.States.{KeptState}
+use Rattle.beam_model.specs.Steps.{Stepped, steps}
 use Rattle.beam_model.specs.Positions.{Poison, nothing, Emits, emission, emits_one, next_position, made_line}
 
 -- the element under test: at time 500, in the window [0, 1000)

@@ -1,7 +1,7 @@
 //! Ranges that cover source items bring what these bring, in whatever order they are worked and
 //! however they are cut. Each function does nothing: its contract is the law.
 
-ghost use Rattle.std.specs.Prelude.{◌≡◌, List, map};
+ghost use Rattle.std.specs.Prelude.{◌≡◌, List, map, min};
 ghost use Rattle.beam_values.specs.Bags.{IsSameBag};
 ghost use Rattle.beam_values.specs.Cover.{Place, times_done, times_listed};
 ghost use Rattle.beam_values.specs.declared.file_text.FileText.{FileText};
@@ -16,7 +16,7 @@ ghost use Rattle.beam_model.specs.Spread.{spread_all};
 #[tactic(auto, using(crate::proofs::Coverings::covering_items))]
 pub fn covering_ranges_bring_everything()
     ensures { (plan : Plan) (items : List SourceItem) (dones : List Done) → AreDistinct items
-        → ((place : Place) → times_done dones place ≡ times_listed (map item_len items) place)
+        → ((place : Place) → times_done dones place ≡ min 1 (times_listed (map item_len items) place))
         → IsSameBag (spread_dones plan items dones) (spread_all plan items) }
 {}
 

@@ -1,7 +1,7 @@
 //! What the definitions mean to a reader. Each function does nothing: its contract is the law.
 
-ghost use Rattle.std.specs.Prelude.{◌≡◌, ◌⊎◌, ℕ, ◌+◌, ◌<◌, ◌≤◌, ◌≤ℤ◌, List, [], ◌∷◌, ◌++◌, Some};
-ghost use Rattle.std.specs.List.{All, AllPairs, count_by};
+ghost use Rattle.std.specs.Prelude.{◌≡◌, ◌⊎◌, ℕ, ◌+◌, ◌<◌, ◌≤◌, ◌≤ℤ◌, ◌==◌, ◌||◌, true, List, [], ◌∷◌, ◌++◌, Some, slice_get};
+ghost use Rattle.std.specs.List.{All, AllPairs, count_by, list_any};
 ghost use Rattle.std.specs.List.Sorted.{IsSorted};
 ghost use Rattle.beam_values.specs.Bags.{IsSameBag};
 ghost use Rattle.beam_values.specs.Cover.{Place, times_done};
@@ -9,6 +9,7 @@ ghost use Rattle.beam_values.specs.Grouping.{key_of, is_in_cell, IsPlainGrouping
 ghost use Rattle.beam_values.specs.Intervals.{Interval};
 ghost use Rattle.beam_values.specs.Orders.{value_cmp};
 ghost use Rattle.beam_values.specs.Times.{greatest_time};
+ghost use Rattle.beam_values.specs.Nodes.{is_above};
 ghost use Rattle.beam_values.specs.Storable.{IsStorable};
 ghost use Rattle.beam_values.specs.declared.element.Element.{Element};
 ghost use Rattle.beam_values.specs.declared.arrival.Arrival.{Arrival};
@@ -18,6 +19,7 @@ ghost use Rattle.beam_values.specs.declared.log.LogInput.{LogInput};
 ghost use Rattle.beam_values.specs.declared.cell.Pane.{Pane};
 ghost use Rattle.beam_values.specs.declared.plan.Args.{Args};
 ghost use Rattle.beam_values.specs.declared.plan.FnKind.{FnKind};
+ghost use Rattle.beam_values.specs.declared.plan.Node.{Node};
 ghost use Rattle.beam_values.specs.declared.plan.Plan.{Plan};
 ghost use Rattle.beam_values.specs.declared.plan.SourceKind.{SourceKind};
 ghost use Rattle.beam_values.specs.declared.plan.StateKind.{StateKind};
@@ -25,11 +27,16 @@ ghost use Rattle.beam_values.specs.declared.value.Value.{Value};
 ghost use Rattle.beam_model.specs.Chains.{chain};
 ghost use Rattle.beam_model.specs.Flow.{elements_at, pane_chains, log_chains, flow};
 ghost use Rattle.beam_model.specs.Functions.{emits};
-ghost use Rattle.beam_model.specs.Premises.{IsWithin, EndsAfter, done_range, KeepsPlace, IsForward, IsOfCall, IsOrdered, IsNonEmpty, AreOneOrApart, IsSoundRun};
-ghost use Rattle.beam_model.specs.Positions.{nothing, emission, next_position, SourceItem};
-ghost use Rattle.beam_model.specs.Sessions.{IsApart, IsSession, IsMerging};
+ghost use Rattle.beam_values.specs.Sessions.{IsNonEmpty};
+ghost use Rattle.beam_model.specs.Premises.{EndsAfter, done_range, KeepsPlace, IsForward, IsOfCall, IsOrdered, AreOneOrApart};
+ghost use Rattle.beam_model.specs.Plain.{IsPlainRun, IsPlainAt, node_of};
+ghost use Rattle.beam_model.specs.Positions.{nothing, positions_in, emission, next_position, SourceItem};
+ghost use Rattle.beam_values.specs.Sessions.{IsApart, IsSession};
+ghost use Rattle.beam_model.specs.Sessions.{IsMerging};
 ghost use Rattle.beam_model.specs.Spread.{outputs_at, spread_range, spread_all};
-ghost use Rattle.beam_model.specs.Steps.{KeptState, Stepped, ascending, steps};
+ghost use Rattle.beam_values.specs.States.{KeptState};
+ghost use Rattle.beam_model.specs.Functions.{ascending};
+ghost use Rattle.beam_model.specs.Steps.{Stepped, steps};
 
 /// Between a position and the one that is worked after it nothing is emitted, and nothing is poison.
 pub fn positions_between_give_nothing()
@@ -37,10 +44,10 @@ pub fn positions_between_give_nothing()
         → p < q → q < next_position kind file p → emission kind args file q ≡ nothing }
 {}
 
-/// The position that is worked after one lies above it, and in a file at most at its end.
+/// The position that is worked after one lies above it, and at most at the end of its item.
 pub fn next_positions_rise()
-    ensures { (kind : SourceKind) (file : List ℕ) (p : ℕ) → IsWithin kind file (p + 1)
-        → (p < next_position kind file p) × IsWithin kind file (next_position kind file p) }
+    ensures { (kind : SourceKind) (args : Args) (file : List ℕ) (p : ℕ) → p < positions_in kind args file
+        → (p < next_position kind file p) × (next_position kind file p ≤ positions_in kind args file) }
 {}
 
 /// A range of positions brings what its parts bring, one after the other, wherever it is cut: also
@@ -52,7 +59,7 @@ pub fn spreads_join()
 
 /// A range brings what its first position does, and then what the range from the next position on does.
 pub fn a_spread_steps_over_positions()
-    ensures { (plan : Plan) (item : SourceItem) (p to : ℕ) → p < to → IsWithin item.work item.file to
+    ensures { (plan : Plan) (item : SourceItem) (p to : ℕ) → p < to
         → spread_range plan item p to
         ≡ outputs_at plan item p ++ spread_range plan item (next_position item.work item.file p) to }
 {}
@@ -140,13 +147,37 @@ pub fn mergings_agree()
         → IsMerging elements merged → IsMerging others more → IsSameBag merged more }
 {}
 
-/// A pipeline means one thing: in two plain runs of one plan over the same items the same elements arrive
-/// at each node, and each Group puts out the same panes. Stateful nodes put out nothing in a plain run.
+/// At the end of an item and past it nothing is emitted, and nothing is poison.
+pub fn positions_past_the_end_give_nothing()
+    ensures { (kind : SourceKind) (args : Args) (file : List ℕ) (p : ℕ)
+        → positions_in kind args file ≤ p → emission kind args file p ≡ nothing }
+{}
+
+/// A pipeline means one thing: in two plain runs of one plan over the same items, up to one barrier, the
+/// same elements arrive at each node, and each Group puts out the same panes.
 pub fn plain_runs_agree()
-    ensures arrived { (plan : Plan) (items : List SourceItem) (arrivals panes others more : List Arrival)
-        → IsSoundRun plan items arrivals panes → IsSoundRun plan items others more
+    ensures arrived { (plan : Plan) (items : List SourceItem) (barrier : ℕ) (arrivals panes others more : List Arrival)
+        → IsPlainRun plan items barrier arrivals panes → IsPlainRun plan items barrier others more
         → (node : ℕ) → IsSameBag (elements_at node arrivals) (elements_at node others) }
-    ensures put_out { (plan : Plan) (items : List SourceItem) (arrivals panes others more : List Arrival)
-        → IsSoundRun plan items arrivals panes → IsSoundRun plan items others more
+    ensures put_out { (plan : Plan) (items : List SourceItem) (barrier : ℕ) (arrivals panes others more : List Arrival)
+        → IsPlainRun plan items barrier arrivals panes → IsPlainRun plan items barrier others more
         → (node : ℕ) → IsSameBag (elements_at node panes) (elements_at node more) }
+{}
+
+/// What plain grouping brings to a barrier is one bag.
+pub fn plain_grouping_at_a_barrier_is_one_bag()
+    ensures { (plan : Plan) (items : List SourceItem) (barrier : ℕ) (elements others : List Element)
+        → IsPlainAt plan items barrier elements → IsPlainAt plan items barrier others → IsSameBag elements others }
+{}
+
+/// A node stands above another exactly where that one takes it as an input, or an input of it stands
+/// below it. Inputs are lower than their node.
+pub fn nodes_stand_above_by_inputs()
+    ensures { (plan : Plan) (upper n : ℕ) (node : Node) → slice_get plan.nodes n ≡ Some node → All (λ input. input < n) node.inputs
+        → is_above plan upper n ≡ list_any (λ input. input == upper || is_above plan upper input) node.inputs }
+{}
+
+/// What an output of a node brings ends below that node.
+pub fn outputs_end_below_their_node()
+    ensures { (plan : Plan) (n : ℕ) (e : Element) → All (λ output. is_above plan n (node_of output) ≡ true) (chain plan n e) }
 {}

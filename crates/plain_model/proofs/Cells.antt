@@ -23,7 +23,7 @@ use Rattle.beam_values.specs.declared.element.Timing.TheVariants.{OnTime}
 use Rattle.beam_values.proofs.Lexicographic.{same_where_tied, same_head}
 use Rattle.beam_values.proofs.Induction.{spelling-Pair}
 use Rattle.beam_values.proofs.Spellings.{values_decide}
-use Rattle.plain_model.specs.Cells.{cell_cmp, grouped_cmp}
+use Rattle.beam_values.specs.Cells.{cell_cmp, grouped_cmp}
 
 pub cell_total : IsTotalOrder cell_cmp
 cell_total =

@@ -12,7 +12,7 @@ use Rattle.beam_values.specs.Grouping.{key_of, part_of, is_in_cell, pane_with, I
 use Rattle.beam_values.specs.declared.value.Value.{Value}
 use Rattle.beam_values.specs.declared.element.Element.{Element}
 use Rattle.beam_values.proofs.Bags.{bag_sym, bag_trans, bag_from_same, bag_from_permutation, bag_map, bag_filter, bag_count}
-use Rattle.plain_model.specs.Cells.{cell_cmp}
+use Rattle.beam_values.specs.Cells.{cell_cmp}
 use Rattle.plain_model.proofs.Lists.{filter_all, filter_where_none, count_all, count_none, count_yes, count_no, count_member}
 use Rattle.plain_model.proofs.Cells.{same_cell, cell_seen, cell_itself, pane_key, pane_cell}
 

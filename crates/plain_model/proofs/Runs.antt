@@ -18,7 +18,7 @@ use Rattle.beam_values.specs.Elements.{element_cmp}
 use Rattle.beam_values.specs.Grouping.{key_of, part_of, is_in_cell, pane_with, IsPlainPane, IsPlainGrouping}
 use Rattle.beam_values.specs.declared.value.Value.{Value}
 use Rattle.beam_values.specs.declared.element.Element.{Element}
-use Rattle.plain_model.specs.Cells.{cell_cmp, grouped_cmp}
+use Rattle.beam_values.specs.Cells.{cell_cmp, grouped_cmp}
 use Rattle.plain_model.proofs.Lists.{count_none, run_passes, sorted_take, sorted_drop}
 use Rattle.plain_model.proofs.Cells.{cell_total, grouped_total, cell_tied, cell_apart, below_upto, cells_rise, parts_rise, not_above, pane_cell, panes_rise}
 use Rattle.plain_model.proofs.Groupings.{grouping_append, grouping_one, seen_alike, pane_over, HasNoCellOfBoth}

@@ -5,7 +5,8 @@ use Rattle.std.specs.Int.{int_min, int_max}
 use Rattle.beam_values.specs.Intervals.{Interval}
 use Rattle.beam_values.specs.Grouping.{key_of}
 use Rattle.beam_values.specs.declared.element.Element.{Element}
-use Rattle.beam_model.specs.Sessions.{IsApart, LiesIn, IsInside, IsSession, spans_of}
+use Rattle.beam_values.specs.Sessions.{IsApart, LiesIn, IsInside, IsSession}
+use Rattle.beam_model.specs.Sessions.{spans_of}
 
 -- windows with an instant in common
 abbrev pub Overlaps : Interval → Interval → Type 0

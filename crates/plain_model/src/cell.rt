@@ -3,7 +3,7 @@ ghost use Rattle.beam_values.specs.Grouping.{key_of, part_of};
 ghost use Rattle.beam_values.specs.declared.value.Value.TheVariants.{Null};
 ghost use Rattle.beam_values.specs.Orders.{value_cmp};
 ghost use Rattle.beam_model.specs.Sessions.{is_keyed};
-ghost use Rattle.plain_model.specs.Cells.{cell_cmp, grouped_cmp};
+ghost use Rattle.beam_values.specs.Cells.{cell_cmp, grouped_cmp};
 
 use beam_values::{Element, Value, cmp_values};
 use std::cmp::Ordering;

@@ -4,7 +4,7 @@ ghost use Rattle.std.specs.List.Sorted.{IsSorted};
 ghost use Rattle.std.specs.Ordering.{is_eq};
 ghost use Rattle.beam_values.specs.Grouping.{key_of, part_of, last_time, pane_with, IsPlainGrouping};
 ghost use Rattle.beam_values.specs.Elements.{element_cmp};
-ghost use Rattle.plain_model.specs.Cells.{cell_cmp, grouped_cmp};
+ghost use Rattle.beam_values.specs.Cells.{cell_cmp, grouped_cmp};
 
 use crate::cell::{cmp_cells, cmp_grouped, key_or, part_of};
 use beam_values::{Boxed, Element, List, NoMemory, PaneTag, Span, Time, Timing, Value};

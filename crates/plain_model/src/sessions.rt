@@ -5,7 +5,8 @@ ghost use Rattle.beam_values.specs.Grouping.{key_of};
 ghost use Rattle.beam_values.specs.Elements.{element_cmp};
 ghost use Rattle.beam_values.specs.declared.plan.Strategy.TheVariants.{Sessions};
 ghost use Rattle.beam_model.specs.Plain.{IsGroupedBy};
-ghost use Rattle.beam_model.specs.Sessions.{LiesIn, IsSession, IsMerging, is_keyed};
+ghost use Rattle.beam_values.specs.Sessions.{LiesIn, IsSession};
+ghost use Rattle.beam_model.specs.Sessions.{IsMerging, is_keyed};
 ghost use Rattle.plain_model.specs.Sessions.{Overlaps, IsSettled, hull, IsOneOf, IsPart, spans_with, IsInSession};
 
 use crate::cell::is_keyed_alike;

@@ -17,7 +17,8 @@ use Rattle.beam_values.specs.declared.cell.Pane.{Pane}
 use Rattle.beam_model.specs.Account.{cell_arrivals, dropped_arrival, log_arrivals, arrivals, IsAccounted}
 use Rattle.beam_model.specs.Chains.{Arrives, chain}
 use Rattle.beam_model.specs.Flow.{elements_at, is_at, flow, pane_chains}
-use Rattle.beam_model.specs.Plain.{IsPlainlyWritten, IsPlainRun, IsPlainGroup, IsGroupedBy, is_group, is_write, strategy_of}
+use Rattle.beam_values.specs.Nodes.{is_group, is_write, strategy_of}
+use Rattle.beam_model.specs.Plain.{IsPlainlyWritten, IsPlainRun, IsPlainGroup, IsGroupedBy}
 use Rattle.beam_model.specs.Plans.{panes_plan}
 use Rattle.beam_model.specs.Spread.{spread_all}
 use Rattle.std.proofs.lemmas.Bool.Decides.{nat_tests}

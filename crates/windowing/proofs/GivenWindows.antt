@@ -10,7 +10,7 @@ use Rattle.beam_values.specs.Functions.{fixed_window}
 use Rattle.beam_values.specs.Windows.{global_window, HoldsTime, window_from, IsWindow, or_zero, sliding_windows, windows_of}
 use Rattle.beam_values.specs.declared.plan.Strategy.{Strategy}
 use Rattle.beam_values.specs.declared.plan.Strategy.TheVariants.{Global, Fixed, Sliding, Sessions, Kept}
-use Rattle.windowing.specs.Strategies.{IsAllowed}
+use Rattle.beam_values.specs.Strategies.{IsAllowed}
 use Rattle.windowing.proofs.Euclid.{rem_is, div_low, div_high, div_is, goes_within, goes_beyond, times_sum, times_more, times_rises, rem_of_times, times_of_rem}
 use Rattle.windowing.proofs.Sliding.{or_zero-is, length-windows_from, windows_from-at}
 

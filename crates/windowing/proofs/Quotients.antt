@@ -6,7 +6,8 @@ use Rattle.std.specs.Int.RustNames.{FitsSigned}
 use Rattle.std.proofs.lemmas.Int.{ints}
 use Rattle.beam_values.specs.Times.{IsTime}
 use Rattle.beam_values.specs.Windows.{sliding_windows}
-use Rattle.windowing.specs.Strategies.{IsLength, windows_up_to}
+use Rattle.beam_values.specs.Strategies.{IsLength}
+use Rattle.windowing.specs.Strategies.{windows_up_to}
 use Rattle.windowing.proofs.Euclid.{div_within, div_low, div_high, goes_within, times_more}
 use Rattle.windowing.proofs.Sliding.{up_to_is_sliding}
 

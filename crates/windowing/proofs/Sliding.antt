@@ -5,7 +5,8 @@ use Rattle.std.proofs.lemmas.Int.{ints}
 use Rattle.std.proofs.lemmas.Bool.{cases_lt}
 use Rattle.beam_values.specs.Intervals.{Interval}
 use Rattle.beam_values.specs.Windows.{window_from, windows_from, or_zero, sliding_windows, windows_of}
-use Rattle.windowing.specs.Strategies.{IsLength, IsAllowed, most_windows, windows_up_to}
+use Rattle.beam_values.specs.Strategies.{IsLength, IsAllowed, most_windows}
+use Rattle.windowing.specs.Strategies.{windows_up_to}
 use Rattle.beam_values.specs.declared.plan.Strategy.{Strategy}
 use Rattle.beam_values.specs.declared.plan.Strategy.TheVariants.{Global, Fixed, Sliding, Sessions, Kept}
 use Rattle.windowing.proofs.Euclid.{times_sum, times_more, div_low, div_high, goes_within, goes_beyond, div_is, ceil_above}

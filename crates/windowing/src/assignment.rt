@@ -1,7 +1,8 @@
 ghost use Rattle.std.specs.Prelude.{◌≡◌, ◌≢◌, ◌≤◌, ◌++◌, ℤ, length, take, OnOk, OnErr};
 ghost use Rattle.beam_values.specs.Windows.{windows_of, sliding_windows};
 ghost use Rattle.beam_values.specs.declared.plan.Strategy.TheVariants.{Kept};
-ghost use Rattle.windowing.specs.Strategies.{IsLength, IsAllowed, windows_up_to};
+ghost use Rattle.beam_values.specs.Strategies.{IsLength, IsAllowed};
+ghost use Rattle.windowing.specs.Strategies.{windows_up_to};
 
 use crate::fixed_window;
 use beam_values::{List, NoMemory, Span, Strategy, Time};

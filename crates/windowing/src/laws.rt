@@ -6,7 +6,7 @@ ghost use Rattle.beam_values.specs.Intervals.{Interval};
 ghost use Rattle.beam_values.specs.Times.{IsTime};
 ghost use Rattle.beam_values.specs.Windows.{HoldsTime, IsWindow, windows_of};
 ghost use Rattle.beam_values.specs.declared.plan.Strategy.{Strategy};
-ghost use Rattle.windowing.specs.Strategies.{IsAllowed};
+ghost use Rattle.beam_values.specs.Strategies.{IsAllowed};
 
 /// Each window that a time is given is a span of the strategy's kind, and holds the time.
 pub fn windows_hold_their_time()

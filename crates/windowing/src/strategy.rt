@@ -1,6 +1,7 @@
 ghost use Rattle.std.specs.Prelude.{◌≡◌, ◌↔◌, Some, None, if◌then◌else◌, nat_lt, IsOk};
 ghost use Rattle.std.specs.Result.{result_err};
-ghost use Rattle.windowing.specs.Strategies.{IsLength, IsAllowed, is_length, most_windows, refusal_of, refusal_number};
+ghost use Rattle.beam_values.specs.Strategies.{IsLength, IsAllowed, is_length, most_windows};
+ghost use Rattle.windowing.specs.Strategies.{refusal_of, refusal_number};
 
 use beam_values::Strategy;
 

@@ -1,5 +1,5 @@
-use Rattle.beam_model.proofs.Positions.{brought_step}
+use Rattle.beam_model.proofs.Positions.{spread_steps}
 use Rattle.beam_model.proofs.laws.a_spread_steps_over_positions.Goals as goal
 
 pub returns : goal.returns
-returns c = brought_step
+returns c = spread_steps

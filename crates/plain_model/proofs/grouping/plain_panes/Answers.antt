@@ -3,7 +3,7 @@ use Rattle.std.specs.List.Sorted.{IsSorted}
 use Rattle.std.proofs.lemmas.Result.{IfOk-weaker}
 use Rattle.beam_values.specs.Grouping.{IsPlainGrouping}
 use Rattle.beam_values.specs.declared.element.Element.{Element}
-use Rattle.plain_model.specs.Cells.{grouped_cmp}
+use Rattle.beam_values.specs.Cells.{grouped_cmp}
 use Rattle.plain_model.proofs.Cells.{grouped_total}
 use Rattle.plain_model.proofs.Groupings.{grouping_of_permutation}
 use Rattle.beam_values.proofs.Sorts.{sorted_from_sort_by}

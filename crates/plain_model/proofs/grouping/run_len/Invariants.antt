@@ -1,7 +1,7 @@
 use Rattle.std.proofs.Common.{◌≡◌, ◌+◌, drop}
 use Rattle.std.specs.List.{prefix_len}
 use Rattle.std.specs.Ordering.{is_eq}
-use Rattle.plain_model.specs.Cells.{cell_cmp}
+use Rattle.beam_values.specs.Cells.{cell_cmp}
 use Rattle.plain_model.proofs.grouping.run_len.Given as goal
 
 -- the run is the elements passed so far, and the run at the front of what is left

@@ -1,6 +1,6 @@
 use Rattle.std.proofs.Common.{sym, subst}
 use Rattle.beam_values.specs.Intervals.{Interval}
-use Rattle.beam_model.specs.Sessions.{LiesIn}
+use Rattle.beam_values.specs.Sessions.{LiesIn}
 use Rattle.plain_model.specs.Sessions.{IsPart, spans_with}
 use Rattle.plain_model.proofs.Merging.{part_more, in_hull, room_falls}
 use Rattle.plain_model.proofs.sessions.merged_span.Goals as goal

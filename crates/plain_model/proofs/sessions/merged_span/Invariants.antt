@@ -1,4 +1,4 @@
-use Rattle.beam_model.specs.Sessions.{LiesIn}
+use Rattle.beam_values.specs.Sessions.{LiesIn}
 use Rattle.plain_model.specs.Sessions.{IsPart, spans_with}
 use Rattle.plain_model.proofs.Merging.{room}
 use Rattle.plain_model.proofs.sessions.merged_span.Given as goal
