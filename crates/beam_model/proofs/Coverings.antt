@@ -25,7 +25,7 @@ use Rattle.beam_values.proofs.Bags.{sum_by-map, sum_by-flat_map, sum_by-filter}
 use Rattle.beam_values.proofs.Spreads.{spread-empty, spread-join, spread-single}
 use Rattle.beam_model.specs.Chains.{Output}
 use Rattle.beam_model.specs.Coverings.{is_item, item_at, spread_of, spread_done, spread_dones, AreDistinct}
-use Rattle.beam_model.specs.Positions.{SourceItem, file_item, file_items, made_item, items_of_source, items_of_kind, items_of_node, items, item_len}
+use Rattle.beam_model.specs.Positions.{SourceItem, file_item, file_items, made_item, items_of_source, items_of_kind, items_of_node, items, len_of, item_len}
 use Rattle.beam_model.specs.Spread.{outputs_at, spread_range, spread_all}
 
 times_in-inside : (r : Offsets) (p : ℕ) → r.from ≤ p → p < r.to → times_in r p ≡ 1
@@ -36,6 +36,9 @@ times_in-before r p before = grind (arith, nat_tests)
 
 times_in-behind : (r : Offsets) (p : ℕ) → r.to ≤ p → times_in r p ≡ 0
 times_in-behind r p behind = grind (arith, nat_tests)
+
+times_in-once : (r : Offsets) (p : ℕ) → min 1 (times_in r p) ≡ times_in r p
+times_in-once r p = grind (arith, nat_tests)
 
 -- where two weights are the same at whatever P holds of, and P holds of each element, the list weighs the same
 sum_by-same : {X : Type 0} (P : X → Type 0) (f g : X → ℕ) → ((x : X) → P x → f x ≡ g x) → (xs : List X) → All P xs → sum_by f xs ≡ sum_by g xs
@@ -152,10 +155,10 @@ module _ (plan : Plan) (w : Output → ℕ) where
   worked item r = sum_by w (spread_range plan item r.from r.to)
 
   -- an item weighs what the ranges of it do, where they hold each of its offsets once
-  item_covered : (item : SourceItem) (dones : List Done) → ((p : ℕ) → times_done dones (place item p) ≡ times_in (whole item.len) p)
-      → sum_by (λ d. if is_of item d then worked item d.range else 0) dones ≡ worked item (whole item.len)
+  item_covered : (item : SourceItem) (dones : List Done) → ((p : ℕ) → times_done dones (place item p) ≡ times_in (whole (len_of item)) p)
+      → sum_by (λ d. if is_of item d then worked item d.range else 0) dones ≡ worked item (whole (len_of item))
   item_covered item dones covers =
-      sym (over_ranges (worked item)) ∙ covering_weight (outputs_at plan item) w (ranges_of item dones) (whole item.len) (λ p. over_ranges (λ r. times_in r p) ∙ covers p)
+      sym (over_ranges (worked item)) ∙ covering_weight (outputs_at plan item) w (ranges_of item dones) (whole (len_of item)) (λ p. over_ranges (λ r. times_in r p) ∙ covers p)
     where
       over_ranges : (f : Offsets → ℕ) → sum_by f (ranges_of item dones) ≡ sum_by (λ d. if is_of item d then f d.range else 0) dones
       over_ranges f = sum_by-map f (λ d. d.range) (filter (is_of item) dones) ∙ sum_by-filter (λ d. f d.range) (is_of item) dones
@@ -167,8 +170,8 @@ pub covering_one : (plan : Plan) (item : SourceItem) (dones : List Done)
     → IsSameBag (flat_map (λ d. spread_range plan item d.range.from d.range.to) dones) (spread_all plan (item ∷ []))
 covering_one plan item dones of covers = record { weighs = weighs }
   where
-    covers_item : (p : ℕ) → times_done dones (place item p) ≡ times_in (whole item.len) p
-    covers_item p = covers (place item p) ∙ zero-add _ ∙ times_at-own item (whole item.len) p
+    covers_item : (p : ℕ) → times_done dones (place item p) ≡ times_in (whole (len_of item)) p
+    covers_item p = covers (place item p) ∙ zero-add _ ∙ times_at-own item (whole (len_of item)) p
 
     weighs : (w : Output → ℕ) → sum_by w (flat_map (λ d. spread_range plan item d.range.from d.range.to) dones) ≡ sum_by w (spread_all plan (item ∷ []))
     weighs w =
@@ -176,7 +179,7 @@ covering_one plan item dones of covers = record { weighs = weighs }
         ∙ sum_by-same (IsOf item) (λ d. worked plan w item d.range) (λ d. if is_of item d then worked plan w item d.range else 0)
         (λ d own. ap (λ b. if b then worked plan w item d.range else 0) (sym (is_of-true item d own))) dones of
         ∙ item_covered plan w item dones covers_item
-        ∙ ap (sum_by w) (sym (append-nil (spread_range plan item 0 item.len)))
+        ∙ ap (sum_by w) (sym (append-nil (spread_range plan item 0 (len_of item))))
 
 -- Of many items.
 
@@ -264,11 +267,16 @@ all_found (x ∷ xs) distinct =
 
 -- the listed items hold a place of one of them as often as its own offsets do
 listed_own : (items : List SourceItem) → AreDistinct items → (item : SourceItem) → IsFound items item → (p : ℕ)
-    → times_listed (map item_len items) (place item p) ≡ times_in (whole item.len) p
+    → times_listed (map item_len items) (place item p) ≡ times_in (whole (len_of item)) p
 listed_own items distinct item found p =
     sum_by-map (λ file. times_at file.node file.item (whole file.len) (place item p)) item_len items
-    ∙ one_found item.node item.item (λ x. times_in (whole x.len) p) items distinct
-    ∙ ap (weight_of (λ x. times_in (whole x.len) p)) found
+    ∙ one_found item.node item.item (λ x. times_in (whole (len_of x)) p) items distinct
+    ∙ ap (weight_of (λ x. times_in (whole (len_of x)) p)) found
+
+-- an item holds an offset once or not at all, so a bound by 1 changes nothing
+listed_once : (items : List SourceItem) → AreDistinct items → (item : SourceItem) → IsFound items item → (p : ℕ)
+    → min 1 (times_listed (map item_len items) (place item p)) ≡ times_in (whole (len_of item)) p
+listed_once items distinct item found p = ap (min 1) (listed_own items distinct item found p) ∙ times_in-once (whole (len_of item)) p
 
 module _ (plan : Plan) (items : List SourceItem) (dones : List Done) (distinct : AreDistinct items) where
   done_weight : (w : Output → ℕ) (d : Done) → sum_by w (spread_done plan items d) ≡ sum_by (λ item. if is_of item d then worked plan w item d.range else 0) items
@@ -283,16 +291,16 @@ module _ (plan : Plan) (items : List SourceItem) (dones : List Done) (distinct :
       of_what (Some item) = refl
 
   -- ranges that cover distinct items bring what these bring
-  pub covering_items : ((place : Place) → times_done dones place ≡ times_listed (map item_len items) place)
+  pub covering_items : ((place : Place) → times_done dones place ≡ min 1 (times_listed (map item_len items) place))
       → IsSameBag (spread_dones plan items dones) (spread_all plan items)
   covering_items covers = record {
     weighs = λ w.
         sum_by-flat_map w (spread_done plan items) dones
         ∙ sum_by-each (λ d. sum_by w (spread_done plan items d)) (λ d. sum_by (λ item. if is_of item d then worked plan w item d.range else 0) items) (done_weight w) dones
         ∙ sum_by-exchange (λ item d. if is_of item d then worked plan w item d.range else 0) items dones
-        ∙ sum_by-same (IsFound items) (λ item. sum_by (λ d. if is_of item d then worked plan w item d.range else 0) dones) (λ item. worked plan w item (whole item.len))
-        (λ item found. item_covered plan w item dones (λ p. covers (place item p) ∙ listed_own items distinct item found p)) items (all_found items distinct)
-        ∙ sym (sum_by-flat_map w (λ item. spread_range plan item 0 item.len) items);
+        ∙ sum_by-same (IsFound items) (λ item. sum_by (λ d. if is_of item d then worked plan w item d.range else 0) dones) (λ item. worked plan w item (whole (len_of item)))
+        (λ item found. item_covered plan w item dones (λ p. covers (place item p) ∙ listed_once items distinct item found p)) items (all_found items distinct)
+        ∙ sym (sum_by-flat_map w (λ item. spread_range plan item 0 (len_of item)) items);
   }
 
 -- Of the items of a plan.

@@ -13,7 +13,7 @@ use Rattle.beam_values.specs.declared.plan.Plan.{Plan}
 use Rattle.beam_model.specs.Chains.{chain}
 use Rattle.beam_model.specs.Flow.{pane_chains, log_chains, flow}
 use Rattle.beam_model.specs.Premises.{done_range}
-use Rattle.beam_model.specs.Positions.{SourceItem}
+use Rattle.beam_model.specs.Positions.{SourceItem, len_of}
 use Rattle.beam_model.specs.Spread.{spread_range, spread_all}
 
 pub times_in-cut : (from middle to offset : ℕ) → from ≤ middle → middle ≤ to
@@ -59,7 +59,7 @@ flow-panes plan items panes more logs =
 pub flow-items : (plan : Plan) (items more : List SourceItem) (panes : List Pane) (logs : List KeyLog)
     → IsSameBag (flow plan (items ++ more) panes logs) (flow plan items panes logs ++ spread_all plan more)
 flow-items plan items more panes logs =
-    rw (flat_map-append (λ (item : SourceItem). spread_range plan item 0 item.len) items more)
+    rw (flat_map-append (λ (item : SourceItem). spread_range plan item 0 (len_of item)) items more)
     (added_first (spread_all plan items) (pane_chains plan panes) (log_chains plan logs) (spread_all plan more))
 
 pub flow-logs : (plan : Plan) (items : List SourceItem) (panes : List Pane) (logs more : List KeyLog)

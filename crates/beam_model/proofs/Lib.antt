@@ -1,6 +1,7 @@
+pub mod Above
 mod Agreement
 mod Ascending
-mod Barriers
+pub mod Barriers
 pub mod Coverings
 mod Flows
 mod Groupings
@@ -8,6 +9,6 @@ mod Lists
 mod Matching
 mod Mergings
 mod Outputs
-mod Positions
-mod Runs
+pub mod Positions
+pub mod Runs
 mod Sessions

@@ -1,6 +1,7 @@
--- Positions of a source: nothing is emitted between one and the next, the next lies above, and what a range brings goes from one to the next.
-use Rattle.std.proofs.Common.{◌≡◌, ℕ, ◌+◌, ◌<◌, ◌≤◌, List, ◌++◌, ap, arith}
-use Rattle.std.proofs.lemmas.Bool.{cond-false}
+-- Positions of a source: nothing is emitted between one and the next or at the end, the next lies above, and what a range brings goes from one to
+-- the next.
+use Rattle.std.proofs.Common.{◌≡◌, inl, inr, ℕ, ◌<◌, ◌≤◌, nat_lt, Bool, true, false, cond, List, [], ◌++◌, refl, sym, ap, ◌∙◌, arith}
+use Rattle.std.proofs.lemmas.Bool.{cases_lt, cond-false, le-ltb}
 use Rattle.beam_values.specs.Functions.{timed_line}
 use Rattle.beam_values.specs.Lines.{starts_line, line_at}
 use Rattle.beam_values.specs.Times.{least_time}
@@ -8,36 +9,70 @@ use Rattle.beam_values.specs.declared.plan.Args.{Args}
 use Rattle.beam_values.specs.declared.plan.Plan.{Plan}
 use Rattle.beam_values.specs.declared.plan.SourceKind.{SourceKind}
 use Rattle.beam_values.specs.declared.plan.SourceKind.TheVariants.{Lines, TimedLines, Count, Made}
-use Rattle.beam_values.proofs.Spreads.{starts_line-between, next_start-above, spread-step}
-use Rattle.beam_model.specs.Premises.{IsWithin}
-use Rattle.beam_model.specs.Positions.{nothing, emits_one, line_emission, emission, next_position, SourceItem}
-use Rattle.beam_model.specs.Spread.{emission_outputs, outputs_at, spread_range}
+use Rattle.beam_values.proofs.Spreads.{starts_line-between, next_start-above, spread-step, spread-nothing}
+use Rattle.beam_model.specs.Positions.{Emission, nothing, emits_one, line_emission, positions_in, emission_within, emission, next_position, SourceItem, len_of}
+use Rattle.beam_model.specs.Spread.{is_left_out, emission_outputs, outputs_at, spread_range}
 use Rattle.beam_model.specs.Values.{blob}
 
-pub between_nothing : (kind : SourceKind) (args : Args) (file : List ℕ) (p q : ℕ) → p < q → q < next_position kind file p → emission kind args file q ≡ nothing
-between_nothing Lines args file p q above below =
+pub past_nothing : (kind : SourceKind) (args : Args) (file : List ℕ) (p : ℕ) → positions_in kind args file ≤ p → emission kind args file p ≡ nothing
+past_nothing kind args file p past =
+    cond-false (nat_lt p (positions_in kind args file)) (emission_within kind args file p) nothing (le-ltb p (positions_in kind args file) past)
+
+within_nothing : (kind : SourceKind) (args : Args) (file : List ℕ) (p q : ℕ) → p < q → q < next_position kind file p → emission_within kind args file q ≡ nothing
+within_nothing Lines args file p q above below =
     cond-false (starts_line file q) (emits_one (blob (line_at file q)) least_time) nothing (starts_line-between file p q above below)
-between_nothing TimedLines args file p q above below =
+within_nothing TimedLines args file p q above below =
     cond-false (starts_line file q) (line_emission (timed_line (line_at file q))) nothing (starts_line-between file p q above below)
-between_nothing Count args file p q above below = absurd (omega arith)
-between_nothing Made args file p q above below = absurd (omega arith)
+within_nothing Count args file p q above below = absurd (omega arith)
+within_nothing Made args file p q above below = absurd (omega arith)
 
-pub next_rises : (kind : SourceKind) (file : List ℕ) (p : ℕ) → IsWithin kind file (p + 1)
-    → (p < next_position kind file p) × IsWithin kind file (next_position kind file p)
-next_rises Lines file p within = (next_start-above file p (omega arith), omega arith)
-next_rises TimedLines file p within = (next_start-above file p (omega arith), omega arith)
-next_rises Count file p within = (omega arith, tt)
-next_rises Made file p within = (omega arith, tt)
+pub between_nothing : (kind : SourceKind) (args : Args) (file : List ℕ) (p q : ℕ) → p < q → q < next_position kind file p → emission kind args file q ≡ nothing
+between_nothing kind args file p q above below =
+    by_test (nat_lt q (positions_in kind args file)) (emission_within kind args file q) (within_nothing kind args file p q above below)
+  where
+    by_test : (inside : Bool) (emitted : Emission) → emitted ≡ nothing → cond inside emitted nothing ≡ nothing
+    by_test true emitted none = none
+    by_test false emitted none = refl
 
-within_below : (kind : SourceKind) (file : List ℕ) (m n : ℕ) → m ≤ n → IsWithin kind file n → IsWithin kind file m
-within_below Lines file m n below within = omega arith
-within_below TimedLines file m n below within = omega arith
-within_below Count file m n below within = tt
-within_below Made file m n below within = tt
+pub next_rises : (kind : SourceKind) (args : Args) (file : List ℕ) (p : ℕ) → p < positions_in kind args file
+    → (p < next_position kind file p) × (next_position kind file p ≤ positions_in kind args file)
+next_rises Lines args file p inside = (next_start-above file p inside, omega arith)
+next_rises TimedLines args file p inside = (next_start-above file p inside, omega arith)
+next_rises Count args file p inside = (omega arith, omega arith)
+next_rises Made args file p inside = (omega arith, omega arith)
 
-pub spread_steps : (plan : Plan) (item : SourceItem) (p to : ℕ) → p < to → IsWithin item.work item.file to
+-- from the end of an item on no step leads back
+next_past : (kind : SourceKind) (args : Args) (file : List ℕ) (p : ℕ) → positions_in kind args file ≤ p → positions_in kind args file ≤ next_position kind file p
+next_past Lines args file p past = omega arith
+next_past TimedLines args file p past = omega arith
+next_past Count args file p past = omega arith
+next_past Made args file p past = omega arith
+
+-- a position that emits nothing brings nothing
+nothing_at : (plan : Plan) (item : SourceItem) (p : ℕ) → emission item.work item.args item.file p ≡ nothing → outputs_at plan item p ≡ []
+nothing_at plan item p none =
+    ap (λ (emitted : Emission). cond (is_left_out item p) [] (emission_outputs plan item.node emitted)) none ∙ by_test (is_left_out item p)
+  where
+    by_test : (left_out : Bool) → cond left_out [] (emission_outputs plan item.node nothing) ≡ []
+    by_test true = refl
+    by_test false = refl
+
+pub spread_steps : (plan : Plan) (item : SourceItem) (p to : ℕ) → p < to
     → spread_range plan item p to ≡ outputs_at plan item p ++ spread_range plan item (next_position item.work item.file p) to
-spread_steps plan item p to inside within =
-    spread-step (outputs_at plan item) p (next_position item.work item.file p) to inside
-    (next_rises item.work item.file p (within_below item.work item.file (p + 1) to (omega arith) within)).0
-    (λ q above below. ap (emission_outputs plan item.node) (between_nothing item.work item.args item.file p q above below))
+spread_steps plan item p to before =
+    elim (cases_lt p (len_of item)) [
+      | inl inside ↦
+          spread-step (outputs_at plan item) p next to before (next_rises item.work item.args item.file p inside).0
+          (λ q above below. nothing_at plan item q (between_nothing item.work item.args item.file p q above below))
+      | inr past ↦
+          spread-nothing (outputs_at plan item) p to (λ q low high. past_gives q (omega arith))
+          ∙ sym
+          (ap (λ outputs. outputs ++ spread_range plan item next to) (past_gives p past)
+          ∙ spread-nothing (outputs_at plan item) next to (λ q low high. past_gives q (omega (arith, next_past item.work item.args item.file p past))))
+    ]
+  where
+    next : ℕ
+    next = next_position item.work item.file p
+
+    past_gives : (q : ℕ) → len_of item ≤ q → outputs_at plan item q ≡ []
+    past_gives q beyond = nothing_at plan item q (past_nothing item.work item.args item.file q beyond)

@@ -13,13 +13,13 @@ use Rattle.beam_values.specs.declared.arrival.Arrival.{Arrival}
 use Rattle.beam_values.specs.declared.plan.Plan.{Plan}
 use Rattle.beam_values.specs.declared.plan.Strategy.{Strategy}
 use Rattle.beam_values.specs.declared.plan.Strategy.TheVariants.{Global, Fixed, Sliding, Sessions, Kept}
-use Rattle.beam_values.proofs.Bags.{sum_by-map, sum_by-flat_map, sum_by-filter}
+use Rattle.beam_values.proofs.Bags.{bag_sym, bag_trans, sum_by-map, sum_by-flat_map, sum_by-filter}
 use Rattle.beam_model.specs.Chains.{Output, Arrives, PoisonAt, chain}
 use Rattle.beam_model.specs.Flow.{is_at, elements_at}
 use Rattle.beam_values.specs.Sessions.{IsNonEmpty}
-use Rattle.beam_model.specs.Premises.{EndsAfter, IsSoundRun}
-use Rattle.beam_values.specs.Nodes.{is_group, is_stateful, strategy_of}
-use Rattle.beam_model.specs.Plain.{IsPlainGroup, IsGroupedBy, plain_flow}
+use Rattle.beam_model.specs.Premises.{EndsAfter}
+use Rattle.beam_values.specs.Nodes.{is_group, is_above, strategy_of}
+use Rattle.beam_model.specs.Plain.{IsGroupAbove, IsGroupedBy, plain_flow, is_met, IsPlainRun, IsPlainAt}
 use Rattle.beam_model.specs.Positions.{SourceItem}
 use Rattle.beam_model.specs.Spread.{spread_all}
 use Rattle.beam_model.proofs.Agreement.{groupings_agree}
@@ -28,45 +28,59 @@ use Rattle.beam_model.proofs.Lists.{sum_by-same, sum_by-add, sum_none}
 use Rattle.beam_model.proofs.Mergings.{mergings_agree}
 
 -- what arrived at a node weighs what the arrivals there do
-at_node : (node : ℕ) (w : Element → ℕ) (arrivals : List Arrival)
+pub at_node : (node : ℕ) (w : Element → ℕ) (arrivals : List Arrival)
     → sum_by w (elements_at node arrivals) ≡ sum_by (λ a. cond (is_at node a) (w a.element) 0) arrivals
 at_node node w arrivals = sum_by-map w (λ a. a.element) (filter (is_at node) arrivals) ∙ sum_by-filter (λ a. w a.element) (is_at node) arrivals
 
--- ---- what panes bring to a node
+-- ---- what panes bring to a node, as far as a barrier meets it
 
-module _ (plan : Plan) (node : ℕ) (w : Element → ℕ) where
-  abbrev weight_at : Output → ℕ
-  weight_at (Arrives arrival) = cond (is_at node arrival) (w arrival.element) 0
-  weight_at (PoisonAt other) = 0
+module _ (plan : Plan) (barrier node : ℕ) (w : Element → ℕ) where
+  -- what an output weighs where it ends
+  abbrev pub weight_of_end : Output → ℕ
+  weight_of_end (Arrives arrival) = cond (is_at node arrival) (w arrival.element) 0
+  weight_of_end (PoisonAt other) = 0
+
+  -- nothing, if the barrier doesn't meet it
+  abbrev pub weight_at : Output → ℕ
+  weight_at output = cond (is_met plan barrier output) (weight_of_end output) 0
 
   -- what an output of a node weighs at this one
-  abbrev brings : ℕ → Element → ℕ
-  brings from e = sum_by weight_at (chain plan from e)
+  abbrev pub outputs_weight : ℕ → Element → ℕ
+  outputs_weight from e = sum_by weight_at (chain plan from e)
 
   -- it is nothing where the output comes from a later node
-  none_back : (from : ℕ) (e : Element) → node ≤ from → brings from e ≡ 0
+  pub none_back : (from : ℕ) (e : Element) → node ≤ from → outputs_weight from e ≡ 0
   none_back from e back =
-      sum_none weight_at (chain plan from e) (All-weaker (EndsAfter plan from) (λ b. weight_at b ≡ 0) elsewhere (chain plan from e) (chains_end plan from e))
+      sum_none weight_at (chain plan from e) (All-weaker (EndsAfter plan from) (λ output. weight_at output ≡ 0) elsewhere (chain plan from e) (chains_end plan from e))
     where
-      elsewhere : (b : Output) → EndsAfter plan from b → weight_at b ≡ 0
-      elsewhere (Arrives arrival) h = cond-false (arrival.node == node) (w arrival.element) 0 (ne_eqb arrival.node node (λ same. absurd (omega (arith, h.0))))
-      elsewhere (PoisonAt other) h = refl
+      unmet : (met : Bool) (weight : ℕ) → weight ≡ 0 → cond met weight 0 ≡ 0
+      unmet true weight none = none
+      unmet false weight none = refl
+
+      ends_elsewhere : (output : Output) → EndsAfter plan from output → weight_of_end output ≡ 0
+      ends_elsewhere (Arrives arrival) h =
+          cond-false (arrival.node == node) (w arrival.element) 0 (ne_eqb arrival.node node (λ same. absurd (omega (arith, h.0))))
+      ends_elsewhere (PoisonAt other) h = refl
+
+      elsewhere : (output : Output) → EndsAfter plan from output → weight_at output ≡ 0
+      elsewhere output h = unmet (is_met plan barrier output) (weight_of_end output) (ends_elsewhere output h)
 
   -- what panes of the nodes below a number bring
   abbrev below : ℕ → Arrival → ℕ
-  below k pane = cond (nat_lt pane.node k) (brings pane.node pane.element) 0
+  below k pane = cond (nat_lt pane.node k) (outputs_weight pane.node pane.element) 0
 
   abbrev here : ℕ → Arrival → ℕ
-  here k pane = cond (is_at k pane) (brings k pane.element) 0
+  here k pane = cond (is_at k pane) (outputs_weight k pane.element) 0
 
   one_node_more : (k x : ℕ) (V : ℕ → ℕ) → cond (nat_lt x (suc k)) (V x) 0 ≡ cond (nat_lt x k) (V x) 0 + cond (x == k) (V k) 0
   one_node_more k x V = grind (arith, nat_tests)
 
-  all_below : (pane : Arrival) → brings pane.node pane.element ≡ below node pane
+  all_below : (pane : Arrival) → outputs_weight pane.node pane.element ≡ below node pane
   all_below pane =
       elim (cases_lt pane.node node) [
-        | inl lower ↦ sym (cond-true (nat_lt pane.node node) (brings pane.node pane.element) 0 (lt-ltb pane.node node lower))
-        | inr back ↦ none_back pane.node pane.element back ∙ sym (cond-false (nat_lt pane.node node) (brings pane.node pane.element) 0 (le-ltb pane.node node back))
+        | inl lower ↦ sym (cond-true (nat_lt pane.node node) (outputs_weight pane.node pane.element) 0 (lt-ltb pane.node node lower))
+        | inr back ↦
+            none_back pane.node pane.element back ∙ sym (cond-false (nat_lt pane.node node) (outputs_weight pane.node pane.element) 0 (le-ltb pane.node node back))
       ]
 
   module _ (panes more : List Arrival) (same : (g : ℕ) → g < node → IsSameBag (elements_at g panes) (elements_at g more)) where
@@ -76,35 +90,37 @@ module _ (plan : Plan) (node : ℕ) (w : Element → ℕ) where
         none : (ps : List Arrival) → All (λ p. below 0 p ≡ 0) ps
         none ps k d inside =
             let pane = get_or ps k d in
-            cond-false (nat_lt pane.node 0) (brings pane.node pane.element) 0 (le-ltb pane.node 0 (omega arith))
+            cond-false (nat_lt pane.node 0) (outputs_weight pane.node pane.element) 0 (le-ltb pane.node 0 (omega arith))
     same_below (suc k) within =
         let before : sum_by (below k) panes ≡ sum_by (below k) more = same_below k (omega arith) in
         let now : sum_by (here k) panes ≡ sum_by (here k) more =
-        sym (at_node k (brings k) panes) ∙ (same k (omega arith)).weighs (brings k) ∙ at_node k (brings k) more in
+        sym (at_node k (outputs_weight k) panes) ∙ (same k (omega arith)).weighs (outputs_weight k) ∙ at_node k (outputs_weight k) more in
         omega (arith, one_more panes, one_more more)
       where
         one_more : (ps : List Arrival) → sum_by (below (suc k)) ps ≡ sum_by (below k) ps + sum_by (here k) ps
         one_more ps =
-            sum_by-same (below (suc k)) (λ p. below k p + here k p) ps (λ p. one_node_more k p.node (λ n. brings n p.element))
+            sum_by-same (below (suc k)) (λ p. below k p + here k p) ps (λ p. one_node_more k p.node (λ n. outputs_weight n p.element))
             ∙ sum_by-add (below k) (here k) ps
 
-    same_brought : sum_by (λ p. brings p.node p.element) panes ≡ sum_by (λ p. brings p.node p.element) more
-    same_brought =
-        sum_by-same (λ p. brings p.node p.element) (below node) panes all_below
+    pub same_outputs_weight : sum_by (λ p. outputs_weight p.node p.element) panes ≡ sum_by (λ p. outputs_weight p.node p.element) more
+    same_outputs_weight =
+        sum_by-same (λ p. outputs_weight p.node p.element) (below node) panes all_below
         ∙ same_below node (omega arith)
-        ∙ sym (sum_by-same (λ p. brings p.node p.element) (below node) more all_below)
+        ∙ sym (sum_by-same (λ p. outputs_weight p.node p.element) (below node) more all_below)
 
   -- what arrives at the node is what the positions bring there, and what the panes do
-  arrivals_weigh : (items : List SourceItem) (arrivals panes : List Arrival) → IsSameBag (plain_flow plan items panes) (map Arrives arrivals)
-      → sum_by w (elements_at node arrivals) ≡ sum_by weight_at (spread_all plan items) + sum_by (λ p. brings p.node p.element) panes
+  pub arrivals_weigh : (items : List SourceItem) (arrivals panes : List Arrival)
+      → IsSameBag (filter (is_met plan barrier) (plain_flow plan items panes)) (map Arrives arrivals)
+      → sum_by w (elements_at node arrivals) ≡ sum_by weight_at (spread_all plan items) + sum_by (λ p. outputs_weight p.node p.element) panes
   arrivals_weigh items arrivals panes clean =
-      at_node node w arrivals ∙ sym (sum_by-map weight_at Arrives arrivals) ∙ sym (clean.weighs weight_at)
+      at_node node w arrivals ∙ sym (sum_by-map weight_of_end Arrives arrivals) ∙ sym (clean.weighs weight_of_end)
+      ∙ sum_by-filter weight_of_end (is_met plan barrier) (plain_flow plan items panes)
       ∙ sum_by-append weight_at (spread_all plan items) (flat_map (λ p. chain plan p.node p.element) panes)
       ∙ ap (λ (n : ℕ). sum_by weight_at (spread_all plan items) + n) (sum_by-flat_map weight_at (λ p. chain plan p.node p.element) panes)
 
 -- ---- what Groups put out
 
-grouped_agree : (strategy : Strategy) (xs ys ps qs : List Element) → IsSameBag xs ys → All (λ e. IsNonEmpty e.span) xs
+pub grouped_agree : (strategy : Strategy) (xs ys ps qs : List Element) → IsSameBag xs ys → All (λ e. IsNonEmpty e.span) xs
     → All (λ p. IsStorable p.value) ps → All (λ q. IsStorable q.value) qs → IsGroupedBy strategy xs ps → IsGroupedBy strategy ys qs → IsSameBag ps qs
 grouped_agree Global xs ys ps qs same some f k g h = groupings_agree xs ys ps qs same g h f k
 grouped_agree (Fixed size) xs ys ps qs same some f k g h = groupings_agree xs ys ps qs same g h f k
@@ -113,49 +129,49 @@ grouped_agree (Sessions gap) xs ys ps qs same some f k g h =
     groupings_agree g.0 h.0 ps qs (mergings_agree xs ys g.0 h.0 same some g.1 h.1) g.2 h.2 f k
 grouped_agree Kept xs ys ps qs same some f k g h = groupings_agree xs ys ps qs same g h f k
 
--- no pane is put out by a node that is no plain Group
-no_panes : (plan : Plan) (node : ℕ) (panes : List Arrival) → All (λ p. IsPlainGroup plan p.node) panes → (IsPlainGroup plan node → ⊥)
+-- no pane is put out by a node that is no Group above the barrier
+pub no_panes : (plan : Plan) (barrier node : ℕ) (panes : List Arrival) → All (λ p. IsGroupAbove plan barrier p.node) panes → (IsGroupAbove plan barrier node → ⊥)
     → (w : Element → ℕ) → sum_by w (elements_at node panes) ≡ 0
-no_panes plan node panes groups never w = at_node node w panes ∙ sum_none (λ p. cond (is_at node p) (w p.element) 0) panes none
+no_panes plan barrier node panes groups never w = at_node node w panes ∙ sum_none (λ p. cond (is_at node p) (w p.element) 0) panes none
   where
     none : All (λ p. cond {A = ℕ} (is_at node p) (w p.element) 0 ≡ 0) panes
     none k d inside =
         let pane = get_or panes k d in
         cond-false (pane.node == node) (w pane.element) 0
-        (ne_eqb pane.node node (λ same. never (subst (λ (n : ℕ). IsPlainGroup plan n) same (groups k d inside))))
+        (ne_eqb pane.node node (λ same. never (subst (λ (n : ℕ). IsGroupAbove plan barrier n) same (groups k d inside))))
 
-elements_all : (P : Element → Type 0) (node : ℕ) (arrivals : List Arrival) → All (λ a. P a.element) arrivals → All P (elements_at node arrivals)
+pub elements_all : (P : Element → Type 0) (node : ℕ) (arrivals : List Arrival) → All (λ a. P a.element) arrivals → All P (elements_at node arrivals)
 elements_all P node arrivals h = All-map P (λ a. a.element) (filter (is_at node) arrivals) (All-filter (is_at node) (λ a. P a.element) arrivals h)
 
-module _ (plan : Plan) (items : List SourceItem) (arrivals panes others more : List Arrival)
-    (run : IsSoundRun plan items arrivals panes) (other : IsSoundRun plan items others more) where
+module _ (plan : Plan) (items : List SourceItem) (barrier : ℕ) (arrivals panes others more : List Arrival)
+    (run : IsPlainRun plan items barrier arrivals panes) (other : IsPlainRun plan items barrier others more) where
   panes_agree : (node : ℕ) → IsSameBag (elements_at node arrivals) (elements_at node others) → IsSameBag (elements_at node panes) (elements_at node more)
-  panes_agree node same = by_tests (is_group plan node) (is_stateful plan node) refl refl
+  panes_agree node same = by_tests (is_group plan node) (is_above plan node barrier) refl refl
     where
-      grouped : IsPlainGroup plan node → IsSameBag (elements_at node panes) (elements_at node more)
-      grouped plain =
+      grouped : IsGroupAbove plan barrier node → IsSameBag (elements_at node panes) (elements_at node more)
+      grouped group =
           grouped_agree (strategy_of plan node) (elements_at node arrivals) (elements_at node others) (elements_at node panes) (elements_at node more) same
           (elements_all (λ e. IsNonEmpty e.span) node arrivals run.held)
-          (elements_all (λ e. IsStorable e.value) node panes run.fits) (elements_all (λ e. IsStorable e.value) node more other.fits)
-          (run.plain.grouped node plain) (other.plain.grouped node plain)
+          (elements_all (λ e. IsStorable e.value) node panes run.storable) (elements_all (λ e. IsStorable e.value) node more other.storable)
+          (run.grouped node group) (other.grouped node group)
 
-      empty : (IsPlainGroup plan node → ⊥) → IsSameBag (elements_at node panes) (elements_at node more)
+      empty : (IsGroupAbove plan barrier node → ⊥) → IsSameBag (elements_at node panes) (elements_at node more)
       empty never = record {
-        weighs = λ w. no_panes plan node panes run.plain.from_groups never w ∙ sym (no_panes plan node more other.plain.from_groups never w);
+        weighs = λ w. no_panes plan barrier node panes run.from_groups never w ∙ sym (no_panes plan barrier node more other.from_groups never w);
       }
 
-      by_tests : (group stateful : Bool) → is_group plan node ≡ group → is_stateful plan node ≡ stateful → IsSameBag (elements_at node panes) (elements_at node more)
-      by_tests true false e f = grouped (e, f)
-      by_tests true true e f = empty (λ plain. absurd (false≢true (sym plain.1 ∙ f)))
-      by_tests false stateful e f = empty (λ plain. absurd (false≢true (sym e ∙ plain.0)))
+      by_tests : (group above : Bool) → is_group plan node ≡ group → is_above plan node barrier ≡ above → IsSameBag (elements_at node panes) (elements_at node more)
+      by_tests true true e f = grouped (e, f)
+      by_tests true false e f = empty (λ group. absurd (false≢true (sym f ∙ group.1)))
+      by_tests false above e f = empty (λ group. absurd (false≢true (sym e ∙ group.0)))
 
   arrivals_agree : (node : ℕ) → ((g : ℕ) → g < node → IsSameBag (elements_at g panes) (elements_at g more))
       → IsSameBag (elements_at node arrivals) (elements_at node others)
   arrivals_agree node same = record {
     weighs = λ w.
-        arrivals_weigh plan node w items arrivals panes run.plain.clean
-        ∙ ap (λ (n : ℕ). sum_by (weight_at plan node w) (spread_all plan items) + n) (same_brought plan node w panes more same)
-        ∙ sym (arrivals_weigh plan node w items others more other.plain.clean);
+        arrivals_weigh plan barrier node w items arrivals panes run.clean
+        ∙ ap (λ (n : ℕ). sum_by (weight_at plan barrier node w) (spread_all plan items) + n) (same_outputs_weight plan barrier node w panes more same)
+        ∙ sym (arrivals_weigh plan barrier node w items others more other.clean);
   }
 
   -- by the number of the node
@@ -168,3 +184,10 @@ module _ (plan : Plan) (items : List SourceItem) (arrivals panes others more : L
 
   pub put_out_agree : (node : ℕ) → IsSameBag (elements_at node panes) (elements_at node more)
   put_out_agree node = panes_agree node (arrived_agree node)
+
+pub plain_at_agree : (plan : Plan) (items : List SourceItem) (barrier : ℕ) (elements others : List Element)
+    → IsPlainAt plan items barrier elements → IsPlainAt plan items barrier others → IsSameBag elements others
+plain_at_agree plan items barrier elements others g h =
+    bag_trans elements (elements_at barrier g.0) others g.3
+    (bag_trans (elements_at barrier g.0) (elements_at barrier h.0) others
+    (arrived_agree plan items barrier g.0 g.1 h.0 h.1 g.2 h.2 barrier) (bag_sym others (elements_at barrier h.0) h.3))

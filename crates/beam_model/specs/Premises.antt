@@ -1,11 +1,8 @@
 -- The premises of the laws, and what they say of.
-use Rattle.std.specs.Prelude.{◌≡◌, ◌⊎◌, ℕ, ◌<◌, ◌≤◌, ℤ, pos, ◌≤ℤ◌, ◌<ℤ◌, Bool, true, false, List, length, slice_get, Some}
-use Rattle.std.specs.List.{All}
+use Rattle.std.specs.Prelude.{◌≡◌, ◌⊎◌, ℕ, ◌<◌, ℤ, pos, ◌≤ℤ◌, Bool, true, slice_get, Some}
 use Rattle.std.specs.Option.{option_map}
 use Rattle.beam_values.specs.Intervals.{Interval}
-use Rattle.beam_values.specs.Storable.{IsStorable}
 use Rattle.beam_values.specs.declared.element.Element.{Element}
-use Rattle.beam_values.specs.declared.arrival.Arrival.{Arrival}
 use Rattle.beam_values.specs.declared.piece.Done.{Done}
 use Rattle.beam_values.specs.declared.log.LogInput.{LogInput}
 use Rattle.beam_values.specs.declared.log.LogInput.TheVariants.{Arrived, Fired}
@@ -13,15 +10,10 @@ use Rattle.beam_values.specs.declared.plan.Args.{Args}
 use Rattle.beam_values.specs.declared.plan.FnKind.{FnKind}
 use Rattle.beam_values.specs.declared.plan.FnKind.TheVariants.{Shift}
 use Rattle.beam_values.specs.declared.plan.NodeKind.{NodeKind}
-use Rattle.beam_values.specs.declared.plan.NodeKind.TheVariants.{ParDo, Group, Stateful, Write}
 use Rattle.beam_values.specs.declared.plan.Plan.{Plan}
-use Rattle.beam_values.specs.declared.plan.SourceKind.{SourceKind}
 use Rattle.beam_values.specs.declared.value.Value.{Value}
-use Rattle.beam_values.specs.declared.plan.SourceKind.TheVariants.{Lines, TimedLines, Count, Made}
 use Rattle.beam_model.specs.Chains.{Output, Arrives, PoisonAt}
 use Rattle.beam_model.specs.Functions.{number_arg}
-use Rattle.beam_model.specs.Plain.{IsPlainRun}
-use Rattle.beam_model.specs.Positions.{SourceItem}
 use Rattle.beam_values.specs.Nodes.{is_barrier_kind, is_par_do_kind}
 use Rattle.beam_values.specs.Sessions.{IsApart}
 use Rattle.beam_model.specs.Sessions.{is_keyed}

@@ -20,6 +20,6 @@ pub use laws::{
     merged_windows_are_apart, mergings_agree, next_positions_rise, nodes_stand_above_by_inputs,
     outputs_end_below_their_node, plain_grouping_at_a_barrier_is_one_bag, plain_groupings_agree,
     plain_groupings_have_each_cell_once, plain_runs_agree, positions_between_give_nothing,
-    positions_past_the_end_give_nothing,
-    sessions_are_apart, spreads_join, stateful_outputs_keep_their_window,
+    positions_past_the_end_give_nothing, sessions_are_apart, spreads_join,
+    stateful_outputs_keep_their_window,
 };
