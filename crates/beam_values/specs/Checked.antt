@@ -1,6 +1,6 @@
 -- Checked plans: the rules of a pipeline, and the order in which they are tested (Beam Programming Guide, Creating a pipeline; the limits are this
 -- profile's).
-use Rattle.std.specs.Prelude.{◌≡◌, ℕ, ◌+◌, ℤ, pos, ◌==◌, Bool, true, false, ◌&&◌, ◌||◌, if◌then◌else◌, nat_le, nat_lt, int_le, List, [], ◌∷◌, ◌++◌, length, slice_get, unwrap_or, Option, Some, None, not}
+use Rattle.std.specs.Prelude.{◌≡◌, ℕ, ◌+◌, ℤ, pos, ◌==◌, Bool, true, false, ◌&&◌, if◌then◌else◌, nat_le, nat_lt, int_le, List, [], ◌∷◌, ◌++◌, length, slice_get, unwrap_or, Option, Some, None, not}
 use Rattle.std.specs.List.{list_all, list_any}
 use Rattle.std.specs.Option.{option_map, option_or}
 use Rattle.beam_values.specs.declared.graph_refusal.GraphRefusal.{GraphRefusal}

@@ -22,4 +22,5 @@ pub mod Texts
 pub mod Times
 pub mod Timings
 pub mod Tracking
+pub mod Vectors
 pub mod Windows

@@ -1,6 +1,4 @@
-use crate::{
-    Arrival, Cell, CommitMarks, Done, Dropped, FaultNote, FileLen, KeyLog, Pane, Plan,
-};
+use crate::{Arrival, Cell, CommitMarks, Done, Dropped, FaultNote, FileLen, KeyLog, Pane, Plan};
 use beam_containers::List;
 
 /// Why a run was stopped.

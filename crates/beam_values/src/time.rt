@@ -31,9 +31,7 @@ impl Time {
 
     pub const GREATEST_MS: i64 = 9_223_372_036_854_775;
 
-    pub const LEAST: Time = Time {
-        ms: Time::LEAST_MS,
-    };
+    pub const LEAST: Time = Time { ms: Time::LEAST_MS };
 
     pub const GREATEST: Time = Time {
         ms: Time::GREATEST_MS,
