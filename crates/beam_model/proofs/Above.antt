@@ -1,13 +1,16 @@
 -- Which nodes stand above which: by the inputs of each, and one above another.
-use Rattle.std.proofs.Common.{◌≡◌, ◌⊎◌, inl, inr, ℕ, zero, suc, ◌+◌, ◌<◌, ◌≤◌, ◌==◌, nat_lt, Bool, true, false, ◌&&◌, ◌||◌, List, [], ◌∷◌, ◌++◌, length, get_or, Option, Some, slice_get, refl, sym, ap, subst, ◌∙◌, zero-add, arith, length-append}
-use Rattle.std.specs.Prelude.{fold, unwrap_or}
-use Rattle.std.specs.List.{All, list_any}
-use Rattle.std.proofs.lemmas.Bool.{cases_lt, lt-ltb, le-ltb, ltb-true, eqb-true, eq-eqb, and_parts, or_cases, or_left, or_right, false≢true}
+use Rattle.std.proofs.Common.{◌≡◌, ◌⊎◌, inl, inr, ℕ, zero, suc, ◌+◌, ◌<◌, ◌≤◌, ◌==◌, nat_lt, Bool, true, false, cond, ◌&&◌, ◌||◌, List, [], ◌∷◌, ◌++◌, length, get_or, Option, Some, None, slice_get, refl, sym, ap, subst, ◌∙◌, zero-add, arith, length-append}
+use Rattle.std.specs.Prelude.{fold, unwrap_or, not}
+use Rattle.std.specs.Option.{option_or}
+use Rattle.std.specs.List.{All, list_any, list_all}
+use Rattle.std.proofs.lemmas.Bool.{cases_lt, lt-ltb, le-ltb, ltb-true, eqb-true, not-false, true_from_ne_false, eq-eqb, and_parts, or_cases, or_left, or_right, false≢true}
 use Rattle.std.proofs.lemmas.List.{get_or_append_left}
+use Rattle.std.proofs.lemmas.List.Folds.{list_all_at}
 use Rattle.std.proofs.lemmas.List.Elements.{All-head, All-tail}
 use Rattle.std.proofs.lemmas.Option.{unwrap_or-slice_get, slice_get_past, slice_get_cases}
 use Rattle.std.proofs.Math.Seq.{get_or-append_seam}
-use Rattle.beam_values.specs.Nodes.{takes_from, with_below, is_above}
+use Rattle.beam_values.specs.Nodes.{is_source_kind, takes_from, with_below, is_above}
+use Rattle.beam_values.specs.Checked.{has_arity, has_input, node_refusal, nodes_refusal, IsChecked}
 use Rattle.beam_values.specs.declared.plan.Node.{Node}
 use Rattle.beam_values.specs.declared.plan.Plan.{Plan}
 
@@ -159,3 +162,81 @@ module _ (plan : Plan) (inputs_lower : HasLowerInputs plan) (upper middle : ℕ)
   -- what stands above a node stands above whatever that node does
   pub above_above : (lower : ℕ) → is_above plan middle lower ≡ true → is_above plan upper lower ≡ true
   above_above lower second = above_within (suc lower) lower (omega arith) second
+
+-- ---- plans whose inputs are lower than their nodes
+
+-- what stands above a node is lower than it
+pub above_is_lower : (plan : Plan) → HasLowerInputs plan → (upper n : ℕ) → is_above plan upper n ≡ true → upper < n
+above_is_lower plan inputs_lower upper n above = lower_within (suc n) n (omega arith) above
+  where
+    lower_within : (k n : ℕ) → n < k → is_above plan upper n ≡ true → upper < n
+    lower_within zero n within above = absurd (omega arith)
+    lower_within (suc k) n within above =
+        elim (slice_get_cases plan.nodes n).1 [
+          | inl found ↦
+              some_lower (λ i before below. lower_within k i (omega arith) below) found.0.inputs (inputs_lower n found.0 found.2)
+              (sym (above_by_inputs plan upper n found.0 found.2 (inputs_lower n found.0 found.2)) ∙ above)
+          | inr past ↦ absurd (false≢true (sym (none_above_past plan upper n past.0) ∙ above))
+        ]
+      where
+        some_lower : ((i : ℕ) → i < n → is_above plan upper i ≡ true → upper < i) → (inputs : List ℕ) → All (λ input. input < n) inputs
+            → list_any (λ input. input == upper || is_above plan upper input) inputs ≡ true → upper < n
+        some_lower onward [] lower some = absurd (false≢true some)
+        some_lower onward (input ∷ inputs) lower some =
+            let before : input < n = All-head (λ i. i < n) input inputs lower in
+            elim (or_cases (input == upper || is_above plan upper input) (list_any (λ i. i == upper || is_above plan upper i) inputs) some) [
+              | inl here ↦
+                  elim (or_cases (input == upper) (is_above plan upper input) here) [
+                    | inl own ↦ let same : input ≡ upper = eqb-true input upper own in omega arith
+                    | inr below ↦ let less : upper < input = onward input before below in omega arith
+                  ]
+              | inr later ↦ some_lower onward inputs (All-tail (λ i. i < n) input inputs lower) later
+            ]
+
+-- ---- checked plans
+
+unrefused : {X : Type 0} (broken : Bool) (rule : X) (rest : Option X) → cond broken (Some rule) rest ≡ None → (broken ≡ false) × (rest ≡ None)
+unrefused true rule rest none = absurd cc
+unrefused false rule rest none = (refl, none)
+
+neither : {X : Type 0} (first second : Option X) → option_or first second ≡ None → (first ≡ None) × (second ≡ None)
+neither None second none = (refl, none)
+neither (Some x) second none = absurd cc
+
+-- a node that breaks no rule has lower inputs
+unrefused_lower : (before : List Node) (node : Node) → node_refusal before node ≡ None → list_all (λ input. nat_lt input (length before)) node.inputs ≡ true
+unrefused_lower before node none =
+    let sources = unrefused (is_source_kind node.kind && has_input node.inputs) _ _ none in
+    let arity = unrefused (not (has_arity node.kind node.inputs)) _ _ sources.1 in
+    let inputs = unrefused (not (list_all (λ input. nat_lt input (length before)) node.inputs)) _ _ arity.1 in
+    not-false _ inputs.0
+
+unrefused_at : (before nodes : List Node) → nodes_refusal before nodes ≡ None → (k : ℕ) (node : Node) → slice_get nodes k ≡ Some node
+    → list_all (λ input. nat_lt input (length before + k)) node.inputs ≡ true
+unrefused_at before [] none k node here = absurd cc
+unrefused_at before (first ∷ later) none zero node here =
+    let parts = neither (node_refusal before first) (nodes_refusal (before ++ first ∷ []) later) none in
+    let place : length before ≡ length before + 0 = omega arith in
+    let same : first ≡ node = cc in
+    subst (λ (n : ℕ). list_all (λ input. nat_lt input n) node.inputs ≡ true) place
+    (subst (λ (it : Node). list_all (λ input. nat_lt input (length before)) it.inputs ≡ true) same (unrefused_lower before first parts.0))
+unrefused_at before (first ∷ later) none (suc k) node here =
+    let parts = neither (node_refusal before first) (nodes_refusal (before ++ first ∷ []) later) none in
+    let place : length (before ++ first ∷ []) + k ≡ length before + suc k = omega (arith, length-append before (first ∷ [])) in
+    subst (λ (n : ℕ). list_all (λ input. nat_lt input n) node.inputs ≡ true) place (unrefused_at (before ++ first ∷ []) later parts.1 k node here)
+
+-- the inputs of a checked plan are lower than their nodes
+pub checked_inputs_lower : (plan : Plan) → IsChecked plan → HasLowerInputs plan
+checked_inputs_lower plan checked n node here k d inside =
+    ltb-true (get_or node.inputs k d) n
+    (true_from_ne_false _
+    (λ higher. false≢true (sym (list_all_at (λ input. nat_lt input n) node.inputs k d inside higher) ∙ all)))
+  where
+    sized : nodes_refusal [] plan.nodes ≡ None
+    sized =
+        let some = unrefused (length plan.nodes == 0) _ _ checked in
+        let few = unrefused (nat_lt 64 (length plan.nodes)) _ _ some.1 in
+        (neither (nodes_refusal [] plan.nodes) _ few.1).0
+
+    all : list_all (λ input. nat_lt input n) node.inputs ≡ true
+    all = subst (λ (m : ℕ). list_all (λ input. nat_lt input m) node.inputs ≡ true) (zero-add n) (unrefused_at [] plan.nodes sized n node here)
