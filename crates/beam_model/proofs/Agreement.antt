@@ -76,7 +76,7 @@ same_ascending (x ∷ xs) (y ∷ ys) f g up rising same =
 -- ---- panes of one cell are the same
 
 -- what a pane holds fits where the pane does
-pane_fits : (pane : Element) (key : Value) (span : Interval) (parts : List Value) → pane ≡ pane_with key span parts → IsStorable pane.value
+pub pane_fits : (pane : Element) (key : Value) (span : Interval) (parts : List Value) → pane ≡ pane_with key span parts → IsStorable pane.value
     → IsStorable key × AllByRecursion IsStorable parts
 pane_fits pane key span parts is fits =
     let form : pane.value ≡ Pair key (Seq parts) = ap (λ (e : Element). e.value) is ∙ rolls-Pair key (roll-Value (layer.Seq parts)) ∙ ap (Pair key) (rolls-Seq parts) in

@@ -12,3 +12,4 @@ mod Outputs
 pub mod Positions
 pub mod Runs
 mod Sessions
+mod Witnesses

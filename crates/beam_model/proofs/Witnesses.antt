@@ -1,0 +1,153 @@
+-- What the definitions refuse and admit, on computed examples: no outcome passes by putting things where they don't belong.
+use Rattle.std.proofs.Common.{◌≡◌, inl, inr, ℕ, zero, suc, ◌+◌, ◌<◌, ◌&&◌, ◌==◌, ℤ, pos, negsuc, FitsSigned, w64, Bool, true, false, cond, min, List, [], ◌∷◌, ◌++◌, length, map, Option, Some, None, refl, sym, ap, subst, ◌∙◌, arith}
+use Rattle.std.specs.Prelude.{codes}
+use Rattle.std.proofs.lemmas.Bool.{true≢false, false≢true}
+use Rattle.std.proofs.lemmas.Bool.Decides.{nat_tests}
+use Rattle.std.proofs.lemmas.Int.{ints}
+use Rattle.beam_values.specs.Bags.{IsSameBag}
+use Rattle.beam_values.specs.Cover.{Place}
+use Rattle.beam_values.specs.Grouping.{pane_with}
+use Rattle.beam_values.specs.Intervals.{Interval, Offsets, times_in}
+use Rattle.beam_values.specs.Lines.{offsets}
+use Rattle.beam_values.specs.Nodes.{is_stateful}
+use Rattle.beam_values.specs.Windows.{global_window}
+use Rattle.beam_values.specs.declared.arrival.Arrival.{Arrival}
+use Rattle.beam_values.specs.declared.cell.Dropped.{Dropped}
+use Rattle.beam_values.specs.declared.element.Element.{Element}
+use Rattle.beam_values.specs.declared.element.Timing.TheVariants.{Unknown}
+use Rattle.beam_values.specs.declared.log.KeyLog.{KeyLog}
+use Rattle.beam_values.specs.declared.log.LogInput.TheVariants.{Arrived}
+use Rattle.beam_values.specs.declared.outcome.Outcome.{Outcome}
+use Rattle.beam_values.specs.declared.piece.Done.{Done}
+use Rattle.beam_values.specs.declared.piece.FileLen.{FileLen}
+use Rattle.beam_values.specs.declared.plan.Args.TheVariants.{Nothing, Two}
+use Rattle.beam_values.specs.declared.plan.Estimator.TheVariants as estimator
+use Rattle.beam_values.specs.declared.plan.NodeKind.TheVariants.{Source, Group, Write}
+use Rattle.beam_values.specs.declared.plan.Plan.{Plan}
+use Rattle.beam_values.specs.declared.plan.SourceKind.TheVariants.{Lines, TimedLines, Count, Made}
+use Rattle.beam_values.specs.declared.value.Value.TheVariants.{rolls-Int}
+use Rattle.beam_values.specs.Storable.{IsStorable}
+use Rattle.beam_values.proofs.Bags.{bag_from_same}
+use Rattle.beam_values.proofs.Storable.{fits-Int}
+use Rattle.beam_model.specs.Account.{arrivals, IsAccounted}
+use Rattle.beam_model.specs.Chains.{Arrives}
+use Rattle.beam_model.specs.Covers.{IsCovered}
+use Rattle.beam_model.specs.Flow.{flow}
+use Rattle.beam_model.specs.Plain.{IsPlainRun, ArePlainlyWritten}
+use Rattle.beam_model.specs.Plans.{node, default_trigger, panes_plan}
+use Rattle.beam_model.specs.Positions.{SourceItem, items, emission, nothing}
+use Rattle.beam_model.specs.Spread.{from_source}
+use Rattle.beam_model.specs.Values.{null, int, blob}
+use Rattle.beam_model.proofs.Agreement.{pane_fits}
+
+-- what a run of a plan came to, where it has nothing but these
+abbrev outcome : Plan → List FileLen → List Done → List Dropped → List KeyLog → List Arrival → Outcome
+outcome plan files done dropped logs written = record {
+  plan = plan;
+  files = files;
+  done = done;
+  cells = [];
+  panes = [];
+  dropped = dropped;
+  logs = logs;
+  written = written;
+  commits = [];
+  stopped = None;
+}
+
+-- ---- the account
+
+-- a source of one number, a Group and a Write
+abbrev counted : Plan
+counted = record {
+  version = 1;
+  nodes = node (Source Count (Two 1 0) [] estimator.None) [] ∷ node (Group default_trigger) (0 ∷ []) ∷ node (Write (codes "out")) (1 ∷ []) ∷ [];
+}
+
+abbrev number : Element
+number = from_source (record { value = int (pos 0); time = pos 0 })
+
+-- what the Group took is given out as written
+abbrev misplaced : Outcome
+misplaced = outcome counted [] [] [] [] (record { node = 1; element = number } ∷ [])
+
+-- as a bag, this is all that flows
+misplaced_as_one_bag : IsSameBag (flow counted (items [] counted) [] []) (map Arrives (arrivals misplaced))
+unfolding offsets
+misplaced_as_one_bag = bag_from_same (flow counted (items [] counted) [] []) (map Arrives (arrivals misplaced)) refl
+
+cells_taken_for_writes_are_refused : (items : List SourceItem) → IsAccounted items misplaced → ⊥
+cells_taken_for_writes_are_refused items h = false≢true (h.written 0 (record { node = 1; element = number }) (omega arith))
+
+abbrev group_log : KeyLog
+group_log = record { node = 1; key = null; span = global_window; entries = record { input = Arrived number; commit = 1; outputs = [] } ∷ [] }
+
+logs_at_a_group_are_refused : (items : List SourceItem) → IsAccounted items (outcome counted [] [] [] (group_log ∷ []) []) → ⊥
+logs_at_a_group_are_refused items h = false≢true (h.logs 0 group_log (omega arith))
+
+-- ---- what is written
+
+no_stateful_node : (name : List ℕ) (size : ℤ) (node : ℕ) → is_stateful (panes_plan name size) node ≡ false
+no_stateful_node name size zero = refl
+no_stateful_node name size (suc zero) = refl
+no_stateful_node name size (suc (suc zero)) = refl
+no_stateful_node name size (suc (suc (suc zero))) = refl
+no_stateful_node name size (suc (suc (suc (suc zero)))) = refl
+no_stateful_node name size (suc (suc (suc (suc (suc node))))) = refl
+
+abbrev all_dropped : List ℕ → ℤ → Element → Outcome
+all_dropped name size e = outcome (panes_plan name size) [] [] (record { node = 3; element = e; commit = 1 } ∷ []) [] []
+
+dropping_everything_is_refused : (items : List SourceItem) (name : List ℕ) (size : ℤ) (e : Element)
+    → ArePlainlyWritten items (all_dropped name size e) → ⊥
+dropping_everything_is_refused items name size e h =
+    true≢false ((h 4 refl (λ upper above. no_stateful_node name size upper)).undropped 0 (record { node = 3; element = e; commit = 1 }) (omega arith))
+
+-- 7 less 2 ^ 64 is spelled as 7 is, but no program can hold it
+numbers_beyond_64_bits_are_refused : (plan : Plan) (items : List SourceItem) (barrier node : ℕ) (span : Interval) (arrivals more : List Arrival)
+    → IsPlainRun plan items barrier arrivals (record { node = node; element = pane_with (blob (codes "a")) span (int (negsuc 18446744073709551608) ∷ []) } ∷ more) → ⊥
+numbers_beyond_64_bits_are_refused plan items barrier node span arrivals more run =
+    let n : ℤ = negsuc 18446744073709551608 in
+    let pane : Element = pane_with (blob (codes "a")) span (int n ∷ []) in
+    let fits = pane_fits pane (blob (codes "a")) span (int n ∷ []) refl (run.storable 0 (record { node = node; element = pane }) (omega arith)) in
+    let held : FitsSigned w64 n = fits-Int n (subst IsStorable (rolls-Int n) fits.1.0) in
+    absurd (omega (arith, ints))
+
+-- ---- covers
+
+abbrev item : FileLen
+item = record { node = 0; item = 0; len = 1 }
+
+abbrev range : Done
+range = record { node = 0; item = 0; range = record { from = 0; to = 1 } }
+
+-- an item that is listed twice is covered by one range of it, and not by two
+an_item_listed_twice_is_covered_once : IsCovered (outcome counted (item ∷ item ∷ []) (range ∷ []) [] [] [])
+an_item_listed_twice_is_covered_once place =
+    by_test (0 == place.node && 0 == place.item) (times_in (record { from = 0; to = 1 }) place.offset) (held_once place.offset)
+  where
+    held_once : (p : ℕ) → times_in (record { from = 0; to = 1 }) p < 2
+    held_once p = grind (arith, nat_tests)
+
+    by_test : (own : Bool) (times : ℕ) → times < 2 → 0 + cond own times 0 ≡ min 1 ((0 + cond own times 0) + cond own times 0)
+    by_test true times once = omega arith
+    by_test false times once = omega arith
+
+an_item_listed_twice_is_not_covered_twice : IsCovered (outcome counted (item ∷ item ∷ []) (range ∷ range ∷ []) [] [] []) → ⊥
+an_item_listed_twice_is_not_covered_twice h =
+    let twice : ◌≡◌ {A = ℕ} 2 1 = h (record { node = 0; item = 0; offset = 0 }) in
+    absurd (omega arith)
+
+-- ---- the end of an item
+
+nothing_is_emitted_at_the_end_of_an_empty_file : emission TimedLines Nothing [] 0 ≡ nothing
+nothing_is_emitted_at_the_end_of_an_empty_file = refl
+
+nothing_is_emitted_after_the_last_line_feed : emission Lines Nothing (codes "a\n") 2 ≡ nothing
+nothing_is_emitted_after_the_last_line_feed = refl
+
+nothing_is_counted_past_the_last_number : emission Count (Two 3 1000) [] 3 ≡ nothing
+nothing_is_counted_past_the_last_number = refl
+
+nothing_is_made_past_the_last_line : emission Made (Two 3 7) [] 3 ≡ nothing
+nothing_is_made_past_the_last_line = refl
