@@ -2,6 +2,7 @@ pub mod Above
 mod Agreement
 mod Ascending
 pub mod Barriers
+mod Branches
 pub mod Coverings
 mod Flows
 mod Groupings

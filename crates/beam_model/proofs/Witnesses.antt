@@ -1,20 +1,18 @@
 -- What the definitions refuse and admit, on computed examples: no outcome passes by putting things where they don't belong.
-use Rattle.std.proofs.Common.{◌≡◌, inl, inr, ℕ, zero, suc, ◌+◌, ◌<◌, ◌&&◌, ◌==◌, ℤ, pos, negsuc, FitsSigned, w64, Bool, true, false, cond, min, List, [], ◌∷◌, ◌++◌, length, map, Option, Some, None, refl, sym, ap, subst, ◌∙◌, arith}
+use Rattle.std.proofs.Common.{◌≡◌, ℕ, zero, suc, ◌+◌, ◌<◌, ◌&&◌, ◌==◌, ℤ, pos, negsuc, FitsSigned, w64, Bool, true, false, cond, min, List, [], ◌∷◌, map, None, refl, subst, arith}
 use Rattle.std.specs.Prelude.{codes}
 use Rattle.std.proofs.lemmas.Bool.{true≢false, false≢true}
 use Rattle.std.proofs.lemmas.Bool.Decides.{nat_tests}
 use Rattle.std.proofs.lemmas.Int.{ints}
 use Rattle.beam_values.specs.Bags.{IsSameBag}
-use Rattle.beam_values.specs.Cover.{Place}
 use Rattle.beam_values.specs.Grouping.{pane_with}
-use Rattle.beam_values.specs.Intervals.{Interval, Offsets, times_in}
+use Rattle.beam_values.specs.Intervals.{Interval, times_in}
 use Rattle.beam_values.specs.Lines.{offsets}
 use Rattle.beam_values.specs.Nodes.{is_stateful}
 use Rattle.beam_values.specs.Windows.{global_window}
 use Rattle.beam_values.specs.declared.arrival.Arrival.{Arrival}
 use Rattle.beam_values.specs.declared.cell.Dropped.{Dropped}
 use Rattle.beam_values.specs.declared.element.Element.{Element}
-use Rattle.beam_values.specs.declared.element.Timing.TheVariants.{Unknown}
 use Rattle.beam_values.specs.declared.log.KeyLog.{KeyLog}
 use Rattle.beam_values.specs.declared.log.LogInput.TheVariants.{Arrived}
 use Rattle.beam_values.specs.declared.outcome.Outcome.{Outcome}

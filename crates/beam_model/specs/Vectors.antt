@@ -1,6 +1,7 @@
--- Each function and each source computed: a good input, a poison one where there is one, and an edge.
+-- Each function and each source computed: a good input, a poison one where there is one, and an edge; and a plan and a summary.
 use Rattle.std.specs.Prelude.{◌≡◌, ℕ, ℤ, pos, negsuc, List, [], ◌∷◌, ◌++◌, Option, Some, None, codes, refl}
 use Rattle.std.specs.Fmt.{digits}
+use Rattle.beam_values.specs.Checked.{graph_refusal}
 use Rattle.beam_values.specs.Intervals.{Interval}
 use Rattle.beam_values.specs.declared.value.Value.{Value}
 use Rattle.beam_values.specs.declared.value.Value.TheViews.{out-roll-Value}
@@ -8,7 +9,9 @@ use Rattle.beam_values.specs.declared.value.Value.TheFolds.{fold-roll-Value}
 use Rattle.beam_values.specs.Spelling.{groups}
 use Rattle.beam_values.specs.declared.element.Element.{Element}
 use Rattle.beam_values.specs.declared.element.Timing.TheVariants.{OnTime, Unknown}
+use Rattle.beam_values.specs.declared.graph_refusal.GraphRefusal.TheVariants as refusal
 use Rattle.beam_values.specs.declared.log.LogInput.TheVariants.{Arrived, Fired}
+use Rattle.beam_values.specs.declared.outcome.Outcome.{Outcome}
 use Rattle.beam_values.specs.declared.plan.Args.TheVariants.{Nothing, Text, Number, Two}
 use Rattle.beam_values.specs.declared.plan.FnKind.TheVariants.{KeyField, Words, Field, KeepPrefix, FieldInt, Swap, Shift, SumSeq, CountSeq, MaxSeq, Unseq, Values}
 use Rattle.beam_values.specs.declared.plan.SourceKind.TheVariants.{Lines, TimedLines, Count, Made}
@@ -18,6 +21,8 @@ use Rattle.beam_values.specs.declared.state_cell.StateCell.TheVariants.{Unset, N
 use Rattle.beam_model.specs.Values.{null, int, blob, pair, seq}
 use Rattle.beam_model.specs.Functions.{emits}
 use Rattle.beam_values.specs.States.{KeptState}
+use Rattle.beam_model.specs.Plans.{panes_plan}
+use Rattle.beam_model.specs.Rendering.{summary}
 use Rattle.beam_model.specs.Steps.{Stepped, steps}
 use Rattle.beam_model.specs.Positions.{Poison, nothing, Emits, emission, emits_one, next_position, made_line}
 
@@ -270,3 +275,34 @@ made_last = refl
 made : emission Made (Two 3 7) [] 1 ≡ emits_one (text (tabbed (codes "k14") (codes "8"))) (pos 196)
 unfolding digits
 made = refl
+
+-- The pipeline of `panes` is a checked plan.
+
+panes_plan_is_checked : graph_refusal (panes_plan (codes "data/bids.txt") (pos 60000)) ≡ None
+panes_plan_is_checked = refl
+
+panes_plan_without_a_size : graph_refusal (panes_plan (codes "data/bids.txt") (pos 0)) ≡ Some (refusal.Setting 2)
+panes_plan_without_a_size = refl
+
+-- The summary of a run over one item of 5 bytes that wrote one pane, with the numbers 3 and 1.
+
+abbrev summed : Outcome
+summed = record {
+  plan = panes_plan (codes "f") (pos 60000);
+  files = record { node = 0; item = 0; len = 5 } ∷ [];
+  done = [];
+  cells = [];
+  panes = [];
+  dropped = [];
+  logs = [];
+  written = record { node = 4; element = with (keyed (seq (int (pos 3) ∷ int (pos 1) ∷ []))) } ∷ [];
+  commits = [];
+  stopped = None;
+}
+
+abbrev ended : List ℕ → List ℕ
+ended line = line ++ 10 ∷ []
+
+summary_of_one_pane : summary summed ≡ ended (codes "lines 5") ++ (ended (codes "panes 1") ++ (ended (codes "values 2") ++ ended (codes "sum 4")))
+unfolding digits
+summary_of_one_pane = simp out-roll-Value refl
