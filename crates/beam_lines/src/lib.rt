@@ -8,7 +8,7 @@
 mod line;
 mod timed;
 
-pub use line::{FirstLine, first_line};
+pub use line::{FirstLine, first_line, starts_line};
 pub use timed::{TimedLine, key_field, time_of, timed_line};
 
 #[cfg(test)]

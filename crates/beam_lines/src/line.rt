@@ -1,6 +1,6 @@
 ghost use Rattle.std.specs.Prelude.{◌≡◌, ◌+◌, ◌-◌, ◌≤◌, ℕ, ◌==◌, length, take, drop, min};
 ghost use Rattle.std.specs.List.{position_or_len};
-ghost use Rattle.beam_values.specs.Lines.{line_len, first_line, without_return};
+ghost use Rattle.beam_values.specs.Lines.{starts_line, line_len, first_line, without_return};
 
 use memchr::memchr;
 
@@ -17,6 +17,14 @@ pub fn len_before(byte: u8, text: &[u8]) -> usize
         Some(at) => at,
         None => text.len(),
     }
+}
+
+/// A line starts at the start of a file and after each LF.
+pub fn starts_line(file: &[u8], p: usize) -> bool
+    requires { p ≤ length file.now }
+    ensures { result ≡ starts_line file.now p }
+{
+    p == 0 || file[p - 1] == LF
 }
 
 /// The line that a text begins with, and where the next one would start.

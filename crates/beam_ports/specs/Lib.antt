@@ -1,5 +1,6 @@
 pub mod Counts
 pub mod Files
+pub mod Observed
 pub mod Sinks
 pub mod StoreMemory
 pub mod SinkMemory

@@ -1,4 +1,1 @@
-pub mod Ends
 pub mod Lengths
-pub mod Notes
-pub mod Words

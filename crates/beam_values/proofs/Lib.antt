@@ -1,4 +1,7 @@
 pub mod Bags
+pub mod Counts
+pub mod GroupedCells
+pub mod Groupings
 pub mod Induction
 pub mod Lexicographic
 pub mod OneSpelling
@@ -6,5 +9,5 @@ pub mod SignedBits
 pub mod Sorts
 pub mod Spellings
 pub mod Spreads
-pub mod Varints
 pub mod Storable
+pub mod Varints

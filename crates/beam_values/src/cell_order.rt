@@ -1,9 +1,10 @@
 ghost use Rattle.std.specs.Prelude.{◌≡◌};
-ghost use Rattle.beam_values.specs.Cells.{span_cmp, window_key_cmp, grouped_cmp};
+ghost use Rattle.std.specs.Ordering.{on, then_cmp};
+ghost use Rattle.beam_values.specs.Cells.{span_cmp, cell_cmp, window_key_cmp, grouped_cmp};
 ghost use Rattle.beam_values.specs.Grouping.{key_of};
 ghost use Rattle.beam_values.specs.Orders.{value_cmp};
 
-use crate::{Element, Span, Value, cmp_values, key_or, part_of};
+use crate::{Cell, Element, Span, Value, cmp_values, key_or, part_of};
 use std::cmp::Ordering;
 
 /// The order of windows: by their starts, and then by their ends.
@@ -38,6 +39,25 @@ pub fn cmp_grouped(a: &Element, b: &Element) -> Ordering
 {
     match cmp_window_keys(a, b) {
         Ordering::Equal => cmp_values(part_of(a), part_of(b)),
+        decided => decided,
+    }
+}
+
+/// The order of the cells of an outcome: by node, by the bytes that spell the key, and by window.
+pub fn cmp_cells(a: &Cell, b: &Cell) -> Ordering
+    ensures { result ≡ cell_cmp a.now b.now }
+{
+    match a.node.cmp(&b.node) {
+        Ordering::Equal => cmp_cells_of_node(a, b),
+        decided => decided,
+    }
+}
+
+fn cmp_cells_of_node(a: &Cell, b: &Cell) -> Ordering
+    ensures { result ≡ then_cmp (on (λ cell. cell.key) value_cmp) (on (λ cell. cell.span) span_cmp) a.now b.now }
+{
+    match cmp_values(&a.key, &b.key) {
+        Ordering::Equal => cmp_spans(a.span, b.span),
         decided => decided,
     }
 }

@@ -36,7 +36,7 @@ pub use arrival::Arrival;
 pub use beam_containers::{Boxed, Bytes, Duplicate, List, NoMemory, RoomyList};
 pub use bits::unsigned_bits;
 pub use cell::{Cell, Dropped, Entry, Pane};
-pub use cell_order::{cmp_grouped, cmp_keys, cmp_spans, cmp_window_keys};
+pub use cell_order::{cmp_cells, cmp_grouped, cmp_keys, cmp_spans, cmp_window_keys};
 pub use compare::{cmp_blobs, cmp_values};
 pub use element::{Element, PaneTag, Timing};
 pub use fault::{Cause, FaultNote};

@@ -1,5 +1,5 @@
 ghost use Rattle.std.specs.Prelude.{◌≡◌, ◌+◌, ◌-◌, ◌^◌, ◌<◌, ◌≤◌, ◌↔◌, Some, None, IsTrue, IfSome};
-ghost use Rattle.beam_values.specs.Tracking.{Tracked, MayClaim, first_unattempted, split_point_of, residual, primary, IsDone};
+ghost use Rattle.beam_values.specs.Tracking.{Tracked, MayClaim, first_unattempted, split_point_of, residual, primary, claimed, is_granted, IsDone};
 
 use beam_values::Range;
 use std::marker::Model;
@@ -67,8 +67,8 @@ impl Tracker {
     /// Attempts `p`. The answer is true exactly where `p` lies in the restriction.
     pub fn try_claim(&mut self, p: u64) -> bool
         requires { MayClaim self.old p }
-        ensures answer { IsTrue result ↔ (p < self.old.range.to) }
-        ensures after { self.new ≡ record { range = self.old.range; attempted = Some p } }
+        ensures answer { result ≡ is_granted self.old p }
+        ensures after { self.new ≡ claimed self.old p }
     {
         self.attempted = Some(p);
         p < self.range.to()

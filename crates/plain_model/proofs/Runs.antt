@@ -18,14 +18,14 @@ use Rattle.beam_values.specs.Elements.{element_cmp}
 use Rattle.beam_values.specs.Grouping.{key_of, part_of, is_in_cell, pane_with, IsPlainPane, IsPlainGrouping}
 use Rattle.beam_values.specs.declared.value.Value.{Value}
 use Rattle.beam_values.specs.declared.element.Element.{Element}
-use Rattle.beam_values.specs.Cells.{cell_cmp, grouped_cmp}
-use Rattle.plain_model.proofs.Lists.{count_none, run_passes, sorted_take, sorted_drop}
-use Rattle.plain_model.proofs.Cells.{cell_total, grouped_total, cell_tied, cell_apart, below_upto, cells_rise, parts_rise, not_above, pane_cell, panes_rise}
-use Rattle.plain_model.proofs.Groupings.{grouping_append, grouping_one, seen_alike, pane_over, HasNoCellOfBoth}
+use Rattle.beam_values.specs.Cells.{window_key_cmp, grouped_cmp}
+use Rattle.beam_values.proofs.Counts.{count_none, run_passes, sorted_take, sorted_drop}
+use Rattle.beam_values.proofs.GroupedCells.{cell_total, grouped_total, cell_tied, cell_apart, below_upto, cells_rise, parts_rise, not_above, pane_cell, panes_rise}
+use Rattle.beam_values.proofs.Groupings.{grouping_append, grouping_one, seen_alike, pane_over, HasNoCellOfBoth}
 
 -- each element is in a cell above that of the pane
 abbrev pub IsBelow : List Element → Element → Type 0
-IsBelow rest pane = All (λ e. cell_cmp pane e ≡ Less) rest
+IsBelow rest pane = All (λ e. window_key_cmp pane e ≡ Less) rest
 
 pub record IsGrouped (sorted rest panes : List Element) : Type 0 where
   pub done : List Element
@@ -36,7 +36,7 @@ pub record IsGrouped (sorted rest panes : List Element) : Type 0 where
   pub left : IsSorted grouped_cmp rest
 
 abbrev in_run : Element → Element → Bool
-in_run first e = is_eq (cell_cmp first e)
+in_run first e = is_eq (window_key_cmp first e)
 
 -- the elements at the front that are in the cell of the first one
 abbrev pub run : Element → List Element → ℕ
@@ -55,7 +55,7 @@ grouped_order = ranks_by grouped_total (λ (x : Element). x)
 
 -- of two places in the order of grouping, the later one is in no cell below
 far : (rest : List Element) → IsSorted grouped_cmp rest → (j k : ℕ) (d : Element) → j ≤ k → k < length rest
-    → is_gt (cell_cmp (get_or rest j d) (get_or rest k d)) ≡ false
+    → is_gt (window_key_cmp (get_or rest j d) (get_or rest k d)) ≡ false
 far rest up j k d le within =
     cells_rise (get_or rest j d) (get_or rest k d) (sorted_far (λ x y. is_lt (grouped_cmp x y)) grouped_order rest up j k d le within)
 
@@ -67,7 +67,7 @@ run_some first rest some is = by_length (run first rest) refl
         let stops = prefix_len_stops (in_run first) rest first (omega arith) in
         let none : in_run first first ≡ false =
         ap (in_run first) is ∙ ap (λ (k : ℕ). in_run first (get_or rest k first)) (sym e) ∙ stops in
-        absurd (eq_not (cell_cmp first first) none (tied_itself cell_total first))
+        absurd (eq_not (window_key_cmp first first) none (tied_itself cell_total first))
     by_length (suc n) e = omega arith
 
 pub run_within : (first : Element) (rest : List Element) → run first rest ≤ length rest
@@ -85,14 +85,14 @@ told_same Greater e = absurd (false≢true (sym e))
 
 -- a count of the run: it ends at the first element of another cell
 pub run_ends : (first : Element) (elements : List Element) (i : ℕ) (e : Element) (o : Ordering) → i < length elements → e ≡ get_or elements i e
-    → o ≡ cell_cmp first e → true ≡ not (ordering_index o == 1) → i + run first (drop i elements) ≡ run first elements → i ≡ run first elements
+    → o ≡ window_key_cmp first e → true ≡ not (ordering_index o == 1) → i + run first (drop i elements) ≡ run first elements → i ≡ run first elements
 run_ends first elements i e o within is order test so_far =
     let passed : in_run first (get_or elements i e) ≡ false =
     ap (in_run first) (sym is) ∙ ap is_eq (sym order) ∙ told_apart o (sym test) in
     omega (arith, prefix_len-drop_no (in_run first) elements i e within passed)
 
 pub run_goes_on : (first : Element) (elements : List Element) (i : ℕ) (e : Element) (o : Ordering) → i < length elements → e ≡ get_or elements i e
-    → o ≡ cell_cmp first e → false ≡ not (ordering_index o == 1) → i + run first (drop i elements) ≡ run first elements
+    → o ≡ window_key_cmp first e → false ≡ not (ordering_index o == 1) → i + run first (drop i elements) ≡ run first elements
     → (i + 1) + run first (drop (i + 1) elements) ≡ run first elements
 run_goes_on first elements i e o within is order test so_far =
     let passed : in_run first (get_or elements i e) ≡ true =
@@ -103,9 +103,9 @@ pub run_is_all : (first : Element) (elements : List Element) (i : ℕ) → i ≤
     → i + run first (drop i elements) ≡ run first elements → length elements ≡ run first elements
 run_is_all first elements i le ge so_far = omega (arith, prefix_len-drop_all (in_run first) elements i ge)
 
-run_same : (first : Element) (rest : List Element) → All (λ e. cell_cmp first e ≡ Equal) (take (run first rest) rest)
+run_same : (first : Element) (rest : List Element) → All (λ e. window_key_cmp first e ≡ Equal) (take (run first rest) rest)
 run_same first rest =
-    All-weaker (λ e. in_run first e ≡ true) (λ e. cell_cmp first e ≡ Equal) (λ e h. eq_is (cell_cmp first e) h) (take (run first rest) rest) (run_passes (in_run first) rest)
+    All-weaker (λ e. in_run first e ≡ true) (λ e. window_key_cmp first e ≡ Equal) (λ e h. eq_is (window_key_cmp first e) h) (take (run first rest) rest) (run_passes (in_run first) rest)
 
 others_above : (first : Element) (rest : List Element) → IsSorted grouped_cmp rest → 0 < length rest → first ≡ get_or rest 0 first
     → IsBelow (drop (run first rest) rest) first
@@ -113,40 +113,40 @@ others_above first rest up some is k d within =
     let n = run first rest in
     let inside : n + k < length rest = omega (arith, length-drop n rest) in
     let head = get_or_read rest 0 first some is d in
-    let upward : is_gt (cell_cmp first (get_or rest n d)) ≡ false =
-    ap (λ (x : Element). is_gt (cell_cmp x (get_or rest n d))) head ∙ far rest up 0 n d (omega arith) (omega arith) in
-    let other = eq_not (cell_cmp first (get_or rest n d)) (prefix_len_stops (in_run first) rest d (omega arith)) in
-    let next = not_above (cell_cmp first (get_or rest n d)) upward other in
-    ap (λ (x : Element). cell_cmp first x) (get_or-drop n rest k d)
+    let upward : is_gt (window_key_cmp first (get_or rest n d)) ≡ false =
+    ap (λ (x : Element). is_gt (window_key_cmp x (get_or rest n d))) head ∙ far rest up 0 n d (omega arith) (omega arith) in
+    let other = eq_not (window_key_cmp first (get_or rest n d)) (prefix_len_stops (in_run first) rest d (omega arith)) in
+    let next = not_above (window_key_cmp first (get_or rest n d)) upward other in
+    ap (λ (x : Element). window_key_cmp first x) (get_or-drop n rest k d)
     ∙ below_upto first (get_or rest n d) (get_or rest (n + k) d) next (far rest up n (n + k) d (omega arith) inside)
 
-parts_ascend : (first : Element) (group : List Element) → All (λ e. cell_cmp first e ≡ Equal) group → IsSorted grouped_cmp group
+parts_ascend : (first : Element) (group : List Element) → All (λ e. window_key_cmp first e ≡ Equal) group → IsSorted grouped_cmp group
     → IsSorted value_cmp (map part_of group)
 parts_ascend first group same up k d z l =
     let within : k + 1 < length group = omega (arith, length-map group part_of) in
     let a = get_or group k first in
     let b = get_or group (k + 1) first in
-    let tied : cell_cmp a b ≡ Equal =
+    let tied : window_key_cmp a b ≡ Equal =
     sym (cell_total.congr first a b (same k first (omega arith))) ∙ same (k + 1) first within in
     ap (λ (x : Value). is_lt (value_cmp x (get_or (map part_of group) k d))) (get_or-map part_of group (k + 1) first d within)
     ∙ ap (λ (x : Value). is_lt (value_cmp (part_of b) x)) (get_or-map part_of group k first d (omega arith))
     ∙ parts_rise a b tied (up k first (omega arith) within)
 
 -- the pane of a cell above that of a pane
-pane_above : (xs : List Element) (p first : Element) (group : List Element) → IsPlainPane xs p → cell_cmp p first ≡ Less
+pane_above : (xs : List Element) (p first : Element) (group : List Element) → IsPlainPane xs p → window_key_cmp p first ≡ Less
     → is_lt (element_cmp (pane_over first group) p) ≡ false
 pane_above xs p first group h less =
     let q = pane_over first group in
     let as_built = pane_with (key_of p) p.span h.parts in
     let tied = cell_tied q first (pane_cell first (map part_of group)) in
-    let below : cell_cmp as_built q ≡ Less =
-    ap (λ (x : Element). cell_cmp x q) (sym h.holds) ∙ alike_right cell_total q first p tied ∙ less in
+    let below : window_key_cmp as_built q ≡ Less =
+    ap (λ (x : Element). window_key_cmp x q) (sym h.holds) ∙ alike_right cell_total q first p tied ∙ less in
     ap (λ (x : Element). is_lt (element_cmp q x)) h.holds
     ∙ panes_rise (key_of p) (key_of first) p.span first.span h.parts (map part_of group) below
 
 module _ (sorted rest panes : List Element) (first : Element) (some : 0 < length rest) (is : first ≡ get_or rest 0 first) (g : IsGrouped sorted rest panes) where
-  below_first : (k : ℕ) (d : Element) → k < length panes → cell_cmp (get_or panes k d) first ≡ Less
-  below_first k d within = ap (λ (x : Element). cell_cmp (get_or panes k d) x) is ∙ g.below k d within 0 first some
+  below_first : (k : ℕ) (d : Element) → k < length panes → window_key_cmp (get_or panes k d) first ≡ Less
+  below_first k d within = ap (λ (x : Element). window_key_cmp (get_or panes k d) x) is ∙ g.below k d within 0 first some
 
   apart : HasNoCellOfBoth g.done (take (run first rest) rest)
   apart key span = by_test (is_in_cell key span first) refl
@@ -179,9 +179,9 @@ module _ (sorted rest panes : List Element) (first : Element) (some : 0 < length
         ascending = IsSortedBy-push (λ x y. is_lt (element_cmp x y)) panes pane g.ascending (λ d have.
             pane_above g.done (get_or panes (length panes - 1) d) first group (g.grouped.each (length panes - 1) d (omega arith)) (below_first (length panes - 1) d (omega arith)));
         below = All-append (IsBelow others) panes (pane ∷ [])
-            (All-weaker (IsBelow rest) (IsBelow others) (λ p h. All-drop (λ e. cell_cmp p e ≡ Less) n rest h) panes g.below)
+            (All-weaker (IsBelow rest) (IsBelow others) (λ p h. All-drop (λ e. window_key_cmp p e ≡ Less) n rest h) panes g.below)
             (All-cons (IsBelow others) pane []
-            (All-weaker (λ e. cell_cmp first e ≡ Less) (λ e. cell_cmp pane e ≡ Less) (λ e h. cell_total.congr pane first e tied ∙ h) others (others_above first rest g.left some is))
+            (All-weaker (λ e. window_key_cmp first e ≡ Less) (λ e. window_key_cmp pane e ≡ Less) (λ e h. cell_total.congr pane first e tied ∙ h) others (others_above first rest g.left some is))
             (All-nil (IsBelow others)));
         left = sorted_drop (λ x y. is_lt (grouped_cmp x y)) n rest g.left;
       }

@@ -2,12 +2,14 @@ ghost use Rattle.std.specs.Prelude.{◌≡◌, IfOk, map};
 ghost use Rattle.std.specs.List.{prefix_len};
 ghost use Rattle.std.specs.List.Sorted.{IsSorted};
 ghost use Rattle.std.specs.Ordering.{is_eq};
-ghost use Rattle.beam_values.specs.Grouping.{key_of, part_of, last_time, pane_with, IsPlainGrouping};
+ghost use Rattle.beam_values.specs.Grouping.{key_of, part_of, pane_with, IsPlainGrouping};
 ghost use Rattle.beam_values.specs.Elements.{element_cmp};
-ghost use Rattle.beam_values.specs.Cells.{cell_cmp, grouped_cmp};
+ghost use Rattle.beam_values.specs.Cells.{window_key_cmp, grouped_cmp};
 
-use crate::cell::{cmp_cells, cmp_grouped, key_or, part_of};
-use beam_values::{Boxed, Element, List, NoMemory, PaneTag, Span, Time, Timing, Value};
+use beam_values::{
+    Boxed, Element, List, NoMemory, PaneTag, Timing, Value, cmp_grouped, cmp_window_keys, copy_key,
+    last_time, part_of,
+};
 use std::alloc::Global;
 use std::cmp::Ordering;
 
@@ -41,10 +43,10 @@ fn panes_of(alloc: Global, sorted: &[Element]) -> Result<List<Element>, NoMemory
 
 /// How many elements at the front are in the cell of `first`.
 fn run_len(first: &Element, elements: &[Element]) -> usize
-    ensures { result ≡ prefix_len (λ e. is_eq (cell_cmp first.now e)) elements.now }
+    ensures { result ≡ prefix_len (λ e. is_eq (window_key_cmp first.now e)) elements.now }
 {
     for (i, element) in elements.iter().enumerate() {
-        if cmp_cells(first, element) != Ordering::Equal {
+        if cmp_window_keys(first, element) != Ordering::Equal {
             return i;
         }
     }
@@ -69,13 +71,6 @@ fn pane_of(alloc: Global, first: &Element, group: &[Element]) -> Result<Element,
     })
 }
 
-fn copy_key(alloc: Global, element: &Element) -> Result<Value, NoMemory>
-    ensures { IfOk result (λ key. key ≡ key_of element.now) }
-{
-    let null = Value::Null;
-    key_or(element, &null).copy(alloc)
-}
-
 fn copy_parts(alloc: Global, elements: &[Element]) -> Result<List<Value>, NoMemory>
     ensures { IfOk result (λ parts. parts ≡ map part_of elements.now) }
 {
@@ -84,15 +79,4 @@ fn copy_parts(alloc: Global, elements: &[Element]) -> Result<List<Value>, NoMemo
         parts.push(part_of(element).copy(alloc)?)?;
     }
     Ok(List::from_vec(parts))
-}
-
-/// The last millisecond of a window that is a time.
-pub fn last_time(span: Span) -> Time
-    ensures { result ≡ last_time span }
-{
-    let last = span.end() - 1;
-    match Time::new(last.clamp(Time::LEAST_MS, Time::GREATEST_MS)) {
-        Some(time) => time,
-        None => unreachable!(),
-    }
 }

@@ -17,8 +17,7 @@ mod sessions;
 #[cfg(test)]
 mod tests;
 
-pub use cell::{key_or, part_of};
-pub use grouping::{last_time, plain_panes};
+pub use grouping::plain_panes;
 pub use positions::{Emitted, TimedValue, emission, next_position};
 pub use reading::lines;
 pub use sessions::{grouped, plain_sessions};

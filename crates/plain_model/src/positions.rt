@@ -1,5 +1,4 @@
 ghost use Rattle.std.specs.Prelude.{◌≡◌, ◌*◌, ◌<◌, ◌≤◌, pos, [], ◌∷◌, ◌++◌, length, codes, decimal, IfOk};
-ghost use Rattle.beam_values.specs.Times.{least_time};
 ghost use Rattle.beam_values.specs.Lines.{line_at, next_start};
 ghost use Rattle.beam_values.specs.Functions as functions;
 ghost use Rattle.beam_model.specs.Values.{int};
@@ -7,8 +6,7 @@ ghost use Rattle.beam_model.specs.Positions as model;
 ghost use Rattle.beam_model.specs.Functions.{second_arg};
 ghost use Rattle.plain_model.specs.Emissions.{shown, IsWorkable, HasNext};
 
-use crate::reading::starts_line;
-use beam_lines::{TimedLine, first_line, timed_line};
+use beam_lines::{TimedLine, first_line, starts_line, timed_line};
 use beam_values::{Args, Bytes, List, NoMemory, SourceKind, Time, Value};
 use itoa::Buffer;
 use std::alloc::Global;
@@ -50,7 +48,7 @@ pub fn emission(
         }
         SourceKind::Lines => {
             let line = Bytes::from_slice(alloc, line_at(file, p as usize))?;
-            emits_one(alloc, Value::Blob(line), least_time())
+            emits_one(alloc, Value::Blob(line), Time::LEAST)
         }
         SourceKind::TimedLines => timed_emission(alloc, line_at(file, p as usize)),
         SourceKind::Count => count_emission(alloc, second_argument(args), p),
@@ -158,15 +156,6 @@ fn made_text(alloc: Global, key: u64, number: u64) -> Result<Bytes, NoMemory>
     text.push(b'\t')?;
     text.extend_from_slice(digits.format(number).as_bytes())?;
     Ok(text)
-}
-
-fn least_time() -> Time
-    ensures { result ≡ least_time }
-{
-    match Time::new(Time::LEAST_MS) {
-        Some(time) => time,
-        None => unreachable!(),
-    }
 }
 
 // A number of milliseconds within the bounds of a time.

@@ -1,8 +1,7 @@
-ghost use Rattle.std.specs.Prelude.{◌≡◌, ◌≤◌, length, IfOk};
-ghost use Rattle.beam_values.specs.Lines.{starts_line};
+ghost use Rattle.std.specs.Prelude.{◌≡◌, IfOk};
 ghost use Rattle.plain_model.specs.Emissions.{file_lines};
 
-use beam_lines::first_line;
+use beam_lines::{first_line, starts_line};
 use beam_values::{Bytes, List, NoMemory};
 use std::alloc::Global;
 
@@ -18,12 +17,4 @@ pub fn lines(alloc: Global, file: &[u8]) -> Result<List<Bytes>, NoMemory>
         }
     }
     Ok(lines)
-}
-
-/// A line starts at the start of the file and after each LF.
-pub fn starts_line(file: &[u8], p: usize) -> bool
-    requires { p ≤ length file.now }
-    ensures { result ≡ starts_line file.now p }
-{
-    p == 0 || file[p - 1] == b'\n'
 }

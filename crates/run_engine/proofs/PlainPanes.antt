@@ -22,9 +22,9 @@ use Rattle.beam_values.specs.declared.cell.Pane.{Pane}
 use Rattle.beam_values.proofs.Bags.{bag_sym, bag_trans, bag_from_same, bag_from_permutation, bag_map}
 use Rattle.beam_model.specs.Account.{cell_arrivals}
 use Rattle.plain_model.specs.Cells.{cell_cmp as element_cell_cmp}
-use Rattle.plain_model.proofs.Lists.{count_none}
-use Rattle.plain_model.proofs.Cells.{IsSameCell, cell_tied, both_in}
-use Rattle.plain_model.proofs.Groupings.{grouping_moved, grouping_none, grouping_append, grouping_one, seen_alike, pane_over, HasNoCellOfBoth}
+use Rattle.beam_values.proofs.Counts.{count_none}
+use Rattle.beam_values.proofs.GroupedCells.{IsSameCell, cell_tied, both_in}
+use Rattle.beam_values.proofs.Groupings.{grouping_moved, grouping_none, grouping_append, grouping_one, seen_alike, pane_over, HasNoCellOfBoth}
 use Rattle.run_engine.specs.Grouped.{entry_arrival, as_shown, entries_of, IsEntryOf, IsFiredCell, parts_of, pane_of_cell, fired_pane, cell_cmp, AreCells}
 use Rattle.run_engine.proofs.Ascents.{ascends_tail}
 use Rattle.run_engine.proofs.Cells.{cell_total}

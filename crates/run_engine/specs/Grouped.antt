@@ -3,7 +3,8 @@ use Rattle.std.specs.Prelude.{◌≡◌, ◌≤◌, ℕ, true, false, List, [], 
 use Rattle.std.specs.List.{flat_map}
 use Rattle.std.specs.List.Sorted.{IsSorted, IsStrictlySortedBy}
 use Rattle.std.specs.declared.cmp.Ordering.{Ordering}
-use Rattle.std.specs.Ordering.{on, then_cmp, ordering_then, int_cmp, is_lt}
+use Rattle.std.specs.Ordering.{on, then_cmp, ordering_then, is_lt}
+use Rattle.beam_values.specs.Cells.{span_cmp}
 use Rattle.beam_values.specs.Intervals.{Interval}
 use Rattle.beam_values.specs.Orders.{value_cmp}
 use Rattle.beam_values.specs.Grouping.{key_of, part_of, pane_with}
@@ -14,7 +15,7 @@ use Rattle.beam_values.specs.declared.cell.Cell.{Cell}
 use Rattle.beam_values.specs.declared.cell.Entry.{Entry}
 use Rattle.beam_values.specs.declared.cell.Pane.{Pane}
 
--- what an entry was when it came to the Group
+-- an entry as it arrived at the Group
 abbrev pub entry_arrival : ℕ → Entry → Arrival
 entry_arrival node entry = record { node = node; element = entry.element }
 
@@ -65,13 +66,9 @@ pane_of_cell cell = pane_with cell.key cell.span (parts_of cell)
 abbrev pub fired_pane : ℕ → ℕ → Cell → Pane
 fired_pane node commit cell = record { node = node; element = pane_of_cell cell; commit = commit }
 
--- windows by their starts, and then by their ends
-abbrev pub span_cmp : Interval → Interval → Ordering
-span_cmp = then_cmp (on (λ span. span.start) int_cmp) (on (λ span. span.end) int_cmp)
-
--- cells by their windows, and then by their keys
-abbrev pub cell_cmp : Cell → Cell → Ordering
-cell_cmp = then_cmp (on (λ cell. cell.span) span_cmp) (on (λ cell. cell.key) value_cmp)
+-- cells of one Group by window and then by key: the order in which sorted entries make them
+abbrev pub made_cmp : Cell → Cell → Ordering
+made_cmp = then_cmp (on (λ cell. cell.span) span_cmp) (on (λ cell. cell.key) value_cmp)
 
 -- the window and the key of an entry beside those of a cell
 abbrev pub place_cmp : Entry → Cell → Ordering
@@ -89,5 +86,5 @@ HasNoneAfter entry cells = All (λ held. is_lt (entry_cmp entry held) ≡ false)
 -- fired cells that ascend, and in each the parts do
 pub record AreCells (node : ℕ) (cells : List Cell) : Type 0 where
   pub fired : All (IsFiredCell node) cells
-  pub ascending : IsStrictlySortedBy cell_cmp cells
+  pub ascending : IsStrictlySortedBy made_cmp cells
   pub parts : All (λ cell. IsSorted value_cmp (parts_of cell)) cells

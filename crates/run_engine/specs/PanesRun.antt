@@ -1,15 +1,20 @@
 -- What a run of `panes FILE SIZE` did where it ended Ok, and why it ended otherwise.
-use Rattle.std.specs.Prelude.{◌≡◌, ◌⊎◌, ℕ, ℤ, List, [], ◌∷◌, map, Option, Some, None, IsSome}
+use Rattle.std.specs.Prelude.{◌≡◌, ◌⊎◌, ℕ, ◌≤◌, ℤ, List, [], ◌∷◌, length, map, Option, Some, None, IsSome}
+use Rattle.std.specs.List.{All}
+use Rattle.std.specs.List.Sorted.{IsSorted}
+use Rattle.beam_values.specs.Cells.{cell_cmp, pane_cmp}
 use Rattle.beam_values.specs.Files.{first_named}
+use Rattle.beam_values.specs.declared.cell.Entry.{Entry}
 use Rattle.beam_values.specs.declared.fault.Cause.{Cause}
 use Rattle.beam_values.specs.declared.fault.Cause.TheVariants.{Call, Read}
 use Rattle.beam_values.specs.declared.fault.FaultNote.{FaultNote}
 use Rattle.beam_values.specs.declared.file_text.FileText.{FileText}
 use Rattle.beam_values.specs.declared.outcome.Outcome.{Outcome}
 use Rattle.beam_ports.specs.Counts.{Rose}
+use Rattle.beam_ports.specs.Observed.{ObservedStore, WhereTold}
 use Rattle.beam_model.specs.Account.{IsAccounted}
 use Rattle.beam_model.specs.Covers.{IsCovered}
-use Rattle.beam_model.specs.Plain.{IsPlainlyWritten}
+use Rattle.beam_model.specs.Plain.{ArePlainlyWritten}
 use Rattle.beam_model.specs.Plans.{panes_plan}
 use Rattle.beam_model.specs.Positions.{items, item_len}
 use Rattle.beam_model.specs.Spread.{HasPoison}
@@ -17,37 +22,47 @@ use Rattle.run_engine.specs.Working.{panes_item}
 use Rattle.run_engine.specs.declared.status.Status.{Status}
 use Rattle.run_engine.specs.declared.status.Status.TheVariants as status
 
+-- Commits count from 1, and each commits one range. The panes fire in the last commit, and each entry is of one of them.
+pub record AreCommitsCounted (o : Outcome) : Type 0 where
+  pub panes : All (λ pane. pane.commit ≡ length o.done) o.panes
+  pub entries : All (λ cell. All (λ entry. (1 ≤ entry.commit) × (entry.commit ≤ length o.done)) cell.entries) o.cells
+
+-- cells and panes stand in their orders
+pub record IsInOrder (o : Outcome) : Type 0 where
+  pub cells : IsSorted cell_cmp o.cells
+  pub panes : IsSorted pane_cmp o.panes
+
 -- the outcome of a file with these bytes
 pub record IsPanesOutcome (name : List ℕ) (size : ℤ) (file : List ℕ) (o : Outcome) : Type 0 where
   pub plan : o.plan ≡ panes_plan name size
   pub lengths : o.files ≡ item_len (panes_item file) ∷ []
   pub cover : IsCovered o
   pub account : IsAccounted (panes_item file ∷ []) o
-  pub plain : IsPlainlyWritten (panes_plan name size) (panes_item file ∷ []) o.written
+  pub plain : ArePlainlyWritten (panes_item file ∷ []) o
+  pub commits : AreCommitsCounted o
+  pub order : IsInOrder o
+  pub stopped : o.stopped ≡ None
 
 -- the outcome of the file of that name: of these files, where they are told
 pub record IsPanesRun (files : Option (List FileText)) (name : List ℕ) (size : ℤ) (o : Outcome) : Type 0 where
   pub plan : o.plan ≡ panes_plan name size
-  pub found : (told : List FileText) → files ≡ Some told → IsSome (first_named name told)
-  pub lengths : (told : List FileText) → files ≡ Some told → o.files ≡ map item_len (items told o.plan)
+  pub found : WhereTold files (λ told. IsSome (first_named name told))
+  pub lengths : WhereTold files (λ told. o.files ≡ map item_len (items told o.plan))
   pub cover : IsCovered o
-  pub account : (told : List FileText) → files ≡ Some told → IsAccounted (items told o.plan) o
-  pub plain : (told : List FileText) → files ≡ Some told → IsPlainlyWritten o.plan (items told o.plan) o.written
-
--- what a run met at the store: the files that it tells, and its count of faults before and after
-pub record ObservedStore : Type 0 where
-  pub files : Option (List FileText)
-  pub before : ℕ
-  pub after : ℕ
+  pub account : WhereTold files (λ told. IsAccounted (items told o.plan) o)
+  pub plain : WhereTold files (λ told. ArePlainlyWritten (items told o.plan) o)
+  pub commits : AreCommitsCounted o
+  pub order : IsInOrder o
+  pub stopped : o.stopped ≡ None
 
 -- where the files are told, they lack this name
 abbrev pub Lacks : Option (List FileText) → List ℕ → Type 0
-Lacks files name = (told : List FileText) → files ≡ Some told → first_named name told ≡ None
+Lacks files name = WhereTold files (λ told. first_named name told ≡ None)
 
 -- where the files are told, they have this name, and a line of the file is poison
 abbrev pub FindsPoison : Option (List FileText) → List ℕ → ℤ → Type 0
-FindsPoison files name size = (told : List FileText) → files ≡ Some told
-    → (bytes : List ℕ) × (first_named name told ≡ Some bytes) × HasPoison (panes_plan name size) (items told (panes_plan name size))
+FindsPoison files name size =
+    WhereTold files (λ told. IsSome (first_named name told) × HasPoison (panes_plan name size) (items told (panes_plan name size)))
 
 -- the source's job, at its first attempt
 abbrev pub first_fault : Cause → FaultNote

@@ -1,5 +1,5 @@
 -- What the positions of the file of `panes` bring to its Group.
-use Rattle.std.specs.Prelude.{ℕ, ℤ, List, [], length}
+use Rattle.std.specs.Prelude.{ℕ, ℤ, List, []}
 use Rattle.std.specs.List.{flat_map}
 use Rattle.beam_values.specs.Lines.{spread}
 use Rattle.beam_values.specs.declared.piece.Done.{Done}
@@ -17,7 +17,7 @@ use Rattle.beam_model.specs.Spread.{outputs_at}
 
 -- the one item of its source
 abbrev pub panes_item : List ℕ → SourceItem
-panes_item file = record { node = 0; item = 0; work = TimedLines; args = Nothing; file = file; len = length file }
+panes_item file = record { node = 0; item = 0; work = TimedLines; args = Nothing; file = file; left_out = [] }
 
 -- what a position brings; the name of the file is no matter
 abbrev pub outputs : ℤ → List ℕ → ℕ → List Output
@@ -26,7 +26,7 @@ file_outputs_at size file = outputs_at (panes_plan [] size) (panes_item file)
 abbrev pub spread_of : ℤ → List ℕ → ℕ → ℕ → List Output
 spread_of size file from to = spread (file_outputs_at size file) from to
 
--- an entry of the Group, as it was brought
+-- the output that an entry of the Group was
 abbrev pub entry_output : Entry → Output
 entry_output entry = Arrives (record { node = 3; element = entry.element })
 

@@ -1,5 +1,6 @@
-ghost use Rattle.std.specs.Prelude.{◌≡◌, ◌≤◌, ◌<◌, ◌+◌, ◌-◌, ◌++◌, ◌≤ℤ◌, pos, [], ◌∷◌, List as ListOf, length, true, min, map, None, OnOk, IfOk, IsErrOf};
+ghost use Rattle.std.specs.Prelude.{◌≡◌, ◌≤◌, ◌<◌, ◌+◌, ◌-◌, ◌++◌, [], ◌∷◌, List as ListOf, length, true, min, map, None, OnOk, IfOk, IsErrOf};
 ghost use Rattle.std.specs.List.{list_any};
+ghost use Rattle.beam_values.specs.Strategies.{IsLength};
 ghost use Rattle.beam_values.specs.Tracking.{first_unattempted};
 ghost use Rattle.beam_values.specs.declared.piece.Done.{Done};
 ghost use Rattle.beam_values.specs.declared.piece.FileLen.{FileLen};
@@ -19,7 +20,7 @@ use std::alloc::Global;
 pub struct Committed {
     /// The ranges, in the order of their commits.
     pub done: List<Done>,
-    /// What they brought to the Group.
+    /// Their outputs at the Group.
     pub entries: List<Entry>,
     /// How many commits were made; the next one has the number after it.
     pub commits: u32,
@@ -35,8 +36,7 @@ pub fn work_pieces(
     pieces: &mut Pieces,
     committed: &mut Committed,
 ) -> Result<(), WorkRefusal>
-    requires low { pos 1 ≤ℤ size }
-    requires high { size ≤ℤ pos 31536000000000 }
+    requires size { IsLength size }
     requires some { 1 ≤ bundle }
     requires held { IsCommitted size file.now pieces.old.pending committed.old }
     ensures finished { OnOk result (pieces.new.pending ≡ []) }
@@ -49,8 +49,8 @@ pub fn work_pieces(
     Ok(())
 }
 
-// Works a bundle of a piece that was taken, and commits it: what it brought, the range that was worked,
-// and the rest of the piece as pending again.
+// Works a bundle of a piece that was taken, and commits it: its outputs are entries, the range that was
+// worked is done, and the rest of the piece is pending again.
 fn work_piece(
     alloc: Global,
     size: i64,
@@ -60,8 +60,7 @@ fn work_piece(
     pieces: &mut Pieces,
     committed: &mut Committed,
 ) -> Result<(), WorkRefusal>
-    requires low { pos 1 ≤ℤ size }
-    requires high { size ≤ℤ pos 31536000000000 }
+    requires size { IsLength size }
     requires some { 1 ≤ bundle }
     requires taken { IsTaken size file.now piece pieces.old.pending committed.old }
     ensures held { OnOk result (IsCommitted size file.now pieces.new.pending committed.new) }
@@ -92,8 +91,7 @@ impl Committed {
         commit: u32,
         tracker: &mut Tracker,
     ) -> Result<(), WorkRefusal>
-        requires low { pos 1 ≤ℤ size }
-        requires high { size ≤ℤ pos 31536000000000 }
+        requires size { IsLength size }
         requires some { 1 ≤ bundle }
         requires unstarted { tracker.old.attempted ≡ None }
         requires in_file { tracker.old.range.from < tracker.old.range.to → tracker.old.range.to ≤ length file.now }

@@ -3,15 +3,16 @@ ghost use Rattle.std.specs.List.{flat_map};
 ghost use Rattle.std.specs.List.Sorted.{IsSorted, IsStrictlySortedBy};
 ghost use Rattle.beam_values.specs.Bags.{IsSameBag};
 ghost use Rattle.std.specs.Ordering.{ordering_then};
+ghost use Rattle.beam_values.specs.Cells.{span_cmp, cell_cmp, pane_cmp};
 ghost use Rattle.beam_values.specs.Grouping.{key_of, part_of, IsPlainGrouping};
 ghost use Rattle.beam_values.specs.Orders.{value_cmp};
 ghost use Rattle.beam_model.specs.Account.{cell_arrivals};
-ghost use Rattle.run_engine.specs.Grouped.{entry_arrival, as_shown, entries_of, IsEntryOf, IsFiredCell, parts_of, pane_of_cell, fired_pane, fresh_cell, span_cmp, place_cmp, cell_cmp, entry_cmp, HasNoneAfter, AreCells};
+ghost use Rattle.run_engine.specs.Grouped.{entry_arrival, as_shown, entries_of, IsEntryOf, IsFiredCell, parts_of, pane_of_cell, fired_pane, fresh_cell, place_cmp, entry_cmp, HasNoneAfter, AreCells};
 
 use beam_values::{
-    Boxed, Cell, Element, Entry, List, NoMemory, Pane, PaneTag, Span, Timing, Value, cmp_values,
+    Boxed, Cell, Element, Entry, List, NoMemory, Pane, PaneTag, Timing, Value, cmp_cells,
+    cmp_grouped, cmp_spans, cmp_values, copy_key, key_or, last_time, part_of,
 };
-use plain_model::{key_or, last_time, part_of};
 use std::alloc::Global;
 use std::cmp::Ordering;
 
@@ -24,7 +25,7 @@ pub struct Grouped {
 
 /// Puts all entries of a Group into the cells of their keys and windows, and fires the on-time pane
 /// of each cell (Beam Programming Guide, GroupByKey). The entries of a cell stand in the order of
-/// their parts.
+/// their parts. Entries are sorted by window first, since that is at hand, and only the cells by key.
 pub fn group(
     alloc: Global,
     node: u32,
@@ -33,7 +34,7 @@ pub fn group(
 ) -> Result<Grouped, NoMemory>
     // Each entry is in one cell.
     ensures account { IfOk result (λ g. IsSameBag (flat_map cell_arrivals g.cells) (map (entry_arrival node) entries)) }
-    // It is as it came, and shown.
+    // Each entry is as it arrived, and shown.
     ensures held { IfOk result (λ g. IsSameBag (entries_of g.cells) (map as_shown entries)) }
     // The panes are the plain grouping of the elements.
     ensures plain { IfOk result
@@ -44,39 +45,30 @@ pub fn group(
     // A cell stands for a key and a window, and has one pane.
     ensures each { IfOk result (λ g. map (λ pane. pane.element) g.panes ≡ map pane_of_cell g.cells) }
     ensures ascending { IfOk result (λ g. IsStrictlySortedBy cell_cmp g.cells) }
+    ensures panes { IfOk result (λ g. IsSorted pane_cmp g.panes) }
 {
     let mut sorted = entries.into_vec();
     sorted.sort_by(|a, b| cmp_entries(a, b))?;
-    let cells = cells_of(alloc, node, sorted)?;
+    let cells = in_order(cells_of(alloc, node, sorted)?)?;
     let panes = panes_of(alloc, node, commit, cells.as_slice())?;
     Ok(Grouped { cells, panes })
 }
 
-fn cmp_entries(a: &Entry, b: &Entry) -> Ordering
-    ensures { result ≡ entry_cmp a.now b.now }
+// Puts cells that were made by window and then by key into the order of an outcome.
+fn in_order(cells: List<Cell>) -> Result<List<Cell>, NoMemory>
+    ensures ascending { IfOk result (IsSorted cell_cmp) }
+    ensures same { IfOk result (λ ordered. IsSameBag ordered cells) }
 {
-    let (a, b) = (&a.element, &b.element);
-    match cmp_cells(a, b) {
-        Ordering::Equal => cmp_values(part_of(a), part_of(b)),
-        decided => decided,
-    }
+    let mut cells = cells.into_vec();
+    cells.sort_by(|a, b| cmp_cells(a, b))?;
+    Ok(List::from_vec(cells))
 }
 
 // Most entries differ by their windows already, which are at hand; keys and parts lie elsewhere.
-fn cmp_cells(a: &Element, b: &Element) -> Ordering
-    ensures { result ≡ ordering_then (span_cmp a.now.span b.now.span) (value_cmp (key_of a.now) (key_of b.now)) }
+fn cmp_entries(a: &Entry, b: &Entry) -> Ordering
+    ensures { result ≡ entry_cmp a.now b.now }
 {
-    let null = Value::Null;
-    match cmp_spans(a.span, b.span) {
-        Ordering::Equal => cmp_values(key_or(a, &null), key_or(b, &null)),
-        decided => decided,
-    }
-}
-
-fn cmp_spans(a: Span, b: Span) -> Ordering
-    ensures { result ≡ span_cmp a b }
-{
-    a.start().cmp(&b.start()).then(a.end().cmp(&b.end()))
+    cmp_grouped(&a.element, &b.element)
 }
 
 /// Each run of sorted entries of one key and window becomes a cell.
@@ -121,13 +113,6 @@ fn cmp_place(entry: &Entry, cell: &Cell) -> Ordering
         Ordering::Equal => cmp_values(key_or(&entry.element, &null), &cell.key),
         decided => decided,
     }
-}
-
-fn copy_key(alloc: Global, element: &Element) -> Result<Value, NoMemory>
-    ensures { IfOk result (λ key. key ≡ key_of element.now) }
-{
-    let null = Value::Null;
-    key_or(element, &null).copy(alloc)
 }
 
 /// The cell of the key and window of an entry, with room for that alone.

@@ -2,7 +2,7 @@
 //! of the Group become cells and panes, and these are written.
 //!
 //! [`run_panes`] ends with an outcome of which the layer above may rely on what `specs/PanesRun.antt`
-//! says: the committed ranges partition the file, every position's outputs came to each barrier
+//! says: the committed ranges partition the file, every position's outputs arrived at each barrier
 //! exactly once, and what was written is plain grouping of the whole file; or with a status that has
 //! its cause. [`put`] writes a text whole, or says how far. Nothing depends on how large pieces and
 //! bundles are. Read `run.rt` first, then `committing.rt` and `positions.rt`.

@@ -1,11 +1,12 @@
-ghost use Rattle.std.specs.Prelude.{◌≡◌, ◌≤◌, ◌<◌, ◌+◌, ◌++◌, ◌⊎◌, ℕ, ◌≤ℤ◌, pos, List, [], ◌∷◌, length, map, min, None, true, IsTrue, ◌↔◌, OnOk, IfOk, IsErrOf};
+ghost use Rattle.std.specs.Prelude.{◌≡◌, ◌≤◌, ◌<◌, ◌+◌, ◌++◌, ◌⊎◌, ℕ, List, [], ◌∷◌, length, map, min, None, true, IsTrue, ◌↔◌, OnOk, IfOk, IsErrOf};
 ghost use Rattle.std.specs.List.{list_any};
-ghost use Rattle.beam_values.specs.Lines.{starts_line, next_start};
+ghost use Rattle.beam_values.specs.Strategies.{IsLength};
+ghost use Rattle.beam_values.specs.Lines.{next_start};
 ghost use Rattle.beam_values.specs.Tracking.{first_unattempted};
 ghost use Rattle.beam_model.specs.Spread.{is_poison};
 ghost use Rattle.run_engine.specs.Working.{file_outputs_at, spread_of, entry_output, panes_element};
 
-use beam_lines::{TimedLine, first_line, key_field, timed_line};
+use beam_lines::{TimedLine, first_line, key_field, starts_line, timed_line};
 use beam_values::{
     Boxed, Bytes, Element, Entry, List, NoMemory, PaneTag, Span, Strategy, Time, Timing, Value,
 };
@@ -32,8 +33,8 @@ impl From<NoMemory> for WorkRefusal {
 }
 
 /// Claims and works the positions of a tracker that nothing was claimed of, one line start after
-/// another, until a claim is refused or `bundle` of them emitted an element. What they bring is added
-/// as entries of this commit.
+/// another, until a claim is refused or `bundle` of them emitted an element. Their outputs are added as
+/// entries of this commit.
 pub fn work_bundle(
     alloc: Global,
     size: i64,
@@ -43,15 +44,15 @@ pub fn work_bundle(
     tracker: &mut Tracker,
     out: &mut List<Entry>,
 ) -> Result<(), WorkRefusal>
-    requires low { pos 1 ≤ℤ size }
-    requires high { size ≤ℤ pos 31536000000000 }
+    requires size { IsLength size }
     requires some { 1 ≤ bundle }
     requires unstarted { tracker.old.attempted ≡ None }
     requires in_file { tracker.old.range.from < tracker.old.range.to → tracker.old.range.to ≤ length file.now }
-    // What came is what the positions up to the last attempted one bring.
+    // The added entries are the outputs of the positions up to the last attempted one.
     ensures outputs { OnOk result (map entry_output out.new ≡ map entry_output out.old
         ++ spread_of size file.now tracker.old.range.from (min (first_unattempted tracker.old.range.from tracker.new.attempted) tracker.old.range.to)) }
     ensures some { OnOk result (tracker.old.range.from < first_unattempted tracker.old.range.from tracker.new.attempted) }
+    ensures commit { OnOk result (All (λ entry. entry.commit ≡ commit) (drop (length out.old) out.new)) }
     ensures range { tracker.new.range ≡ tracker.old.range }
     ensures poison { IsErrOf result WorkRefusal.Poison
         → list_any is_poison (spread_of size file.now tracker.old.range.from tracker.old.range.to) ≡ true }
@@ -90,8 +91,7 @@ fn work_position(
     windows: &mut List<Span>,
     out: &mut List<Entry>,
 ) -> Result<Step, WorkRefusal>
-    requires low { pos 1 ≤ℤ size }
-    requires high { size ≤ℤ pos 31536000000000 }
+    requires size { IsLength size }
     requires in_file { p < length file.now }
     requires unused { windows.old ≡ [] }
     ensures unused { OnOk result (windows.new ≡ []) }
@@ -129,13 +129,6 @@ fn work_position(
     }
 }
 
-fn starts_line(file: &[u8], p: usize) -> bool
-    requires { p ≤ length file.now }
-    ensures { result ≡ starts_line file.now p }
-{
-    p == 0 || file[p - 1] == b'\n'
-}
-
 // A timed text split at its first TAB, in the fixed window of its time.
 fn keyed_element(
     alloc: Global,
@@ -144,8 +137,7 @@ fn keyed_element(
     text: &[u8],
     windows: &mut List<Span>,
 ) -> Result<Element, NoMemory>
-    requires low { pos 1 ≤ℤ size }
-    requires high { size ≤ℤ pos 31536000000000 }
+    requires size { IsLength size }
     requires unused { windows.old ≡ [] }
     ensures element { IfOk result (λ e. e ≡ panes_element size time text.now) }
     ensures unused { OnOk result (windows.new ≡ []) }

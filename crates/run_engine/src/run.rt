@@ -1,4 +1,6 @@
-ghost use Rattle.std.specs.Prelude.{◌≡◌, ◌≤◌, ◌≤ℤ◌, pos, IfOk, IfErr, IsErrOf, [], ◌∷◌, length, true};
+ghost use Rattle.std.specs.Prelude.{◌≡◌, ◌≤◌, IfOk, IfErr, IsErrOf, [], ◌∷◌, length, true};
+ghost use Rattle.beam_values.specs.Strategies.{IsLength};
+ghost use Rattle.beam_ports.specs.Observed.{observed_store};
 ghost use Rattle.beam_model.specs.Plans.{panes_plan};
 ghost use Rattle.std.specs.List.{list_any};
 ghost use Rattle.beam_model.specs.Spread.{HasPoison, is_poison};
@@ -33,13 +35,10 @@ pub fn run_panes<S: Store>(
     options: &Options,
     store: &mut S,
 ) -> RunEnd
-    requires low { pos 1 ≤ℤ size }
-    requires high { size ≤ℤ pos 31536000000000 }
+    requires size { IsLength size }
     requires bundle { 1 ≤ options.now.bundle }
     requires chunk { 1 ≤ options.now.chunk }
-    ensures { IsRunEnd
-        (record { files = S.files store.old; before = S.faults store.old; after = S.faults store.new })
-        file.now size result.status result.outcome }
+    ensures { IsRunEnd (observed_store S.files S.faults store.old store.new) file.now size result.status result.outcome }
 {
     match panes_outcome(alloc, file, size, options, store) {
         Ok(outcome) => RunEnd {
@@ -60,14 +59,11 @@ fn panes_outcome<S: Store>(
     options: &Options,
     store: &mut S,
 ) -> Result<Outcome, Status>
-    requires low { pos 1 ≤ℤ size }
-    requires high { size ≤ℤ pos 31536000000000 }
+    requires size { IsLength size }
     requires bundle { 1 ≤ options.now.bundle }
     requires chunk { 1 ≤ options.now.chunk }
     ensures ran { IfOk result (IsPanesRun (S.files store.old) file.now size) }
-    ensures refused { IfErr result (Prevents
-        (record { files = S.files store.old; before = S.faults store.old; after = S.faults store.new })
-        file.now size) }
+    ensures refused { IfErr result (Prevents (observed_store S.files S.faults store.old store.new) file.now size) }
 {
     let opened = match store.open_file(file) {
         Ok(opened) => opened,
@@ -115,8 +111,7 @@ fn outcome_of(
     options: &Options,
     bytes: &[u8],
 ) -> Result<Outcome, WorkRefusal>
-    requires low { pos 1 ≤ℤ size }
-    requires high { size ≤ℤ pos 31536000000000 }
+    requires size { IsLength size }
     requires bundle { 1 ≤ options.now.bundle }
     requires chunk { 1 ≤ options.now.chunk }
     ensures ran { IfOk result (IsPanesOutcome name.now size bytes.now) }
@@ -166,8 +161,7 @@ fn committed_of(
     options: &Options,
     bytes: &[u8],
 ) -> Result<Committed, WorkRefusal>
-    requires low { pos 1 ≤ℤ size }
-    requires high { size ≤ℤ pos 31536000000000 }
+    requires size { IsLength size }
     requires bundle { 1 ≤ options.now.bundle }
     requires chunk { 1 ≤ options.now.chunk }
     ensures held { IfOk result (IsCommitted size bytes.now []) }

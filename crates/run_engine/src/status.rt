@@ -3,7 +3,7 @@ ghost use Rattle.run_engine.specs.Statuses.{number_of};
 
 use beam_values::{Bytes, FaultNote, Outcome};
 
-/// What a command came to.
+/// How a command ended.
 #[derive(Debug, Drop)]
 pub enum Status {
     /// The whole text was written.
@@ -39,7 +39,7 @@ impl Status {
     }
 }
 
-/// How a command ended.
+/// The end of a command: its status and, where a run came to its end, its outcome.
 #[derive(Debug, Drop)]
 pub struct RunEnd {
     pub status: Status,

@@ -44,16 +44,7 @@ pub fn first_piece(node: u32, item: u32, chunk: u64, len: u64, i: u64) -> Piece
         node,
         item,
         range: Range::between(from, to),
-        seen: least_time(),
+        seen: Time::LEAST,
         attempts: 0,
-    }
-}
-
-fn least_time() -> Time
-    ensures { result ≡ least_time }
-{
-    match Time::new(Time::LEAST_MS) {
-        Some(time) => time,
-        None => unreachable!(),
     }
 }

@@ -1,32 +1,13 @@
--- Which windowing strategies are allowed (Beam Programming Guide, Windowing: setting a windowing function; the bounds are this profile's).
-use Rattle.std.specs.Prelude.{ℕ, ◌≤◌, ℤ, pos, ◌+ℤ◌, ◌-ℤ◌, ◌≤ℤ◌, Bool, ◌&&◌, List, Option, Some, None, if◌then◌else◌, int_le, nat_lt}
-use Rattle.std.specs.Int.{int_div_euclid, div_ceil}
+-- Why a windowing strategy is refused; which ones are allowed stands in `beam_values::specs::Strategies`.
+use Rattle.std.specs.Prelude.{ℕ, ℤ, pos, ◌+ℤ◌, ◌-ℤ◌, List, Option, Some, None, if◌then◌else◌, nat_lt}
+use Rattle.std.specs.Int.{int_div_euclid}
 use Rattle.beam_values.specs.Intervals.{Interval}
+use Rattle.beam_values.specs.Strategies.{is_length, most_windows}
 use Rattle.beam_values.specs.Windows.{or_zero, windows_from}
 use Rattle.beam_values.specs.declared.plan.Strategy.{Strategy}
 use Rattle.beam_values.specs.declared.plan.Strategy.TheVariants.{Global, Fixed, Sliding, Sessions, Kept}
 use Rattle.windowing.specs.declared.strategy.StrategyRefusal.{StrategyRefusal}
 use Rattle.windowing.specs.declared.strategy.StrategyRefusal.TheVariants.{Size, Period, TooManyWindows}
-
--- a size, a period or a gap: 1 millisecond to 1000 years of 365 days
-abbrev pub IsLength : ℤ → Type 0
-IsLength ms = (pos 1 ≤ℤ ms) × (ms ≤ℤ pos 31536000000000)
-
--- so many sliding windows hold a time at most: the size divided by the period, rounded up
-abbrev pub most_windows : ℤ → ℤ → ℕ
-most_windows size period = div_ceil (or_zero size) (or_zero period)
-
--- the strategies that a plan may have
-abbrev pub IsAllowed : Strategy → Type 0
-IsAllowed Global = Unit {0}
-IsAllowed (Fixed size) = IsLength size
-IsAllowed (Sliding size period) = IsLength size × IsLength period × (most_windows size period ≤ 1024)
-IsAllowed (Sessions gap) = IsLength gap
-IsAllowed Kept = Unit {0}
-
--- IsLength as a test
-abbrev pub is_length : ℤ → Bool
-is_length ms = int_le (pos 1) ms && int_le ms (pos 31536000000000)
 
 -- why a strategy is refused, by the first of the reasons that fits
 abbrev pub refusal_of : Strategy → Option StrategyRefusal

@@ -1,7 +1,7 @@
 use Rattle.std.proofs.Common.{◌∙◌, ap, map}
 use Rattle.beam_values.specs.Grouping.{key_of, part_of}
 use Rattle.beam_values.specs.declared.value.Value.TheVariants.{Seq}
-use Rattle.plain_model.proofs.Cells.{pane_built}
+use Rattle.beam_values.proofs.GroupedCells.{pane_built}
 use Rattle.plain_model.proofs.grouping.pane_of.Goals as goal
 
 pub returns : goal.returns

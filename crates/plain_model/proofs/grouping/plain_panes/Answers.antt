@@ -4,8 +4,8 @@ use Rattle.std.proofs.lemmas.Result.{IfOk-weaker}
 use Rattle.beam_values.specs.Grouping.{IsPlainGrouping}
 use Rattle.beam_values.specs.declared.element.Element.{Element}
 use Rattle.beam_values.specs.Cells.{grouped_cmp}
-use Rattle.plain_model.proofs.Cells.{grouped_total}
-use Rattle.plain_model.proofs.Groupings.{grouping_of_permutation}
+use Rattle.beam_values.proofs.GroupedCells.{grouped_total}
+use Rattle.beam_values.proofs.Groupings.{grouping_of_permutation}
 use Rattle.beam_values.proofs.Sorts.{sorted_from_sort_by}
 use Rattle.plain_model.proofs.grouping.plain_panes.Goals as goal
 

@@ -10,8 +10,8 @@ ghost use Rattle.beam_model.specs.Plans.{panes_plan};
 ghost use Rattle.beam_model.specs.Positions.{items, item_len};
 ghost use Rattle.beam_model.specs.Spread.{HasPoison};
 ghost use Rattle.run_engine.specs.PanesRun.{IsPanesRun};
-ghost use Rattle.beam_run.specs.Words.{TakesPanes, file_word};
-ghost use Rattle.beam_run.specs.Ends.{Observed, HasCause, HasRun, IsPrinted, IsNoted, IsNotedUpTo, IsWritten, StaysOrNoMemory, IsEndOfPoison, IsEndOfClean, IsEndOfAbsent, size_of};
+ghost use Rattle.beam_command.specs.Words.{TakesPanes, file_word};
+ghost use Rattle.beam_command.specs.Ends.{Observed, HasCause, HasRun, IsPrinted, IsNoted, IsNotedUpTo, IsWritten, StaysOrNoMemory, IsEndOfPoison, IsEndOfClean, IsEndOfAbsent, size_of};
 
 use crate::notes::{fixed_line, note_line};
 use crate::words::panes_command;

@@ -20,8 +20,8 @@ use Rattle.beam_model.specs.Spread.{spread_all, is_poison, HasPoison}
 use Rattle.run_engine.specs.PanesRun.{ObservedStore, IsPanesRun, IsRunEnd, Prevents, WorkFails, first_fault}
 use Rattle.run_engine.specs.declared.status.Status.{Status}
 use Rattle.run_engine.specs.declared.status.Status.TheVariants as status
-use Rattle.beam_run.specs.Words.{TakesPanes, file_word}
-use Rattle.beam_run.specs.Ends.{Observed, ObservedSink, HasCause, HasRun, IsWritten, IsPrinted, IsUnwritten, StaysOrNoMemory, IsEndOfPoison, IsEndOfAbsent, size_of}
+use Rattle.beam_command.specs.Words.{TakesPanes, file_word}
+use Rattle.beam_command.specs.Ends.{Observed, ObservedSink, HasCause, HasRun, IsWritten, IsPrinted, IsUnwritten, StaysOrNoMemory, IsEndOfPoison, IsEndOfAbsent, size_of}
 
 -- a text that was written is the print of the outcome that it renders
 pub printed_of : (out : ObservedSink) (s : Status) (o : Outcome) (text shown : List ℕ) → IsRendering o text → shown ≡ text → IsWritten out shown s → HasRun s (Some o) (IsPrinted out s)

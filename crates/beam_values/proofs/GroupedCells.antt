@@ -23,12 +23,13 @@ use Rattle.beam_values.specs.declared.element.Timing.TheVariants.{OnTime}
 use Rattle.beam_values.proofs.Lexicographic.{same_where_tied, same_head}
 use Rattle.beam_values.proofs.Induction.{spelling-Pair}
 use Rattle.beam_values.proofs.Spellings.{values_decide}
-use Rattle.beam_values.specs.Cells.{cell_cmp, grouped_cmp}
+use Rattle.beam_values.specs.Cells.{span_cmp, window_key_cmp, grouped_cmp}
 
-pub cell_total : IsTotalOrder cell_cmp
-cell_total =
-    then_total (on_total (λ (e : Element). e.span.start) int_cmp_total)
-    (then_total (on_total (λ (e : Element). e.span.end) int_cmp_total) (on_total (λ (e : Element). spelling (key_of e)) nat_list_cmp_total))
+pub span_total : IsTotalOrder span_cmp
+span_total = then_total (on_total (λ (s : Interval). s.start) int_cmp_total) (on_total (λ (s : Interval). s.end) int_cmp_total)
+
+pub cell_total : IsTotalOrder window_key_cmp
+cell_total = then_total (on_total (λ (e : Element). e.span) span_total) (on_total (λ (e : Element). spelling (key_of e)) nat_list_cmp_total)
 
 pub grouped_total : IsTotalOrder grouped_cmp
 grouped_total = then_total cell_total (on_total (λ (e : Element). spelling (part_of e)) nat_list_cmp_total)
@@ -47,21 +48,21 @@ then_equal Greater p e = absurd cc
 int_same : (x y : ℤ) → int_cmp x y ≡ Equal → x ≡ y
 int_same x y e = int_ranked x y Equal (sym e)
 
-pub same_cell : (a b : Element) → cell_cmp a b ≡ Equal → IsSameCell a b
+pub same_cell : (a b : Element) → window_key_cmp a b ≡ Equal → IsSameCell a b
 same_cell a b e =
-    let outer = then_equal (int_cmp a.span.start b.span.start) (ordering_then (int_cmp a.span.end b.span.end) (value_cmp (key_of a) (key_of b))) e in
-    let inner = then_equal (int_cmp a.span.end b.span.end) (value_cmp (key_of a) (key_of b)) outer.1 in
+    let outer = then_equal (span_cmp a.span b.span) (value_cmp (key_of a) (key_of b)) e in
+    let inner = then_equal (int_cmp a.span.start b.span.start) (int_cmp a.span.end b.span.end) outer.0 in
     record {
-      starts = int_same a.span.start b.span.start outer.0;
-      ends = int_same a.span.end b.span.end inner.0;
-      keys = same_where_tied (spelling (key_of a)) (spelling (key_of b)) inner.1;
+      starts = int_same a.span.start b.span.start inner.0;
+      ends = int_same a.span.end b.span.end inner.1;
+      keys = same_where_tied (spelling (key_of a)) (spelling (key_of b)) outer.1;
     }
 
 -- the order of the cells by their parts
 abbrev parts_cmp : ℤ → ℤ → List ℕ → Element → Ordering
-parts_cmp start end key b = ordering_then (int_cmp start b.span.start) (ordering_then (int_cmp end b.span.end) (bytes_cmp key (spelling (key_of b))))
+parts_cmp start end key b = ordering_then (ordering_then (int_cmp start b.span.start) (int_cmp end b.span.end)) (bytes_cmp key (spelling (key_of b)))
 
-pub cell_tied : (a b : Element) → IsSameCell a b → cell_cmp a b ≡ Equal
+pub cell_tied : (a b : Element) → IsSameCell a b → window_key_cmp a b ≡ Equal
 cell_tied a b s =
     ap (λ (x : ℤ). parts_cmp x a.span.end (spelling (key_of a)) b) s.starts
     ∙ ap (λ (x : ℤ). parts_cmp b.span.start x (spelling (key_of a)) b) s.ends
@@ -107,7 +108,7 @@ both_in key span a b p q =
     }
 
 -- what stands in a cell below has no place in another one
-pub cell_apart : (key : Value) (span : Interval) (a b : Element) → cell_cmp a b ≡ Less → is_in_cell key span b ≡ true → is_in_cell key span a ≡ false
+pub cell_apart : (key : Value) (span : Interval) (a b : Element) → window_key_cmp a b ≡ Less → is_in_cell key span b ≡ true → is_in_cell key span a ≡ false
 cell_apart key span a b less inside = by_test (is_in_cell key span a) refl
   where
     by_test : (t : Bool) → is_in_cell key span a ≡ t → t ≡ false
@@ -116,24 +117,24 @@ cell_apart key span a b less inside = by_test (is_in_cell key span a) refl
         let tied = cell_tied a b (both_in key span a b e inside) in
         absurd cc
 
-pub below_upto : (a b c : Element) → cell_cmp a b ≡ Less → is_gt (cell_cmp b c) ≡ false → cell_cmp a c ≡ Less
-below_upto a b c less upto = by_order (cell_cmp b c) refl upto
+pub below_upto : (a b c : Element) → window_key_cmp a b ≡ Less → is_gt (window_key_cmp b c) ≡ false → window_key_cmp a c ≡ Less
+below_upto a b c less upto = by_order (window_key_cmp b c) refl upto
   where
-    by_order : (o : Ordering) → cell_cmp b c ≡ o → is_gt o ≡ false → cell_cmp a c ≡ Less
+    by_order : (o : Ordering) → window_key_cmp b c ≡ o → is_gt o ≡ false → window_key_cmp a c ≡ Less
     by_order Less e h = cell_total.trans a b c less e
     by_order Equal e h = sym (alike_right cell_total b c a e) ∙ less
     by_order Greater e h = absurd (false≢true (sym h))
 
 -- what stands before another element in the order of grouping has no cell above
-pub cells_rise : (a b : Element) → is_lt (grouped_cmp b a) ≡ false → is_gt (cell_cmp a b) ≡ false
-cells_rise a b h = by_order (cell_cmp b a) refl h
+pub cells_rise : (a b : Element) → is_lt (grouped_cmp b a) ≡ false → is_gt (window_key_cmp a b) ≡ false
+cells_rise a b h = by_order (window_key_cmp b a) refl h
   where
-    by_order : (o : Ordering) → cell_cmp b a ≡ o → is_lt (ordering_then o (value_cmp (part_of b) (part_of a))) ≡ false → is_gt (cell_cmp a b) ≡ false
+    by_order : (o : Ordering) → window_key_cmp b a ≡ o → is_lt (ordering_then o (value_cmp (part_of b) (part_of a))) ≡ false → is_gt (window_key_cmp a b) ≡ false
     by_order Less e k = absurd (false≢true (sym k))
     by_order Equal e k = ap is_gt (cell_total.antisymm a b ∙ ap ordering_reverse e)
     by_order Greater e k = ap is_gt (cell_total.antisymm a b ∙ ap ordering_reverse e)
 
-pub parts_rise : (a b : Element) → cell_cmp a b ≡ Equal → is_lt (grouped_cmp b a) ≡ false → is_lt (value_cmp (part_of b) (part_of a)) ≡ false
+pub parts_rise : (a b : Element) → window_key_cmp a b ≡ Equal → is_lt (grouped_cmp b a) ≡ false → is_lt (value_cmp (part_of b) (part_of a)) ≡ false
 parts_rise a b e h =
     sym (ap (λ (o : Ordering). is_lt (ordering_then o (value_cmp (part_of b) (part_of a)))) (tied_back cell_total a b e)) ∙ h
 
@@ -159,6 +160,11 @@ pane_values k l v w e =
     ∙ (values_decide k l).joined (spelling v) (spelling w)
     ∙ ap (λ (o : Ordering). ordering_then o (bytes_cmp (spelling v) (spelling w))) e
 
+then_assoc : (a b c : Ordering) → ordering_then (ordering_then a b) c ≡ ordering_then a (ordering_then b c)
+then_assoc Less b c = refl
+then_assoc Equal b c = refl
+then_assoc Greater b c = refl
+
 above_by : (starts ends keys times values : Ordering) → ordering_then starts (ordering_then ends keys) ≡ Greater
     → (starts ≡ Equal → ends ≡ Equal → times ≡ Equal) → (keys ≡ Greater → values ≡ Greater)
     → is_lt (ordering_then (ordering_then starts (ordering_then ends times)) values) ≡ false
@@ -170,17 +176,18 @@ above_by Equal Equal keys times values e same decide =
     ap (λ (o : Ordering). is_lt (ordering_then o values)) (same refl refl) ∙ ap is_lt (decide e)
 
 -- a pane is not below one of a lower cell
-pub panes_rise : (k l : Value) (s t : Interval) (ps qs : List Value) → cell_cmp (pane_with k s ps) (pane_with l t qs) ≡ Less
+pub panes_rise : (k l : Value) (s t : Interval) (ps qs : List Value) → window_key_cmp (pane_with k s ps) (pane_with l t qs) ≡ Less
     → is_lt (element_cmp (pane_with l t qs) (pane_with k s ps)) ≡ false
 panes_rise k l s t ps qs less =
     let p = pane_with k s ps in
     let q = pane_with l t qs in
-    let above : cell_cmp q p ≡ Greater = cell_total.antisymm q p ∙ ap ordering_reverse less in
+    let above : window_key_cmp q p ≡ Greater = cell_total.antisymm q p ∙ ap ordering_reverse less in
     let keys : value_cmp (key_of q) (key_of p) ≡ value_cmp l k =
     ap (λ (x : Value). value_cmp x (key_of p)) (pane_key l t qs) ∙ ap (λ (x : Value). value_cmp l x) (pane_key k s ps) in
     above_by (int_cmp t.start s.start) (int_cmp t.end s.end) (value_cmp l k) (int_cmp (last_time t) (last_time s))
     (value_cmp q.value p.value)
-    (ap (λ (o : Ordering). ordering_then (int_cmp t.start s.start) (ordering_then (int_cmp t.end s.end) o)) (sym keys) ∙ above)
+    (sym (then_assoc (int_cmp t.start s.start) (int_cmp t.end s.end) (value_cmp l k))
+    ∙ ap (λ (o : Ordering). ordering_then (span_cmp t s) o) (sym keys) ∙ above)
     (λ a b. times (int_same t.start s.start a) (int_same t.end s.end b))
     (pane_values l k (roll-Value (layer.Seq qs)) (roll-Value (layer.Seq ps)))
   where

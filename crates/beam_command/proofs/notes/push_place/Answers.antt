@@ -1,5 +1,5 @@
 use Rattle.std.proofs.Common.{◌++◌, codes, decimal, ap, ◌∙◌, append_assoc}
-use Rattle.beam_run.proofs.notes.push_place.Goals as goal
+use Rattle.beam_command.proofs.notes.push_place.Goals as goal
 
 pub returns : goal.returns
 returns c =

@@ -9,8 +9,8 @@ use Rattle.beam_model.specs.Rendering.{IsRendering}
 use Rattle.run_engine.specs.PanesRun.{ObservedStore, Prevents, first_fault}
 use Rattle.run_engine.specs.declared.status.Status.{Status}
 use Rattle.run_engine.specs.declared.status.Status.TheVariants as status
-use Rattle.beam_run.specs.Notes.{note_line}
-use Rattle.beam_run.specs.Words.{TakesPanes, file_word, size_word, number_of_text}
+use Rattle.beam_command.specs.Notes.{note_line}
+use Rattle.beam_command.specs.Words.{TakesPanes, file_word, size_word, number_of_text}
 
 -- what a command met at a sink: its count of faults before and after, and what it had taken
 pub record ObservedSink : Type 0 where

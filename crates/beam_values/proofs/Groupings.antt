@@ -12,9 +12,9 @@ use Rattle.beam_values.specs.Grouping.{key_of, part_of, is_in_cell, pane_with, I
 use Rattle.beam_values.specs.declared.value.Value.{Value}
 use Rattle.beam_values.specs.declared.element.Element.{Element}
 use Rattle.beam_values.proofs.Bags.{bag_sym, bag_trans, bag_from_same, bag_from_permutation, bag_map, bag_filter, bag_count}
-use Rattle.beam_values.specs.Cells.{cell_cmp}
-use Rattle.plain_model.proofs.Lists.{filter_all, filter_where_none, count_all, count_none, count_yes, count_no, count_member}
-use Rattle.plain_model.proofs.Cells.{same_cell, cell_seen, cell_itself, pane_key, pane_cell}
+use Rattle.beam_values.specs.Cells.{window_key_cmp}
+use Rattle.beam_values.proofs.Counts.{filter_all, filter_where_none, count_all, count_none, count_yes, count_no, count_member}
+use Rattle.beam_values.proofs.GroupedCells.{same_cell, cell_seen, cell_itself, pane_key, pane_cell}
 
 abbrev in_cell_of : Element → Element → Bool
 in_cell_of pane = is_in_cell (key_of pane) pane.span
@@ -93,12 +93,12 @@ grouping_append xs ys ps qs g h apart = record {
 abbrev pub pane_over : Element → List Element → Element
 pane_over first group = pane_with (key_of first) first.span (map part_of group)
 
-pub seen_alike : (key : Value) (span : Interval) (first : Element) (group : List Element) → All (λ e. cell_cmp first e ≡ Equal) group
+pub seen_alike : (key : Value) (span : Interval) (first : Element) (group : List Element) → All (λ e. window_key_cmp first e ≡ Equal) group
     → (b : Bool) → is_in_cell key span first ≡ b → All (λ e. is_in_cell key span e ≡ b) group
 seen_alike key span first group same b h k d within =
     sym (cell_seen key span first (get_or group k d) (same_cell first (get_or group k d) (same k d within))) ∙ h
 
-pub grouping_one : (first : Element) (group : List Element) → All (λ e. cell_cmp first e ≡ Equal) group → 1 ≤ length group
+pub grouping_one : (first : Element) (group : List Element) → All (λ e. window_key_cmp first e ≡ Equal) group → 1 ≤ length group
     → IsSorted value_cmp (map part_of group) → IsPlainGrouping group (pane_over first group ∷ [])
 grouping_one first group same some up = record {
   each = All-cons (IsPlainPane group) pane [] (record {

@@ -3,9 +3,9 @@ use Rattle.std.proofs.lemmas.Bool.{not-false}
 use Rattle.std.proofs.Common.{codes, ◌≡◌, pos, length, string_bytes, arith, sym, ap, subst, ◌∙◌, to_z, w64}
 use Rattle.std.proofs.lemmas.List.{length-map}
 use Rattle.std.proofs.lemmas.Int.{ints}
-use Rattle.beam_run.specs.Words.{IsFileName, IsNumberWithin, number_of_text}
-use Rattle.beam_run.proofs.Reading.{word_at}
-use Rattle.beam_run.proofs.words.panes_command.Goals as goal
+use Rattle.beam_command.specs.Words.{IsFileName, IsNumberWithin, number_of_text}
+use Rattle.beam_command.proofs.Reading.{word_at}
+use Rattle.beam_command.proofs.words.panes_command.Goals as goal
 
 pub returns : goal.returns
 returns c =

@@ -1,7 +1,7 @@
 ghost use Rattle.std.specs.Prelude.{◌≡◌, ◌++◌, ◌∷◌, [], IfOk, OnOk, IfSome, IfNone, ◌⊎◌, decimal};
 ghost use Rattle.beam_values.specs.Texts.{blob_text};
-ghost use Rattle.beam_run.specs.Notes.{note_line, work_text, place_text, attempt_text, cause_text};
-ghost use Rattle.beam_run.specs.Ends.{IsLongNoted};
+ghost use Rattle.beam_command.specs.Notes.{note_line, work_text, place_text, attempt_text, cause_text};
+ghost use Rattle.beam_command.specs.Ends.{IsLongNoted};
 
 use beam_text::push_blob;
 use beam_values::{Bytes, Cause, FaultNote, NoMemory};

@@ -1,8 +1,8 @@
 ghost use Rattle.std.specs.Prelude.{◌≡◌, ◌≤◌, ℕ, ◌≤ℤ◌, pos, map, MatchOption, length, IsTrue, ◌↔◌};
 ghost use Rattle.std.specs.String.{string_bytes};
 ghost use Rattle.std.specs.Option.{SomeIff};
-ghost use Rattle.beam_run.specs.Words.{TakesPanes, IsNumberWithin, IsFileName, number_of_text, file_word, size_word};
-ghost use Rattle.beam_run.specs.Ends.{size_of};
+ghost use Rattle.beam_command.specs.Words.{TakesPanes, IsNumberWithin, IsFileName, number_of_text, file_word, size_word};
+ghost use Rattle.beam_command.specs.Ends.{size_of};
 
 /// The greatest size of a window, in milliseconds.
 const GREATEST_SIZE: u64 = 31_536_000_000_000;

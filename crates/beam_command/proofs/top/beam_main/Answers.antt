@@ -1,5 +1,5 @@
-use Rattle.beam_run.proofs.Causes.{end_of_absent, absent_noted, end_of_poison, poison_noted}
-use Rattle.beam_run.proofs.top.beam_main.Goals as goal
+use Rattle.beam_command.proofs.Causes.{end_of_absent, absent_noted, end_of_poison, poison_noted}
+use Rattle.beam_command.proofs.top.beam_main.Goals as goal
 
 pub returns-clause-absent : goal.returns-clause-absent
 returns-clause-absent g c = λ told tells takes whole absent.
