@@ -3,22 +3,22 @@ use Rattle.std.specs.Prelude.{◌≡◌, ◌⊎◌, ℕ, ◌<◌, ◌≤◌, ℤ
 use Rattle.beam_values.specs.declared.fault.Cause.TheVariants.{Call}
 use Rattle.beam_values.specs.declared.file_text.FileText.{FileText}
 use Rattle.beam_values.specs.declared.outcome.Outcome.{Outcome}
+use Rattle.beam_values.specs.declared.plan.Plan.{Plan}
+use Rattle.beam_model.specs.Plans.{panes_plan}
+use Rattle.beam_model.specs.Positions.{items}
+use Rattle.beam_model.specs.Spread.{HasPoison}
 use Rattle.beam_ports.specs.Counts.{Rose}
+use Rattle.beam_ports.specs.Observed.{ObservedStore, ObservedSink}
 use Rattle.beam_ports.specs.Sinks.{then_taken}
 use Rattle.beam_model.specs.Rendering.{IsRendering}
-use Rattle.run_engine.specs.PanesRun.{ObservedStore, Prevents, first_fault}
+use Rattle.run_engine.specs.PanesRun.{Prevents, first_fault}
+use Rattle.run_engine.specs.declared.status.RunEnd.{RunEnd}
 use Rattle.run_engine.specs.declared.status.Status.{Status}
 use Rattle.run_engine.specs.declared.status.Status.TheVariants as status
 use Rattle.beam_command.specs.Notes.{note_line}
 use Rattle.beam_command.specs.Words.{TakesPanes, file_word, size_word, number_of_text}
 
--- what a command met at a sink: its count of faults before and after, and what it had taken
-pub record ObservedSink : Type 0 where
-  pub before : ℕ
-  pub after : ℕ
-  pub taken_before : Option (List ℕ)
-  pub taken_after : Option (List ℕ)
-
+-- what a command observed at its store and at its output
 pub record Observed : Type 0 where
   pub store : ObservedStore
   pub out : ObservedSink
@@ -26,6 +26,14 @@ pub record Observed : Type 0 where
 -- the size that the words name, in milliseconds
 abbrev pub size_of : List (List ℕ) → ℤ
 size_of words = pos (number_of_text (size_word words))
+
+-- the plan of the command
+abbrev pub plan_of : List (List ℕ) → Plan
+plan_of words = panes_plan (file_word words) (size_of words)
+
+-- of these files, a line that the command reads is poison
+abbrev pub FindsPoisonIn : List (List ℕ) → List FileText → Type 0
+FindsPoisonIn words told = HasPoison (plan_of words) (items told (plan_of words))
 
 -- nothing was written
 abbrev pub IsUnwritten : Observed → Type 0
@@ -42,11 +50,15 @@ HasCause words met status.Usage = (TakesPanes words → ⊥) × IsUnwritten met
 -- the run did not come to its end
 HasCause words met s = TakesPanes words × IsUnwritten met × Prevents met.store (file_word words) (size_of words) s
 
--- the run came to its end with an outcome of which this holds; at another end there is no outcome
+-- at these ends there is an outcome, of which this holds; at another one there is none
 abbrev pub HasRun : Status → Option Outcome → (Outcome → Type 0) → Type 0
 HasRun status.Ok outcome P = (o : Outcome) × (outcome ≡ Some o) × P o
 HasRun status.SinkFault outcome P = (o : Outcome) × (outcome ≡ Some o) × P o
 HasRun s outcome P = outcome ≡ None
+
+-- the run ended Ok, or only its text was not written whole, and this holds of its outcome; at another end there is no outcome
+abbrev pub IsRun : RunEnd → (Outcome → Type 0) → Type 0
+IsRun end P = HasRun end.status end.outcome P
 
 -- a text was written whole, or less of it where the sink failed
 abbrev pub IsWritten : ObservedSink → List ℕ → Status → Type 0

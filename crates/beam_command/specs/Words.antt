@@ -1,7 +1,16 @@
 -- The words of the command line that are a command.
-use Rattle.std.specs.Prelude.{◌≡◌, ◌≢◌, ◌⊎◌, ℕ, ◌<◌, ◌≤◌, List, [], length, slice_index, codes}
+use Rattle.std.specs.Prelude.{◌≡◌, ◌≢◌, ◌⊎◌, ℕ, ◌<◌, ◌≤◌, List, [], length, map, slice_index, codes}
 use Rattle.std.specs.List.{slice_index_or}
+use Rattle.std.specs.String.{string_bytes}
+use Rattle.std.specs.declared.alloc.Global.{Global}
+use Rattle.std.specs.declared.string.String.{String}
+use Rattle.beam_values.specs.Strategies.{greatest_length}
+use Rattle.beam_values.specs.Windows.{or_zero}
 use Rattle.std.specs.Str.Parse.{IsNumeral, digits_value, without_leading_plus}
+
+-- the words of a command line as bytes, the program's name first
+abbrev pub words_of : List (String Global) → List (List ℕ)
+words_of words = map string_bytes words
 
 -- a number as Rust reads one without a sign: an optional `+`, then decimal digits
 abbrev pub number_of_text : List ℕ → ℕ
@@ -29,4 +38,4 @@ pub record TakesPanes (words : List (List ℕ)) : Type 0 where
   pub four : length words ≡ 4
   pub command : slice_index_or words 1 [] ≡ codes "panes"
   pub file : IsFileName (file_word words)
-  pub size : IsNumberWithin 1 31536000000000 (size_word words)
+  pub size : IsNumberWithin 1 (or_zero greatest_length) (size_word words)

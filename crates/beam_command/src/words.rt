@@ -1,11 +1,11 @@
-ghost use Rattle.std.specs.Prelude.{◌≡◌, ◌≤◌, ℕ, ◌≤ℤ◌, pos, map, MatchOption, length, IsTrue, ◌↔◌};
-ghost use Rattle.std.specs.String.{string_bytes};
+ghost use Rattle.std.specs.Prelude.{◌≡◌, ◌≤◌, MatchOption, IsTrue, ◌↔◌};
 ghost use Rattle.std.specs.Option.{SomeIff};
-ghost use Rattle.beam_command.specs.Words.{TakesPanes, IsNumberWithin, IsFileName, number_of_text, file_word, size_word};
+ghost use Rattle.beam_values.specs.Strategies.{greatest_length};
+ghost use Rattle.beam_values.specs.Windows.{or_zero};
+ghost use Rattle.beam_command.specs.Words.{words_of, TakesPanes, IsNumberWithin, IsFileName, number_of_text, file_word, size_word};
 ghost use Rattle.beam_command.specs.Ends.{size_of};
 
-/// The greatest size of a window, in milliseconds.
-const GREATEST_SIZE: u64 = 31_536_000_000_000;
+use windowing::GREATEST_LENGTH;
 
 /// The greatest length of a file's name, in bytes.
 const LONGEST_NAME: usize = 4096;
@@ -21,8 +21,8 @@ pub struct Panes<'a> {
 /// Reads the words of the command line, the name of the program first.
 pub fn panes_command(words: &[String]) -> Option<Panes<'_>>
     ensures { MatchOption result
-        (TakesPanes (map string_bytes words.now) → ⊥)
-        (λ panes. TakesPanes (map string_bytes words.now) × (panes.file.now ≡ file_word (map string_bytes words.now)) × (panes.size ≡ size_of (map string_bytes words.now))) }
+        (TakesPanes (words_of words.now) → ⊥)
+        (λ panes. TakesPanes (words_of words.now) × (panes.file.now ≡ file_word (words_of words.now)) × (panes.size ≡ size_of (words_of words.now))) }
 {
     let [_program, command, file, size] = words else {
         return None;
@@ -30,7 +30,7 @@ pub fn panes_command(words: &[String]) -> Option<Panes<'_>>
     if command.as_str() != "panes" || !is_file_name(file.as_bytes()) {
         return None;
     }
-    let size = number_within(size.as_str(), 1, GREATEST_SIZE)?;
+    let size = number_within(size.as_str(), 1, GREATEST_LENGTH as u64)?;
     Some(Panes {
         file: file.as_bytes(),
         size: size as i64,
@@ -48,7 +48,7 @@ fn is_file_name(word: &[u8]) -> bool
 }
 
 fn number_within(word: &str, low: u64, high: u64) -> Option<u64>
-    requires { high ≤ 31536000000000 }
+    requires { high ≤ or_zero greatest_length }
     ensures { SomeIff result (IsNumberWithin low high word.now) (number_of_text word.now) }
 {
     match word.parse::<u64>() {

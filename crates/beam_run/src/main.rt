@@ -1,27 +1,23 @@
 //! `beam_run`: runs Beam pipelines on one machine.
 //!
 //! `beam_run panes FILE SIZE` groups a file of timed lines by the field after the time in fixed
-//! windows of SIZE milliseconds, and prints the panes. [`beam_main`] is the whole program over any
-//! store and sinks, and its contract is the promise of the program: what was printed, what each other
-//! end means, and that it comes only so. `main` runs it over the system's files and streams, the
-//! adapters in `fs_store.rt` and `sinks.rt`. Read `top.rt` first.
+//! windows of SIZE milliseconds, and prints the panes. The whole program over any store and sinks is
+//! `beam_command::beam_main`, whose contract is the promise of the program; `main` runs it over the
+//! system's files and streams, the adapters in `fs_store.rt` and `sinks.rt`.
 #![tactic(auto)]
 
 mod fs_store;
-mod notes;
 mod sinks;
 #[cfg(test)]
 mod tests;
-mod top;
-mod words;
 
+use beam_command::beam_main;
 use fs_store::FsStore;
 use run_engine::{Status, put};
 use sinks::{ErrSink, OutSink};
 use std::alloc::AllocError;
 use std::process::ExitCode;
 use std::{env, io};
-pub use top::beam_main;
 
 /// The exit status where the words of the command line can't be got.
 const NO_WORDS: u8 = 2;

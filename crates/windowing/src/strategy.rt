@@ -5,8 +5,8 @@ ghost use Rattle.windowing.specs.Strategies.{refusal_of, refusal_number};
 
 use beam_values::Strategy;
 
-/// The greatest size, period or gap, in milliseconds.
-pub const GREATEST_SIZE: i64 = 31_536_000_000_000;
+/// The greatest size, period or gap: 1000 years of 365 days, in milliseconds.
+pub const GREATEST_LENGTH: i64 = 31_536_000_000_000;
 
 /// The greatest number of sliding windows that hold one time.
 pub const MOST_WINDOWS: i64 = 1024;
@@ -14,7 +14,7 @@ pub const MOST_WINDOWS: i64 = 1024;
 /// Why a strategy is refused.
 #[derive(Clone, Copy, Debug, PartialEq, Eq)]
 pub enum StrategyRefusal {
-    /// A size or a gap isn't a number of milliseconds from 1 to [`GREATEST_SIZE`].
+    /// A size or a gap isn't a number of milliseconds from 1 to [`GREATEST_LENGTH`].
     Size,
     /// A period isn't such a number.
     Period,
@@ -77,7 +77,7 @@ fn length_refusal(ms: i64, refusal: StrategyRefusal) -> Option<StrategyRefusal>
 fn is_length(ms: i64) -> bool
     ensures { result ≡ is_length ms }
 {
-    1 <= ms && ms <= GREATEST_SIZE
+    1 <= ms && ms <= GREATEST_LENGTH
 }
 
 // The quotient, rounded up, is above the bound exactly where the size is above that many periods.
