@@ -15,12 +15,11 @@ use Rattle.beam_values.specs.Grouping.{key_of}
 use Rattle.beam_values.specs.declared.element.Element.{Element}
 use Rattle.beam_values.proofs.Bags.{bag_refl, bag_sym, bag_trans, bag_from_same, bag_map, bag_filter, bag_count, sum_by-map}
 use Rattle.beam_values.specs.Sessions.{IsNonEmpty}
-use Rattle.beam_model.specs.Premises.{IsOrdered}
 use Rattle.beam_values.specs.Sessions.{IsApart, LiesIn, IsInside, IsSession}
 use Rattle.beam_model.specs.Sessions.{is_keyed, spans_of, Merged, IsMergedIn, in_session, IsMerging}
 use Rattle.beam_model.proofs.Groupings.{own_cell, in_own_cell, same_cell, same_span}
 use Rattle.beam_model.proofs.Matching.{any_moved, all_moved, count_member}
-use Rattle.beam_model.proofs.Sessions.{sessions_apart, spans_alike}
+use Rattle.beam_model.proofs.Sessions.{sessions_one_or_apart, spans_alike}
 
 -- ---- sessions are of the bag of the windows
 
@@ -53,9 +52,6 @@ not_in_both span a b some first second apart = omega (arith, ints)
 one_of_both : (span a b : Interval) → IsNonEmpty span → LiesIn span a → LiesIn span b → (a ≡ b) ⊎ IsApart a b → a ≡ b
 one_of_both span a b some first second (inl same) = same
 one_of_both span a b some first second (inr apart) = absurd (not_in_both span a b some first second apart)
-
-session_of_nonempty : (span session : Interval) → IsNonEmpty span → LiesIn span session → IsOrdered session
-session_of_nonempty span session some lies = omega (arith, ints)
 
 -- ---- the session of an element
 
@@ -92,9 +88,7 @@ module _ (xs ys : List Element) (same : IsSameBag xs ys) (some : All (λ e. IsNo
       (bag_map (λ e. e.span) (filter (is_keyed (key_of m.element)) xs) (filter (is_keyed (key_of m.element)) ys) (bag_filter (is_keyed (key_of m.element)) xs ys same))
       (bag_from_same (spans_of (key_of m.element) ys) (spans_of (key_of n.element) ys) (spans_alike ys (key_of m.element) (key_of n.element) cell.keys))) in
       one_of_both m.element.span m.session n.session held h.1 lies
-      (sessions_apart (spans_of (key_of m.element) xs) m.session n.session
-      (session_of_nonempty m.element.span m.session held h.1) (session_of_nonempty m.element.span n.session held lies)
-      h.0 (session_moved (spans_of (key_of n.element) ys) (spans_of (key_of m.element) xs) n.session spans k.0))
+      (sessions_one_or_apart (spans_of (key_of m.element) xs) m.session n.session h.0 (session_moved (spans_of (key_of n.element) ys) (spans_of (key_of m.element) xs) n.session spans k.0))
 
   module _ (ms ns : List Merged) (those : xs ≡ map (λ m. m.element) ms) (these : ys ≡ map (λ n. n.element) ns)
       (each : All (IsMergedIn xs) ms) (every : All (IsMergedIn ys) ns) where

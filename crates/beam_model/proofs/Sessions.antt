@@ -1,5 +1,5 @@
 -- Sessions of the same windows are one or apart.
-use Rattle.std.proofs.Common.{◌≡◌, ◌⊎◌, inl, inr, ℕ, ◌<◌, ◌<ℤ◌, List, length, get_or, map, sym, ap, subst, ◌∙◌, arith}
+use Rattle.std.proofs.Common.{◌≡◌, ◌⊎◌, inl, inr, ℕ, ◌<◌, ◌<ℤ◌, ◌≤ℤ◌, List, length, get_or, map, sym, ap, subst, ◌∙◌, arith}
 use Rattle.std.specs.List.{All, AllPairs, filter}
 use Rattle.std.specs.Str.{bytes_eq}
 use Rattle.std.proofs.lemmas.Int.{ints, by_lt_z}
@@ -10,9 +10,13 @@ use Rattle.beam_values.specs.Grouping.{key_of}
 use Rattle.beam_values.specs.Spelling.{spelling}
 use Rattle.beam_values.specs.declared.value.Value.{Value}
 use Rattle.beam_values.specs.declared.element.Element.{Element}
-use Rattle.beam_model.specs.Premises.{IsOrdered, AreOneOrApart}
+use Rattle.beam_model.specs.Premises.{AreOneOrApart}
 use Rattle.beam_values.specs.Sessions.{IsApart, LiesIn, IsInside, IsSession}
 use Rattle.beam_model.specs.Sessions.{spans_of, Merged, IsMergedIn, in_session, IsMerging}
+
+-- it ends no earlier than it starts
+abbrev IsOrdered : Interval → Type 0
+IsOrdered span = span.start ≤ℤ span.end
 
 -- what covers the start of a session is part of it, so it doesn't start before it
 no_cover_of_start : (span session : Interval) → IsOrdered session → IsInside span session.start → (LiesIn span session ⊎ IsApart span session) → ⊥
@@ -33,7 +37,7 @@ module _ (spans : List Interval) (a b : Interval) (joined : IsSession spans a) (
       let at = joined.joined b.end inside in
       no_cover_of_end at.1 b ordered at.4 (subst (λ (s : Interval). LiesIn s b ⊎ IsApart s b) at.3 (whole.apart at.0 at.1 at.2))
 
-pub sessions_apart : (spans : List Interval) (a b : Interval) → IsOrdered a → IsOrdered b → IsSession spans a → IsSession spans b → (a ≡ b) ⊎ IsApart a b
+sessions_apart : (spans : List Interval) (a b : Interval) → IsOrdered a → IsOrdered b → IsSession spans a → IsSession spans b → (a ≡ b) ⊎ IsApart a b
 sessions_apart spans a b first second x y =
     by_lt_z b.start a.end
     (λ over. by_lt_z a.start b.end
@@ -61,31 +65,21 @@ sessions_one_or_apart spans a b x y =
     let second : IsOrdered b = omega (arith, ints, y.ordered) in
     sessions_apart spans a b first second x y
 
-pub session_ordered : (span session : Interval) → IsOrdered span → LiesIn span session → IsOrdered session
-session_ordered span session ordered lies = omega (arith, ints)
-
 -- windows of keys that are spelled alike are the same
 pub spans_alike : (elements : List Element) (a b : Value) → spelling a ≡ spelling b → spans_of a elements ≡ spans_of b elements
 spans_alike elements a b same = ap (λ (spelled : List ℕ). map (λ e. e.span) (filter (λ e. bytes_eq (spelling (key_of e)) spelled) elements)) same
 
 two_merged : (elements : List Element) (key : Value) (m n : Merged) → IsMergedIn elements m → IsMergedIn elements n
-    → IsOrdered m.element.span → IsOrdered n.element.span → AreOneOrApart key (in_session m) (in_session n)
-two_merged elements key m n h k first second p q =
+    → AreOneOrApart key (in_session m) (in_session n)
+two_merged elements key m n h k p q =
     let a : spelling (key_of m.element) ≡ spelling key = (bytes_eq-Decides (spelling (key_of m.element)) (spelling key)).0 p in
     let b : spelling (key_of n.element) ≡ spelling key = (bytes_eq-Decides (spelling (key_of n.element)) (spelling key)).0 q in
-    sessions_apart (spans_of (key_of m.element) elements) m.session n.session
-    (session_ordered m.element.span m.session first h.1) (session_ordered n.element.span n.session second k.1)
-    h.0 (subst (λ (spans : List Interval). IsSession spans n.session) (spans_alike elements (key_of n.element) (key_of m.element) (b ∙ sym a)) k.0)
+    sessions_one_or_apart (spans_of (key_of m.element) elements) m.session n.session h.0 (subst (λ (spans : List Interval). IsSession spans n.session) (spans_alike elements (key_of n.element) (key_of m.element) (b ∙ sym a)) k.0)
 
-pub merged_apart : (elements sessioned : List Element) (key : Value) → All (λ e. IsOrdered e.span) elements → IsMerging elements sessioned
+pub merged_apart : (elements sessioned : List Element) (key : Value) → IsMerging elements sessioned
     → AllPairs (AreOneOrApart key) sessioned
-merged_apart elements sessioned key ordered merging = subst (λ (es : List Element). AllPairs (AreOneOrApart key) es) (sym merging.moved) pairs
+merged_apart elements sessioned key merging = subst (λ (es : List Element). AllPairs (AreOneOrApart key) es) (sym merging.moved) pairs
   where
-    element_ordered : (k : ℕ) (d : Merged) → k < length merging.merged → IsOrdered (get_or merging.merged k d).element.span
-    element_ordered k d within =
-        subst (λ (e : Element). IsOrdered e.span) (get_or-map (λ m. m.element) merging.merged k d d.element within)
-        (subst (λ (es : List Element). All (λ e. IsOrdered e.span) es) merging.those ordered k d.element (omega (arith, length-map merging.merged (λ m. m.element))))
-
     pairs : AllPairs (AreOneOrApart key) (map in_session merging.merged)
     pairs i j d before inside =
         let within : j < length merging.merged = omega (arith, length-map merging.merged in_session) in
@@ -94,5 +88,4 @@ merged_apart elements sessioned key ordered merging = subst (λ (es : List Eleme
         subst (λ (e : Element). AreOneOrApart key e (get_or (map in_session merging.merged) j d)) (sym (get_or-map in_session merging.merged i none d short))
         (subst (λ (e : Element). AreOneOrApart key (in_session (get_or merging.merged i none)) e) (sym (get_or-map in_session merging.merged j none d within))
         (two_merged elements key (get_or merging.merged i none) (get_or merging.merged j none)
-        (merging.each i none short) (merging.each j none within)
-        (element_ordered i none short) (element_ordered j none within)))
+        (merging.each i none short) (merging.each j none within)))

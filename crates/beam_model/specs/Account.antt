@@ -30,8 +30,12 @@ abbrev pub log_arrivals : KeyLog → List Arrival
 log_arrivals log = flat_map (λ entry. input_arrival log.node entry.input) log.entries
 
 -- what arrived at the Groups, also what they dropped, at the Stateful nodes and at the Writes
+abbrev pub arrivals_of : List Cell → List Dropped → List KeyLog → List Arrival → List Arrival
+arrivals_of cells dropped logs written =
+    flat_map cell_arrivals cells ++ (map dropped_arrival dropped ++ (flat_map log_arrivals logs ++ written))
+
 abbrev pub arrivals : Outcome → List Arrival
-arrivals o = flat_map cell_arrivals o.cells ++ (map dropped_arrival o.dropped ++ (flat_map log_arrivals o.logs ++ o.written))
+arrivals o = arrivals_of o.cells o.dropped o.logs o.written
 
 -- What arrived is one bag with the flow of the outcome, and nothing of that is poison: every position's outputs, every pane and every stateful output
 -- came to each barrier that it reaches exactly once, and nothing else did. Each part of the record is of nodes of its kind, so what a Group took is in

@@ -4,7 +4,7 @@ use Rattle.std.specs.Prelude.{◌≡◌, ℕ, ◌==◌, Bool, true, false, ◌||
 use Rattle.std.specs.List.{All, filter, flat_map}
 use Rattle.beam_values.specs.Bags.{IsSameBag}
 use Rattle.beam_values.specs.Grouping.{IsPlainGrouping}
-use Rattle.beam_values.specs.Nodes.{is_above, is_group, is_write, strategy_of, HasNoStatefulAbove}
+use Rattle.beam_values.specs.Nodes.{has_kind, is_barrier_kind, is_above, is_group, is_write, strategy_of, HasNoStatefulAbove}
 use Rattle.beam_values.specs.Sessions.{IsNonEmpty}
 use Rattle.beam_values.specs.Storable.{IsStorable}
 use Rattle.beam_values.specs.declared.arrival.Arrival.{Arrival}
@@ -42,30 +42,32 @@ is_met plan barrier output = node_of output == barrier || is_above plan (node_of
 abbrev pub IsGroupAbove : Plan → ℕ → ℕ → Type 0
 IsGroupAbove plan barrier node = (is_group plan node ≡ true) × (is_above plan node barrier ≡ true)
 
--- A pipeline over whole inputs, up to a barrier: all positions of all items come through, nothing that the barrier meets is poison, and each Group above
+-- A pipeline over whole inputs, up to a barrier with no Stateful node above it: all positions of all items come through, nothing that the barrier meets is poison, and each Group above
 -- it gives the plain grouping of all that arrives at it. Panes go only to later nodes, so this says of each node in turn what arrives at it. The values
 -- of panes have numbers of 64 bits, as a program can hold them, and no window is empty.
 pub record IsPlainRun (plan : Plan) (items : List SourceItem) (barrier : ℕ) (arrivals panes : List Arrival) : Type 0 where
+  pub ends_here : has_kind is_barrier_kind plan barrier ≡ true
+  pub stateless : HasNoStatefulAbove plan barrier
   pub clean : IsSameBag (filter (is_met plan barrier) (plain_flow plan items panes)) (map Arrives arrivals)
   pub from_groups : All (λ pane. IsGroupAbove plan barrier pane.node) panes
   pub grouped : (node : ℕ) → IsGroupAbove plan barrier node → IsGroupedBy (strategy_of plan node) (elements_at node arrivals) (elements_at node panes)
   pub storable : All (λ pane. IsStorable pane.element.value) panes
   pub held : All (λ arrival. IsNonEmpty arrival.element.span) arrivals
 
--- what plain grouping brings to a barrier with no Stateful node above it, as a bag
+-- what plain grouping brings to a barrier, as a bag
 abbrev pub IsPlainAt : Plan → List SourceItem → ℕ → List Element → Type 0
 IsPlainAt plan items barrier elements =
     (arrivals : List Arrival) × (panes : List Arrival) × IsPlainRun plan items barrier arrivals panes × IsSameBag elements (elements_at barrier arrivals)
 
 -- no Group above the barrier dropped an element
-abbrev pub IsNothingDroppedAbove : Plan → ℕ → List Dropped → Type 0
-IsNothingDroppedAbove plan barrier dropped = All (λ lost. is_above plan lost.node barrier ≡ false) dropped
+abbrev pub NothingIsDroppedAbove : Plan → ℕ → List Dropped → Type 0
+NothingIsDroppedAbove plan barrier dropped = All (λ lost. is_above plan lost.node barrier ≡ false) dropped
 
 -- At each Write with no Stateful node above it: what was written is what plain grouping of the whole input brings there, and no Group above it dropped an
 -- element.
 pub record IsPlainlyWritten (items : List SourceItem) (o : Outcome) (node : ℕ) : Type 0 where
   pub plain : IsPlainAt o.plan items node (elements_at node o.written)
-  pub undropped : IsNothingDroppedAbove o.plan node o.dropped
+  pub undropped : NothingIsDroppedAbove o.plan node o.dropped
 
 abbrev pub ArePlainlyWritten : List SourceItem → Outcome → Type 0
 ArePlainlyWritten items o = (node : ℕ) → is_write o.plan node ≡ true → HasNoStatefulAbove o.plan node → IsPlainlyWritten items o node

@@ -1,4 +1,4 @@
--- The premises of the laws, and what they say of.
+-- The premises of the laws, and what the laws speak of.
 use Rattle.std.specs.Prelude.{◌≡◌, ◌⊎◌, ℕ, ◌<◌, ℤ, pos, ◌≤ℤ◌, Bool, true, slice_get, Some}
 use Rattle.std.specs.Option.{option_map}
 use Rattle.beam_values.specs.Intervals.{Interval}
@@ -54,10 +54,6 @@ input_time (Fired timer) = timer.time
 -- in the window and at the time of what the call is on
 abbrev pub IsOfCall : Interval → LogInput → Element → Type 0
 IsOfCall span input output = (output.span ≡ input_span span input) × (output.time ≡ input_time input)
-
--- it ends no earlier than it starts
-abbrev pub IsOrdered : Interval → Type 0
-IsOrdered span = span.start ≤ℤ span.end
 
 -- elements of this key are in one window, or in two that are apart
 abbrev pub AreOneOrApart : Value → Element → Element → Type 0

@@ -102,7 +102,7 @@ IsRendering o text =
     × IsLogged o.plan o.logs back × (text ≡ front ++ back)
 
 -- The summary of an outcome: how many positions its source items have, how many elements were written, how many items the sequences of these have,
--- and the sum of the whole numbers among them. What is written as a key and a sequence is a pane of a Group.
+-- and the sum of the whole numbers among them. An element that is no key with a sequence counts no item.
 abbrev pub items_written : Element → List Value
 items_written e = unwrap_or (option_and_then (λ keyed. as_seq keyed.part) (as_pair e.value)) []
 

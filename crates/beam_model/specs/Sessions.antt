@@ -8,10 +8,11 @@ use Rattle.beam_values.specs.Spelling.{spelling}
 use Rattle.beam_values.specs.declared.value.Value.{Value}
 use Rattle.beam_values.specs.declared.element.Element.{Element}
 
--- the windows of the elements of a key
+-- an element has this key
 abbrev pub is_keyed : Value → Element → Bool
 is_keyed key e = bytes_eq (spelling (key_of e)) (spelling key)
 
+-- the windows of the elements of a key
 abbrev pub spans_of : Value → List Element → List Interval
 spans_of key elements = map (λ e. e.span) (filter (is_keyed key) elements)
 

@@ -28,7 +28,7 @@ ghost use Rattle.beam_model.specs.Chains.{chain};
 ghost use Rattle.beam_model.specs.Flow.{elements_at, pane_chains, log_chains, flow};
 ghost use Rattle.beam_model.specs.Functions.{emits};
 ghost use Rattle.beam_values.specs.Sessions.{IsNonEmpty};
-ghost use Rattle.beam_model.specs.Premises.{EndsAfter, done_range, KeepsPlace, IsForward, IsOfCall, IsOrdered, AreOneOrApart};
+ghost use Rattle.beam_model.specs.Premises.{EndsAfter, done_range, KeepsPlace, IsForward, IsOfCall, AreOneOrApart};
 ghost use Rattle.beam_model.specs.Plain.{IsPlainRun, IsPlainAt, node_of};
 ghost use Rattle.beam_model.specs.Positions.{nothing, positions_in, emission, next_position, SourceItem};
 ghost use Rattle.beam_values.specs.Sessions.{IsApart, IsSession};
@@ -136,7 +136,7 @@ pub fn sessions_are_apart()
 
 /// Merging leaves no two windows of a key that overlap, unless they are the same.
 pub fn merged_windows_are_apart()
-    ensures { (elements sessioned : List Element) (key : Value) → All (λ e. IsOrdered e.span) elements
+    ensures { (elements sessioned : List Element) (key : Value)
         → IsMerging elements sessioned → AllPairs (AreOneOrApart key) sessioned }
 {}
 

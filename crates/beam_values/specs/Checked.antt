@@ -83,7 +83,7 @@ abbrev pub is_trigger_allowed : Trigger → Bool
 is_trigger_allowed trigger =
     is_early_allowed trigger.early && is_count trigger.late && int_le (pos 0) trigger.lateness && int_le trigger.lateness greatest_length
 
--- a WindowInto takes any allowed strategy but the one of what stands below a Group of sessions
+-- a WindowInto takes any allowed strategy but Kept, which stands below a Group of sessions
 abbrev pub is_kept : Strategy → Bool
 is_kept strategy.Kept = true
 is_kept _ = false
@@ -161,5 +161,5 @@ graph_refusal plan =
     else option_or (nodes_refusal [] plan.nodes) (write_refusal plan.nodes))
 
 -- a checked plan: no rule refuses it
-abbrev pub IsChecked : Plan → Type 0
-IsChecked plan = graph_refusal plan ≡ None
+pub record IsChecked (plan : Plan) : Type 0 where
+  pub unrefused : graph_refusal plan ≡ None

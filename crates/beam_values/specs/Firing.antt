@@ -10,20 +10,23 @@ abbrev pub is_enough : Option ℕ → ℕ → Bool
 is_enough None unseen = false
 is_enough (Some count) unseen = nat_le count unseen
 
--- A late element's pane: as soon as so many are unseen, or once the window expires.
-abbrev pub is_late_due : Trigger → ℤ → ℤ → ℕ → Bool
-is_late_due trigger end mark unseen =
-    nat_le 1 unseen && (nat_le trigger.late unseen || int_le (end +ℤ trigger.lateness) mark)
+-- The mark is at least the window's end plus the lateness: an element of the window is dropped, and its cell takes no part in merging.
+abbrev pub is_expired : Trigger → ℤ → ℤ → Bool
+is_expired trigger end mark = int_le (end +ℤ trigger.lateness) mark
 
--- The pane that a cell fires, if any, by the first line that fits: on time, once the mark has passed the window's end, also with nothing unseen;
+-- an early pane, before the on-time one
+abbrev pub is_early_due : Trigger → ℤ → ℤ → ℕ → Bool
+is_early_due trigger end mark unseen = is_enough trigger.early unseen
+
+-- a late pane, after the on-time one: as soon as so many are unseen, or once the window expires
+abbrev pub is_late_due : Trigger → ℤ → ℤ → ℕ → Bool
+is_late_due trigger end mark unseen = nat_le 1 unseen && (nat_le trigger.late unseen || is_expired trigger end mark)
+
+-- The pane that a cell fires, if any, by the first line that fits: on time, once the mark has reached the window's end, also with nothing unseen;
 -- early, before that, where enough is unseen; late, after the on-time pane, which an earlier commit fired.
 -- By the default trigger a window that ends at 60000 fires nothing at 59999 and is on time at 60000, also with nothing unseen; with early 2 and two
 -- unseen it is early at 0; with late 3, lateness 100 and one unseen after its on-time pane it fires nothing at 60050 and is late at 60100.
 abbrev pub firing : Trigger → ℤ → ℤ → Bool → ℕ → Option Timing
 firing trigger end mark false unseen =
-    if int_le end mark then Some OnTime else (if is_enough trigger.early unseen then Some Early else None)
+    if int_le end mark then Some OnTime else (if is_early_due trigger end mark unseen then Some Early else None)
 firing trigger end mark true unseen = if is_late_due trigger end mark unseen then Some Late else None
-
--- The mark is at least the window's end and the lateness: an element of the window is dropped, and its cell takes no part in merging.
-abbrev pub is_expired : Trigger → ℤ → ℤ → Bool
-is_expired trigger end mark = int_le (end +ℤ trigger.lateness) mark

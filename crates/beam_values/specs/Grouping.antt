@@ -12,6 +12,7 @@ use Rattle.beam_values.specs.declared.value.Value.{Value}
 use Rattle.beam_values.specs.declared.value.Value.TheOpen as layer
 use Rattle.beam_values.specs.declared.value.Value.TheViews.{out-Value, roll-Value}
 use Rattle.beam_values.specs.declared.element.Element.{Element}
+use Rattle.beam_values.specs.declared.element.PaneTag.{PaneTag}
 use Rattle.beam_values.specs.declared.element.Timing.TheVariants.{OnTime}
 
 abbrev pub key_in : layer.Value-F Value → Value
@@ -41,14 +42,18 @@ last_time span =
     let last = span.end -ℤ pos 1 in
     if int_lt greatest_time last then greatest_time else (if int_lt last least_time then least_time else last)
 
--- the pane of a key and a window that holds these parts: on time, and the first
-abbrev pub pane_with : Value → Interval → List Value → Element
-pane_with key span parts = record {
+-- the pane of a key and a window that holds these parts, under a tag
+abbrev pub pane_as : PaneTag → Value → Interval → List Value → Element
+pane_as tag key span parts = record {
   value = roll-Value (layer.Pair key (roll-Value (layer.Seq parts)));
   time = last_time span;
   span = span;
-  pane = record { timing = OnTime; index = 0 };
+  pane = tag;
 }
+
+-- the first one, on time
+abbrev pub pane_with : Value → Interval → List Value → Element
+pane_with = pane_as (record { timing = OnTime; index = 0 })
 
 -- a pane holds the parts of all elements of its key and window, in ascending order
 pub record IsPlainPane (elements : List Element) (pane : Element) : Type 0 where

@@ -32,19 +32,19 @@ mark_of estimator.Declared seen = seen
 abbrev pub least_mark : List ℤ → ℤ
 least_mark marks = fold int_min final_mark marks
 
--- the marks of a node that there is none of: FINAL
+-- the marks of a node; FINAL where there is no such node
 abbrev pub marks_at : List StageMarks → ℕ → StageMarks
 marks_at marks node = unwrap_or (slice_get marks node) (record { mark_in = final_mark; mark_out = final_mark })
 
--- the mark before a node is the least of those after its inputs
-abbrev pub mark_before : List StageMarks → List ℕ → ℤ
-mark_before marks inputs = least_mark (map (λ input. (marks_at marks input).mark_out) inputs)
+-- the mark into a node is the least of those after its inputs, so FINAL at a source
+abbrev pub mark_into : List StageMarks → List ℕ → ℤ
+mark_into marks inputs = least_mark (map (λ input. (marks_at marks input).mark_out) inputs)
 
--- The marks of a node after those of its inputs: before it the least of theirs, so FINAL at a source; after it the lesser of that and its least hold.
+-- the marks of a node: into it, and after it the lesser of that and its least hold
 abbrev pub node_marks : List StageMarks → List ℕ → ℤ → StageMarks
-node_marks marks inputs hold = record { mark_in = mark_before marks inputs; mark_out = int_min (mark_before marks inputs) hold }
+node_marks marks inputs hold = record { mark_in = mark_into marks inputs; mark_out = int_min (mark_into marks inputs) hold }
 
--- The marks of all nodes, where `hold` is the least hold of each. A plan's inputs are lower than their node, so there is one such list. Of a source with
+-- The marks of all nodes, where `hold` is the least hold of each. A checked plan's inputs are lower than their node, so it has one such list. Of a source with
 -- the least hold 70000, a Group with 59999 and a Write, the marks after them are 70000, 59999 and 59999.
 pub record AreMarks (plan : Plan) (hold : ℕ → ℤ) (marks : List StageMarks) : Type 0 where
   pub sized : length marks ≡ length plan.nodes

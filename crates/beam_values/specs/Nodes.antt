@@ -57,8 +57,8 @@ takes_from upper below input = input == upper || unwrap_or (slice_get below inpu
 abbrev pub with_below : ℕ → List Bool → Node → List Bool
 with_below upper below node = below ++ list_any (takes_from upper below) node.inputs ∷ []
 
--- Of each node, one after another, whether it is below `upper`. In a source, two ParDo nodes over it, a Group over the first and Writes over the
--- Group and the second, the node 1 has below it the third and the fourth: false, false, false, true, true, false.
+-- Of each node, one after another, whether it is below `upper`. Of a source 0, two ParDo nodes 1 and 2 of it, a Group 3 of the first, and Writes 4 and 5
+-- of the Group and of the second, the node 1 has below it the nodes 3 and 4: false, false, false, true, true, false.
 abbrev pub nodes_below : Plan → ℕ → List Bool
 nodes_below plan upper = fold (with_below upper) [] plan.nodes
 
@@ -104,3 +104,7 @@ facts_of nodes = fold with_facts [] nodes
 -- the strategy of a node: Global at a source, its own at a WindowInto, and else that of its input's output
 abbrev pub strategy_of : Plan → ℕ → Strategy
 strategy_of plan node = (facts_at (facts_of plan.nodes) node).strategy
+
+-- the strategy of what a node puts out: below a Group of sessions Kept, and else its own
+abbrev pub onward_of : Plan → ℕ → Strategy
+onward_of plan node = (facts_at (facts_of plan.nodes) node).onward

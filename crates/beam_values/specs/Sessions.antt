@@ -18,7 +18,16 @@ IsInside span x = (span.start <ℤ x) × (x <ℤ span.end)
 abbrev pub IsNonEmpty : Interval → Type 0
 IsNonEmpty span = span.start <ℤ span.end
 
--- One of the windows into which these merge: it begins where one of them begins and ends where one ends, no point inside it is a gap between
+-- One of the windows into which a set of windows merges: it begins where one of them begins and ends where one ends, no point inside it is a gap between
+-- them, and each of them lies in it or is apart from it.
+pub record IsSessionOf (S : Interval → Type 0) (session : Interval) : Type 0 where
+  pub ordered : session.start <ℤ session.end
+  pub begins : (span : Interval) × S span × (span.start ≡ session.start)
+  pub ends : (span : Interval) × S span × (span.end ≡ session.end)
+  pub joined : (x : ℤ) → IsInside session x → (span : Interval) × S span × IsInside span x
+  pub apart : (span : Interval) → S span → LiesIn span session ⊎ IsApart span session
+
+-- One of the windows into which a list of windows merges: the same of those in the list: it begins where one of them begins and ends where one ends, no point inside it is a gap between
 -- them, and each of them lies in it or is apart from it. Of `[0, 10)` and `[9, 19)` that is `[0, 19)`; of `[0, 10)` and `[10, 20)` it is each.
 pub record IsSession (spans : List Interval) (session : Interval) : Type 0 where
   pub ordered : session.start <ℤ session.end

@@ -17,7 +17,7 @@ IsLength ms = (pos 1 ≤ℤ ms) × (ms ≤ℤ greatest_length)
 abbrev pub most_windows : ℤ → ℤ → ℕ
 most_windows size period = div_ceil (or_zero size) (or_zero period)
 
--- the strategies that a plan may have
+-- the strategies that pass their check; Kept passes, though no WindowInto may name it
 abbrev pub IsAllowed : Strategy → Type 0
 IsAllowed Global = Unit {0}
 IsAllowed (Fixed size) = IsLength size

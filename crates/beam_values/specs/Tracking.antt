@@ -8,14 +8,14 @@ pub record Tracked : Type 0 where
   pub attempted : Option ℕ
 
 -- p is above the last attempted position, if there is one
-abbrev pub IsAbove : Option ℕ → ℕ → Type 0
-IsAbove None p = Unit {0}
-IsAbove (Some last) p = last < p
+abbrev pub IsLater : Option ℕ → ℕ → Type 0
+IsLater None p = Unit {0}
+IsLater (Some last) p = last < p
 
 -- positions are attempted in ascending order, from the start of the restriction on
 pub record MayClaim (t : Tracked) (p : ℕ) : Type 0 where
   pub from_start : t.range.from ≤ p
-  pub ascending : IsAbove t.attempted p
+  pub ascending : IsLater t.attempted p
 
 -- the first offset above the last attempted position; the start of the restriction where none was attempted
 abbrev pub first_unattempted : ℕ → Option ℕ → ℕ

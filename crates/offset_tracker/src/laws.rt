@@ -2,7 +2,7 @@
 
 ghost use Rattle.std.specs.Prelude.{◌≡◌, ◌+◌, ◌≤◌, ℕ, Some, IfSome, Option};
 ghost use Rattle.beam_values.specs.Intervals.{Offsets, times_in};
-ghost use Rattle.beam_values.specs.Tracking.{Tracked, IsAbove, split_point_of, residual, primary};
+ghost use Rattle.beam_values.specs.Tracking.{Tracked, IsLater, split_point_of, residual, primary};
 
 /// The primary and the residual of a split partition the restriction: each of its offsets lies in
 /// exactly one of the two, and neither has another offset.
@@ -17,5 +17,5 @@ pub fn a_split_partitions_the_restriction()
 pub fn a_split_keeps_what_was_attempted()
     ensures { (t : Tracked) (num den : ℕ) (part : Offsets)
         → residual (split_point_of t num den) t.range.to ≡ Some part
-        → IsAbove t.attempted part.from }
+        → IsLater t.attempted part.from }
 {}
