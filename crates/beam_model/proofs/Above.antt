@@ -234,7 +234,7 @@ checked_inputs_lower plan checked n node here k d inside =
   where
     sized : nodes_refusal [] plan.nodes ≡ None
     sized =
-        let some = unrefused (length plan.nodes == 0) _ _ checked in
+        let some = unrefused (length plan.nodes == 0) _ _ checked.unrefused in
         let few = unrefused (nat_lt 64 (length plan.nodes)) _ _ some.1 in
         (neither (nodes_refusal [] plan.nodes) _ few.1).0
 

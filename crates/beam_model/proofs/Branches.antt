@@ -1,6 +1,7 @@
 -- Two branches over the same elements: what is poison below the Group of one takes nothing from the Write of the other.
 use Rattle.std.proofs.Common.{◌≡◌, ℕ, zero, suc, ◌+◌, ◌/◌, ◌%◌, nat_lt, ℤ, pos, FitsSigned, w64, Bool, true, false, cond, ◌&&◌, min, List, [], ◌∷◌, ◌++◌, map, Some, refl, sym, ap, ap₂, subst, ◌∙◌, append-nil, arith}
-use Rattle.std.specs.Prelude.{codes}
+use Rattle.std.specs.Prelude.{codes, slice_get, unwrap_or}
+use Rattle.std.specs.Option.{option_map}
 use Rattle.std.specs.List.{AllByRecursion, filter}
 use Rattle.std.specs.List.Sorted.{IsSorted}
 use Rattle.std.specs.Ordering.{is_lt, nat_cmp, int_eq}
@@ -12,7 +13,7 @@ use Rattle.std.proofs.lemmas.List.Elements.{All-nil, All-cons, All-from_recursio
 use Rattle.beam_values.specs.Bags.{IsSameBag}
 use Rattle.beam_values.specs.Grouping.{key_of, part_of, is_in_cell, pane_with, IsPlainPane, IsPlainGrouping}
 use Rattle.beam_values.specs.Intervals.{Interval}
-use Rattle.beam_values.specs.Nodes.{strategy_of}
+use Rattle.beam_values.specs.Nodes.{strategy_of, is_stateful_kind}
 use Rattle.beam_values.specs.Orders.{value_cmp}
 use Rattle.beam_values.specs.Sessions.{IsNonEmpty}
 use Rattle.beam_values.specs.Spelling.{groups, varint, two's_complement, spelling_step, spelling}
@@ -24,6 +25,8 @@ use Rattle.beam_values.specs.declared.plan.Args.TheVariants.{Nothing}
 use Rattle.beam_values.specs.declared.plan.Estimator.TheVariants as estimator
 use Rattle.beam_values.specs.declared.plan.FnKind.TheVariants.{KeyField, FieldInt, SumSeq}
 use Rattle.beam_values.specs.declared.plan.Mode.TheVariants.{Discarding}
+use Rattle.beam_values.specs.declared.plan.Node.{Node}
+use Rattle.beam_values.specs.declared.plan.NodeKind.{NodeKind}
 use Rattle.beam_values.specs.declared.plan.NodeKind.TheVariants.{Source, ParDo, WindowInto, Group, Write}
 use Rattle.beam_values.specs.declared.plan.Plan.{Plan}
 use Rattle.beam_values.specs.declared.plan.SourceKind.TheVariants.{TimedLines}
@@ -218,8 +221,18 @@ both_storable =
 some_time : IsNonEmpty minute
 some_time = omega (arith, ints)
 
+-- where no node passes a test, none of any number does
+none_of_kind : (passes : NodeKind → Bool) (nodes : List Node) → AllByRecursion (λ node. passes node.kind ≡ false) nodes → (n : ℕ)
+    → unwrap_or (option_map (λ node. passes node.kind) (slice_get nodes n)) false ≡ false
+none_of_kind passes [] none zero = refl
+none_of_kind passes [] none (suc n) = refl
+none_of_kind passes (node ∷ nodes) none zero = none.0
+none_of_kind passes (node ∷ nodes) none (suc n) = none_of_kind passes nodes none.1 n
+
 plain_run : IsPlainRun branched (numbers ∷ []) 5 arrivals panes
 plain_run = record {
+  ends_here = refl;
+  stateless = λ upper above. none_of_kind is_stateful_kind branched.nodes (refl, (refl, (refl, (refl, (refl, (refl, (refl, (refl, (refl, tt))))))))) upper;
   clean = clean;
   from_groups = All-from_recursion (λ pane. IsGroupAbove branched 5 pane.node) panes ((refl, refl), tt);
   grouped = grouped;
