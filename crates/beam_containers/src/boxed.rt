@@ -1,13 +1,16 @@
 ghost use Rattle.std.specs.Prelude.{◌≡◌, IfOk};
+ghost use Rattle.std.specs.Arc.{arc_value};
 
 use crate::NoMemory;
 use std::alloc::Global;
 use std::marker::Model;
+use std::sync::Arc;
 
-/// A `Box` that contracts see as its value.
+/// A value behind a pointer, that contracts see as the value. Shares of it, in any threads, have one
+/// place in memory, so none can change it.
 #[derive(Debug, Drop)]
 pub struct Boxed<T> {
-    inner: Box<T>,
+    inner: Arc<T>,
 }
 
 impl<T> Model for Boxed<T> {
@@ -25,11 +28,13 @@ impl<T> Boxed<T> {
         &self.inner
     }
 
-    pub fn into_inner(self) -> T
-        ensures { result ≡ self }
+    /// Takes no memory. Only one of more than 2^62 shares is refused.
+    pub fn share(&self) -> Result<Boxed<T>, NoMemory>
+        ensures { IfOk result (λ b. b ≡ self.now) }
     {
-        let Boxed { inner } = self;
-        Box::into_inner(inner)
+        Ok(Boxed {
+            inner: Arc::try_clone(&self.inner)?,
+        })
     }
 }
 
@@ -38,7 +43,7 @@ impl<T: Drop> Boxed<T> {
         ensures { IfOk result (λ b. b ≡ value) }
     {
         Ok(Boxed {
-            inner: Box::new(alloc, value)?,
+            inner: Arc::new(alloc, value)?,
         })
     }
 }

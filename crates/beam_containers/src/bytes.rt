@@ -1,13 +1,23 @@
 ghost use Rattle.std.specs.Prelude.{◌≡◌, [], ◌∷◌, ◌++◌, ◌<◌, ◌^◌, All, length, take, ◌↔◌, IsTrue, IfOk, OnOk, OnErr};
 
 use crate::NoMemory;
+use crate::short::{ROOM, Short};
 use std::alloc::Global;
 use std::marker::Model;
 
+// A long string stands behind one pointer, so that it takes no more room in a value than a short one.
+#[derive(Debug, Drop)]
+enum Store {
+    Inside(Short),
+    Outside(Box<Vec<u8>>),
+}
+
 /// A growable string of bytes that contracts see as the list of them.
+///
+/// Up to 22 bytes lie in the string itself and take no memory.
 #[derive(Debug, Drop)]
 pub struct Bytes {
-    bytes: Vec<u8>,
+    store: Store,
 }
 
 impl Model for Bytes {
@@ -18,7 +28,9 @@ impl Model for Bytes {
 
     ghost coded = { coded_list coded_ℕ };
 
-    ghost view = { λ b. b.bytes.items };
+    ghost use Rattle.beam_containers.specs.Stored.{stored};
+
+    ghost view = { λ b. stored b.store };
 }
 
 impl Bytes {
@@ -27,53 +39,75 @@ impl Bytes {
         ensures { result ≡ [] }
     {
         Bytes {
-            bytes: Vec::new(alloc),
+            store: Store::Inside(Short::new(alloc)),
         }
     }
 
     pub fn from_slice(alloc: Global, bytes: &[u8]) -> Result<Bytes, NoMemory>
         ensures { IfOk result (λ b. b ≡ bytes.now) }
     {
-        let bytes = Vec::from_slice(alloc, bytes)?;
-        Ok(Bytes { bytes })
+        if bytes.len() <= ROOM {
+            let mut short = Short::new(alloc);
+            short.append(bytes);
+            return Ok(Bytes {
+                store: Store::Inside(short),
+            });
+        }
+        let bytes = Box::new(alloc, Vec::from_slice(alloc, bytes)?)?;
+        Ok(Bytes {
+            store: Store::Outside(bytes),
+        })
     }
 
-    pub fn from_vec(bytes: Vec<u8>) -> Bytes
-        ensures { result ≡ bytes.items }
+    /// A copy, which takes no memory where the string is short.
+    pub fn copy(&self, alloc: Global) -> Result<Bytes, NoMemory>
+        ensures { IfOk result (λ b. b ≡ self.now) }
     {
-        Bytes { bytes }
-    }
-
-    pub fn into_vec(self) -> Vec<u8>
-        ensures { result.items ≡ self }
-    {
-        let Bytes { bytes } = self;
-        bytes
+        match &self.store {
+            Store::Inside(short) => Ok(Bytes {
+                store: Store::Inside(short.copy()),
+            }),
+            Store::Outside(bytes) => Bytes::from_slice(alloc, bytes.as_slice()),
+        }
     }
 
     pub fn as_slice(&self) -> &[u8]
         ensures { result.now ≡ self.now }
     {
-        self.bytes.as_slice()
+        match &self.store {
+            Store::Inside(short) => short.as_slice(),
+            Store::Outside(bytes) => bytes.as_slice(),
+        }
     }
 
     pub fn len(&self) -> usize
         ensures { result ≡ length self.now }
     {
-        self.bytes.len()
+        self.as_slice().len()
     }
 
     pub fn is_empty(&self) -> bool
         ensures { IsTrue result ↔ (self.now ≡ []) }
     {
-        self.bytes.is_empty()
+        self.as_slice().is_empty()
     }
 
     pub fn push(&mut self, byte: u8) -> Result<(), NoMemory>
         ensures ok { OnOk result (self.new ≡ self.old ++ byte ∷ []) }
         ensures err { OnErr result (self.new ≡ self.old) }
     {
-        self.bytes.push(byte)?;
+        match &mut self.store {
+            Store::Inside(short) => {
+                if short.room() > 0 {
+                    short.append(&[byte]);
+                    return Ok(());
+                }
+                let mut bytes = short.moved_out(ROOM)?;
+                bytes.push(byte)?;
+                self.store = Store::Outside(bytes);
+            }
+            Store::Outside(bytes) => bytes.push(byte)?,
+        }
         Ok(())
     }
 
@@ -81,7 +115,18 @@ impl Bytes {
         ensures ok { OnOk result (self.new ≡ self.old ++ more.now) }
         ensures err { OnErr result (self.new ≡ self.old) }
     {
-        self.bytes.extend_from_slice(more)?;
+        match &mut self.store {
+            Store::Inside(short) => {
+                if more.len() <= short.room() {
+                    short.append(more);
+                    return Ok(());
+                }
+                let mut bytes = short.moved_out(more.len())?;
+                bytes.extend_from_slice(more)?;
+                self.store = Store::Outside(bytes);
+            }
+            Store::Outside(bytes) => bytes.extend_from_slice(more)?,
+        }
         Ok(())
     }
 
@@ -89,7 +134,15 @@ impl Bytes {
     pub fn reserve(&mut self, places: usize) -> Result<(), NoMemory>
         ensures { self.new ≡ self.old }
     {
-        self.bytes.reserve(places)?;
+        match &mut self.store {
+            Store::Inside(short) => {
+                if short.room() < places {
+                    let bytes = short.moved_out(places)?;
+                    self.store = Store::Outside(bytes);
+                }
+            }
+            Store::Outside(bytes) => bytes.reserve(places)?,
+        }
         Ok(())
     }
 
@@ -97,6 +150,11 @@ impl Bytes {
     pub fn truncate(&mut self, count: usize)
         ensures { self.new ≡ take count self.old }
     {
-        self.bytes.truncate(count);
+        match &mut self.store {
+            Store::Inside(short) => short.truncate(count),
+            Store::Outside(bytes) => bytes.truncate(count),
+        }
     }
 }
+
+const _: () = prove!(size_of::<Bytes>() == 24);

@@ -29,7 +29,7 @@ impl Duplicate for u64 {
 
 impl Duplicate for Bytes {
     fn duplicate(&self, alloc: Global) -> Result<Bytes, NoMemory> {
-        Bytes::from_slice(alloc, self.as_slice())
+        self.copy(alloc)
     }
 }
 
@@ -44,8 +44,8 @@ impl<T: Duplicate> Duplicate for List<T> {
     }
 }
 
-impl<T: Duplicate> Duplicate for Boxed<T> {
-    fn duplicate(&self, alloc: Global) -> Result<Boxed<T>, NoMemory> {
-        Boxed::new(alloc, self.get().duplicate(alloc)?)
+impl<T: Drop> Duplicate for Boxed<T> {
+    fn duplicate(&self, _alloc: Global) -> Result<Boxed<T>, NoMemory> {
+        self.share()
     }
 }

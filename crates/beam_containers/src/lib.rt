@@ -17,6 +17,7 @@ mod duplicate;
 mod list;
 mod memory;
 mod roomy;
+mod short;
 
 pub use boxed::Boxed;
 pub use bytes::Bytes;

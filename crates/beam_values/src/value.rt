@@ -22,11 +22,7 @@ impl Value {
             Value::Null => Ok(Value::Null),
             Value::Int(n) => Ok(Value::Int(*n)),
             Value::Blob(bytes) => Ok(Value::Blob(bytes.duplicate(alloc)?)),
-            Value::Pair(key, value) => {
-                let key = Boxed::new(alloc, key.get().copy(alloc)?)?;
-                let value = Boxed::new(alloc, value.get().copy(alloc)?)?;
-                Ok(Value::Pair(key, value))
-            }
+            Value::Pair(key, value) => Ok(Value::Pair(key.share()?, value.share()?)),
             Value::Seq(items) => Ok(Value::Seq(copy_all(alloc, items.as_slice())?)),
         }
     }
