@@ -32,7 +32,13 @@ pub(crate) fn push_writes(
 fn write_count(nodes: &[Node]) -> usize
     ensures { result ≡ count_by (λ node. is_write node.kind) nodes.now }
 {
-    nodes.iter().filter(|node| is_write(&node.kind)).count()
+    let mut count = 0;
+    for node in nodes {
+        if is_write(&node.kind) {
+            count += 1;
+        }
+    }
+    count
 }
 
 fn is_write(kind: &NodeKind) -> bool
