@@ -2,12 +2,16 @@ pub mod Account
 pub mod Chains
 pub mod Coverings
 pub mod Covers
+pub mod Estimators
 pub mod Flow
 pub mod Functions
-pub mod Premises
+pub mod Holds
+pub mod Logs
+pub mod Panes
 pub mod Plain
 pub mod Plans
 pub mod Positions
+pub mod Premises
 pub mod Rendering
 pub mod Sessions
 pub mod Spread

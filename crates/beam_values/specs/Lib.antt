@@ -13,6 +13,7 @@ pub mod Marks
 pub mod Nodes
 pub mod Orders
 pub mod Sessions
+pub mod Spans
 pub mod Spelled
 pub mod Spelling
 pub mod States
