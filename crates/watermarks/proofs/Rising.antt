@@ -3,11 +3,11 @@ use Rattle.std.proofs.Common.{◌≡◌, ℕ, zero, suc, ◌<◌, ◌≤◌, ℤ
 use Rattle.std.specs.Prelude.{int_le}
 use Rattle.beam_values.specs.Strategies.{greatest_length}
 use Rattle.std.specs.Int.{int_min, int_max}
-use Rattle.std.specs.List.{All, fold, slice_get}
+use Rattle.std.specs.List.{All, Contains, fold, slice_get}
 use Rattle.std.proofs.lemmas.Bool.{and_parts}
-use Rattle.std.proofs.lemmas.Int.{ints, clamps, by_lt_z}
-use Rattle.std.proofs.lemmas.List.{same_lists, get_or_default, get_or_past}
-use Rattle.std.proofs.lemmas.List.Elements.{All-head, All-tail}
+use Rattle.std.proofs.lemmas.Int.{ints, clamps, by_lt_z, fold-int_min_bounds}
+use Rattle.std.proofs.lemmas.List.{length-map, get_or-map, same_lists, get_or_default, get_or_past}
+use Rattle.std.proofs.lemmas.List.Elements.{All-contains, All-head, All-tail}
 use Rattle.std.proofs.lemmas.Option.{slice_get_within}
 use Rattle.beam_values.specs.Checked.{is_estimator_allowed, IsChecked}
 use Rattle.beam_values.specs.Marks.{later_of, seen_after, mark_of, marks_at, mark_before, node_marks, AreMarks}
@@ -176,3 +176,43 @@ marks_are_marks plan hold marks checked are holds n = at (suc n) n (omega arith)
 
     at : (bound k : ℕ) → k < bound → AreStageMarks (marks_at marks k)
     at = nodes_in_order plan (λ k. AreStageMarks (marks_at marks k)) checked past step
+
+-- ---- what bounds a mark
+
+module _ (plan : Plan) (hold : ℕ → ℤ) (marks : List StageMarks) (n : ℕ) (node : Node) (are : AreMarks plan hold marks) (there : slice_get plan.nodes n ≡ Some node) where
+  pub below_inputs : (input : ℕ) → Contains node.inputs input → (marks_at marks n).mark_in ≤ℤ (marks_at marks input).mark_out
+  below_inputs input is_input =
+      let out : ℕ → ℤ = λ i. (marks_at marks i).mark_out in
+      let all = fold-int_min_bounds final_mark (map out node.inputs) (mark_before marks node.inputs) refl in
+      subst (λ (s : StageMarks). s.mark_in ≤ℤ out input) (sym (are.each n node there))
+      (All-contains (λ x. mark_before marks node.inputs ≤ℤ x) (map out node.inputs) (out input) all.1
+      (is_input.0, omega (arith, is_input.1, length-map node.inputs out), get_or-map out node.inputs is_input.0 input (out input) is_input.1 ∙ ap out is_input.2))
+
+  pub below_hold : ((marks_at marks n).mark_out ≤ℤ (marks_at marks n).mark_in) × ((marks_at marks n).mark_out ≤ℤ hold n)
+  below_hold = subst (λ (s : StageMarks). (s.mark_out ≤ℤ s.mark_in) × (s.mark_out ≤ℤ hold n)) (sym (are.each n node there)) (lesser (mark_before marks node.inputs) (hold n))
+    where
+      lesser : (a b : ℤ) → (int_min a b ≤ℤ a) × (int_min a b ≤ℤ b)
+      lesser a b = (omega (arith, ints, clamps), omega (arith, ints, clamps))
+
+-- where nothing holds back, all is done
+fold_of_final : (f : ℕ → ℤ) (P : ℕ → Type 0) → ((k : ℕ) → P k → f k ≡ final_mark) → (inputs : List ℕ) → All P inputs → fold int_min final_mark (map f inputs) ≡ final_mark
+fold_of_final f P is [] all = refl
+fold_of_final f P is (i ∷ inputs) all =
+    ap (λ (a : ℤ). fold int_min a (map f inputs)) (ap (int_min final_mark) (is i (All-head P i inputs all)) ∙ both) ∙ fold_of_final f P is inputs (All-tail P i inputs all)
+  where
+    both : int_min final_mark final_mark ≡ final_mark
+    both = refl
+
+pub all_final : (plan : Plan) (hold : ℕ → ℤ) (marks : List StageMarks) → IsChecked plan → AreMarks plan hold marks
+    → ((n : ℕ) → n < length plan.nodes → hold n ≡ final_mark) → (n : ℕ) → marks_at marks n ≡ final_stage
+all_final plan hold marks checked are holds n = at (suc n) n (omega arith)
+  where
+    step : (k : ℕ) (node : Node) → slice_get plan.nodes k ≡ Some node → ((i : ℕ) → i < k → marks_at marks i ≡ final_stage) → marks_at marks k ≡ final_stage
+    step k node there before =
+        let inward : mark_before marks node.inputs ≡ final_mark =
+        fold_of_final (λ i. (marks_at marks i).mark_out) (λ i. i < k) (λ i below. ap (λ (s : StageMarks). s.mark_out) (before i below)) node.inputs (inputs_lower plan k node checked there) in
+        are.each k node there
+        ∙ (λ i. record { mark_in = inward i; mark_out = int_min (inward i) (holds k (slice_get_within plan.nodes k node there) i) })
+
+    at : (bound k : ℕ) → k < bound → marks_at marks k ≡ final_stage
+    at = nodes_in_order plan (λ k. marks_at marks k ≡ final_stage) checked (λ k past. marks_past plan hold marks k are past) step

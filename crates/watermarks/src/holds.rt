@@ -67,7 +67,7 @@ impl Holds {
         ensures used { self.old.room ≤ self.new.room + 1 }
     {
         let at = place_of(self.items.as_slice(), m);
-        if has_more_at(self.items.as_slice(), at, m) {
+        if can_count_more(self.items.as_slice(), at, m) {
             self.items[at].count += 1;
             return Ok(());
         }
@@ -127,7 +127,7 @@ fn is_below(held: &Held, m: Mark) -> bool
 }
 
 /// Whether the mark is listed there, and its count isn't full.
-fn has_more_at(items: &[Held], at: usize, m: Mark) -> bool
+fn can_count_more(items: &[Held], at: usize, m: Mark) -> bool
     ensures { IsTrue result ↔ IsSomeAnd (slice_get items.now at) (λ held. (held.mark ≡ m) × (held.count < u64.MAX)) }
 {
     match items.get(at) {

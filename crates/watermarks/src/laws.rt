@@ -4,7 +4,7 @@ ghost use Rattle.std.specs.Prelude.{◌≡◌, ◌<◌, ◌≤ℤ◌, ℕ, ℤ, 
 ghost use Rattle.beam_values.specs.Bags.{IsSameBag};
 ghost use Rattle.beam_values.specs.Checked.{is_estimator_allowed, IsChecked};
 ghost use Rattle.beam_values.specs.Marks.{seen_after, mark_of, least_mark, marks_at, AreMarks};
-ghost use Rattle.beam_values.specs.Times.{IsTime, IsMark};
+ghost use Rattle.beam_values.specs.Times.{final_mark, IsTime, IsMark};
 ghost use Rattle.beam_values.specs.declared.marks.StageMarks.{StageMarks};
 ghost use Rattle.beam_values.specs.declared.plan.Args.{Args};
 ghost use Rattle.beam_values.specs.declared.plan.Estimator.{Estimator};
@@ -51,6 +51,26 @@ pub fn marks_follow_from_marks()
         → AreMarks plan hold marks
         → ((n : ℕ) → n < length plan.nodes → IsMark (hold n))
         → (n : ℕ) → IsMark (marks_at marks n).mark_in × IsMark (marks_at marks n).mark_out }
+{}
+
+/// A mark bounds what it follows from: before a node it is no higher than after each of its inputs, and
+/// after it no higher than before it and than its least hold.
+pub fn a_mark_is_no_higher_than_its_causes()
+    ensures inputs { (plan : Plan) (hold : ℕ → ℤ) (marks : List StageMarks) (n : ℕ) (node : Node)
+        → AreMarks plan hold marks → slice_get plan.nodes n ≡ Some node
+        → (input : ℕ) → Contains node.inputs input → (marks_at marks n).mark_in ≤ℤ (marks_at marks input).mark_out }
+    ensures hold { (plan : Plan) (hold : ℕ → ℤ) (marks : List StageMarks) (n : ℕ) (node : Node)
+        → AreMarks plan hold marks → slice_get plan.nodes n ≡ Some node
+        → ((marks_at marks n).mark_out ≤ℤ (marks_at marks n).mark_in) × ((marks_at marks n).mark_out ≤ℤ hold n) }
+{}
+
+/// Where nothing holds a node back, every mark is FINAL.
+pub fn marks_without_holds_are_final()
+    ensures { (plan : Plan) (hold : ℕ → ℤ) (marks : List StageMarks)
+        → IsChecked plan
+        → AreMarks plan hold marks
+        → ((n : ℕ) → n < length plan.nodes → hold n ≡ final_mark)
+        → (n : ℕ) → marks_at marks n ≡ record { mark_in = final_mark; mark_out = final_mark } }
 {}
 
 /// Of marks the order is no matter: two lists of one bag have the same members and the same least.

@@ -14,7 +14,7 @@ listed_at : (c : goal.After-self-1) → IsListed c.self.inside.items.items c.arg
 listed_at c =
     listed_there c.self.inside.items.items c.args.m c.place_of-at.result 18446744073709551615
     (subst (λ (l : List Held). IsSomeAnd (slice_get l c.place_of-at.result) (λ h. (h.mark ≡ c.args.m) × (h.count < 18446744073709551615))) c.as_slice-2.ensures.value
-    (c.if-has_more_at.ensures.0 refl))
+    (c.if-can_count_more.ensures.0 refl))
 
 pub invariant_of-self : goal.invariant_of-self
 invariant_of-self c =
@@ -22,8 +22,8 @@ invariant_of-self c =
     (own_place c.self.inside.items.items c.as_slice.result.now c.args.m c.place_of-at.result c.as_slice.ensures.value c.place_of-at.ensures.place) (c.index_mut.result.now.count + 1)
     (omega arith)
 
-pub returns-then-has_more_at-clause-ok : goal.returns-then-has_more_at-clause-ok
-returns-then-has_more_at-clause-ok c =
+pub returns-then-can_count_more-clause-ok : goal.returns-then-can_count_more-clause-ok
+returns-then-can_count_more-clause-ok c =
     more_than_seen c.args.m _ (marks_of c.self.inside.items.items) c.args.self.now.marks (ap (λ (h : SeenHolds). h.marks) c.self.view_is)
     (bag_raised c.self.inside.items.items c.args.m c.place_of-at.result c.index_mut.result.now (listed_at c) c.index_mut.ensures.value)
 
