@@ -1,7 +1,7 @@
 ghost use Rattle.std.specs.Prelude.{◌≡◌, ◌<◌, length, All};
 ghost use Rattle.std.specs.Int.{int_min};
 ghost use Rattle.beam_values.specs.Checked.{IsChecked};
-ghost use Rattle.beam_values.specs.Marks.{mark_before, node_marks, AreMarks};
+ghost use Rattle.beam_values.specs.Marks.{mark_into, node_marks, AreMarks};
 ghost use Rattle.watermarks.specs.Holds.{hold_at};
 
 use beam_values::{Mark, Node, Plan, StageMarks};
@@ -23,16 +23,16 @@ fn marks_of_node(node: &Node, hold: Mark, marks: &[StageMarks]) -> StageMarks
     requires { All (λ input. input < length marks.now) node.now.inputs }
     ensures { result ≡ node_marks marks.now node.now.inputs hold }
 {
-    let mark_in = mark_before(marks, node.inputs.as_slice());
+    let mark_in = mark_into(marks, node.inputs.as_slice());
     StageMarks {
         mark_in,
         mark_out: lesser(mark_in, hold),
     }
 }
 
-fn mark_before(marks: &[StageMarks], inputs: &[u32]) -> Mark
+fn mark_into(marks: &[StageMarks], inputs: &[u32]) -> Mark
     requires { All (λ input. input < length marks.now) inputs.now }
-    ensures { result ≡ mark_before marks.now inputs.now }
+    ensures { result ≡ mark_into marks.now inputs.now }
 {
     let mut least = Mark::FINAL;
     for input in inputs {
