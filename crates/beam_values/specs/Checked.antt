@@ -17,6 +17,8 @@ use Rattle.beam_values.specs.declared.plan.NodeKind.TheVariants.{Source, ParDo, 
 use Rattle.beam_values.specs.declared.plan.Plan.{Plan}
 use Rattle.beam_values.specs.declared.plan.SourceKind.{SourceKind}
 use Rattle.beam_values.specs.declared.plan.SourceKind.TheVariants.{Lines, TimedLines, Count, Made}
+use Rattle.beam_values.specs.declared.plan.StateKind.{StateKind}
+use Rattle.beam_values.specs.declared.plan.StateKind.TheVariants.{BatchUntil, LatestThenEmit}
 use Rattle.beam_values.specs.declared.plan.Strategy.{Strategy}
 use Rattle.beam_values.specs.declared.plan.Strategy.TheVariants as strategy
 use Rattle.beam_values.specs.declared.plan.Trigger.{Trigger}
@@ -70,6 +72,12 @@ is_function_allowed Field args = is_number_upto (pos 1000) args
 is_function_allowed KeepPrefix args = is_text_upto 4096 args
 is_function_allowed Shift args = is_number_upto greatest_length args
 is_function_allowed _ args = is_nothing args
+
+-- the argument that a stateful function takes
+abbrev pub is_state_allowed : StateKind → Args → Bool
+is_state_allowed BatchUntil args = is_number_upto (pos 1000000) args && not (is_number_upto (pos 0) args)
+is_state_allowed LatestThenEmit args = is_number_upto greatest_length args
+is_state_allowed _ args = is_nothing args
 
 -- counts of at least 1 that 32 bits hold, and a lateness of at least 0
 abbrev pub is_count : ℕ → Bool
