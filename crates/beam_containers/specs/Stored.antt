@@ -5,4 +5,4 @@ use Rattle.beam_containers.specs.declared.bytes.Store.TheVariants.{Inside, Outsi
 
 abbrev pub stored : Store → List ℕ
 stored (Inside short) = short
-stored (Outside bytes) = bytes.value.items
+stored (Outside long) = long

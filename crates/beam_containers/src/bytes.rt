@@ -1,20 +1,21 @@
 ghost use Rattle.std.specs.Prelude.{◌≡◌, [], ◌∷◌, ◌++◌, ◌<◌, ◌^◌, All, length, take, ◌↔◌, IsTrue, IfOk, OnOk, OnErr};
 
 use crate::NoMemory;
+use crate::long::Long;
 use crate::short::{ROOM, Short};
 use std::alloc::Global;
 use std::marker::Model;
 
-// A long string stands behind one pointer, so that it takes no more room in a value than a short one.
 #[derive(Debug, Drop)]
 enum Store {
     Inside(Short),
-    Outside(Box<Vec<u8>>),
+    Outside(Long),
 }
 
 /// A growable string of bytes that contracts see as the list of them.
 ///
-/// Up to 22 bytes lie in the string itself and take no memory.
+/// Up to 22 bytes lie in the string itself. A longer string lies in memory, and copies of it share
+/// that until they are written to.
 #[derive(Debug, Drop)]
 pub struct Bytes {
     store: Store,
@@ -53,22 +54,21 @@ impl Bytes {
                 store: Store::Inside(short),
             });
         }
-        let bytes = Box::new(alloc, Vec::from_slice(alloc, bytes)?)?;
+        let long = Long::from_vec(alloc, Vec::from_slice(alloc, bytes)?)?;
         Ok(Bytes {
-            store: Store::Outside(bytes),
+            store: Store::Outside(long),
         })
     }
 
-    /// A copy, which takes no memory where the string is short.
-    pub fn copy(&self, alloc: Global) -> Result<Bytes, NoMemory>
+    /// An equal string, which takes no memory.
+    pub fn share(&self) -> Result<Bytes, NoMemory>
         ensures { IfOk result (λ b. b ≡ self.now) }
     {
-        match &self.store {
-            Store::Inside(short) => Ok(Bytes {
-                store: Store::Inside(short.copy()),
-            }),
-            Store::Outside(bytes) => Bytes::from_slice(alloc, bytes.as_slice()),
-        }
+        let store = match &self.store {
+            Store::Inside(short) => Store::Inside(short.copy()),
+            Store::Outside(long) => Store::Outside(long.share()?),
+        };
+        Ok(Bytes { store })
     }
 
     pub fn as_slice(&self) -> &[u8]
@@ -76,7 +76,7 @@ impl Bytes {
     {
         match &self.store {
             Store::Inside(short) => short.as_slice(),
-            Store::Outside(bytes) => bytes.as_slice(),
+            Store::Outside(long) => long.as_slice(),
         }
     }
 
@@ -97,16 +97,9 @@ impl Bytes {
         ensures err { OnErr result (self.new ≡ self.old) }
     {
         match &mut self.store {
-            Store::Inside(short) => {
-                if short.room() > 0 {
-                    short.append(&[byte]);
-                    return Ok(());
-                }
-                let mut bytes = short.moved_out(ROOM)?;
-                bytes.push(byte)?;
-                self.store = Store::Outside(bytes);
-            }
-            Store::Outside(bytes) => bytes.push(byte)?,
+            Store::Inside(short) if short.room() > 0 => short.append(&[byte]),
+            Store::Inside(short) => self.store = Store::Outside(short.moved_out(&[byte], ROOM)?),
+            Store::Outside(long) => long.push(byte)?,
         }
         Ok(())
     }
@@ -116,32 +109,22 @@ impl Bytes {
         ensures err { OnErr result (self.new ≡ self.old) }
     {
         match &mut self.store {
-            Store::Inside(short) => {
-                if more.len() <= short.room() {
-                    short.append(more);
-                    return Ok(());
-                }
-                let mut bytes = short.moved_out(more.len())?;
-                bytes.extend_from_slice(more)?;
-                self.store = Store::Outside(bytes);
-            }
-            Store::Outside(bytes) => bytes.extend_from_slice(more)?,
+            Store::Inside(short) if more.len() <= short.room() => short.append(more),
+            Store::Inside(short) => self.store = Store::Outside(short.moved_out(more, 0)?),
+            Store::Outside(long) => long.append(more)?,
         }
         Ok(())
     }
 
-    /// After `Ok` the next `places` bytes need no memory. What is kept is not seen by contracts.
+    /// After `Ok` the next `places` bytes need no memory, unless the string is copied before them. What
+    /// is kept is not seen by contracts.
     pub fn reserve(&mut self, places: usize) -> Result<(), NoMemory>
         ensures { self.new ≡ self.old }
     {
         match &mut self.store {
-            Store::Inside(short) => {
-                if short.room() < places {
-                    let bytes = short.moved_out(places)?;
-                    self.store = Store::Outside(bytes);
-                }
-            }
-            Store::Outside(bytes) => bytes.reserve(places)?,
+            Store::Inside(short) if places <= short.room() => {}
+            Store::Inside(short) => self.store = Store::Outside(short.moved_out(&[], places)?),
+            Store::Outside(long) => long.reserve(places)?,
         }
         Ok(())
     }
@@ -152,7 +135,7 @@ impl Bytes {
     {
         match &mut self.store {
             Store::Inside(short) => short.truncate(count),
-            Store::Outside(bytes) => bytes.truncate(count),
+            Store::Outside(long) => long.truncate(count),
         }
     }
 }

@@ -28,8 +28,8 @@ impl Duplicate for u64 {
 }
 
 impl Duplicate for Bytes {
-    fn duplicate(&self, alloc: Global) -> Result<Bytes, NoMemory> {
-        self.copy(alloc)
+    fn duplicate(&self, _alloc: Global) -> Result<Bytes, NoMemory> {
+        self.share()
     }
 }
 

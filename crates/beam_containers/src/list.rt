@@ -1,4 +1,4 @@
-ghost use Rattle.std.specs.Prelude.{◌≡◌, [], ◌∷◌, ◌++◌, ◌<◌, ◌≤◌, length, slice_get, slice_set, insert, remove, take, ◌↔◌, IsTrue, IfOk, MatchOption, OnOk, OnErr, OnSome};
+ghost use Rattle.std.specs.Prelude.{◌≡◌, [], ◌∷◌, ◌++◌, ◌<◌, ◌≤◌, length, slice_get, slice_set, insert, remove, take, ◌↔◌, IsTrue, IfOk, MatchOption, OnOk, OnErr, OnSome, vec_len, vec_capacity};
 ghost use Rattle.std.specs.Option.{option_copied};
 
 use crate::NoMemory;
@@ -91,7 +91,10 @@ impl<T: Drop> List<T> {
         ensures ok { OnOk result (self.new ≡ self.old ++ item ∷ []) }
         ensures err { OnErr result (self.new ≡ self.old) }
     {
-        self.items.push(item)?;
+        if self.items.len() == self.items.capacity() {
+            grow(&mut self.items)?;
+        }
+        self.items.push_reserved(item);
         Ok(())
     }
 
@@ -135,6 +138,18 @@ impl<T: Drop> List<T> {
     {
         self.items.truncate(count);
     }
+}
+
+// By halves, which wastes less than std's doubling where there are many short lists. It stands
+// apart, so that what a push inlines stays small.
+#[cold]
+#[inline(never)]
+fn grow<T>(items: &mut Vec<T>) -> Result<(), NoMemory>
+    ensures items { items.new.items ≡ items.old.items }
+    ensures room { OnOk result (vec_len items.new < vec_capacity items.new) }
+{
+    items.reserve_exact(items.len() / 2 + 2)?;
+    Ok(())
 }
 
 impl<T: Copy> List<T> {

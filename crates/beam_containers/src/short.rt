@@ -1,6 +1,7 @@
 ghost use Rattle.std.specs.Prelude.{◌≡◌, [], ◌++◌, ◌+◌, ◌≤◌, length, take, IfOk};
 
 use crate::NoMemory;
+use crate::long::Long;
 use std::alloc::Global;
 use std::marker::Model;
 
@@ -84,13 +85,10 @@ impl Short {
         }
     }
 
-    /// The same bytes in memory, with places kept for as many more.
-    pub fn moved_out(&self, places: usize) -> Result<Box<Vec<u8>>, NoMemory>
-        ensures { IfOk result (λ bytes. bytes.value.items ≡ self.now) }
+    /// The same bytes and then `more` in memory, with room for `places` bytes after them.
+    pub fn moved_out(&self, more: &[u8], places: usize) -> Result<Long, NoMemory>
+        ensures { IfOk result (λ long. long ≡ self.now ++ more.now) }
     {
-        let bytes = self.as_slice();
-        let mut moved = Vec::with_capacity(self.alloc, bytes.len().saturating_add(places))?;
-        moved.extend_from_slice(bytes)?;
-        Ok(Box::new(self.alloc, moved)?)
+        Long::joined(self.alloc, self.as_slice(), more, places)
     }
 }
