@@ -16,6 +16,7 @@ use fs_store::FsStore;
 use run_engine::{Status, put};
 use sinks::{ErrSink, OutSink};
 use std::alloc::AllocError;
+use std::mem::ManuallyDrop;
 use std::process::ExitCode;
 use std::{env, io};
 
@@ -36,5 +37,7 @@ fn main(rt: HostRuntime) -> ExitCode {
         return ExitCode::from(Status::NoMemory.number());
     };
     let end = beam_main(alloc, words.as_slice(), &mut store, &mut out, &mut notes);
+    // The end of the process frees the outcome at once, not box by box.
+    let end = ManuallyDrop::new(end);
     ExitCode::from(end.status.number())
 }
