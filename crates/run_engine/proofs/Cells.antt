@@ -7,7 +7,7 @@ use Rattle.std.specs.Cmp.{IsTotalOrder}
 use Rattle.std.specs.List.{All, slice_set}
 use Rattle.std.specs.List.Sorted.{IsSorted, IsStrictlySortedBy}
 use Rattle.std.proofs.lemmas.Bool.{false≢true}
-use Rattle.std.proofs.lemmas.Cmp.{int_cmp_total, nat_list_cmp_total, on_total, then_total, tied_itself}
+use Rattle.std.proofs.lemmas.Cmp.{nat_list_cmp_total, on_total, then_total, tied_itself}
 use Rattle.std.proofs.lemmas.Grind.{flat_map-append}
 use Rattle.std.proofs.lemmas.List.{take_more, take_all, set_at, set-get_or, length-take, length-map, length-append, length_push, get_or-map, get_or_at, get_or_append_left, map_push, drop_at, nil_from_length}
 use Rattle.std.proofs.lemmas.List.Elements.{All-nil, All-cons, All-push, All-pop, All-drop, All-weaker, All-map}
@@ -20,14 +20,13 @@ use Rattle.beam_values.specs.Grouping.{key_of, part_of}
 use Rattle.beam_values.specs.declared.value.Value.{Value}
 use Rattle.beam_values.specs.declared.cell.Cell.{Cell}
 use Rattle.beam_values.specs.declared.cell.Entry.{Entry}
-use Rattle.run_engine.specs.Grouped.{as_shown, entries_of, IsEntryOf, IsFiredCell, fresh_cell, parts_of, span_cmp, cell_cmp, place_cmp, entry_cmp, HasNoneAfter, AreCells}
+use Rattle.run_engine.specs.Grouped.{as_shown, entries_of, IsEntryOf, IsFiredCell, fresh_cell, parts_of, made_cmp, place_cmp, entry_cmp, HasNoneAfter, AreCells}
+use Rattle.beam_values.specs.Cells.{span_cmp}
+use Rattle.beam_values.proofs.GroupedCells.{span_total}
 use Rattle.run_engine.proofs.Ascents.{ascends_nil, ascends_push, ascends_front}
 
-span_total : IsTotalOrder span_cmp
-span_total = then_total (on_total (λ (s : Interval). s.start) int_cmp_total) (on_total (λ (s : Interval). s.end) int_cmp_total)
-
-pub cell_total : IsTotalOrder cell_cmp
-cell_total = then_total (on_total (λ (c : Cell). c.span) span_total) (on_total (λ (c : Cell). spelling c.key) nat_list_cmp_total)
+pub made_total : IsTotalOrder made_cmp
+made_total = then_total (on_total (λ (c : Cell). c.span) span_total) (on_total (λ (c : Cell). spelling c.key) nat_list_cmp_total)
 
 pub entry_total : IsTotalOrder entry_cmp
 entry_total =
@@ -63,7 +62,7 @@ entry_above c e h is upto apart =
 parts_rise : (c : Cell) (e h : Entry) → IsEntryOf c.key c.span e → IsEntryOf c.key c.span h → is_lt (entry_cmp e h) ≡ false
     → is_lt (value_cmp (part_of e.element) (part_of h.element)) ≡ false
 parts_rise c e h mine is upto =
-    let tied = of_entry c e (key_of h.element) h.element.span mine ∙ at_entry c h c.key c.span is ∙ tied_itself cell_total c in
+    let tied = of_entry c e (key_of h.element) h.element.span mine ∙ at_entry c h c.key c.span is ∙ tied_itself made_total c in
     sym (ap (λ (o : Ordering). is_lt (ordering_then o (value_cmp (part_of e.element) (part_of h.element)))) tied) ∙ upto
 
 pub entries_last : (front : List Cell) (c : Cell) → entries_of (front ++ c ∷ []) ≡ entries_of front ++ c.entries
@@ -86,8 +85,8 @@ module _ (node : ℕ) (front : List Cell) (c : Cell) (e : Entry) (g : AreCells n
   sorted : All (λ x. IsSorted value_cmp (parts_of x)) front × IsSorted value_cmp (parts_of c)
   sorted = All-pop (λ x. IsSorted value_cmp (parts_of x)) (front ++ c ∷ []) front (Some c) refl g.parts
 
-  below : IsStrictlySortedBy cell_cmp front × All (λ x. cell_cmp x c ≡ Less) front
-  below = ascends_front cell_cmp front c g.ascending
+  below : IsStrictlySortedBy made_cmp front × All (λ x. made_cmp x c ≡ Less) front
+  below = ascends_front made_cmp front c g.ascending
 
   none_after : All (λ h. is_lt (entry_cmp e h) ≡ false) c.entries
   none_after =
@@ -123,22 +122,22 @@ module _ (node : ℕ) (front : List Cell) (c : Cell) (e : Entry) (g : AreCells n
       let more = with_entries c (c.entries ++ e ∷ []) in
       record {
         fired = All-push (IsFiredCell node) front more fired.0 (cell_more mine);
-        ascending = ascends_push cell_cmp front more below.0 below.1;
+        ascending = ascends_push made_cmp front more below.0 below.1;
         parts = All-push (λ x. IsSorted value_cmp (parts_of x)) front more sorted.0 (parts_more mine);
       }
 
-  cell_below : (place_cmp e c ≡ Equal → ⊥) → cell_cmp c (fresh_cell node e) ≡ Less
+  cell_below : (place_cmp e c ≡ Equal → ⊥) → made_cmp c (fresh_cell node e) ≡ Less
   cell_below apart =
       let k = length c.entries - 1 in
       let some : 1 ≤ length c.entries = fired.1.some in
       let within : k < length c.entries = omega arith in
-      cell_total.antisymm c (fresh_cell node e)
+      made_total.antisymm c (fresh_cell node e)
       ∙ ap ordering_reverse (entry_above c e (get_or c.entries k e) (fired.1.each k e within) (none_after k e within) apart)
 
-  all_below : (place_cmp e c ≡ Equal → ⊥) → All (λ x. cell_cmp x (fresh_cell node e) ≡ Less) (front ++ c ∷ [])
+  all_below : (place_cmp e c ≡ Equal → ⊥) → All (λ x. made_cmp x (fresh_cell node e) ≡ Less) (front ++ c ∷ [])
   all_below apart =
-      All-push (λ x. cell_cmp x (fresh_cell node e) ≡ Less) front c
-      (All-weaker (λ x. cell_cmp x c ≡ Less) (λ x. cell_cmp x (fresh_cell node e) ≡ Less) (λ x l. cell_total.trans x c (fresh_cell node e) l (cell_below apart)) front below.1)
+      All-push (λ x. made_cmp x (fresh_cell node e) ≡ Less) front c
+      (All-weaker (λ x. made_cmp x c ≡ Less) (λ x. made_cmp x (fresh_cell node e) ≡ Less) (λ x l. made_total.trans x c (fresh_cell node e) l (cell_below apart)) front below.1)
       (cell_below apart)
 
 fresh_fired : (node : ℕ) (e : Entry) → e.shown ≡ true → IsFiredCell node (fresh_cell node e)
@@ -158,23 +157,23 @@ fresh_sorted node e k d z l = absurd (omega arith)
 pub no_cells : (node : ℕ) → AreCells node []
 no_cells node = record {
   fired = All-nil (IsFiredCell node);
-  ascending = ascends_nil cell_cmp;
+  ascending = ascends_nil made_cmp;
   parts = All-nil (λ c. IsSorted value_cmp (parts_of c));
 }
 
 -- a cell of one entry stands after cells that are below it
-cells_push : (node : ℕ) (cells : List Cell) (e : Entry) → e.shown ≡ true → AreCells node cells → All (λ x. cell_cmp x (fresh_cell node e) ≡ Less) cells
+cells_push : (node : ℕ) (cells : List Cell) (e : Entry) → e.shown ≡ true → AreCells node cells → All (λ x. made_cmp x (fresh_cell node e) ≡ Less) cells
     → AreCells node (cells ++ fresh_cell node e ∷ [])
 cells_push node cells e seen g below = record {
   fired = All-push (IsFiredCell node) cells (fresh_cell node e) g.fired (fresh_fired node e seen);
-  ascending = ascends_push cell_cmp cells (fresh_cell node e) g.ascending below;
+  ascending = ascends_push made_cmp cells (fresh_cell node e) g.ascending below;
   parts = All-push (λ c. IsSorted value_cmp (parts_of c)) cells (fresh_cell node e) g.parts (fresh_sorted node e);
 }
 
 pub first_cell : (node : ℕ) (cells : List Cell) (e : Entry) → length cells ≡ 0 → e.shown ≡ true → AreCells node (cells ++ fresh_cell node e ∷ [])
 first_cell node cells e none seen =
     subst (λ l. AreCells node (l ++ fresh_cell node e ∷ [])) (sym (nil_from_length cells none))
-    (cells_push node [] e seen (no_cells node) (All-nil (λ x. cell_cmp x (fresh_cell node e) ≡ Less)))
+    (cells_push node [] e seen (no_cells node) (All-nil (λ x. made_cmp x (fresh_cell node e) ≡ Less)))
 
 last_split : (cells : List Cell) (n : ℕ) (c : Cell) → length cells ≡ n → 0 < n → c ≡ get_or cells (n - 1) c → cells ≡ take (n - 1) cells ++ c ∷ []
 last_split cells n c long some is =
@@ -214,7 +213,7 @@ module _ (node : ℕ) (cells : List Cell) (n : ℕ) (c : Cell) (e : Entry) (long
   pub started_cells : AreCells node cells → HasNoneAfter e cells → e.shown ≡ true → (place_cmp e c ≡ Equal → ⊥) → AreCells node (cells ++ fresh_cell node e ∷ [])
   started_cells g order seen apart =
       cells_push node cells e seen g
-      (subst (λ l. All (λ x. cell_cmp x (fresh_cell node e) ≡ Less) l) (sym split)
+      (subst (λ l. All (λ x. made_cmp x (fresh_cell node e) ≡ Less) l) (sym split)
       (all_below node (take (n - 1) cells) c e (subst (λ l. AreCells node l) split g) (subst (λ l. HasNoneAfter e l) split order) seen apart))
 
 -- what came before in a sorted list is not after what comes

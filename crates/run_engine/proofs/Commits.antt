@@ -1,11 +1,11 @@
 -- What a commit leaves: the rest of a piece is cut out of its range, and fewer offsets are left.
-use Rattle.std.proofs.Common.{inl, inr, ◌≡◌, ℕ, ℤ, ◌+◌, ◌-◌, ◌<◌, ◌≤◌, Bool, true, false, cond, ◌&&◌, ◌==◌, Option, Some, None, List, [], ◌∷◌, ◌++◌, map, length, take, min, refl, sym, ap, subst, ◌∙◌, arith}
+use Rattle.std.proofs.Common.{inl, inr, ◌≡◌, ℕ, ℤ, ◌+◌, ◌-◌, ◌<◌, ◌≤◌, Bool, true, false, cond, ◌&&◌, ◌==◌, Option, Some, None, List, [], ◌∷◌, ◌++◌, map, length, take, drop, min, refl, sym, ap, subst, ◌∙◌, arith}
 use Rattle.std.proofs.Math.Seq.{take-append-add}
 use Rattle.std.specs.List.{All, list_any}
 use Rattle.std.proofs.lemmas.Bool.{cases_lt, lt-ltb, le-ltb}
 use Rattle.std.proofs.lemmas.Bool.Decides.{nat_tests}
 use Rattle.std.proofs.lemmas.List.{append-nil}
-use Rattle.std.proofs.lemmas.List.Elements.{All-take}
+use Rattle.std.proofs.lemmas.List.Elements.{All-take, All-weaker}
 use Rattle.std.proofs.lemmas.List.Sums.{sum_by-cons, sum_by-append}
 use Rattle.std.proofs.lemmas.Grind.{flat_map-append}
 use Rattle.std.proofs.lemmas.Bool.{false≢true}
@@ -32,7 +32,8 @@ use Rattle.split_core.specs.Partition.{IsPartition, IsCutOut, IsOut, range_of}
 use Rattle.split_core.specs.Order.{with_piece}
 use Rattle.split_core.proofs.Cutting.{middle_cut_out}
 use Rattle.split_core.proofs.Ordered.{bag_with_piece}
-use Rattle.run_engine.specs.Committing.{offsets_of, offsets_left}
+use Rattle.run_engine.specs.Committing.{IsOfCommitUpTo, offsets_of, offsets_left}
+use Rattle.run_engine.proofs.Members.{longer_all}
 
 -- a checkpoint cuts right behind the last attempted position
 pub checkpoint_point : (t : Tracked) → split_point_of t 0 1 ≡ first_unattempted t.range.from t.attempted
@@ -124,7 +125,7 @@ module _ (piece : Piece) (t : Tracked) (range : Offsets) (whole : t.range ≡ pi
   pub left_range : (rest : Offsets) → residual (split_point_of t 0 1) t.range.to ≡ Some rest
       → (reached < piece.range.to) × (rest ≡ record { from = reached; to = piece.range.to }) × (range ≡ record { from = piece.range.from; to = reached })
   left_range rest is =
-      let found = residual_some _ _ rest is in
+      let found = residual_some (split_point_of t 0 1) t.range.to rest is in
       let to : t.range.to ≡ piece.range.to = ap (λ (r : Offsets). r.to) whole in
       let inside : reached < piece.range.to = omega (arith, found.0, point) in
       let same : min reached piece.range.to ≡ reached = omega arith in
@@ -169,7 +170,7 @@ in_file file piece pending done held some =
     ap (λ b. cond b (times_in piece.range place.offset) 0) (both_same piece.node piece.item) ∙ one_in piece.range place.offset (omega arith) (omega arith) in
     let out : 1 ≤ times_done (done ++ range_of piece ∷ []) place = omega (arith, here, sum_by-append w done (range_of piece ∷ []), sum_by-cons w (range_of piece) []) in
     let listed : 0 < times_at 0 0 (whole (length file)) place = omega (arith, out, held.times place, sum_by-cons v (item_len (panes_item file)) []) in
-    let inside : place.offset < length file = positive_in (length file) place.offset (positive_cond _ _ listed) in
+    let inside : place.offset < length file = positive_in (length file) place.offset (positive_cond (0 == piece.node && 0 == piece.item) (times_in (whole (length file)) place.offset) listed) in
     omega arith
 
 -- poison of a part is poison of the whole
@@ -198,3 +199,14 @@ outputs_more size file done d old new from to is before more =
     (bag_from_same _ _
     (ap (λ t. spread_of_done size file done ++ t) (ap (λ (r : Offsets). spread_of size file r.from r.to) (sym is) ∙ sym (append-nil _))
     ∙ sym (flat_map-append (λ (e : Done). spread_of size file e.range.from e.range.to) done (d ∷ [])))))
+
+-- entries of commits so far, and after them those of the next commit
+pub commits_more : (last commit : ℕ) (old new : List Entry) → commit ≡ last + 1 → take (length old) new ≡ old
+    → All (λ (e : Entry). e.commit ≡ commit) (drop (length old) new) → All (IsOfCommitUpTo last) old → All (IsOfCommitUpTo commit) new
+commits_more last commit old new next kept added before =
+    longer_all (IsOfCommitUpTo commit) old new
+    (record {
+      kept = kept;
+      added = All-weaker (λ (e : Entry). e.commit ≡ commit) (IsOfCommitUpTo commit) (λ e is. (omega arith, omega arith)) (drop (length old) new) added;
+    })
+    (All-weaker (IsOfCommitUpTo last) (IsOfCommitUpTo commit) (λ e of. (of.0, omega (arith, of.1))) old before)

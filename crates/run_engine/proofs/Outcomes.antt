@@ -1,42 +1,56 @@
--- What a worked file comes to: the account, and plain grouping.
-use Rattle.std.proofs.Common.{◌&&◌, cond, IsSome, unwrap_or, ◌==◌, ◌≡◌, ℕ, zero, suc, ℤ, Bool, true, false, Option, Some, List, [], ◌∷◌, ◌++◌, map, refl, sym, ap, subst, ◌∙◌, arith, eq-eqb}
-use Rattle.std.specs.List.{All, AllByRecursion, flat_map, filter}
+-- What a worked file comes to: the account, plain grouping, and the numbers of its commits.
+use Rattle.std.proofs.Common.{◌&&◌, cond, IsSome, unwrap_or, ◌==◌, nat_le, nat_lt, ◌≡◌, ℕ, zero, suc, ◌≤◌, ℤ, Bool, true, false, Option, Some, None, List, [], ◌∷◌, ◌++◌, length, get_or, map, min, refl, sym, ap, subst, ◌∙◌, arith, eq-eqb}
+use Rattle.std.specs.List.{All, flat_map, filter}
+use Rattle.std.specs.List.Sorted.{IsSorted, IsStrictlySortedBy}
 use Rattle.std.proofs.lemmas.List.{append-nil, map-append}
-use Rattle.std.proofs.lemmas.List.Elements.{filter-append, recursion_from_All, All-from_recursion}
-use Rattle.std.proofs.lemmas.Bool.{false≢true}
+use Rattle.std.proofs.lemmas.List.Elements.{filter-append, All-nil, All-head, All-tail, All-append, All-map, All-same, All-weaker}
+use Rattle.std.proofs.lemmas.Bool.{false≢true, and_parts, and_from, le-leb, leb-true}
 use Rattle.std.proofs.lemmas.Simd.{map-map}
 use Rattle.beam_values.specs.Bags.{IsSameBag}
+use Rattle.beam_values.specs.Cells.{cell_cmp, pane_cmp}
 use Rattle.beam_values.specs.Grouping.{IsPlainGrouping}
-use Rattle.beam_values.proofs.Bags.{bag_trans, bag_sym, bag_append, bag_map, bag_from_same, bag_refl}
+use Rattle.beam_values.specs.Sessions.{IsNonEmpty}
+use Rattle.beam_values.specs.Storable.{IsStorable}
+use Rattle.beam_values.specs.Strategies.{IsLength}
+use Rattle.beam_values.proofs.Bags.{bag_trans, bag_sym, bag_append, bag_map, bag_filter, bag_from_same, bag_refl}
+use Rattle.beam_values.proofs.Counts.{filter_all}
 use Rattle.beam_values.specs.declared.element.Element.{Element}
 use Rattle.beam_values.specs.declared.arrival.Arrival.{Arrival}
 use Rattle.beam_values.specs.declared.cell.Cell.{Cell}
+use Rattle.beam_values.specs.declared.cell.Dropped.{Dropped}
 use Rattle.beam_values.specs.declared.cell.Entry.{Entry}
+use Rattle.beam_values.specs.declared.log.KeyLog.{KeyLog}
+use Rattle.beam_values.specs.declared.marks.CommitMarks.{CommitMarks}
 use Rattle.beam_values.specs.declared.outcome.Outcome.{Outcome}
 use Rattle.beam_values.specs.declared.cell.Pane.{Pane}
-use Rattle.beam_model.specs.Account.{cell_arrivals, dropped_arrival, log_arrivals, arrivals, IsAccounted}
+use Rattle.beam_values.specs.declared.plan.Plan.{Plan}
+use Rattle.beam_model.specs.Account.{cell_arrivals, IsAccounted}
 use Rattle.beam_model.specs.Chains.{Arrives, chain}
-use Rattle.beam_model.specs.Flow.{elements_at, is_at, flow, pane_chains}
-use Rattle.beam_values.specs.Nodes.{is_group, is_write, strategy_of}
-use Rattle.beam_model.specs.Plain.{IsPlainlyWritten, IsPlainRun, IsPlainGroup, IsGroupedBy}
+use Rattle.beam_model.specs.Flow.{elements_at, is_at, pane_chains}
+use Rattle.beam_values.specs.Nodes.{is_group, is_stateful, is_write, strategy_of, HasNoStatefulAbove}
+use Rattle.beam_model.specs.Plain.{IsPlainlyWritten, ArePlainlyWritten, IsPlainRun, IsGroupAbove, IsGroupedBy, is_met}
 use Rattle.beam_model.specs.Plans.{panes_plan}
 use Rattle.beam_model.specs.Spread.{spread_all}
 use Rattle.std.proofs.lemmas.Bool.Decides.{nat_tests}
-use Rattle.std.proofs.lemmas.List.Elements.{All-weaker}
 use Rattle.std.proofs.lemmas.List.Sums.{sum_by-cons}
-use Rattle.beam_values.specs.Cover.{times_done, times_listed}
+use Rattle.beam_values.specs.Cover.{Place, times_at, times_listed, whole}
 use Rattle.beam_values.specs.Files.{first_named}
 use Rattle.beam_values.specs.declared.file_text.FileText.{FileText}
 use Rattle.beam_values.specs.declared.piece.Done.{Done}
 use Rattle.beam_values.specs.declared.piece.FileLen.{FileLen}
-use Rattle.beam_model.specs.Positions.{item_len, items}
+use Rattle.beam_model.specs.Positions.{SourceItem, item_len, items}
 use Rattle.beam_model.specs.Spread.{HasPoison}
 use Rattle.beam_model.proofs.Coverings.{covering_one}
 use Rattle.split_core.specs.Partition.{IsListed}
-use Rattle.run_engine.specs.Committing.{IsCommitted}
+use Rattle.run_engine.specs.Committing.{IsOfCommitUpTo, IsCommitted}
+use Rattle.run_engine.specs.Grouped.{as_shown, entries_of, IsFiredCell, pane_of_cell}
 use Rattle.run_engine.specs.declared.committing.Committed.{Committed}
 use Rattle.run_engine.specs.PanesRun.{IsPanesOutcome, IsPanesRun, FindsPoison}
 use Rattle.run_engine.specs.Working.{panes_item, entry_output}
+use Rattle.run_engine.proofs.Ascents.{ascends_sorted}
+use Rattle.run_engine.proofs.Members.{all_before_map, all_in_cells}
+use Rattle.run_engine.proofs.PlainPanes.{cell_total}
+use Rattle.run_engine.proofs.Texts.{is_keyed_text, keyed_held, pane_storable, cell_held, entries_are_texts}
 
 -- an entry of the Group as it arrived; a pane as it was written, and as it left the Group
 abbrev pub arrival : Entry → Arrival
@@ -48,12 +62,8 @@ written_of pane = record { node = 4; element = pane.element }
 abbrev pub grouped_of : Pane → Arrival
 grouped_of pane = record { node = 3; element = pane.element }
 
--- what leaves the Group is written
-pub chain-group : (name : List ℕ) (size : ℤ) (e : Element) → chain (panes_plan name size) 3 e ≡ Arrives (record { node = 4; element = e }) ∷ []
-chain-group name size e = refl
-
 -- the nodes of the plan that are Groups, and those that are Writes
-pub group-is-3 : (name : List ℕ) (size : ℤ) (node : ℕ) → is_group (panes_plan name size) node ≡ true → node ≡ 3
+group-is-3 : (name : List ℕ) (size : ℤ) (node : ℕ) → is_group (panes_plan name size) node ≡ true → node ≡ 3
 group-is-3 name size zero is = absurd (false≢true is)
 group-is-3 name size (suc zero) is = absurd (false≢true is)
 group-is-3 name size (suc (suc zero)) is = absurd (false≢true is)
@@ -61,19 +71,13 @@ group-is-3 name size (suc (suc (suc zero))) is = refl
 group-is-3 name size (suc (suc (suc (suc zero)))) is = absurd (false≢true is)
 group-is-3 name size (suc (suc (suc (suc (suc n))))) is = absurd (false≢true is)
 
-pub write-is-4 : (name : List ℕ) (size : ℤ) (node : ℕ) → is_write (panes_plan name size) node ≡ true → node ≡ 4
+write-is-4 : (name : List ℕ) (size : ℤ) (node : ℕ) → is_write (panes_plan name size) node ≡ true → node ≡ 4
 write-is-4 name size zero is = absurd (false≢true is)
 write-is-4 name size (suc zero) is = absurd (false≢true is)
 write-is-4 name size (suc (suc zero)) is = absurd (false≢true is)
 write-is-4 name size (suc (suc (suc zero))) is = absurd (false≢true is)
 write-is-4 name size (suc (suc (suc (suc zero)))) is = refl
 write-is-4 name size (suc (suc (suc (suc (suc n))))) is = absurd (false≢true is)
-
-pub group-is-plain : (name : List ℕ) (size : ℤ) → IsPlainGroup (panes_plan name size) 3
-group-is-plain name size = (refl, refl)
-
-pub grouped-by : (name : List ℕ) (size : ℤ) (elements panes : List Element) → IsPlainGrouping elements panes → IsGroupedBy (strategy_of (panes_plan name size) 3) elements panes
-grouped-by name size elements panes is = is
 
 -- elements of one node stand there, and not at another
 at-same : {X : Type 0} (n : ℕ) (e : X → Element) (xs : List X) → elements_at n (map (λ x. record { node = n; element = e x }) xs) ≡ map e xs
@@ -89,22 +93,18 @@ at-other n m e (x ∷ xs) other = rw other (at-other n m e xs other)
 at-append : (n : ℕ) (xs ys : List Arrival) → elements_at n (xs ++ ys) ≡ elements_at n xs ++ elements_at n ys
 at-append n xs ys = ap (map (λ (a : Arrival). a.element)) (filter-append (is_at n) xs ys) ∙ map-append (λ (a : Arrival). a.element) (filter (is_at n) xs) (filter (is_at n) ys)
 
--- panes of the Group are written
-pub chains-of-panes : (name : List ℕ) (size : ℤ) (panes : List Pane) → AllByRecursion (λ pane. pane.node ≡ 3) panes → pane_chains (panes_plan name size) panes ≡ map Arrives (map written_of panes)
-chains-of-panes name size [] all = refl
-chains-of-panes name size (pane ∷ panes) all =
-    ap (λ n. chain (panes_plan name size) n pane.element ++ pane_chains (panes_plan name size) panes) all.0
-    ∙ ap (λ t. Arrives (written_of pane) ∷ t) (chains-of-panes name size panes all.1)
+-- what panes of the Group bring is written
+chains-of-fired : (name : List ℕ) (size : ℤ) (panes : List Pane) → All (λ pane. pane.node ≡ 3) panes → pane_chains (panes_plan name size) panes ≡ map Arrives (map written_of panes)
+chains-of-fired name size [] here = refl
+chains-of-fired name size (pane ∷ panes) here =
+    ap (λ n. chain (panes_plan name size) n pane.element ++ pane_chains (panes_plan name size) panes) (All-head (λ (p : Pane). p.node ≡ 3) pane panes here)
+    ∙ ap (λ t. Arrives (written_of pane) ∷ t) (chains-of-fired name size panes (All-tail (λ (p : Pane). p.node ≡ 3) pane panes here))
 
 chains-of-grouped : (name : List ℕ) (size : ℤ) (panes : List Pane) → flat_map (λ (pane : Arrival). chain (panes_plan name size) pane.node pane.element) (map grouped_of panes) ≡ map Arrives (map written_of panes)
 chains-of-grouped name size [] = refl
 chains-of-grouped name size (pane ∷ panes) = ap (λ t. Arrives (written_of pane) ∷ t) (chains-of-grouped name size panes)
 
-from-groups : (name : List ℕ) (size : ℤ) (panes : List Pane) → AllByRecursion (λ (pane : Arrival). IsPlainGroup (panes_plan name size) pane.node) (map grouped_of panes)
-from-groups name size [] = tt
-from-groups name size (pane ∷ panes) = ((refl, refl), from-groups name size panes)
-
--- what came to the Group, and to the Write
+-- what arrived at the Group, and at the Write
 arrived-at-group : (entries : List Entry) (panes : List Pane) → elements_at 3 (map arrival entries ++ map written_of panes) ≡ map (λ (entry : Entry). entry.element) entries
 arrived-at-group entries panes =
     at-append 3 (map arrival entries) (map written_of panes)
@@ -117,44 +117,6 @@ arrived-at-write entries panes =
     sym (at-append 4 (map arrival entries) (map written_of panes)
     ∙ ap (λ t. t ++ elements_at 4 (map written_of panes)) (at-other 4 3 (λ (entry : Entry). entry.element) entries refl))
 
-module _ (name : List ℕ) (size : ℤ) (file : List ℕ) (entries : List Entry) (panes : List Pane) (ours : AllByRecursion (λ pane. pane.node ≡ 3) panes)
-    (all_arrived : IsSameBag (map entry_output entries) (spread_all (panes_plan name size) (panes_item file ∷ []))) where
-  -- all that is brought to the Group and the Write came, and nothing of it is poison
-  clean : IsSameBag (spread_all (panes_plan name size) (panes_item file ∷ []) ++ map Arrives (map written_of panes)) (map Arrives (map arrival entries ++ map written_of panes))
-  clean =
-      bag_trans _ _ _
-      (bag_append _ _ _ _ (bag_trans _ _ _ (bag_sym _ _ all_arrived) (bag_from_same _ _ (sym (map-map Arrives arrival entries)))) (bag_refl (map Arrives (map written_of panes))))
-      (bag_from_same _ _ (sym (map-append Arrives (map arrival entries) (map written_of panes))))
-
-  -- what came to the Group in cells, and what was written, is all that flows
-  pub accounted : (cells : List Cell) → IsSameBag (flat_map cell_arrivals cells) (map arrival entries)
-      → IsSameBag (flow (panes_plan name size) (panes_item file ∷ []) panes []) (map Arrives (flat_map cell_arrivals cells ++ ([] ++ ([] ++ map written_of panes))))
-  accounted cells held =
-      bag_trans _ _ _
-      (bag_from_same _ _ (ap (λ t. spread_all (panes_plan name size) (panes_item file ∷ []) ++ t) (append-nil _ ∙ chains-of-panes name size panes ours)))
-      (bag_trans _ _ _ clean (bag_map Arrives _ _ (bag_append _ _ _ _ (bag_sym _ _ held) (bag_refl (map written_of panes)))))
-
-  -- the Write took what plain grouping brings there
-  pub plainly : IsPlainGrouping (map (λ (entry : Entry). entry.element) entries) (map (λ (pane : Pane). pane.element) panes)
-      → IsPlainlyWritten (panes_plan name size) (panes_item file ∷ []) (map written_of panes)
-  plainly grouping node is_write_node plain_node = (map arrival entries ++ map written_of panes, map grouped_of panes, run, at_write)
-    where
-      run : IsPlainRun (panes_plan name size) (panes_item file ∷ []) (map arrival entries ++ map written_of panes) (map grouped_of panes)
-      run = record {
-        clean = bag_trans _ _ _ (bag_from_same _ _ (ap (λ t. spread_all (panes_plan name size) (panes_item file ∷ []) ++ t) (chains-of-grouped name size panes))) clean;
-        from_groups = All-from_recursion _ _ (from-groups name size panes);
-        grouped = λ n is.
-            let A = map arrival entries ++ map written_of panes in
-            let P = map grouped_of panes in
-            let at : IsPlainGrouping (elements_at 3 A) (elements_at 3 P) =
-            subst (λ es. IsPlainGrouping es (elements_at 3 P)) (sym (arrived-at-group entries panes))
-            (subst (λ ps. IsPlainGrouping (map (λ (entry : Entry). entry.element) entries) ps) (sym (at-same 3 (λ (pane : Pane). pane.element) panes)) grouping) in
-            subst (λ m. IsGroupedBy (strategy_of (panes_plan name size) m) (elements_at m A) (elements_at m P)) (sym (group-is-3 name size n is.0)) at;
-      }
-
-      at_write : IsSameBag (elements_at node (map written_of panes)) (elements_at node (map arrival entries ++ map written_of panes))
-      at_write = bag_from_same _ _ (subst (λ m. elements_at m (map written_of panes) ≡ elements_at m (map arrival entries ++ map written_of panes)) (sym (write-is-4 name size node is_write_node)) (arrived-at-write entries panes))
-
 -- only the one item is listed
 listed_one : (file : List ℕ) (node item : ℕ) → IsListed (item_len (panes_item file) ∷ []) node item → (node ≡ 0) × (item ≡ 0)
 listed_one file node item some = by_test (0 == node && 0 == item) refl
@@ -164,37 +126,212 @@ listed_one file node item some = by_test (0 == node && 0 == item) refl
     by_test false is = absurd (omega (arith, some, sum_by-cons (λ (f : FileLen). cond (f.node == node && f.item == item) 1 0) (item_len (panes_item file)) [], ap {B = ℕ} (λ b. cond b 1 0) is))
 
 -- what was committed of the whole file is what the file brings
-pub came_whole : (name : List ℕ) (size : ℤ) (file : List ℕ) (c : Committed) → IsCommitted size file [] c
+arrived_whole : (name : List ℕ) (size : ℤ) (file : List ℕ) (c : Committed) → IsCommitted size file [] c
     → IsSameBag (map entry_output c.entries) (spread_all (panes_plan name size) (panes_item file ∷ []))
-came_whole name size file c known =
+arrived_whole name size file c known =
     bag_trans _ _ _ known.outputs
     (covering_one (panes_plan name size) (panes_item file) c.done
     (All-weaker (λ (d : Done). IsListed (item_len (panes_item file) ∷ []) d.node d.item) (λ (d : Done). (d.node ≡ 0) × (d.item ≡ 0)) (λ d listed. listed_one file d.node d.item listed) c.done known.held.out_listed)
     (λ place. omega (arith, known.held.times place)))
 
--- the outcome of a file of which everything was committed, grouped and written
-pub outcome_is : (name : List ℕ) (size : ℤ) (file : List ℕ) (o : Outcome) (c : Committed) (commit : ℕ) → IsCommitted size file [] c
-    → o.plan ≡ panes_plan name size → o.files ≡ item_len (panes_item file) ∷ [] → o.done ≡ c.done → o.dropped ≡ [] → o.logs ≡ []
-    → o.written ≡ map written_of o.panes
-    → IsSameBag (flat_map cell_arrivals o.cells) (map arrival c.entries)
-    → IsPlainGrouping (map (λ (entry : Entry). entry.element) c.entries) (map (λ (pane : Pane). pane.element) o.panes)
-    → All (λ (pane : Pane). (pane.node ≡ 3) × (pane.commit ≡ commit)) o.panes
-    → IsPanesOutcome name size file o
-outcome_is name size file o c commit known plan_is files done dropped logs written held grouping fired =
-    let ours = recursion_from_All (λ (pane : Pane). pane.node ≡ 3) o.panes (All-weaker (λ (pane : Pane). (pane.node ≡ 3) × (pane.commit ≡ commit)) (λ (pane : Pane). pane.node ≡ 3) (λ pane f. f.0) o.panes fired) in
-    let all_arrived = came_whole name size file c known in
-    record {
-      plan = plan_is;
-      lengths = files;
-      cover = λ place. ap (λ ds. times_done ds place) done ∙ omega (arith, known.held.times place) ∙ ap (λ fs. times_listed fs place) (sym files);
-      account =
-          subst (λ plan. IsSameBag (flow plan (panes_item file ∷ []) o.panes o.logs) (map Arrives (arrivals o))) (sym plan_is)
-          (subst (λ logs. IsSameBag (flow (panes_plan name size) (panes_item file ∷ []) o.panes logs) (map Arrives (flat_map cell_arrivals o.cells ++ (map dropped_arrival o.dropped ++ (flat_map log_arrivals logs ++ o.written))))) (sym logs)
-          (subst (λ dropped. IsSameBag (flow (panes_plan name size) (panes_item file ∷ []) o.panes []) (map Arrives (flat_map cell_arrivals o.cells ++ (map dropped_arrival dropped ++ (flat_map log_arrivals [] ++ o.written))))) (sym dropped)
-          (subst (λ ws. IsSameBag (flow (panes_plan name size) (panes_item file ∷ []) o.panes []) (map Arrives (flat_map cell_arrivals o.cells ++ ([] ++ ([] ++ ws))))) (sym written)
-          (accounted name size file c.entries o.panes ours all_arrived o.cells held))));
-      plain = subst (λ ws. IsPlainlyWritten (panes_plan name size) (panes_item file ∷ []) ws) (sym written) (plainly name size file c.entries o.panes ours all_arrived grouping);
-    }
+-- the one item holds an offset once or not at all
+once : (own inside : Bool) → cond own (cond inside 1 0) 0 ≤ 1
+once true true = omega arith
+once true false = omega arith
+once false inside = omega arith
+
+listed_once : (file : List ℕ) (place : Place) → times_listed (item_len (panes_item file) ∷ []) place ≡ min 1 (times_listed (item_len (panes_item file) ∷ []) place)
+listed_once file place =
+    omega (
+      arith,
+      sum_by-cons (λ (f : FileLen). times_at f.node f.item (whole f.len) place) (item_len (panes_item file)) [],
+      once (0 == place.node && 0 == place.item) (nat_le 0 place.offset && nat_lt place.offset (length file)),
+    )
+
+-- what grouping of entries gives
+pub record AreGrouped (commit : ℕ) (entries : List Entry) (cells : List Cell) (panes : List Pane) : Type 0 where
+  pub account : IsSameBag (flat_map cell_arrivals cells) (map arrival entries)
+  pub held : IsSameBag (entries_of cells) (map as_shown entries)
+  pub plain : IsPlainGrouping (map (λ (entry : Entry). entry.element) entries) (map (λ (pane : Pane). pane.element) panes)
+  pub fired : All (λ (pane : Pane). (pane.node ≡ 3) × (pane.commit ≡ commit)) panes
+  pub shown : All (IsFiredCell 3) cells
+  pub each : map (λ (pane : Pane). pane.element) panes ≡ map pane_of_cell cells
+  pub ascending : IsStrictlySortedBy cell_cmp cells
+  pub sorted : IsSorted pane_cmp panes
+
+module _ (name : List ℕ) (size : ℤ) (file : List ℕ) (c : Committed) (cells : List Cell) (panes : List Pane) (marks : List CommitMarks)
+    (long : IsLength size) (known : IsCommitted size file [] c) (grouped : AreGrouped c.commits c.entries cells panes) where
+  abbrev plan : Plan
+  plan = panes_plan name size
+
+  abbrev source : List SourceItem
+  source = panes_item file ∷ []
+
+  abbrev arrived : List Arrival
+  arrived = map arrival c.entries ++ map written_of panes
+
+  abbrev outcome : Outcome
+  outcome = record {
+    plan = plan;
+    files = item_len (panes_item file) ∷ [];
+    done = c.done;
+    cells = cells;
+    panes = panes;
+    dropped = [];
+    logs = [];
+    written = map written_of panes;
+    commits = marks;
+    stopped = None;
+  }
+
+  all_arrived : IsSameBag (map entry_output c.entries) (spread_all plan source)
+  all_arrived = arrived_whole name size file c known
+
+  -- all that is brought to the Group and the Write arrived there, and nothing of it is poison
+  clean : IsSameBag (spread_all plan source ++ map Arrives (map written_of panes)) (map Arrives arrived)
+  clean =
+      bag_trans _ _ _
+      (bag_append _ _ _ _ (bag_trans _ _ _ (bag_sym _ _ all_arrived) (bag_from_same _ _ (sym (map-map Arrives arrival c.entries)))) (bag_refl (map Arrives (map written_of panes))))
+      (bag_from_same _ _ (sym (map-append Arrives (map arrival c.entries) (map written_of panes))))
+
+  here : All (λ (pane : Pane). pane.node ≡ 3) panes
+  here = All-weaker (λ (pane : Pane). (pane.node ≡ 3) × (pane.commit ≡ c.commits)) (λ pane. pane.node ≡ 3) (λ pane f. f.0) panes grouped.fired
+
+  accounted : IsAccounted source outcome
+  accounted = record {
+    cells = All-weaker (IsFiredCell 3) (λ cell. is_group plan cell.node ≡ true) (λ cell f. ap (is_group plan) f.here) cells grouped.shown;
+    dropped = All-nil (λ (dropped : Dropped). is_group plan dropped.node ≡ true);
+    panes = All-weaker (λ (pane : Pane). pane.node ≡ 3) (λ pane. is_group plan pane.node ≡ true) (λ pane is. ap (is_group plan) is) panes here;
+    logs = All-nil (λ (log : KeyLog). is_stateful plan log.node ≡ true);
+    written = All-map (λ (arrival : Arrival). is_write plan arrival.node ≡ true) written_of panes (λ k d within. refl);
+    flow =
+        bag_trans _ _ _
+        (bag_from_same _ _ (ap (λ t. spread_all plan source ++ t) (append-nil _ ∙ chains-of-fired name size panes here)))
+        (bag_trans _ _ _ clean (bag_map Arrives _ _ (bag_append _ _ _ _ (bag_sym _ _ grouped.account) (bag_refl (map written_of panes)))));
+  }
+
+  -- ---- plain grouping
+
+  -- the Write meets all of it
+  met : All (λ output. is_met plan 4 output ≡ true) (map Arrives arrived)
+  met =
+      All-map (λ output. is_met plan 4 output ≡ true) Arrives arrived
+      (All-append (λ a. is_met plan 4 (Arrives a) ≡ true) (map arrival c.entries) (map written_of panes)
+      (All-map (λ a. is_met plan 4 (Arrives a) ≡ true) arrival c.entries (λ k d within. refl))
+      (All-map (λ a. is_met plan 4 (Arrives a) ≡ true) written_of panes (λ k d within. refl)))
+
+  texts : All (λ (e : Entry). is_keyed_text size e.element ≡ true) c.entries
+  texts = entries_are_texts name size file c.entries all_arrived
+
+  cells_texts : All (λ (cell : Cell). All (λ e. is_keyed_text size e.element ≡ true) cell.entries) cells
+  cells_texts = all_in_cells (λ e. is_keyed_text size e.element) (λ e. refl) cells c.entries grouped.held texts
+
+  -- what holds of the pane of each cell holds of each pane
+  of_panes : (P : Element → Type 0) → All (λ cell. P (pane_of_cell cell)) cells → All (λ (pane : Pane). P pane.element) panes
+  of_panes P each =
+      all_before_map P (λ (pane : Pane). pane.element) panes
+      (All-same P (map (λ (pane : Pane). pane.element) panes) (map pane_of_cell cells) grouped.each (All-map P pane_of_cell cells each))
+
+  panes_storable : All (λ (pane : Pane). IsStorable pane.element.value) panes
+  panes_storable =
+      of_panes (λ e. IsStorable e.value)
+      (λ k d within. pane_storable size 3 (get_or cells k d) (grouped.shown k d within) (cells_texts k d within))
+
+  panes_held : All (λ (pane : Pane). IsNonEmpty pane.element.span) panes
+  panes_held =
+      of_panes (λ e. IsNonEmpty e.span)
+      (λ k d within. cell_held size 3 (get_or cells k d) (grouped.shown k d within) (cells_texts k d within) long)
+
+  grouped_at : (node : ℕ) → IsGroupAbove plan 4 node → IsGroupedBy (strategy_of plan node) (elements_at node arrived) (elements_at node (map grouped_of panes))
+  grouped_at node is =
+      let at : IsPlainGrouping (elements_at 3 arrived) (elements_at 3 (map grouped_of panes)) =
+      subst (λ es. IsPlainGrouping es (elements_at 3 (map grouped_of panes))) (sym (arrived-at-group c.entries panes))
+      (subst (λ ps. IsPlainGrouping (map (λ (entry : Entry). entry.element) c.entries) ps) (sym (at-same 3 (λ (pane : Pane). pane.element) panes)) grouped.plain) in
+      subst (λ m. IsGroupedBy (strategy_of plan m) (elements_at m arrived) (elements_at m (map grouped_of panes))) (sym (group-is-3 name size node is.0)) at
+
+  plain_run : HasNoStatefulAbove plan 4 → IsPlainRun plan source 4 arrived (map grouped_of panes)
+  plain_run none = record {
+    ends_here = refl;
+    stateless = none;
+    clean =
+        bag_trans _ _ _
+        (bag_filter (is_met plan 4) _ _ (bag_trans _ _ _ (bag_from_same _ _ (ap (λ t. spread_all plan source ++ t) (chains-of-grouped name size panes))) clean))
+        (bag_from_same _ _ (filter_all (is_met plan 4) (map Arrives arrived) met));
+    from_groups = All-map (λ (pane : Arrival). IsGroupAbove plan 4 pane.node) grouped_of panes (λ k d within. (refl, refl));
+    grouped = grouped_at;
+    storable = All-map (λ (pane : Arrival). IsStorable pane.element.value) grouped_of panes panes_storable;
+    held =
+        All-append (λ (a : Arrival). IsNonEmpty a.element.span) (map arrival c.entries) (map written_of panes)
+        (All-map (λ (a : Arrival). IsNonEmpty a.element.span) arrival c.entries
+        (All-weaker (λ (e : Entry). is_keyed_text size e.element ≡ true) (λ e. IsNonEmpty e.element.span) (λ e is. keyed_held size long e.element is) c.entries texts))
+        (All-map (λ (a : Arrival). IsNonEmpty a.element.span) written_of panes panes_held);
+  }
+
+  written_plainly : HasNoStatefulAbove plan 4 → IsPlainlyWritten source outcome 4
+  written_plainly none = record {
+    plain = (arrived, map grouped_of panes, plain_run none, bag_from_same _ _ (arrived-at-write c.entries panes));
+    undropped = All-nil _;
+  }
+
+  plainly : ArePlainlyWritten source outcome
+  plainly node write = subst (λ (n : ℕ). HasNoStatefulAbove plan n → IsPlainlyWritten source outcome n) (sym (write-is-4 name size node write)) written_plainly
+
+  -- ---- commits
+
+  abbrev is_of_commit : Entry → Bool
+  is_of_commit entry = nat_le 1 entry.commit && nat_le entry.commit c.commits
+
+  tested : (e : Entry) → IsOfCommitUpTo c.commits e → is_of_commit e ≡ true
+  tested e of = and_from (nat_le 1 e.commit) (nat_le e.commit c.commits) (le-leb 1 e.commit of.0) (le-leb e.commit c.commits of.1)
+
+  of_commit : (e : Entry) → is_of_commit e ≡ true → (1 ≤ e.commit) × (e.commit ≤ length c.done)
+  of_commit e is =
+      let both = and_parts (nat_le 1 e.commit) (nat_le e.commit c.commits) is in
+      (leb-true 1 e.commit both.0, omega (arith, known.counted, leb-true e.commit c.commits both.1))
+
+  committed_entries : All (λ (cell : Cell). All (λ e. (1 ≤ e.commit) × (e.commit ≤ length c.done)) cell.entries) cells
+  committed_entries =
+      All-weaker (λ (cell : Cell). All (λ e. is_of_commit e ≡ true) cell.entries) (λ cell. All (λ e. (1 ≤ e.commit) × (e.commit ≤ length c.done)) cell.entries)
+      (λ cell each. All-weaker (λ e. is_of_commit e ≡ true) (λ e. (1 ≤ e.commit) × (e.commit ≤ length c.done)) of_commit cell.entries each) cells
+      (all_in_cells is_of_commit (λ e. refl) cells c.entries grouped.held
+      (All-weaker (IsOfCommitUpTo c.commits) (λ e. is_of_commit e ≡ true) tested c.entries known.entries))
+
+  -- the outcome of a file of which everything was committed, grouped and written
+  pub outcome_is : IsPanesOutcome name size file outcome
+  outcome_is = record {
+    plan = refl;
+    lengths = refl;
+    cover = λ place. omega (arith, known.held.times place, listed_once file place);
+    account = accounted;
+    plain = plainly;
+    commits = record {
+      panes =
+          All-weaker (λ (pane : Pane). (pane.node ≡ 3) × (pane.commit ≡ c.commits)) (λ pane. pane.commit ≡ length c.done)
+          (λ pane f. f.1 ∙ known.counted) panes grouped.fired;
+      entries = committed_entries;
+    };
+    order = record { cells = ascends_sorted cell_total cells grouped.ascending; panes = grouped.sorted };
+    stopped = refl;
+  }
+
+pub outcome_from : (name : List ℕ) (size : ℤ) (file : List ℕ) (o : Outcome) (c : Committed) → IsLength size → IsCommitted size file [] c
+    → AreGrouped c.commits c.entries o.cells o.panes → o.plan ≡ panes_plan name size → o.files ≡ item_len (panes_item file) ∷ [] → o.done ≡ c.done
+    → o.dropped ≡ [] → o.logs ≡ [] → o.written ≡ map written_of o.panes → o.stopped ≡ None → IsPanesOutcome name size file o
+outcome_from name size file o c long known grouped plan_is files_are done_is dropped_are logs_are written_is stopped_is =
+    let is : o ≡ outcome name size file c o.cells o.panes o.commits long known grouped =
+    λ i. record {
+      plan = plan_is i;
+      files = files_are i;
+      done = done_is i;
+      cells = o.cells;
+      panes = o.panes;
+      dropped = dropped_are i;
+      logs = logs_are i;
+      written = written_is i;
+      commits = o.commits;
+      stopped = stopped_is i;
+    } in
+    subst (λ (p : Outcome). IsPanesOutcome name size file p) (sym is) (outcome_is name size file c o.cells o.panes o.commits long known grouped)
 
 -- it is the run of the file of that name, where the name's bytes are those
 pub run_is : (files : Option (List FileText)) (name : List ℕ) (size : ℤ) (file : List ℕ) (o : Outcome) → IsPanesOutcome name size file o
@@ -208,16 +345,17 @@ run_is files name size file o known names =
       lengths = λ told is. known.lengths ∙ ap (map item_len) (sym (there told is));
       cover = known.cover;
       account = λ told is. subst (λ its. IsAccounted its o) (sym (there told is)) known.account;
-      plain = λ told is.
-          subst (λ its. IsPlainlyWritten o.plan its o.written) (sym (there told is))
-          (subst (λ plan. IsPlainlyWritten plan (panes_item file ∷ []) o.written) (sym known.plan) known.plain);
+      plain = λ told is. subst (λ its. ArePlainlyWritten its o) (sym (there told is)) known.plain;
+      commits = known.commits;
+      order = known.order;
+      stopped = known.stopped;
     }
 
 -- poison of the file is poison of the file of that name
 pub poison_is : (files : Option (List FileText)) (name : List ℕ) (size : ℤ) (file : List ℕ) → HasPoison (panes_plan [] size) (panes_item file ∷ [])
     → ((told : List FileText) → files ≡ Some told → first_named name told ≡ Some file) → FindsPoison files name size
 poison_is files name size file poison names = λ told is.
-    (file, names told is, subst (λ bytes. HasPoison (panes_plan name size) (panes_item bytes ∷ [])) (sym (ap (λ b. unwrap_or b []) (names told is))) poison)
+    (subst (λ b. IsSome b) (sym (names told is)) refl, subst (λ bytes. HasPoison (panes_plan name size) (panes_item bytes ∷ [])) (sym (ap (λ b. unwrap_or b []) (names told is))) poison)
 
 -- the same under the size as the words have it
 pub outcome_at : (name : List ℕ) (size real : ℤ) (file : List ℕ) (o : Outcome) → size ≡ real → IsPanesOutcome name size file o → IsPanesOutcome name real file o

@@ -1,16 +1,18 @@
 -- The work on a range, one line after another.
-use Rattle.std.proofs.Common.{Bool, false, ◌||◌, Some, None, subst, if◌then◌else◌, ◌≡◌, ℕ, ℤ, ◌+◌, ◌<◌, ◌≤◌, true, List, [], ◌++◌, map, min, length, sym, ap, ◌∙◌, append_assoc, arith, refl}
+use Rattle.std.proofs.Common.{Bool, false, ◌||◌, Some, None, subst, ◌≡◌, ℕ, ℤ, ◌+◌, ◌<◌, ◌≤◌, true, List, [], ◌++◌, map, min, length, sym, ap, ◌∙◌, append_assoc, inl, inr, arith, refl}
 use Rattle.std.proofs.lemmas.List.{append-nil}
 use Rattle.std.specs.List.{list_any}
+use Rattle.std.proofs.lemmas.Bool.{cases_lt, false≢true, lt-ltb, ltb-true}
 use Rattle.std.proofs.lemmas.List.Folds.{list_any-append}
-use Rattle.beam_values.specs.Tracking.{Tracked, MayClaim, IsAbove, first_unattempted}
+use Rattle.beam_values.specs.Tracking.{Tracked, MayClaim, IsLater, first_unattempted, is_granted}
 use Rattle.beam_values.specs.declared.cell.Entry.{Entry}
-use Rattle.beam_values.specs.Lines.{spread, next_start, line_at}
-use Rattle.beam_values.specs.Functions.{timed_line}
-use Rattle.beam_values.proofs.Spreads.{spread-empty, spread-join, spread-single, spread-nothing, starts_line-between, next_start-above}
+use Rattle.beam_values.specs.Lines.{spread, next_start}
+use Rattle.beam_values.proofs.Spreads.{spread-empty, spread-join, spread-single, spread-nothing, next_start-above}
 use Rattle.beam_model.specs.Plans.{panes_plan}
-use Rattle.beam_model.specs.Positions.{line_emission, nothing}
 use Rattle.beam_model.specs.Spread.{emission_outputs, is_poison}
+use Rattle.beam_values.specs.declared.plan.Args.TheVariants.{Nothing}
+use Rattle.beam_values.specs.declared.plan.SourceKind.TheVariants.{TimedLines}
+use Rattle.beam_model.proofs.Positions.{between_nothing}
 use Rattle.run_engine.specs.Working.{file_outputs_at, spread_of, entry_output}
 
 -- the positions of a range bring nothing
@@ -35,8 +37,17 @@ module _ {X : Type 0} (at : ℕ → List X) where
 -- up to the next line start after a position nothing is brought
 pub quiet_behind : (size : ℤ) (file : List ℕ) (p next : ℕ) → next ≡ next_start file p → Quiet (file_outputs_at size file) (p + 1) next
 quiet_behind size file p next is q above below =
-    ap (λ starts. emission_outputs (panes_plan [] size) 0 (if starts then line_emission (timed_line (line_at file q)) else nothing))
-    (starts_line-between file p q (omega arith) (omega (arith, is)))
+    ap (emission_outputs (panes_plan [] size) 0) (between_nothing TimedLines Nothing file p q (omega arith) (omega (arith, is)))
+
+-- what the answer of a claim says
+pub granted_inside : (t : Tracked) (p : ℕ) → true ≡ is_granted t p → p < t.range.to
+granted_inside t p granted = ltb-true p t.range.to (sym granted)
+
+pub refused_past : (t : Tracked) (p : ℕ) → is_granted t p ≡ false → t.range.to ≤ p
+refused_past t p refused = elim (cases_lt p t.range.to) [
+  | inl inside ↦ absurd (false≢true (sym refused ∙ lt-ltb p t.range.to inside))
+  | inr past ↦ past
+]
 
 pub any_or-right : (a b : Bool) → b ≡ true → (a || b) ≡ true
 any_or-right true b holds = refl
@@ -54,7 +65,7 @@ poison_within size file from p to low high poison =
     ∙ any_or-right (list_any is_poison (spread at from p)) _
     (list_any-append is_poison (at p) (spread at (p + 1) to) ∙ any_or-left _ (list_any is_poison (spread at (p + 1) to)) poison)
 
--- How far the work on a range has come: what came is what the attempted positions bring, and those up to the next one to claim bring nothing.
+-- How far the work on a range has come: the entries that were added are the outputs of the attempted positions, and the positions from there up to the next one to claim bring nothing.
 pub record IsWorked (size : ℤ) (file : List ℕ) (before : Tracked) (old new : List Entry) (now : Tracked) (p : ℕ) : Type 0 where
   pub may : MayClaim now p
   pub range : now.range ≡ before.range
@@ -70,7 +81,7 @@ module _ (size : ℤ) (file : List ℕ) (before : Tracked) (old : List Entry) wh
   worked_none p unstarted at ends =
       let first : first_unattempted before.range.from before.attempted ≡ before.range.from = ap (first_unattempted before.range.from) unstarted in
       record {
-        may = record { from_start = omega arith; ascending = subst (λ attempted. IsAbove attempted p) (sym unstarted) tt };
+        may = record { from_start = omega arith; ascending = subst (λ attempted. IsLater attempted p) (sym unstarted) tt };
         range = refl;
         arrived = sym (ap (λ t. map entry_output old ++ t) (spread-empty (file_outputs_at size file) before.range.from (first_unattempted before.range.from before.attempted) (omega arith)) ∙ append-nil _);
         quiet = λ q above below. absurd (omega arith);

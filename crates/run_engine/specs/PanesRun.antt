@@ -4,7 +4,6 @@ use Rattle.std.specs.List.{All}
 use Rattle.std.specs.List.Sorted.{IsSorted}
 use Rattle.beam_values.specs.Cells.{cell_cmp, pane_cmp}
 use Rattle.beam_values.specs.Files.{first_named}
-use Rattle.beam_values.specs.declared.cell.Entry.{Entry}
 use Rattle.beam_values.specs.declared.fault.Cause.{Cause}
 use Rattle.beam_values.specs.declared.fault.Cause.TheVariants.{Call, Read}
 use Rattle.beam_values.specs.declared.fault.FaultNote.{FaultNote}

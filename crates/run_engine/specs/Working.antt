@@ -20,7 +20,7 @@ abbrev pub panes_item : List ℕ → SourceItem
 panes_item file = record { node = 0; item = 0; work = TimedLines; args = Nothing; file = file; left_out = [] }
 
 -- what a position brings; the name of the file is no matter
-abbrev pub outputs : ℤ → List ℕ → ℕ → List Output
+abbrev pub file_outputs_at : ℤ → List ℕ → ℕ → List Output
 file_outputs_at size file = outputs_at (panes_plan [] size) (panes_item file)
 
 abbrev pub spread_of : ℤ → List ℕ → ℕ → ℕ → List Output

@@ -1,4 +1,4 @@
-ghost use Rattle.std.specs.Prelude.{◌≡◌, ◌≤◌, ◌<◌, ◌+◌, ◌-◌, ◌++◌, [], ◌∷◌, List as ListOf, length, true, min, map, None, OnOk, IfOk, IsErrOf};
+ghost use Rattle.std.specs.Prelude.{◌≡◌, ◌≤◌, ◌<◌, ◌+◌, ◌-◌, ◌++◌, [], ◌∷◌, List as ListOf, length, true, min, take, drop, map, None, OnOk, IfOk, IsErrOf, All};
 ghost use Rattle.std.specs.List.{list_any};
 ghost use Rattle.beam_values.specs.Strategies.{IsLength};
 ghost use Rattle.beam_values.specs.Tracking.{first_unattempted};
@@ -101,6 +101,8 @@ impl Committed {
         ensures range { tracker.new.range ≡ tracker.old.range }
         ensures poison { IsErrOf result WorkRefusal.Poison
             → list_any is_poison (spread_of size file.now tracker.old.range.from tracker.old.range.to) ≡ true }
+        ensures kept { OnOk result (take (length self.old.entries) self.new.entries ≡ self.old.entries) }
+        ensures commit { OnOk result (All (λ entry. entry.commit ≡ commit) (drop (length self.old.entries) self.new.entries)) }
         ensures done { self.new.done ≡ self.old.done }
     {
         work_bundle(
@@ -117,6 +119,7 @@ impl Committed {
     fn commit(&mut self, done: Done, commit: u32) -> Result<(), NoMemory>
         ensures done { OnOk result (self.new.done ≡ self.old.done ++ done ∷ []) }
         ensures entries { self.new.entries ≡ self.old.entries }
+        ensures counted { OnOk result (self.new.commits ≡ commit) }
     {
         self.done.push(done)?;
         self.commits = commit;

@@ -1,6 +1,6 @@
 ghost use Rattle.std.specs.Prelude.{◌≡◌, ◌++◌, ◌∷◌, [], All, IfOk, OnOk, map};
 ghost use Rattle.std.specs.List.{flat_map};
-ghost use Rattle.std.specs.List.Sorted.{IsSorted, IsStrictlySortedBy};
+ghost use Rattle.std.specs.List.Sorted.{IsPermutation, IsSorted, IsStrictlySortedBy};
 ghost use Rattle.beam_values.specs.Bags.{IsSameBag};
 ghost use Rattle.std.specs.Ordering.{ordering_then};
 ghost use Rattle.beam_values.specs.Cells.{span_cmp, cell_cmp, pane_cmp};
@@ -57,7 +57,7 @@ pub fn group(
 // Puts cells that were made by window and then by key into the order of an outcome.
 fn in_order(cells: List<Cell>) -> Result<List<Cell>, NoMemory>
     ensures ascending { IfOk result (IsSorted cell_cmp) }
-    ensures same { IfOk result (λ ordered. IsSameBag ordered cells) }
+    ensures same { IfOk result (IsPermutation cells) }
 {
     let mut cells = cells.into_vec();
     cells.sort_by(|a, b| cmp_cells(a, b))?;

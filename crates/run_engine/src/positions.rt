@@ -1,4 +1,4 @@
-ghost use Rattle.std.specs.Prelude.{◌≡◌, ◌≤◌, ◌<◌, ◌+◌, ◌++◌, ◌⊎◌, ℕ, List, [], ◌∷◌, length, map, min, None, true, IsTrue, ◌↔◌, OnOk, IfOk, IsErrOf};
+ghost use Rattle.std.specs.Prelude.{◌≡◌, ◌≤◌, ◌<◌, ◌+◌, ◌++◌, ◌⊎◌, ℕ, List, [], ◌∷◌, length, take, drop, map, min, None, true, IsTrue, ◌↔◌, OnOk, IfOk, IsErrOf, All};
 ghost use Rattle.std.specs.List.{list_any};
 ghost use Rattle.beam_values.specs.Strategies.{IsLength};
 ghost use Rattle.beam_values.specs.Lines.{next_start};
@@ -52,6 +52,7 @@ pub fn work_bundle(
     ensures outputs { OnOk result (map entry_output out.new ≡ map entry_output out.old
         ++ spread_of size file.now tracker.old.range.from (min (first_unattempted tracker.old.range.from tracker.new.attempted) tracker.old.range.to)) }
     ensures some { OnOk result (tracker.old.range.from < first_unattempted tracker.old.range.from tracker.new.attempted) }
+    ensures kept { OnOk result (take (length out.old) out.new ≡ out.old) }
     ensures commit { OnOk result (All (λ entry. entry.commit ≡ commit) (drop (length out.old) out.new)) }
     ensures range { tracker.new.range ≡ tracker.old.range }
     ensures poison { IsErrOf result WorkRefusal.Poison
@@ -96,6 +97,8 @@ fn work_position(
     requires unused { windows.old ≡ [] }
     ensures unused { OnOk result (windows.new ≡ []) }
     ensures outputs { OnOk result (map entry_output out.new ≡ map entry_output out.old ++ file_outputs_at size file.now p) }
+    ensures kept { OnOk result (take (length out.old) out.new ≡ out.old) }
+    ensures commit { OnOk result (All (λ entry. entry.commit ≡ commit) (drop (length out.old) out.new)) }
     ensures next { IfOk result (λ step. step.next ≡ next_start file.now p) }
     ensures emitted { IfOk result (λ step. IsTrue step.emitted ↔ (0 < length (file_outputs_at size file.now p))) }
     ensures poison { IsErrOf result WorkRefusal.Poison → list_any is_poison (file_outputs_at size file.now p) ≡ true }

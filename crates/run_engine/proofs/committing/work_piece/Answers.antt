@@ -1,6 +1,7 @@
-use Rattle.std.proofs.Common.{ℤ, ◌≡◌, map, min, ◌<◌, ◌≤◌, ◌++◌, ◌∷◌, [], length, Err, ap, sym, subst, ◌∙◌, arith, true, to_z, of_z, w64}
+use Rattle.std.proofs.Common.{ℕ, ℤ, ◌≡◌, map, min, ◌<◌, ◌≤◌, ◌++◌, ◌∷◌, [], length, Err, ap, sym, subst, ◌∙◌, arith, true, to_z, of_z, w64}
 use Rattle.std.proofs.lemmas.Int.{ints}
-use Rattle.std.specs.List.{list_any}
+use Rattle.std.specs.List.{All, list_any}
+use Rattle.std.proofs.lemmas.List.{length-append}
 use Rattle.beam_model.specs.Spread.{is_poison}
 use Rattle.run_engine.specs.Working.{entry_output, panes_item, spread_of, spread_of_done}
 use Rattle.run_engine.specs.declared.positions.WorkRefusal.TheVariants as refusal
@@ -10,7 +11,8 @@ use Rattle.beam_values.specs.Bags.{IsSameBag}
 use Rattle.beam_model.specs.Positions.{item_len}
 use Rattle.beam_values.specs.declared.piece.Done.{Done}
 use Rattle.split_core.specs.Partition.{IsPartition}
-use Rattle.run_engine.proofs.Commits.{in_file, poison_in_part, outputs_more}
+use Rattle.run_engine.specs.Committing.{IsOfCommitUpTo}
+use Rattle.run_engine.proofs.Commits.{in_file, poison_in_part, outputs_more, commits_more}
 use Rattle.run_engine.proofs.committing.work_piece.Goals as goal
 
 pub work_bundle-requires-clause-in_file : goal.work_bundle-requires-clause-in_file
@@ -40,7 +42,14 @@ returns-clause-held c =
     ++ spread_of size file t.range.from (min (first_unattempted t.range.from c.work_bundle.new.tracker.attempted) t.range.to)) c.new-tracker.ensures c.in-Ok.ensures.outputs in
     let range_is = ap (λ (x : Done). x.range) c.in_ok-done.ensures.range in
     let more = outputs_more size file c.args.committed.now.done d _ _ _ _ range_is (subst (λ (z : ℤ). IsSameBag (map entry_output c.args.committed.now.entries) (spread_of_done z file c.args.committed.now.done)) (sym same) c.requires.taken.outputs) (ap (map entry_output) c.in_ok-commit.ensures.entries ∙ outputs_are) in
+    let of_commits =
+    commits_more c.args.committed.now.commits c.in-Some.commit c.args.committed.now.entries c.work_bundle.new.self.entries (omega (arith, c.in-Some.ensures.1))
+    c.in-Ok.ensures.kept c.in-Ok.ensures.commit c.requires.taken.entries in
     record {
       held = subst (λ ds. IsPartition (item_len (panes_item file) ∷ []) c.put_rest.new.pieces.pending ds) (sym done_is) (c.in_ok-done.ensures.cover _ _ c.requires.taken.held);
+      counted = omega (arith, c.in_ok-commit.ensures.counted, c.in-Some.ensures.1, c.requires.taken.counted, ap length done_is, length-append c.args.committed.now.done (d ∷ []));
+      entries =
+          subst (λ (n : ℕ). All (IsOfCommitUpTo n) c.commit.new.self.entries) (sym c.in_ok-commit.ensures.counted)
+          (subst (λ es. All (IsOfCommitUpTo c.in-Some.commit) es) (sym c.in_ok-commit.ensures.entries) of_commits);
       outputs = subst (λ (z : ℤ). IsSameBag (map entry_output c.commit.new.self.entries) (spread_of_done z file c.commit.new.self.done)) same (subst (λ ds. IsSameBag (map entry_output c.commit.new.self.entries) (spread_of_done size file ds)) (sym done_is) more);
     }

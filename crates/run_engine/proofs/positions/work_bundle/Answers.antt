@@ -2,7 +2,8 @@ use Rattle.std.proofs.Common.{Err, Some, map, min, ◌++◌, sym, ◌≡◌, ◌
 use Rattle.std.proofs.lemmas.Int.{ints}
 use Rattle.beam_values.specs.Tracking.{Tracked, first_unattempted}
 use Rattle.run_engine.specs.declared.positions.WorkRefusal.TheVariants as refusal
-use Rattle.run_engine.proofs.Working.{worked_none, worked_more, worked_whole, poison_within}
+use Rattle.run_engine.proofs.Working.{worked_none, worked_more, worked_whole, poison_within, granted_inside, refused_past}
+use Rattle.run_engine.proofs.Members.{longer_none, longer_more}
 use Rattle.run_engine.specs.Working.{entry_output, spread_of}
 use Rattle.run_engine.proofs.positions.work_bundle.Goals as goal
 use Rattle.run_engine.proofs.positions.work_bundle.Goals.{then-lines-test+else-try_claim, else-lines-test}
@@ -12,7 +13,7 @@ lines-init c =
     let range = c.range.ensures in
     let at = c.from-p.ensures.value ∙ ap (λ r. r.from) range in
     let within : c.args.tracker.now.range.from ≤ c.args.tracker.now.range.to = omega (arith, c.from-p.ensures.ordered, ap (λ r. r.from) range, ap (λ r. r.to) range) in
-    record { worked = worked_none _ _ _ _ _ c.requires.unstarted at within; started = inl refl; counted = omega arith; unused = c.new-windows.ensures }
+    record { worked = worked_none _ _ _ _ _ c.requires.unstarted at within; started = inl refl; longer = longer_none _ _; counted = omega arith; unused = c.new-windows.ensures }
 
 pub lines-preserved : goal.lines-preserved
 lines-preserved c =
@@ -20,10 +21,11 @@ lines-preserved c =
     let from = c.args.tracker.now.range.from in
     let first : first_unattempted from c.try_claim.new.self.attempted ≡ c.lines.p + 1 = ap (λ (t : Tracked). first_unattempted from t.attempted) c.try_claim.ensures.after in
     let to : c.lines.tracker.range.to ≡ c.args.tracker.now.range.to = ap (λ r. r.to) known.worked.range in
-    let inside : c.lines.p < c.args.tracker.now.range.to = omega (arith, c.if-try_claim.ensures.answer.0 refl) in
+    let inside : c.lines.p < c.args.tracker.now.range.to = omega (arith, granted_inside c.lines.tracker c.lines.p c.if-try_claim.ensures.answer) in
     record {
       worked = worked_more _ _ _ _ _ _ _ _ _ _ known.worked inside (c.requires.in_file (omega (arith, known.worked.above, known.worked.ordered))) c.try_claim.ensures.after c.in-Ok.ensures.next c.in-Ok.ensures.outputs;
       started = inr (omega (arith, known.worked.above, known.worked.ordered));
+      longer = longer_more _ _ _ _ known.longer (record { kept = c.in-Ok.ensures.kept; added = c.in-Ok.ensures.commit });
       counted = known.counted;
       unused = c.in-Ok.ensures.unused;
     }
@@ -34,10 +36,11 @@ lines-preserved-then-step c =
     let from = c.args.tracker.now.range.from in
     let first : first_unattempted from c.try_claim.new.self.attempted ≡ c.lines.p + 1 = ap (λ (t : Tracked). first_unattempted from t.attempted) c.try_claim.ensures.after in
     let to : c.lines.tracker.range.to ≡ c.args.tracker.now.range.to = ap (λ r. r.to) known.worked.range in
-    let inside : c.lines.p < c.args.tracker.now.range.to = omega (arith, c.if-try_claim.ensures.answer.0 refl) in
+    let inside : c.lines.p < c.args.tracker.now.range.to = omega (arith, granted_inside c.lines.tracker c.lines.p c.if-try_claim.ensures.answer) in
     record {
       worked = worked_more _ _ _ _ _ _ _ _ _ _ known.worked inside (c.requires.in_file (omega (arith, known.worked.above, known.worked.ordered))) c.try_claim.ensures.after c.in-Ok.ensures.next c.in-Ok.ensures.outputs;
       started = inr (omega (arith, known.worked.above, known.worked.ordered));
+      longer = longer_more _ _ _ _ known.longer (record { kept = c.in-Ok.ensures.kept; added = c.in-Ok.ensures.commit });
       counted = omega (arith, c.lines-test.true);
       unused = c.in-Ok.ensures.unused;
     }
@@ -47,7 +50,7 @@ returns-in-Err-clause-poison c = λ is.
     let known = c.lines.invariant in
     let from = c.args.tracker.now.range.from in
     let to : c.lines.tracker.range.to ≡ c.args.tracker.now.range.to = ap (λ r. r.to) known.worked.range in
-    let inside : c.lines.p < c.args.tracker.now.range.to = omega (arith, c.if-try_claim.ensures.answer.0 refl) in
+    let inside : c.lines.p < c.args.tracker.now.range.to = omega (arith, granted_inside c.lines.tracker c.lines.p c.if-try_claim.ensures.answer) in
     let low : from ≤ c.lines.p = omega (arith, known.worked.above, known.worked.ordered) in
     let same : to_z w64 (of_z w64 c.args.size) ≡ c.args.size = omega (arith, ints) in
     let poison : c.in-Err.refusal ≡ refusal.Poison = cc in
@@ -64,7 +67,7 @@ returns-clause-outputs c =
     elim c.lines-test.branch [
       | then-lines-test+else-try_claim w ↦
           let range : c.lines.tracker.range.to ≡ to = ap (λ r. r.to) known.worked.range in
-          let past : to ≤ c.lines.p = grind (arith, w.try_claim.ensures.answer, w.if-try_claim.false) in
+          let past : to ≤ c.lines.p = omega (arith, refused_past c.lines.tracker c.lines.p (sym w.try_claim.ensures.answer ∙ w.if-try_claim.false)) in
           let is : c.lines-test.tracker ≡ record { range = c.lines.tracker.range; attempted = Some c.lines.p } = w.tracker-is ∙ w.try_claim.ensures.after in
           worked_whole _ _ _ _ _ _ _ _ known.worked past is
       | else-lines-test w ↦

@@ -2,7 +2,8 @@ use Rattle.std.proofs.Common.{◌≡◌, List, Some, Err, arith, to_z, of_z, w64
 use Rattle.std.proofs.lemmas.Int.{ints}
 use Rattle.beam_values.specs.Files.{first_named}
 use Rattle.beam_values.specs.declared.file_text.FileText.{FileText}
-use Rattle.run_engine.specs.PanesRun.{ObservedStore, WorkFails, first_fault}
+use Rattle.beam_ports.specs.Observed.{ObservedStore}
+use Rattle.run_engine.specs.PanesRun.{WorkFails, first_fault}
 use Rattle.beam_values.specs.declared.fault.FaultNote.{FaultNote}
 use Rattle.run_engine.proofs.Outcomes.{run_is, run_at, poison_is, poison_at}
 use Rattle.run_engine.proofs.run.panes_outcome.Goals as goal
