@@ -26,16 +26,13 @@ abbrev pub shown : Emitted → model.Emission
 shown (Emits values declared) = model.Emits (map shown_value values) declared
 shown Poison = model.Poison
 
--- a position of a file, or one below a count, where the arguments are in their limits
-abbrev pub IsWorkable : SourceKind → Args → List ℕ → ℕ → Type 0
-IsWorkable Lines args file p = p < length file
-IsWorkable TimedLines args file p = p < length file
-IsWorkable Count args file p = (p < first_arg args) × (first_arg args ≤ 1000000000) × (second_arg args ≤ 1000000)
-IsWorkable Made args file p = (p < first_arg args) × (first_arg args ≤ 1000000) × (second_arg args ≤ 1000000)
+-- the arguments are in the limits of their source
+abbrev pub IsWithinLimits : SourceKind → Args → Type 0
+IsWithinLimits Lines args = Unit {0}
+IsWithinLimits TimedLines args = Unit {0}
+IsWithinLimits Count args = (first_arg args ≤ 1000000000) × (second_arg args ≤ 1000000)
+IsWithinLimits Made args = (first_arg args ≤ 1000000) × (second_arg args ≤ 1000000)
 
--- a position of a file, or one below the greatest count
-abbrev pub HasNext : SourceKind → List ℕ → ℕ → Type 0
-HasNext Lines file p = p < length file
-HasNext TimedLines file p = p < length file
-HasNext Count file p = p < 1000000000
-HasNext Made file p = p < 1000000000
+-- an item with such arguments has the position
+abbrev pub IsPosition : SourceKind → Args → List ℕ → ℕ → Type 0
+IsPosition work args file p = IsWithinLimits work args × (p < model.positions_in work args file)

@@ -1,10 +1,10 @@
-ghost use Rattle.std.specs.Prelude.{◌≡◌, ◌*◌, ◌<◌, ◌≤◌, pos, [], ◌∷◌, ◌++◌, length, codes, decimal, IfOk};
+ghost use Rattle.std.specs.Prelude.{◌≡◌, ◌+◌, ◌*◌, ◌^◌, ◌<◌, ◌≤◌, pos, [], ◌∷◌, ◌++◌, length, codes, decimal, IfOk};
 ghost use Rattle.beam_values.specs.Lines.{line_at, next_start};
 ghost use Rattle.beam_values.specs.Functions as functions;
 ghost use Rattle.beam_model.specs.Values.{int};
 ghost use Rattle.beam_model.specs.Positions as model;
-ghost use Rattle.beam_model.specs.Functions.{second_arg};
-ghost use Rattle.plain_model.specs.Emissions.{shown, IsWorkable, HasNext};
+ghost use Rattle.beam_model.specs.Functions.{first_arg, second_arg};
+ghost use Rattle.plain_model.specs.Emissions.{shown, IsWithinLimits, IsPosition};
 
 use beam_lines::{TimedLine, first_line, starts_line, timed_line};
 use beam_values::{Args, Bytes, List, NoMemory, SourceKind, Time, Value};
@@ -31,7 +31,8 @@ pub enum Emitted {
 }
 
 /// What a position of a source emits. `file` is what a file's source reads; the other sources look at
-/// their arguments alone. In a file only the position where a line starts emits it.
+/// their arguments alone. In a file only the position where a line starts emits it, and there is
+/// nothing at the end of an item or past it.
 pub fn emission(
     alloc: Global,
     work: SourceKind,
@@ -39,8 +40,35 @@ pub fn emission(
     file: &[u8],
     p: u64,
 ) -> Result<Emitted, NoMemory>
-    requires { IsWorkable work args.now file.now p }
+    requires { IsWithinLimits work args.now }
     ensures { IfOk result (λ emitted. shown emitted ≡ model.emission work args.now file.now p) }
+{
+    if p < positions_in(work, args, file) {
+        emission_within(alloc, work, args, file, p)
+    } else {
+        Ok(emits_nothing(alloc, None))
+    }
+}
+
+/// How many positions an item has: the bytes of its file, or what is counted or made.
+fn positions_in(work: SourceKind, args: &Args, file: &[u8]) -> u64
+    ensures { result ≡ model.positions_in work args.now file.now }
+{
+    match work {
+        SourceKind::Lines | SourceKind::TimedLines => file.len() as u64,
+        SourceKind::Count | SourceKind::Made => first_argument(args),
+    }
+}
+
+fn emission_within(
+    alloc: Global,
+    work: SourceKind,
+    args: &Args,
+    file: &[u8],
+    p: u64,
+) -> Result<Emitted, NoMemory>
+    requires { IsPosition work args.now file.now p }
+    ensures { IfOk result (λ emitted. shown emitted ≡ model.emission_within work args.now file.now p) }
 {
     match work {
         SourceKind::Lines | SourceKind::TimedLines if !starts_line(file, p as usize) => {
@@ -56,9 +84,10 @@ pub fn emission(
     }
 }
 
-/// The position that is worked after this one: the next line start, or the next number.
+/// The position that is worked after this one: the next line start, or the next number. After the last
+/// line start it is the length of the file.
 pub fn next_position(work: SourceKind, file: &[u8], p: u64) -> u64
-    requires { HasNext work file.now p }
+    requires { p + 1 < 2 ^ 64 }
     ensures { result ≡ model.next_position work file.now p }
 {
     match work {
@@ -68,10 +97,22 @@ pub fn next_position(work: SourceKind, file: &[u8], p: u64) -> u64
 }
 
 fn next_start(file: &[u8], p: usize) -> usize
-    requires { p < length file.now }
     ensures { result ≡ next_start file.now p }
 {
-    p + first_line(file.split_at(p).1).next
+    if p < file.len() {
+        p + first_line(file.split_at(p).1).next
+    } else {
+        file.len()
+    }
+}
+
+fn first_argument(args: &Args) -> u64
+    ensures { result ≡ first_arg args.now }
+{
+    match args {
+        Args::Two(first, _) => *first,
+        _ => 0,
+    }
 }
 
 fn second_argument(args: &Args) -> u64

@@ -150,10 +150,10 @@ const FILE: &[u8; 8] = b"5\tx\r\n\n!7";
 
 fn in_file(alloc: Global, work: SourceKind, p: u64) -> Result<Emitted, Fail> {
     match work {
-        SourceKind::Lines | SourceKind::TimedLines if p < 8 => {
+        SourceKind::Lines | SourceKind::TimedLines => {
             Ok(emission(alloc, work, &Args::Nothing, FILE, p)?)
         }
-        _ => Err(Fail::from("no position of the file")),
+        _ => Err(Fail::from("no source of a file")),
     }
 }
 
@@ -165,11 +165,10 @@ fn in_count(
     p: u64,
 ) -> Result<Emitted, Fail> {
     match work {
-        SourceKind::Count | SourceKind::Made
-            if p < count && count <= 1_000_000 && second <= 1_000_000 => {
+        SourceKind::Count | SourceKind::Made if count <= 1_000_000 && second <= 1_000_000 => {
             Ok(emission(alloc, work, &Args::Two(count, second), b"", p)?)
         }
-        _ => Err(Fail::from("no position below the count")),
+        _ => Err(Fail::from("no count within its limits")),
     }
 }
 
@@ -237,6 +236,8 @@ fn a_position_of_a_file_emits_its_line(rt: HostRuntime) -> Result<(), Fail> {
         (SourceKind::Lines, 1, None),
         (SourceKind::TimedLines, 7, None),
         (SourceKind::TimedLines, 6, Some(7)),
+        (SourceKind::Lines, 8, None),
+        (SourceKind::TimedLines, 9, None),
     ] {
         assert!(rt; declares(&in_file(alloc, work, p)?, declared));
     }
@@ -253,28 +254,24 @@ fn a_counted_position_emits_a_number_or_a_made_line(rt: HostRuntime) -> Result<(
         let made = in_count(alloc, SourceKind::Made, 3, 7, p)?;
         assert!(rt; is_one(&made, ms, &blob(alloc, text)?));
     }
+    assert!(rt; declares(&in_count(alloc, SourceKind::Count, 3, 1000, 3)?, None));
+    assert!(rt; declares(&in_count(alloc, SourceKind::Made, 3, 7, 4)?, None));
     Ok(())
-}
-
-fn next_in_file(work: SourceKind, p: u64) -> Option<u64> {
-    if p < 8 {
-        Some(next_position(work, FILE, p))
-    } else {
-        None
-    }
 }
 
 #[test]
 fn the_next_position_is_the_next_line_start_or_number(rt: HostRuntime) {
-    for (work, p, next) in [
+    let rows: [(SourceKind, u32, u64); 7] = [
         (SourceKind::Lines, 0, 5),
         (SourceKind::Lines, 1, 5),
         (SourceKind::TimedLines, 5, 6),
         (SourceKind::TimedLines, 6, 8),
+        (SourceKind::Lines, 8, 8),
         (SourceKind::Count, 2, 3),
         (SourceKind::Made, 0, 1),
-    ] {
-        assert!(rt; next_in_file(work, p) == Some(next));
+    ];
+    for (work, p, next) in rows {
+        assert_eq!(rt; next_position(work, FILE, u64::from(p)), next);
     }
 }
 
