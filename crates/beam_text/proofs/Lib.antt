@@ -1,2 +1,4 @@
+pub mod Fronts
 pub mod Sorts
+pub mod ValueTexts
 pub mod Written

@@ -4,6 +4,7 @@ use Rattle.std.specs.Borrow.{Bor}
 use Rattle.std.specs.declared.alloc.Global.{Global}
 use Rattle.std.proofs.lemmas.List.{drop_all, length-map, map-append, get_or-map, map-set, get_or-set_same, get_or-set_other}
 use Rattle.std.proofs.lemmas.List.Sums.{sum_by-cons}
+use Rattle.beam_values.specs.Nodes.{is_write_kind}
 use Rattle.beam_values.specs.declared.element.Element.{Element}
 use Rattle.beam_values.specs.declared.arrival.Arrival.{Arrival}
 use Rattle.beam_values.specs.declared.plan.Node.{Node}
@@ -12,7 +13,7 @@ use Rattle.beam_values.specs.declared.plan.NodeKind.TheVariants.{Source, ParDo, 
 use Rattle.beam_values.specs.declared.plan.Plan.{Plan}
 use Rattle.beam_model.specs.Flow.{elements_at}
 use Rattle.beam_model.specs.Rendering.{IsLines, IsWritten, Labelled, label_of, writes, writes_from, title}
-use Rattle.beam_text.specs.Parts.{AppendsText, IsNodeText, contents, elements_in, is_write}
+use Rattle.beam_text.specs.Parts.{AppendsText, IsNodeText, contents, elements_in}
 
 -- an element that is put at the end of one list
 pub put_here : (lists : List (Vec (Bor Element) Global)) (n : ℕ) (old new : Vec (Bor Element) Global) (element : Bor Element) → n < length lists
@@ -32,7 +33,7 @@ put_elsewhere lists n new other apart =
     let f : Vec (Bor Element) Global → List Element = λ l. elements_in l.items in
     ap (λ l. get_or l other []) (map-set f lists n new) ∙ get_or-set_other (map f lists) n other (f new) [] apart
 
-one_more : (n : ℕ) (kind : NodeKind) (ws : List Labelled) → cond (is_write kind) 1 0 + length ws ≡ length (label_of n kind ++ ws)
+one_more : (n : ℕ) (kind : NodeKind) (ws : List Labelled) → cond (is_write_kind kind) 1 0 + length ws ≡ length (label_of n kind ++ ws)
 one_more n (Source work args files estimator) ws = omega arith
 one_more n (ParDo work args) ws = omega arith
 one_more n Flatten ws = omega arith
@@ -42,11 +43,11 @@ one_more n (Stateful work args log) ws = omega arith
 one_more n (Write label) ws = omega arith
 
 -- the Writes are as many as the nodes that are Writes
-pub count_writes : (n : ℕ) (nodes : List Node) → count_by (λ node. is_write node.kind) nodes ≡ length (writes_from n nodes)
+pub count_writes : (n : ℕ) (nodes : List Node) → count_by (λ node. is_write_kind node.kind) nodes ≡ length (writes_from n nodes)
 count_writes n [] = refl
 count_writes n (node ∷ nodes) =
-    sum_by-cons (λ (node : Node). cond (is_write node.kind) 1 0) node nodes
-    ∙ ap (λ k. cond (is_write node.kind) 1 0 + k) (count_writes (n + 1) nodes)
+    sum_by-cons (λ (node : Node). cond (is_write_kind node.kind) 1 0) node nodes
+    ∙ ap (λ k. cond (is_write_kind node.kind) 1 0 + k) (count_writes (n + 1) nodes)
     ∙ one_more n node.kind (writes_from (n + 1) nodes)
 
 nothing_first : (labelled : Bool) (written : List Arrival) (ws : List Labelled) (text rest : List ℕ) → text ≡ [] → IsWritten labelled written ws rest
@@ -125,7 +126,7 @@ next_list i count written lists list within found g =
 
 -- all nodes are written
 pub adds_writes : (plan : Plan) (written : List Arrival) (nodes : List Node) (write_count i : ℕ) (before after : List ℕ) → nodes ≡ plan.nodes
-    → write_count ≡ count_by (λ node. is_write node.kind) nodes → length nodes ≤ i → IsBegun (nat_lt 1 write_count) written nodes i before after
+    → write_count ≡ count_by (λ node. is_write_kind node.kind) nodes → length nodes ≤ i → IsBegun (nat_lt 1 write_count) written nodes i before after
     → AppendsText (IsWritten (nat_lt 1 (length (writes plan))) written (writes plan)) before after
 adds_writes plan written nodes write_count i before after same counted end g =
     let count_is : write_count ≡ length (writes plan) = counted ∙ count_writes 0 nodes ∙ ap (λ l. length (writes_from 0 l)) same in

@@ -1,5 +1,5 @@
 -- The parts that a rendering is written in.
-use Rattle.std.specs.Prelude.{◌≡◌, ℕ, ◌<◌, Bool, true, false, List, [], ◌∷◌, ◌++◌, Vec, codes, decimal, length, map, slice_index_or}
+use Rattle.std.specs.Prelude.{◌≡◌, ℕ, ◌<◌, Bool, List, [], ◌∷◌, ◌++◌, Vec, codes, decimal, length, map, slice_index_or}
 use Rattle.std.specs.Fmt.{signed_decimal}
 use Rattle.std.specs.Borrow.{Bor}
 use Rattle.std.specs.declared.alloc.Global.{Global}
@@ -29,10 +29,6 @@ contents lists = map (λ elements. elements_in elements.items) lists
 pub record IsByNode (node_count : ℕ) (written : List Arrival) (lists : List (Vec (Bor Element) Global)) : Type 0 where
   pub count : length lists ≡ node_count
   pub arrived : (node : ℕ) → node < node_count → slice_index_or (contents lists) node [] ≡ elements_at node written
-
-abbrev pub is_write : NodeKind → Bool
-is_write (Write label) = true
-is_write _ = false
 
 -- the text of a node at which these elements arrived: what a Write took, and nothing of another one
 abbrev pub IsNodeText : Bool → NodeKind → List Element → List ℕ → Type 0

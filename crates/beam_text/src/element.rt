@@ -1,22 +1,9 @@
-ghost use Rattle.std.specs.Prelude.{◌≡◌, ◌++◌, ◌∷◌, [], IfOk, OnOk};
-ghost use Rattle.std.specs.List.{flat_map};
+ghost use Rattle.std.specs.Prelude.{◌≡◌, ◌++◌, ◌∷◌, [], OnOk};
 ghost use Rattle.beam_values.specs.Texts.{element_line, timing_text};
 
 use crate::push_value;
 use beam_values::{Bytes, Element, NoMemory, Timing};
 use itoa::Buffer;
-use std::alloc::Global;
-
-/// The lines of written elements, in their order.
-pub fn render_elements(alloc: Global, elements: &[Element]) -> Result<Bytes, NoMemory>
-    ensures { IfOk result (λ text. text ≡ flat_map element_line elements.now) }
-{
-    let mut out = Bytes::new(alloc);
-    for element in elements {
-        push_element(element, &mut out)?;
-    }
-    Ok(out)
-}
 
 pub(crate) fn push_element(element: &Element, out: &mut Bytes) -> Result<(), NoMemory>
     ensures { OnOk result (out.new ≡ out.old ++ element_line element.now) }

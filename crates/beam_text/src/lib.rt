@@ -13,7 +13,6 @@ mod rendering;
 mod value;
 mod writes;
 
-pub use element::render_elements;
 pub use rendering::render;
 pub use value::{push_blob, push_value};
 

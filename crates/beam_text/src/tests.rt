@@ -1,5 +1,6 @@
 //! Values, elements and outcomes, each with its text written out by hand.
-use crate::{push_value, render, render_elements};
+use crate::element::push_element;
+use crate::{push_value, render};
 use beam_values::{
     Args, Arrival, Boxed, Bytes, Element, KeyLog, List, LogEntry, LogInput, NoMemory, Node,
     NodeKind, Outcome, PaneTag, Plan, Span, StateKind, Time, Timer, Timing, Value,
@@ -74,7 +75,8 @@ fn an_element_is_a_line(rt: HostRuntime) -> Result<(), Fail> {
             index: 3,
         },
     };
-    let text = render_elements(rt.alloc(), &[element])?;
+    let mut text = Bytes::new(rt.alloc());
+    push_element(&element, &mut text)?;
     assert_eq!(rt; text.as_slice(), b"-60000\t0\tLATE\t3\t9\n".as_slice());
     Ok(())
 }

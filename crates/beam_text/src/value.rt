@@ -1,4 +1,4 @@
-ghost use Rattle.std.specs.Prelude.{◌≡◌, ◌++◌, ◌∷◌, [], ◌<◌, ◌≤◌, length, slice_index, take, true, OnOk, map};
+ghost use Rattle.std.specs.Prelude.{◌≡◌, ◌++◌, ◌∷◌, [], ◌<◌, ◌≤◌, length, slice_index, take, true, OnOk, OnErr, map};
 ghost use Rattle.std.specs.List.{flat_map};
 ghost use Rattle.beam_values.specs.Texts.{value_text, joined, is_escaped, blob_text, byte_text, hex_digit};
 
@@ -6,55 +6,85 @@ use beam_values::{Bytes, NoMemory, Value};
 use itoa::Buffer;
 
 /// Appends the text of a value.
-#[cycle(texts)]
 pub fn push_value(value: &Value, out: &mut Bytes) -> Result<(), NoMemory>
-    ensures { OnOk result (out.new ≡ out.old ++ value_text value.now) }
+    ensures ok { OnOk result (out.new ≡ out.old ++ value_text value.now) }
+    ensures err { OnErr result (out.new ≡ out.old) }
+{
+    let before = out.len();
+    let appended = append_value(value, out);
+    if appended.is_err() {
+        out.truncate(before);
+    }
+    appended
+}
+
+/// Appends the text of a byte string, quotes included.
+pub fn push_blob(bytes: &[u8], out: &mut Bytes) -> Result<(), NoMemory>
+    ensures ok { OnOk result (out.new ≡ out.old ++ blob_text bytes.now) }
+    ensures err { OnErr result (out.new ≡ out.old) }
+{
+    let before = out.len();
+    let appended = append_blob(bytes, out);
+    if appended.is_err() {
+        out.truncate(before);
+    }
+    appended
+}
+
+// After a refusal a part of the text may stand at the end, here and in all that is called from here.
+#[cycle(texts)]
+fn append_value(value: &Value, out: &mut Bytes) -> Result<(), NoMemory>
+    ensures ok { OnOk result (out.new ≡ out.old ++ value_text value.now) }
+    ensures err { OnErr result (take (length out.old) out.new ≡ out.old) }
 {
     match value {
         Value::Null => out.extend_from_slice(b"null"),
         Value::Int(n) => out.extend_from_slice(Buffer::new().format(*n).as_bytes()),
-        Value::Blob(bytes) => push_blob(bytes.as_slice(), out),
+        Value::Blob(bytes) => append_blob(bytes.as_slice(), out),
         Value::Pair(key, part) => {
             out.push(b'(')?;
-            push_value(key.get(), out)?;
+            append_value(key.get(), out)?;
             out.push(b',')?;
-            push_value(part.get(), out)?;
+            append_value(part.get(), out)?;
             out.push(b')')
         }
         Value::Seq(items) => {
             out.push(b'[')?;
-            push_items(items.as_slice(), out)?;
+            append_items(items.as_slice(), out)?;
             out.push(b']')
         }
     }
 }
 
 #[cycle(texts)]
-fn push_items(items: &[Value], out: &mut Bytes) -> Result<(), NoMemory>
-    ensures { OnOk result (out.new ≡ out.old ++ joined (map value_text items.now)) }
+fn append_items(items: &[Value], out: &mut Bytes) -> Result<(), NoMemory>
+    ensures ok { OnOk result (out.new ≡ out.old ++ joined (map value_text items.now)) }
+    ensures err { OnErr result (take (length out.old) out.new ≡ out.old) }
 {
     let Some((first, others)) = items.split_first() else {
         return Ok(());
     };
-    push_value(first, out)?;
+    append_value(first, out)?;
     for item in others {
         out.push(b',')?;
-        push_value(item, out)?;
+        append_value(item, out)?;
     }
     Ok(())
 }
 
-/// Appends the text of a byte string, quotes included. Runs of plain bytes are appended whole.
-pub fn push_blob(bytes: &[u8], out: &mut Bytes) -> Result<(), NoMemory>
-    ensures { OnOk result (out.new ≡ out.old ++ blob_text bytes.now) }
+// Runs of plain bytes are appended whole.
+fn append_blob(bytes: &[u8], out: &mut Bytes) -> Result<(), NoMemory>
+    ensures ok { OnOk result (out.new ≡ out.old ++ blob_text bytes.now) }
+    ensures err { OnErr result (take (length out.old) out.new ≡ out.old) }
 {
     out.push(b'"')?;
-    push_escaped_bytes(bytes, out)?;
+    append_bytes(bytes, out)?;
     out.push(b'"')
 }
 
-fn push_escaped_bytes(bytes: &[u8], out: &mut Bytes) -> Result<(), NoMemory>
-    ensures { OnOk result (out.new ≡ out.old ++ flat_map byte_text bytes.now) }
+fn append_bytes(bytes: &[u8], out: &mut Bytes) -> Result<(), NoMemory>
+    ensures ok { OnOk result (out.new ≡ out.old ++ flat_map byte_text bytes.now) }
+    ensures err { OnErr result (take (length out.old) out.new ≡ out.old) }
 {
     let mut rest = bytes;
     while !rest.is_empty() {
@@ -62,7 +92,7 @@ fn push_escaped_bytes(bytes: &[u8], out: &mut Bytes) -> Result<(), NoMemory>
         out.extend_from_slice(plain)?;
         rest = others;
         if let Some((byte, after)) = others.split_first() {
-            push_escaped(*byte, out)?;
+            append_escaped(*byte, out)?;
             rest = after;
         }
     }
@@ -89,9 +119,10 @@ fn is_escaped(byte: u8) -> bool
     byte == b'"' || byte == b'\\' || byte < b' ' || byte > b'~'
 }
 
-fn push_escaped(byte: u8, out: &mut Bytes) -> Result<(), NoMemory>
+fn append_escaped(byte: u8, out: &mut Bytes) -> Result<(), NoMemory>
     requires { is_escaped byte ≡ true }
-    ensures { OnOk result (out.new ≡ out.old ++ byte_text byte) }
+    ensures ok { OnOk result (out.new ≡ out.old ++ byte_text byte) }
+    ensures err { OnErr result (out.new ≡ out.old) }
 {
     match byte {
         b'"' | b'\\' => out.extend_from_slice(&[b'\\', byte]),

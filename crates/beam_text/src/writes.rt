@@ -1,8 +1,9 @@
 ghost use Rattle.std.specs.Prelude.{◌≡◌, ◌++◌, ◌∷◌, [], ◌<◌, ℕ, IfOk, OnOk, count_by, length, nat_lt, slice_index_or};
 ghost use Rattle.std.specs.List.{flat_map};
+ghost use Rattle.beam_values.specs.Nodes.{is_write_kind};
 ghost use Rattle.beam_values.specs.Texts.{element_line};
 ghost use Rattle.beam_model.specs.Rendering.{IsLines, IsWritten, title, writes};
-ghost use Rattle.beam_text.specs.Parts.{AppendsText, IsByNode, IsNodeText, contents, elements_in, is_write};
+ghost use Rattle.beam_text.specs.Parts.{AppendsText, IsByNode, IsNodeText, contents, elements_in};
 
 use crate::element::push_element;
 use crate::push_blob;
@@ -30,7 +31,7 @@ pub(crate) fn push_writes(
 }
 
 fn write_count(nodes: &[Node]) -> usize
-    ensures { result ≡ count_by (λ node. is_write node.kind) nodes.now }
+    ensures { result ≡ count_by (λ node. is_write_kind node.kind) nodes.now }
 {
     let mut count = 0;
     for node in nodes {
@@ -42,7 +43,7 @@ fn write_count(nodes: &[Node]) -> usize
 }
 
 fn is_write(kind: &NodeKind) -> bool
-    ensures { result ≡ is_write kind.now }
+    ensures { result ≡ is_write_kind kind.now }
 {
     matches!(kind, NodeKind::Write { .. })
 }
