@@ -1,4 +1,4 @@
-//! Entries put into cells, with the cells and panes counted by hand.
+//! Entries put into cells, by key and then by window, with the cells and panes counted by hand.
 use super::group;
 use beam_values::{
     Boxed, Cell, Element, Entry, List, Pane, PaneTag, Span, Time, Timing, Value, cmp_values,
@@ -132,20 +132,20 @@ fn a_cell_and_a_pane_for_each_key_and_window(rt: HostRuntime) -> Result<(), Fail
         alloc,
         cells.get(2),
         panes.get(2),
-        0,
-        Some(2),
-        &[6],
-        &[1],
+        10,
+        Some(1),
+        &[8],
+        &[2],
     )?;
     expect(
         &rt,
         alloc,
         cells.get(3),
         panes.get(3),
-        10,
-        Some(1),
-        &[8],
-        &[2],
+        0,
+        Some(2),
+        &[6],
+        &[1],
     )?;
     expect(
         &rt,
