@@ -1,5 +1,5 @@
 -- What a cause leaves where nothing outside failed, and what an end keeps when its note is written.
-use Rattle.std.proofs.Common.{IsSome, [], ◌∷◌, ◌++◌, ◌+◌, ◌<◌, map, cond, true, false, arith, ◌≡◌, inl, inr, ◌⊎◌, ℕ, ℤ, List, Option, Some, None, refl, sym, ap, subst, ◌∙◌}
+use Rattle.std.proofs.Common.{IsSome, [], ◌∷◌, ◌++◌, ◌+◌, ◌<◌, map, cond, true, arith, ◌≡◌, inl, inr, ℕ, List, Option, Some, None, refl, sym, ap, subst, ◌∙◌}
 use Rattle.std.specs.List.{list_any, count_by}
 use Rattle.std.proofs.lemmas.Bool.{false≢true}
 use Rattle.std.proofs.lemmas.List.Sums.{sum_by-cons, sum_by-append}
@@ -14,14 +14,14 @@ use Rattle.beam_model.specs.Chains.{Output, Arrives, PoisonAt}
 use Rattle.beam_model.specs.Flow.{flow, pane_chains, log_chains}
 use Rattle.beam_model.specs.Rendering.{IsRendering}
 use Rattle.beam_values.specs.declared.arrival.Arrival.{Arrival}
-use Rattle.beam_model.specs.Plans.{panes_plan}
 use Rattle.beam_model.specs.Positions.{SourceItem, items}
 use Rattle.beam_model.specs.Spread.{spread_all, is_poison, HasPoison}
-use Rattle.run_engine.specs.PanesRun.{ObservedStore, IsPanesRun, IsRunEnd, Prevents, WorkFails, first_fault}
+use Rattle.beam_ports.specs.Observed.{ObservedSink}
+use Rattle.run_engine.specs.PanesRun.{IsPanesRun, WorkFails, first_fault}
 use Rattle.run_engine.specs.declared.status.Status.{Status}
 use Rattle.run_engine.specs.declared.status.Status.TheVariants as status
 use Rattle.beam_command.specs.Words.{TakesPanes, file_word}
-use Rattle.beam_command.specs.Ends.{Observed, ObservedSink, HasCause, HasRun, IsWritten, IsPrinted, IsUnwritten, StaysOrNoMemory, IsEndOfPoison, IsEndOfAbsent, size_of}
+use Rattle.beam_command.specs.Ends.{Observed, FindsPoisonIn, HasCause, HasRun, IsWritten, IsPrinted, StaysOrNoMemory, IsEndOfPoison, IsEndOfAbsent, size_of}
 
 -- a text that was written is the print of the outcome that it renders
 pub printed_of : (out : ObservedSink) (s : Status) (o : Outcome) (text shown : List ℕ) → IsRendering o text → shown ≡ text → IsWritten out shown s → HasRun s (Some o) (IsPrinted out s)
@@ -33,18 +33,15 @@ printed_of out (status.SourceFault kit) o text shown rendering same written = ab
 printed_of out (status.WorkFault note) o text shown rendering same written = absurd written
 printed_of out status.NoMemory o text shown rendering same written = absurd written
 
-none_is_some : (found : Option (List ℕ)) (bytes : List ℕ) → found ≡ None → found ≡ Some bytes → ⊥
-none_is_some found bytes none some = cc
-
 none_is_no_some : (found : Option (List ℕ)) → found ≡ None → IsSome found → ⊥
 none_is_no_some found none some = false≢true (subst (λ f. IsSome f) none some)
 
 -- what is accounted for has no poison
-no_spoiled : (arrivals : List Arrival) → count_by is_poison (map Arrives arrivals) ≡ 0
-no_spoiled [] = refl
-no_spoiled (a ∷ more) = omega (arith, no_spoiled more, sum_by-cons (λ b. cond (is_poison b) 1 0) (Arrives a) (map Arrives more))
+none_of_arrivals : (arrivals : List Arrival) → count_by is_poison (map Arrives arrivals) ≡ 0
+none_of_arrivals [] = refl
+none_of_arrivals (a ∷ more) = omega (arith, none_of_arrivals more, sum_by-cons (λ b. cond (is_poison b) 1 0) (Arrives a) (map Arrives more))
 
-poison_counts : (brought : List Output) → list_any is_poison brought ≡ true → 0 < count_by is_poison brought
+poison_counts : (outputs : List Output) → list_any is_poison outputs ≡ true → 0 < count_by is_poison outputs
 poison_counts [] any = absurd (false≢true any)
 poison_counts (Arrives a ∷ rest) any = omega (arith, poison_counts rest any, sum_by-cons (λ b. cond (is_poison b) 1 0) (Arrives a) rest)
 poison_counts (PoisonAt n ∷ rest) any = omega (arith, sum_by-cons (λ b. cond (is_poison b) 1 0) (PoisonAt n) rest)
@@ -53,7 +50,7 @@ accounted-no_poison : (items : List SourceItem) (o : Outcome) → IsAccounted it
 accounted-no_poison items o account poison =
     let rest = pane_chains o.plan o.panes ++ log_chains o.plan o.logs in
     let some = poison_counts (spread_all o.plan items) poison in
-    let none : count_by is_poison (flow o.plan items o.panes o.logs) ≡ 0 = bag_count is_poison _ _ account ∙ no_spoiled (arrivals o) in
+    let none : count_by is_poison (flow o.plan items o.panes o.logs) ≡ 0 = bag_count is_poison _ _ account.flow ∙ none_of_arrivals (arrivals o) in
     let both : count_by is_poison (flow o.plan items o.panes o.logs) ≡ count_by is_poison (spread_all o.plan items) + count_by is_poison rest =
     sum_by-append (λ b. cond (is_poison b) 1 0) (spread_all o.plan items) rest in
     absurd (omega (arith, some, none, both))
@@ -71,8 +68,8 @@ absent_noted name before after stays absent = elim stays [
   | inr none ↦ inr none.0
 ]
 
-module _ (words : List (List ℕ)) (met : Observed) (told : List FileText) (tells : met.store.files ≡ Some told) (takes : TakesPanes words)
-    (whole : Rose met.store.before met.store.after → ⊥) where
+module _ (words : List (List ℕ)) (met : Observed) (takes : TakesPanes words) (whole : Rose met.store.before met.store.after → ⊥)
+    (told : List FileText) (tells : met.store.files ≡ Some told) where
   abbrev Ran : Status → Option Outcome → Type 0
   Ran s outcome = HasRun s outcome (IsPanesRun met.store.files (file_word words) (size_of words))
 
@@ -85,13 +82,12 @@ module _ (words : List (List ℕ)) (met : Observed) (told : List FileText) (tell
   end_of_absent absent (status.SourceFault kit) outcome cause ran = absurd (whole cause.2.1)
   end_of_absent absent (status.WorkFault note) outcome cause ran =
       elim note.cause as (λ k. WorkFails met.store (file_word words) (size_of words) k → IsEndOfAbsent (file_word words) (status.WorkFault note)) [
-        | Call ↦ λ fails. absurd (none_is_some _ _ absent (fails told tells).1)
+        | Call ↦ λ fails. absurd (none_is_no_some _ absent (fails told tells).0)
         | Read ↦ λ fails. absurd (whole fails)
       ] cause.2.1
   end_of_absent absent status.NoMemory outcome cause ran = inr refl
 
-  module _ (bytes : List ℕ) (found : first_named (file_word words) told ≡ Some bytes)
-      (poison : HasPoison (panes_plan (file_word words) (size_of words)) (items told (panes_plan (file_word words) (size_of words)))) where
+  module _ (found : IsSome (first_named (file_word words) told)) (poison : FindsPoisonIn words told) where
     no_outcome : (o : Outcome) → IsPanesRun met.store.files (file_word words) (size_of words) o → ⊥
     no_outcome o is = accounted-no_poison (items told o.plan) o (is.account told tells) (subst (λ plan. HasPoison plan (items told plan)) (sym is.plan) poison)
 
@@ -100,7 +96,7 @@ module _ (words : List (List ℕ)) (met : Observed) (told : List FileText) (tell
     end_of_poison status.Ok outcome cause ran = absurd (no_outcome ran.0 ran.2)
     end_of_poison status.SinkFault outcome cause ran = absurd (no_outcome ran.0 ran.2)
     end_of_poison status.Usage outcome cause ran = absurd (cause.0 takes)
-    end_of_poison (status.NoSource name) outcome cause ran = absurd (none_is_some _ bytes (cause.2.1 told tells) found)
+    end_of_poison (status.NoSource name) outcome cause ran = absurd (none_is_no_some _ (cause.2.1 told tells) found)
     end_of_poison (status.SourceFault kit) outcome cause ran = absurd (whole cause.2.1)
     end_of_poison (status.WorkFault note) outcome cause ran =
         elim note.cause as (λ k. note ≡ first_fault k → WorkFails met.store (file_word words) (size_of words) k → IsEndOfPoison (status.WorkFault note)) [

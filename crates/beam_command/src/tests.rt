@@ -174,28 +174,3 @@ fn files_give_their_panes_or_a_note(rt: HostRuntime) -> Result<(), Fail> {
     }
     Ok(())
 }
-
-// Runs the four lines over a sink that takes one byte a call and fails at call `k`.
-fn run_to_failing_sink(alloc: Global, k: u64) -> Result<Ended, NoMemory> {
-    let mut store = store(alloc, FOUR_LINES, &[])?;
-    let mut out = MemorySink::new(alloc, 1, List::from_slice(alloc, &[k])?);
-    let mut notes = MemorySink::new(alloc, 1 << 20, List::new(alloc));
-    let words = words(alloc, "f", "60000")?;
-    let end = beam_main(alloc, words.as_slice(), &mut store, &mut out, &mut notes);
-    Ok(Ended {
-        number: end.status.number(),
-        out: Bytes::from_slice(alloc, out.taken())?,
-        notes: Bytes::from_slice(alloc, notes.taken())?,
-    })
-}
-
-#[test]
-fn a_failing_sink_keeps_what_it_took(rt: HostRuntime) -> Result<(), Fail> {
-    for k in 0..THREE_PANES.len() {
-        let ended = run_to_failing_sink(rt.alloc(), k as u64)?;
-        assert_eq!(rt; ended.number, 7);
-        assert_eq!(rt; ended.out.as_slice(), THREE_PANES.split_at(k).0);
-        assert_eq!(rt; ended.notes.as_slice(), b"sink fault\n".as_slice());
-    }
-    Ok(())
-}
