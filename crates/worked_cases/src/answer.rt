@@ -1,76 +1,67 @@
-use crate::coders::{element_answer, order_answer, read_answer, write_answer};
-use crate::elements::row_answer;
-use crate::grouping::grouped_answer;
-use crate::lines::{key_answer, line_answer, time_answer, timed_answer};
-use crate::outcomes::compared_outcome;
+use crate::case::Case;
+use crate::coders::{answer_coder, answer_element, answer_order, answer_write};
+use crate::elements::answer_row;
+use crate::grouping::answer_grouped;
+use crate::lines::{answer_key, answer_line, answer_time, answer_timed};
+use crate::outcomes::answer_outcome;
 use crate::ports::{read_sink, read_store};
-use crate::scanner::Scanner;
-use crate::sources::{emission_answer, lines_answer, next_answer};
-use crate::steps::steps_answer;
-use crate::texts::value_text;
-use crate::trackers::tracker_over;
+use crate::running::Script;
+use crate::sources::{answer_emission, answer_lines, answer_next};
+use crate::steps::call_all;
+use crate::trackers::read_tracker;
 use crate::values::read_value;
-use crate::windows::{strategy_answer, window_answer};
-use anyhow::{Result, bail};
+use crate::windows::{answer_strategy, answer_window};
 use beam_values::RoomyList;
 use keyed_state::KeyState;
 use split_core::Pieces;
-use std::alloc::Global;
 use timer_core::Timers;
 
-/// What a case expects, and what the library answered.
-#[derive(Drop)]
-pub struct Compared {
-    pub expected: String,
-    pub got: String,
-}
-
-/// Whether a case of this kind is a block of lines.
-pub fn is_block(line: &str) -> bool {
-    line.starts_with("outcome ")
-}
-
-/// What a block of lines expects and gives. Its first line has its kind and its name.
-pub fn compared_block(alloc: Global, lines: &[&str]) -> Result<Compared> {
-    match lines.split_first() {
-        Some((_, lines)) => compared_outcome(alloc, lines),
-        None => bail!("there is no block"),
+/// Answers a case of one line.
+pub fn answer(case: &mut Case<'_>) {
+    match case.word() {
+        "coder" => answer_coder(case),
+        "element" => answer_element(case),
+        "write" => answer_write(case),
+        "order" => answer_order(case),
+        "window" => answer_window(case),
+        "strategy" => answer_strategy(case),
+        "line" => answer_line(case),
+        "timed" => answer_timed(case),
+        "time" => answer_time(case),
+        "key" => answer_key(case),
+        "text" => answer_text(case),
+        "row" => answer_row(case),
+        "lines" => answer_lines(case),
+        "emission" => answer_emission(case),
+        "next" => answer_next(case),
+        "grouped" => answer_grouped(case),
+        kind => answer_calls(kind, case),
     }
 }
 
-/// What the library answers to the input of a case of this kind.
-pub fn answer(alloc: Global, kind: &str, input: &mut Scanner<'_>) -> Result<String> {
+fn answer_text(case: &mut Case<'_>) {
+    let value = read_value(case);
+    case.say_value(&value);
+}
+
+// Answers a case of calls on one value.
+fn answer_calls(kind: &str, case: &mut Case<'_>) {
     match kind {
-        "coder" => read_answer(alloc, input),
-        "element" => element_answer(alloc, input),
-        "write" => write_answer(alloc, input),
-        "order" => order_answer(alloc, input),
-        "window" => window_answer(alloc, input),
-        "strategy" => strategy_answer(alloc, input),
-        "line" => line_answer(alloc, input),
-        "timed" => timed_answer(alloc, input),
-        "time" => time_answer(alloc, input),
-        "key" => key_answer(alloc, input),
-        "row" => row_answer(alloc, input),
-        "text" => value_text(alloc, &read_value(alloc, input)?),
-        "lines" => lines_answer(alloc, input),
-        "emission" => emission_answer(alloc, input),
-        "next" => next_answer(alloc, input),
-        "grouped" => grouped_answer(alloc, input),
-        _ => calls_answer(alloc, kind, input),
+        "tracker" => call_all(read_tracker(case), case),
+        "pieces" => call_all(Pieces::new(case.alloc()), case),
+        "timers" => call_all(Timers::new(), case),
+        "state" => call_all(KeyState::new(case.alloc()), case),
+        "list" => call_all(RoomyList::<i64>::new(case.alloc()), case),
+        "store" => call_all(read_store(case), case),
+        "sink" => call_all(read_sink(case), case),
+        _ => case.fail("there is no such kind"),
     }
 }
 
-// The answers of calls on one value that changes.
-fn calls_answer(alloc: Global, kind: &str, input: &mut Scanner<'_>) -> Result<String> {
-    match kind {
-        "tracker" => steps_answer(alloc, tracker_over(input)?, input),
-        "pieces" => steps_answer(alloc, Pieces::new(alloc), input),
-        "timers" => steps_answer(alloc, Timers::new(), input),
-        "state" => steps_answer(alloc, KeyState::new(alloc), input),
-        "store" => steps_answer(alloc, read_store(alloc, input)?, input),
-        "sink" => steps_answer(alloc, read_sink(alloc, input)?, input),
-        "list" => steps_answer(alloc, RoomyList::<i64>::new(alloc), input),
-        _ => bail!("there is no kind {kind}"),
+/// Answers a case that is a block of lines.
+pub fn answer_block<'a>(script: &mut Script<'a>, case: &mut Case<'a>) {
+    match case.word() {
+        "outcome" => answer_outcome(script, case),
+        _ => case.fail("a line is KIND INPUT => EXPECTED"),
     }
 }

@@ -1,105 +1,148 @@
-use crate::scanner::Scanner;
-use crate::texts::{element_text, hex_text, value_text};
+use crate::case::Case;
+use crate::elements::say_element;
 use crate::values::read_value as value_of;
-use anyhow::{Result, bail};
 use beam_coders::{
     CoderRefusal, ReadRefusal, read_element, read_value, write_and_compare, write_and_read,
     write_element, write_value,
 };
-use beam_values::{Bytes, List, Value, cmp_values};
+use beam_values::{Bytes, Element, List, NoMemory, Value, cmp_values};
 use std::alloc::Global;
 use std::cmp::Ordering;
 
-/// The value at the front of bytes and its length; its spelling has to be these bytes.
-pub fn read_answer(alloc: Global, input: &mut Scanner<'_>) -> Result<String> {
-    let bytes = input.bytes(alloc)?;
-    let (value, len) = match read_value(alloc, bytes.as_slice()) {
-        Ok(read) => read,
-        Err(refusal) => return refusal_text(alloc, refusal),
-    };
-    let mut again = Bytes::new(alloc);
-    write_value(&value, &mut again)?;
-    expect_front(bytes.as_slice(), again.as_slice())?;
-    let value = value_text(alloc, &value)?;
-    Ok(format!(in alloc; "{value} {len}")?)
-}
-
-/// The element at the front of bytes and its length; its spelling has to be these bytes.
-pub fn element_answer(alloc: Global, input: &mut Scanner<'_>) -> Result<String> {
-    let bytes = input.bytes(alloc)?;
-    let (element, len) = match read_element(alloc, bytes.as_slice()) {
-        Ok(read) => read,
-        Err(refusal) => return refusal_text(alloc, refusal),
-    };
-    let mut again = Bytes::new(alloc);
-    write_element(&element, &mut again)?;
-    expect_front(bytes.as_slice(), again.as_slice())?;
-    let element = element_text(alloc, &element)?;
-    Ok(format!(in alloc; "{element} {len}")?)
-}
-
-fn expect_front(bytes: &[u8], written: &[u8]) -> Result<()> {
-    if !bytes.starts_with(written) {
-        bail!("what was read is written in another way");
+/// The value at the front of bytes and its length. Its spelling has to be these bytes again.
+pub fn answer_coder(case: &mut Case<'_>) {
+    let bytes = case.hex();
+    match value_read(case.alloc(), bytes.as_slice()) {
+        Ok((value, len)) => {
+            case.say_value(&value);
+            case.say_number(len as u64);
+            expect_front(value_written(case.alloc(), &value), bytes.as_slice(), case);
+        }
+        Err(refusal) => say_refusal(refusal, case),
     }
-    Ok(())
 }
 
-fn refusal_text(alloc: Global, refusal: ReadRefusal) -> Result<String> {
+/// The element at the front of bytes and its length. Its spelling has to be these bytes again.
+pub fn answer_element(case: &mut Case<'_>) {
+    let bytes = case.hex();
+    match element_read(case.alloc(), bytes.as_slice()) {
+        Ok((element, len)) => {
+            say_element(&element, case);
+            case.say_number(len as u64);
+            expect_front(
+                element_written(case.alloc(), &element),
+                bytes.as_slice(),
+                case,
+            );
+        }
+        Err(refusal) => say_refusal(refusal, case),
+    }
+}
+
+fn value_read(alloc: Global, bytes: &[u8]) -> Result<(Value, usize), ReadRefusal> {
+    read_value(alloc, bytes)
+}
+
+fn element_read(alloc: Global, bytes: &[u8]) -> Result<(Element, usize), ReadRefusal> {
+    read_element(alloc, bytes)
+}
+
+fn value_written(alloc: Global, value: &Value) -> Result<Bytes, NoMemory> {
+    let mut bytes = Bytes::new(alloc);
+    write_value(value, &mut bytes)?;
+    Ok(bytes)
+}
+
+fn element_written(alloc: Global, element: &Element) -> Result<Bytes, NoMemory> {
+    let mut bytes = Bytes::new(alloc);
+    write_element(element, &mut bytes)?;
+    Ok(bytes)
+}
+
+fn expect_front(written: Result<Bytes, NoMemory>, bytes: &[u8], case: &mut Case<'_>) {
+    match written {
+        Ok(written) if bytes.starts_with(written.as_slice()) => {}
+        Ok(_) => case.say("but written otherwise"),
+        Err(refused) => case.no_memory(refused),
+    }
+}
+
+fn say_refusal(refusal: ReadRefusal, case: &mut Case<'_>) {
     let ReadRefusal::Bad(refusal) = refusal else {
-        bail!("no memory");
+        return case.no_memory(NoMemory);
     };
-    let number = refusal.number();
-    Ok(match refusal {
-        CoderRefusal::Short => format!(in alloc; "refusal {number} short"),
-        CoderRefusal::Overlong => format!(in alloc; "refusal {number} overlong"),
-        CoderRefusal::Tag(tag) => format!(in alloc; "refusal {number} tag {tag}"),
-        CoderRefusal::Range => format!(in alloc; "refusal {number} range"),
-        CoderRefusal::Deep => format!(in alloc; "refusal {number} deep"),
-    }?)
+    case.say("refusal");
+    case.say_number(refusal.number());
+    match refusal {
+        CoderRefusal::Short => case.say("short"),
+        CoderRefusal::Overlong => case.say("overlong"),
+        CoderRefusal::Tag(tag) => {
+            case.say("tag");
+            case.say_number(tag);
+        }
+        CoderRefusal::Range => case.say("range"),
+        CoderRefusal::Deep => case.say("deep"),
+    }
 }
 
 /// The spelling of a value, which has to be read again, whatever follows it.
-pub fn write_answer(alloc: Global, input: &mut Scanner<'_>) -> Result<String> {
-    let value = value_of(alloc, input)?;
-    let mut bytes = Bytes::new(alloc);
-    write_value(&value, &mut bytes)?;
-    let again = write_and_read(alloc, &value, b"after")?;
-    if cmp_values(&again, &value) != Ordering::Equal {
-        bail!("another value is read again");
+pub fn answer_write(case: &mut Case<'_>) {
+    let value = value_of(case);
+    match value_written(case.alloc(), &value) {
+        Ok(bytes) => case.say_hex(bytes.as_slice()),
+        Err(refused) => case.no_memory(refused),
     }
-    Ok(hex_text(alloc, bytes.as_slice())?)
+    if !is_read_again(case.alloc(), &value) {
+        case.say("but read otherwise");
+    }
 }
 
-/// How each value stands to those after it, where it is the same for all of them.
-pub fn order_answer(alloc: Global, input: &mut Scanner<'_>) -> Result<String> {
-    let mut values = List::new(alloc);
-    for _ in 0..input.left() {
-        if input.left() == 0 {
+fn is_read_again(alloc: Global, value: &Value) -> bool {
+    match write_and_read(alloc, value, b"after") {
+        Ok(again) => cmp_values(&again, value) == Ordering::Equal,
+        Err(_) => false,
+    }
+}
+
+/// How each value stands to those after it, where that is the same for all of them.
+pub fn answer_order(case: &mut Case<'_>) {
+    let mut values = List::new(case.alloc());
+    for _ in 0..case.left() {
+        if case.is_over() {
             break;
         }
-        values.push(value_of(alloc, input)?)?;
+        let value = value_of(case);
+        case.keep(&mut values, value);
     }
-    let name = match common_order(alloc, values.as_slice())? {
-        Some(Ordering::Less) => "less",
-        Some(Ordering::Equal) => "equal",
-        Some(Ordering::Greater) => "greater",
-        None => "mixed",
-    };
-    Ok(String::from_str(alloc, name)?)
+    match common_order(case.alloc(), values.as_slice()) {
+        Some(Ordering::Less) => case.say("less"),
+        Some(Ordering::Equal) => case.say("equal"),
+        Some(Ordering::Greater) => case.say("greater"),
+        None => case.say("mixed"),
+    }
 }
 
-fn common_order(alloc: Global, values: &[Value]) -> Result<Option<Ordering>> {
+fn common_order(alloc: Global, values: &[Value]) -> Option<Ordering> {
     let mut common = None;
     for (i, a) in values.iter().enumerate() {
         for b in values.split_at(i).1.iter().skip(1) {
-            let (_, _, order) = write_and_compare(alloc, a, b)?;
-            let back = cmp_values(b, a);
-            if back != order.reverse() || common.is_some_and(|other| other != order) {
-                return Ok(None);
+            let order = order_of(alloc, a, b)?;
+            if common.is_some() && common != Some(order) {
+                return None;
             }
             common = Some(order);
         }
     }
-    Ok(common)
+    common
+}
+
+// The order of two values, where it is that of their spellings and the other way round.
+fn order_of(alloc: Global, a: &Value, b: &Value) -> Option<Ordering> {
+    let (first, second, order) = write_and_compare(alloc, a, b).ok()?;
+    let of_bytes = first.as_slice().cmp(&second.as_slice());
+    if order == of_bytes && cmp_values(b, a) == order.reverse() {
+        Some(order)
+    } else {
+        None
+    }
 }

@@ -1,48 +1,53 @@
-use crate::scanner::Scanner;
-use crate::texts::blob_text;
+use crate::case::Case;
 use crate::values::read_value;
-use anyhow::{Result, bail};
 use beam_text::render_elements;
-use beam_values::{Element, PaneTag, Span, Timing};
-use std::alloc::Global;
+use beam_values::{Element, PaneTag, Timing};
 
 /// An element as its time, its window, the timing and the index of its pane, and its value.
-pub fn read_element(alloc: Global, input: &mut Scanner<'_>) -> Result<Element> {
-    let time = input.time()?;
-    let span = read_span(input)?;
-    let timing = read_timing(input)?;
-    let index = input.number()?;
-    let value = read_value(alloc, input)?;
-    Ok(Element {
-        value,
-        time,
-        span,
-        pane: PaneTag { timing, index },
-    })
-}
-
-/// A window `[START,END)`.
-pub fn read_span(input: &mut Scanner<'_>) -> Result<Span> {
-    let (start, end) = input.ends()?;
-    let Some(span) = Span::new(start, end) else {
-        bail!("the start of a window is below its end");
-    };
-    Ok(span)
-}
-
-fn read_timing(input: &mut Scanner<'_>) -> Result<Timing> {
-    match input.word()? {
-        "EARLY" => Ok(Timing::Early),
-        "ON_TIME" => Ok(Timing::OnTime),
-        "LATE" => Ok(Timing::Late),
-        "UNKNOWN" => Ok(Timing::Unknown),
-        word => bail!("there is no timing {word}"),
+pub fn read_element(case: &mut Case<'_>) -> Element {
+    Element {
+        time: case.time(),
+        span: case.span(),
+        pane: PaneTag {
+            timing: read_timing(case),
+            index: case.number(),
+        },
+        value: read_value(case),
     }
 }
 
+fn read_timing(case: &mut Case<'_>) -> Timing {
+    match case.word() {
+        "EARLY" => Timing::Early,
+        "ON_TIME" => Timing::OnTime,
+        "LATE" => Timing::Late,
+        "UNKNOWN" => Timing::Unknown,
+        _ => {
+            case.fail("there is no such timing");
+            Timing::Unknown
+        }
+    }
+}
+
+/// An element in the form in which it is read.
+pub fn say_element(element: &Element, case: &mut Case<'_>) {
+    case.say_number(element.time.ms());
+    case.say_span(element.span);
+    case.say(match element.pane.timing {
+        Timing::Early => "EARLY",
+        Timing::OnTime => "ON_TIME",
+        Timing::Late => "LATE",
+        Timing::Unknown => "UNKNOWN",
+    });
+    case.say_number(element.pane.index);
+    case.say_value(&element.value);
+}
+
 /// The line of an element.
-pub fn row_answer(alloc: Global, input: &mut Scanner<'_>) -> Result<String> {
-    let element = read_element(alloc, input)?;
-    let text = render_elements(alloc, &[element])?;
-    blob_text(alloc, text.as_slice())
+pub fn answer_row(case: &mut Case<'_>) {
+    let element = read_element(case);
+    match render_elements(case.alloc(), &[element]) {
+        Ok(row) => case.say_text(row.as_slice()),
+        Err(refused) => case.no_memory(refused),
+    }
 }

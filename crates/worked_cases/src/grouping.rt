@@ -1,49 +1,65 @@
-use crate::scanner::Scanner;
-use crate::texts::{Parts, element_text};
+use crate::case::Case;
+use crate::elements::say_element;
 use crate::values::read_value;
 use crate::windows::{read_strategy, windows_of};
-use anyhow::Result;
-use beam_values::{Element, List, PaneTag, Strategy, Time, Timing, Value};
+use beam_values::{Element, List, NoMemory, PaneTag, Span, Strategy, Time, Timing, Value};
 use plain_model::grouped;
 use std::alloc::Global;
 
 /// The panes of values at times under a strategy: `STRATEGY; TIME VALUE; TIME VALUE`.
-pub fn grouped_answer(alloc: Global, input: &mut Scanner<'_>) -> Result<String> {
-    let strategy = read_strategy(input)?;
-    let mut elements = List::new(alloc);
-    for _ in 0..input.left() {
-        if !input.takes(b';') {
+pub fn answer_grouped(case: &mut Case<'_>) {
+    let strategy = read_strategy(case);
+    let mut elements = List::new(case.alloc());
+    for _ in 0..case.left() {
+        if !case.takes(b';') {
             break;
         }
-        let time = input.time()?;
-        let value = read_value(alloc, input)?;
-        push_elements(alloc, &strategy, time, &value, &mut elements)?;
+        add_elements(&strategy, &mut elements, case);
     }
-    let mut panes = Parts::new(alloc, "; ");
-    for pane in grouped(alloc, &strategy, elements)?.as_slice() {
-        panes.push(element_text(alloc, pane)?)?;
+    match panes_of(case.alloc(), &strategy, elements) {
+        Ok(panes) => say_panes(panes.as_slice(), case),
+        Err(refused) => case.no_memory(refused),
     }
-    panes.text()
+}
+
+fn panes_of(
+    alloc: Global,
+    strategy: &Strategy,
+    elements: List<Element>,
+) -> Result<List<Element>, NoMemory> {
+    grouped(alloc, strategy, elements)
 }
 
 // An element for each window of the time.
-fn push_elements(
-    alloc: Global,
-    strategy: &Strategy,
-    time: Time,
-    value: &Value,
-    elements: &mut List<Element>,
-) -> Result<()> {
-    for span in windows_of(alloc, strategy, time)?.as_slice() {
-        elements.push(Element {
-            value: value.copy(alloc)?,
-            time,
-            span: *span,
-            pane: PaneTag {
-                timing: Timing::Unknown,
-                index: 0,
-            },
-        })?;
+fn add_elements(strategy: &Strategy, elements: &mut List<Element>, case: &mut Case<'_>) {
+    let time = case.time();
+    let value = read_value(case);
+    for window in windows_of(strategy, time, case).as_slice() {
+        match element_in(case.alloc(), &value, time, *window) {
+            Ok(element) => case.keep(elements, element),
+            Err(refused) => case.no_memory(refused),
+        }
     }
-    Ok(())
+}
+
+fn element_in(alloc: Global, value: &Value, time: Time, span: Span) -> Result<Element, NoMemory> {
+    Ok(Element {
+        value: value.copy(alloc)?,
+        time,
+        span,
+        pane: PaneTag {
+            timing: Timing::Unknown,
+            index: 0,
+        },
+    })
+}
+
+fn say_panes(panes: &[Element], case: &mut Case<'_>) {
+    for pane in panes {
+        case.next_answer();
+        say_element(pane, case);
+    }
+    if panes.is_empty() {
+        case.say("none");
+    }
 }

@@ -1,41 +1,43 @@
-use crate::scanner::Scanner;
-use crate::texts::{blob_text, some_text};
-use anyhow::Result;
+use crate::case::Case;
 use beam_lines::{TimedLine, first_line, key_field, time_of, timed_line};
-use std::alloc::Global;
 
 /// The first line of a text, and where the next one starts.
-pub fn line_answer(alloc: Global, input: &mut Scanner<'_>) -> Result<String> {
-    let text = input.text(alloc)?;
+pub fn answer_line(case: &mut Case<'_>) {
+    let text = case.text();
     let line = first_line(text.as_slice());
-    let shown = blob_text(alloc, line.text)?;
-    Ok(format!(in alloc; "{shown} {}", line.next)?)
+    case.say_text(line.text);
+    case.say_number(line.next as u64);
 }
 
 /// What a line of timed lines says.
-pub fn timed_answer(alloc: Global, input: &mut Scanner<'_>) -> Result<String> {
-    let line = input.text(alloc)?;
+pub fn answer_timed(case: &mut Case<'_>) {
+    let line = case.text();
     match timed_line(line.as_slice()) {
         TimedLine::Timed(time, rest) => {
-            let rest = blob_text(alloc, rest)?;
-            Ok(format!(in alloc; "{} {rest}", time.ms())?)
+            case.say_number(time.ms());
+            case.say_text(rest);
         }
-        TimedLine::Declared(mark) => Ok(format!(in alloc; "mark {}", mark.ms())?),
-        TimedLine::Poison => Ok(String::from_str(alloc, "poison")?),
+        TimedLine::Declared(mark) => {
+            case.say("mark");
+            case.say_number(mark.ms());
+        }
+        TimedLine::Poison => case.say("poison"),
     }
 }
 
 /// The time that a text writes.
-pub fn time_answer(alloc: Global, input: &mut Scanner<'_>) -> Result<String> {
-    let text = input.text(alloc)?;
-    some_text(alloc, time_of(text.as_slice()).map(|time| time.ms()))
+pub fn answer_time(case: &mut Case<'_>) {
+    let text = case.text();
+    match time_of(text.as_slice()) {
+        Some(time) => case.say_number(time.ms()),
+        None => case.say("none"),
+    }
 }
 
 /// The key and the part of a text.
-pub fn key_answer(alloc: Global, input: &mut Scanner<'_>) -> Result<String> {
-    let text = input.text(alloc)?;
+pub fn answer_key(case: &mut Case<'_>) {
+    let text = case.text();
     let (key, part) = key_field(text.as_slice());
-    let key = blob_text(alloc, key)?;
-    let part = blob_text(alloc, part)?;
-    Ok(format!(in alloc; "{key} {part}")?)
+    case.say_text(key);
+    case.say_text(part);
 }

@@ -1,42 +1,51 @@
-use crate::scanner::Scanner;
-use crate::steps::Steps;
-use crate::texts::{Parts, some_text};
-use anyhow::{Result, bail};
+use crate::case::Case;
+use crate::steps::Called;
 use beam_values::RoomyList;
-use std::alloc::Global;
 
-impl Steps for RoomyList<i64> {
-    fn step(&mut self, alloc: Global, call: &str, input: &mut Scanner<'_>) -> Result<String> {
-        match call {
-            "reserve" => self.reserve(input.number()?)?,
-            "push" => self.push(input.number()?)?,
-            "insert" => {
-                let at = input.number::<usize>()?;
-                if at > self.len() {
-                    bail!("there is no place {at}");
+impl Called for RoomyList<i64> {
+    fn call(&mut self, name: &str, case: &mut Case<'_>) {
+        match name {
+            "reserve" => {
+                if let Err(refused) = self.reserve(case.number()) {
+                    case.no_memory(refused);
                 }
-                self.insert(at, input.number()?)?;
             }
-            "remove" => {
-                let at = input.number::<usize>()?;
-                if at >= self.len() {
-                    bail!("there is no item {at}");
+            "push" => {
+                if let Err(refused) = self.push(case.number()) {
+                    case.no_memory(refused);
                 }
-                return Ok(format!(in alloc; "{}", self.remove(at))?);
             }
-            "pop" => return some_text(alloc, self.pop()),
-            "len" => return Ok(format!(in alloc; "{}", self.len())?),
-            "items" => return items_text(alloc, self.as_slice()),
-            _ => bail!("a list has no call {call}"),
+            "insert" => insert(self, case),
+            "remove" => remove(self, case),
+            "pop" => case.say_some(self.pop()),
+            "len" => case.say_number(self.len() as u64),
+            "items" => say_items(self.as_slice(), case),
+            _ => case.fail("a list has no such call"),
         }
-        Ok(String::new(alloc))
     }
 }
 
-fn items_text(alloc: Global, items: &[i64]) -> Result<String> {
-    let mut texts = Parts::new(alloc, " ");
-    for item in items {
-        texts.push(*item)?;
+fn insert(list: &mut RoomyList<i64>, case: &mut Case<'_>) {
+    let at = case.number::<usize>().min(list.len());
+    if let Err(refused) = list.insert(at, case.number()) {
+        case.no_memory(refused);
     }
-    texts.text()
+}
+
+fn remove(list: &mut RoomyList<i64>, case: &mut Case<'_>) {
+    let at = case.number::<usize>();
+    if at < list.len() {
+        case.say_number(list.remove(at));
+    } else {
+        case.fail("there is no such item");
+    }
+}
+
+fn say_items(items: &[i64], case: &mut Case<'_>) {
+    for item in items {
+        case.say_number(*item);
+    }
+    if items.is_empty() {
+        case.say("none");
+    }
 }

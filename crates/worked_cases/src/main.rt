@@ -1,15 +1,15 @@
-//! Worked cases of the libraries, as data: what a call answers, worked out by hand.
+//! Worked cases of the libraries, as data: what calls answer, worked out by hand.
 //!
-//! The cases stand in the files of `data/`, one a line, and the program is run on the files that it
-//! is given: `KIND INPUT => EXPECTED`. It answers each input with the library, prints each case whose
-//! answer isn't the one expected, or that can't be read, and ends with status 0 only where there was
-//! none. A case costs nothing to prove: to add one write a line and raise the count of its file in
-//! `stdout`. `docs/CASES.md` has the form of each kind. A kind is added in `answer.rt`. Read `cases.rt`
-//! first.
+//! The cases stand in the files of `data/`, and the program runs those that it is given the names of:
+//! a case is a line `KIND INPUT => EXPECTED`, or a block of lines that ends with `end`. It answers each
+//! input with the library, prints each case that has another answer or that can't be read, and ends
+//! with status 0 only where there was none. A case costs nothing to prove: to add one, write it into a
+//! file of `data/` and raise that file's count and the sum in `stdout`. `docs/CASES.md` has the form of
+//! each kind; a new kind goes into `answer.rt`. Read `running.rt` first, then `case.rt`.
 #![tactic(auto)]
 
 mod answer;
-mod cases;
+mod case;
 mod coders;
 mod elements;
 mod expanded;
@@ -19,33 +19,26 @@ mod lists;
 mod outcomes;
 mod pieces;
 mod ports;
-mod scanner;
+mod running;
 mod sources;
 mod states;
 mod steps;
-mod texts;
 mod timers;
 mod trackers;
 mod values;
 mod windows;
 
-use anyhow::{Context, Result};
-use cases::{Tally, run_cases};
+use running::{Tally, run_file};
 use std::process::ExitCode;
-use std::{env, fs};
+use std::{env, io};
 
-fn main(rt: HostRuntime) -> Result<ExitCode> {
+fn main(rt: HostRuntime) -> io::Result<ExitCode> {
+    let mut words = env::args(&rt)?;
+    let _program = words.next();
     let mut all = Tally::NONE;
-    for name in env::args(&rt)?.skip(1) {
-        let text = fs::read_to_string(&rt, name.as_str()).context("a file of cases can't be read")?;
-        let tally = run_cases(&rt, name.as_str(), text.as_str())?;
-        println!(rt; "{name}: {} ok", tally.passed)?;
-        all.add(tally);
+    for name in words {
+        all = all.and(run_file(&rt, name.as_str())?);
     }
-    println!(rt;
-        "{} cases, {} failed",
-        all.passed.saturating_add(all.failed),
-        all.failed
-    )?;
+    println!(rt; "{} cases, {} failed", all.cases, all.failed)?;
     Ok(ExitCode::from(u8::from(all.failed != 0)))
 }

@@ -1,80 +1,85 @@
-use crate::answer::Compared;
-use crate::elements::{read_element, read_span};
-use crate::scanner::Scanner;
-use crate::texts::blob_text;
+use crate::case::Case;
+use crate::elements::read_element;
+use crate::running::Script;
 use crate::values::read_value;
-use anyhow::{Result, bail};
 use beam_text::render;
 use beam_values::{
-    Args, Arrival, Bytes, KeyLog, List, LogEntry, LogInput, Node, NodeKind, Outcome, Plan,
-    StateKind, Timer,
+    Args, Arrival, Bytes, KeyLog, List, LogEntry, LogInput, NoMemory, Node, NodeKind, Outcome,
+    Plan, StateKind, Timer,
 };
 use std::alloc::Global;
 
-/// An outcome that is put together line by line, and the text that its rendering should be.
+// What decides the rendering of an outcome.
 #[derive(Drop)]
-struct Rendering {
+struct Shown {
     nodes: List<Node>,
     written: List<Arrival>,
     logs: List<KeyLog>,
-    out: Bytes,
 }
 
-/// The rendering of an outcome, by the lines of a block.
-pub fn compared_outcome(alloc: Global, lines: &[&str]) -> Result<Compared> {
-    let mut rendering = Rendering {
+/// The rendering of an outcome, which the lines of a block describe.
+pub fn answer_outcome<'a>(script: &mut Script<'a>, case: &mut Case<'a>) {
+    let alloc = case.alloc();
+    let mut shown = Shown {
         nodes: List::new(alloc),
         written: List::new(alloc),
         logs: List::new(alloc),
-        out: Bytes::new(alloc),
     };
-    for line in lines {
-        let mut input = Scanner::new(line);
-        add_line(alloc, &mut rendering, &mut input)?;
-        input.end()?;
+    read_lines(script, case, &mut shown);
+    match rendered(alloc, shown) {
+        Ok(text) => case.say_bytes(text.as_slice()),
+        Err(refused) => case.no_memory(refused),
     }
-    let Rendering {
-        nodes,
-        written,
-        logs,
-        out,
-    } = rendering;
-    let text = render(alloc, &outcome_of(alloc, nodes, written, logs))?;
-    Ok(Compared {
-        expected: blob_text(alloc, out.as_slice())?,
-        got: blob_text(alloc, text.as_slice())?,
-    })
 }
 
-fn add_line(alloc: Global, rendering: &mut Rendering, input: &mut Scanner<'_>) -> Result<()> {
-    match input.word()? {
-        "node" => rendering.nodes.push(Node {
-            kind: read_kind(alloc, input)?,
-            inputs: List::new(alloc),
-        })?,
-        "written" => rendering.written.push(Arrival {
-            node: input.number()?,
-            element: read_element(alloc, input)?,
-        })?,
-        "log" => rendering.logs.push(read_log(alloc, input)?)?,
-        "out" => rendering
-            .out
-            .extend_from_slice(input.rest(alloc)?.as_slice())?,
-        word => bail!("an outcome has no line {word}"),
+fn read_lines<'a>(script: &mut Script<'a>, case: &mut Case<'a>, shown: &mut Shown) {
+    for _ in 0..u64::MAX {
+        if !script.next_of_block(case) {
+            break;
+        }
+        add_line(case, shown);
+        case.end();
     }
-    Ok(())
 }
 
-// What decides the rendering of a node.
-fn read_kind(alloc: Global, input: &mut Scanner<'_>) -> Result<NodeKind> {
-    match input.word()? {
-        "flatten" => Ok(NodeKind::Flatten),
-        "write" => Ok(NodeKind::Write {
-            label: input.text(alloc)?,
-        }),
-        "stateful" => Ok(stateful(false)),
-        "logged" => Ok(stateful(true)),
-        word => bail!("there is no node {word}"),
+fn add_line(case: &mut Case<'_>, shown: &mut Shown) {
+    match case.word() {
+        "node" => {
+            let node = Node {
+                kind: read_kind(case),
+                inputs: List::new(case.alloc()),
+            };
+            case.keep(&mut shown.nodes, node);
+        }
+        "written" => {
+            let arrival = Arrival {
+                node: case.number(),
+                element: read_element(case),
+            };
+            case.keep(&mut shown.written, arrival);
+        }
+        "log" => {
+            let log = read_log(case);
+            case.keep(&mut shown.logs, log);
+        }
+        "out" => {
+            let text = case.line_rest();
+            case.expect(text.as_slice());
+        }
+        _ => case.fail("an outcome has no such line"),
+    }
+}
+
+fn read_kind(case: &mut Case<'_>) -> NodeKind {
+    match case.word() {
+        "write" => NodeKind::Write { label: case.text() },
+        "stateful" => stateful(false),
+        "logged" => stateful(true),
+        "flatten" => NodeKind::Flatten,
+        _ => {
+            case.fail("there is no such node");
+            NodeKind::Flatten
+        }
     }
 }
 
@@ -87,48 +92,48 @@ fn stateful(log: bool) -> NodeKind {
 }
 
 // The calls of a stateful node: its number, the key, the window, and after each `;` a call.
-fn read_log(alloc: Global, input: &mut Scanner<'_>) -> Result<KeyLog> {
-    let node = input.number()?;
-    let key = read_value(alloc, input)?;
-    let span = read_span(input)?;
-    let mut entries = List::new(alloc);
-    for _ in 0..input.left() {
-        if !input.takes(b';') {
+fn read_log(case: &mut Case<'_>) -> KeyLog {
+    let node = case.number();
+    let key = read_value(case);
+    let span = case.span();
+    let mut entries = List::new(case.alloc());
+    for _ in 0..case.left() {
+        if !case.takes(b';') {
             break;
         }
-        entries.push(LogEntry {
-            input: read_call(alloc, input)?,
+        let entry = LogEntry {
+            input: read_call(case),
             commit: 1,
-            outputs: List::new(alloc),
-        })?;
+            outputs: List::new(case.alloc()),
+        };
+        case.keep(&mut entries, entry);
     }
-    Ok(KeyLog {
+    KeyLog {
         node,
         key,
         span,
         entries,
-    })
-}
-
-// `element ELEMENT` or `timer NAME TIME`.
-fn read_call(alloc: Global, input: &mut Scanner<'_>) -> Result<LogInput> {
-    match input.word()? {
-        "element" => Ok(LogInput::Arrived(read_element(alloc, input)?)),
-        "timer" => Ok(LogInput::Fired(Timer {
-            name: input.number()?,
-            time: input.time()?,
-        })),
-        word => bail!("there is no call {word}"),
     }
 }
 
-fn outcome_of(
-    alloc: Global,
-    nodes: List<Node>,
-    written: List<Arrival>,
-    logs: List<KeyLog>,
-) -> Outcome {
-    Outcome {
+// `element ELEMENT` or `timer NAME TIME`.
+fn read_call(case: &mut Case<'_>) -> LogInput {
+    if case.word() == "element" {
+        return LogInput::Arrived(read_element(case));
+    }
+    LogInput::Fired(Timer {
+        name: case.number(),
+        time: case.time(),
+    })
+}
+
+fn rendered(alloc: Global, shown: Shown) -> Result<Bytes, NoMemory> {
+    let Shown {
+        nodes,
+        written,
+        logs,
+    } = shown;
+    let outcome = Outcome {
         plan: Plan { version: 1, nodes },
         files: List::new(alloc),
         done: List::new(alloc),
@@ -139,5 +144,6 @@ fn outcome_of(
         written,
         commits: List::new(alloc),
         stopped: None,
-    }
+    };
+    render(alloc, &outcome)
 }

@@ -1,85 +1,81 @@
-use crate::scanner::Scanner;
-use crate::steps::Steps;
-use crate::texts::range_text;
-use anyhow::{Result, bail};
-use beam_values::{Piece, Range, Time};
+use crate::case::Case;
+use crate::steps::Called;
+use beam_values::{Piece, Time};
 use split_core::Pieces;
-use std::alloc::Global;
 
-impl Steps for Pieces {
-    fn step(&mut self, alloc: Global, call: &str, input: &mut Scanner<'_>) -> Result<String> {
-        match call {
-            "initial" => initial(alloc, self, input),
+impl Called for Pieces {
+    fn call(&mut self, name: &str, case: &mut Case<'_>) {
+        match name {
+            "initial" => initial(self, case),
             "add" => {
-                self.add_residual(read_piece(input)?)?;
-                Ok(String::new(alloc))
+                let piece = read_piece(case);
+                if let Err(refused) = self.add_residual(piece) {
+                    case.no_memory(refused);
+                }
             }
-            "give_back" => {
-                let piece = read_piece(input)?;
-                self.keep_room(1)?;
-                self.give_back(piece);
-                Ok(String::new(alloc))
+            "give_back" => give_back(self, case),
+            "take" => say_taken(self.take(), case),
+            "len" => case.say_number(self.len() as u64),
+            "finished" => {
+                let node = case.number();
+                case.say_bool(self.finished(node));
             }
-            "take" => taken_text(alloc, self.take()),
-            "len" => Ok(format!(in alloc; "{}", self.len())?),
-            "finished" => Ok(format!(in alloc; "{}", self.finished(input.number()?))?),
-            _ => bail!("pieces have no call {call}"),
+            _ => case.fail("pieces have no such call"),
         }
     }
 }
 
 // An item as its node, its number, its length and the length of its pieces.
-fn initial(alloc: Global, pieces: &mut Pieces, input: &mut Scanner<'_>) -> Result<String> {
-    let node = input.number::<u32>()?;
-    let item = input.number::<u32>()?;
-    let len = input.number::<u64>()?;
-    let chunk = input.number::<u64>()?;
-    if chunk < 1 {
-        bail!("a piece has an offset");
+fn initial(pieces: &mut Pieces, case: &mut Case<'_>) {
+    let node = case.number();
+    let item = case.number();
+    let len = case.number();
+    let chunk = case.number::<u64>().max(1);
+    if let Err(refused) = pieces.initial(node, item, len, chunk) {
+        case.no_memory(refused);
     }
-    pieces.initial(node, item, len, chunk)?;
-    Ok(String::new(alloc))
 }
 
-// A piece as its node, its item, its range, what was seen before it and its attempts; without the last
-// two nothing was seen and there were none.
-fn read_piece(input: &mut Scanner<'_>) -> Result<Piece> {
-    let node = input.number()?;
-    let item = input.number()?;
-    let (from, to) = input.ends()?;
-    let fresh = input.is_over();
-    let seen = if fresh {
-        Time::LEAST_MS
-    } else {
-        input.number()?
-    };
-    let attempts = if fresh { 0 } else { input.number()? };
-    let (Some(range), Some(seen)) = (Range::new(from, to), Time::new(seen)) else {
-        bail!("there is no such piece");
-    };
-    Ok(Piece {
+fn give_back(pieces: &mut Pieces, case: &mut Case<'_>) {
+    let piece = read_piece(case);
+    match pieces.keep_room(1) {
+        Ok(()) => pieces.give_back(piece),
+        Err(refused) => case.no_memory(refused),
+    }
+}
+
+// A piece as its node, its item and its range, and then what was seen before it and its attempts; without
+// these nothing was seen, and there were none.
+fn read_piece(case: &mut Case<'_>) -> Piece {
+    let node = case.number();
+    let item = case.number();
+    let range = case.range();
+    let is_fresh = case.is_over();
+    Piece {
         node,
         item,
         range,
-        seen,
-        attempts,
-    })
+        seen: if is_fresh { least_time() } else { case.time() },
+        attempts: if is_fresh { 0 } else { case.number() },
+    }
 }
 
-fn taken_text(alloc: Global, taken: Option<Piece>) -> Result<String> {
+fn least_time() -> Time {
+    match Time::new(Time::LEAST_MS) {
+        Some(time) => time,
+        None => unreachable!(),
+    }
+}
+
+fn say_taken(taken: Option<Piece>, case: &mut Case<'_>) {
     let Some(piece) = taken else {
-        return Ok(String::from_str(alloc, "none")?);
+        return case.say("none");
     };
-    let Piece {
-        node,
-        item,
-        range,
-        seen,
-        attempts,
-    } = piece;
-    let range = range_text(alloc, range)?;
-    if attempts == 0 && seen.ms() == Time::LEAST_MS {
-        return Ok(format!(in alloc; "{node} {item} {range}")?);
+    case.say_number(piece.node);
+    case.say_number(piece.item);
+    case.say_range(piece.range);
+    if piece.attempts != 0 || piece.seen != least_time() {
+        case.say_number(piece.seen.ms());
+        case.say_number(piece.attempts);
     }
-    Ok(format!(in alloc; "{node} {item} {range} {} {attempts}", seen.ms())?)
 }

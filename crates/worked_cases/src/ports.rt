@@ -1,82 +1,75 @@
 ghost use Rattle.std.specs.Prelude.{◌<◌, length};
 
-use crate::scanner::Scanner;
-use crate::steps::Steps;
-use crate::texts::blob_text;
-use anyhow::{Result, bail};
+use crate::case::Case;
+use crate::steps::Called;
 use beam_ports::{Failed, MemorySink, MemoryStore, OpenRefusal, Sink, Store};
 use beam_values::{FileText, List};
-use std::alloc::Global;
-
-/// The most bytes of one read.
-const MOST_READ: usize = 100;
 
 /// A store with the files `NAME TEXT NAME TEXT`, and the calls that fail.
-pub fn read_store(alloc: Global, input: &mut Scanner<'_>) -> Result<MemoryStore> {
-    let mut files = List::new(alloc);
-    for _ in 0..input.left() {
-        if !input.shows(b'"') {
+pub fn read_store(case: &mut Case<'_>) -> MemoryStore {
+    let mut files = List::new(case.alloc());
+    for _ in 0..case.left() {
+        if !case.shows(b'"') {
             break;
         }
-        files.push(FileText {
-            name: input.text(alloc)?,
-            bytes: input.text(alloc)?,
-        })?;
+        let name = case.text();
+        let bytes = case.text();
+        case.keep(&mut files, FileText { name, bytes });
     }
-    Ok(MemoryStore::new(files, read_failing(alloc, input)?))
+    MemoryStore::new(files, read_failing(case))
 }
 
 /// A sink with the most bytes that it takes a call, and the calls that fail.
-pub fn read_sink(alloc: Global, input: &mut Scanner<'_>) -> Result<MemorySink> {
-    let most = input.number::<usize>()?;
-    if most == 0 {
-        bail!("a sink takes a byte");
-    }
-    Ok(MemorySink::new(alloc, most, read_failing(alloc, input)?))
+pub fn read_sink(case: &mut Case<'_>) -> MemorySink {
+    let most = case.number::<usize>().max(1);
+    MemorySink::new(case.alloc(), most, read_failing(case))
 }
 
 // The numbers of the calls that fail as `fails N N`, where there are any, and the `;` after them.
-fn read_failing(alloc: Global, input: &mut Scanner<'_>) -> Result<List<u64>> {
-    let mut failing = List::new(alloc);
-    if input.takes(b';') {
-        return Ok(failing);
+fn read_failing(case: &mut Case<'_>) -> List<u64> {
+    let mut failing = List::new(case.alloc());
+    if case.takes(b';') {
+        return failing;
     }
-    if input.word()? != "fails" {
-        bail!("failing calls are `fails N N`");
+    if case.word() != "fails" {
+        case.fail("failing calls are `fails N N`");
     }
-    for _ in 0..input.left() {
-        if input.takes(b';') {
+    for _ in 0..case.left() {
+        if case.takes(b';') {
             break;
         }
-        failing.push(input.number()?)?;
+        let call = case.number();
+        case.keep(&mut failing, call);
     }
-    Ok(failing)
+    failing
 }
 
-impl Steps for MemoryStore {
-    fn step(&mut self, alloc: Global, call: &str, input: &mut Scanner<'_>) -> Result<String> {
-        match call {
-            "read" => read(alloc, self, input),
-            "faults" => Ok(format!(in alloc; "{}", self.faults())?),
-            _ => bail!("a store has no call {call}"),
+impl Called for MemoryStore {
+    fn call(&mut self, name: &str, case: &mut Case<'_>) {
+        match name {
+            "read" => read(self, case),
+            "faults" => case.say_number(self.faults()),
+            _ => case.fail("a store has no such call"),
         }
     }
 }
 
-// Opens a file and reads of it: its number, its length, how many bytes were read, and the buffer, which
-// was full of dots.
-fn read(alloc: Global, store: &mut MemoryStore, input: &mut Scanner<'_>) -> Result<String> {
-    let name = input.text(alloc)?;
-    let at = input.number::<u64>()?;
-    let len = input.number::<usize>()?;
-    let mut buf = vec![in alloc; b'.'; len.min(MOST_READ)]?;
-    let answer = open_and_read(store, name.as_slice(), at, buf.as_mut_slice());
-    let buf = blob_text(alloc, buf.as_slice())?;
-    match answer {
-        Ok((file, len, count)) => Ok(format!(in alloc; "{file} {len} {count} {buf}")?),
-        Err(OpenRefusal::Absent) => Ok(format!(in alloc; "absent {buf}")?),
-        Err(OpenRefusal::Failed) => Ok(format!(in alloc; "failed {buf}")?),
+// Opens a file and reads of it into a buffer: its number, its length, how many bytes were read, and what
+// is in the buffer then.
+fn read(store: &mut MemoryStore, case: &mut Case<'_>) {
+    let name = case.text();
+    let at = case.number();
+    let mut buf = case.text().into_vec();
+    match open_and_read(store, name.as_slice(), at, buf.as_mut_slice()) {
+        Ok((file, len, count)) => {
+            case.say_number(file);
+            case.say_number(len);
+            case.say_number(count as u64);
+        }
+        Err(OpenRefusal::Absent) => case.say("absent"),
+        Err(OpenRefusal::Failed) => case.say("failed"),
     }
+    case.say_text(buf.as_slice());
 }
 
 fn open_and_read<S: Store>(
@@ -92,23 +85,25 @@ fn open_and_read<S: Store>(
     }
 }
 
-impl Steps for MemorySink {
-    fn step(&mut self, alloc: Global, call: &str, input: &mut Scanner<'_>) -> Result<String> {
-        match call {
-            "write" => {
-                let bytes = input.text(alloc)?;
-                if bytes.is_empty() {
-                    bail!("a write has a byte");
-                }
-                match write_to(self, bytes.as_slice()) {
-                    Ok(count) => Ok(format!(in alloc; "{count}")?),
-                    Err(Failed) => Ok(String::from_str(alloc, "failed")?),
-                }
-            }
-            "taken" => blob_text(alloc, self.taken()),
-            "faults" => Ok(format!(in alloc; "{}", self.faults())?),
-            _ => bail!("a sink has no call {call}"),
+impl Called for MemorySink {
+    fn call(&mut self, name: &str, case: &mut Case<'_>) {
+        match name {
+            "write" => write(self, case),
+            "taken" => case.say_text(self.taken()),
+            "faults" => case.say_number(self.faults()),
+            _ => case.fail("a sink has no such call"),
         }
+    }
+}
+
+fn write(sink: &mut MemorySink, case: &mut Case<'_>) {
+    let bytes = case.text();
+    if bytes.is_empty() {
+        return case.fail("a write has a byte");
+    }
+    match write_to(sink, bytes.as_slice()) {
+        Ok(count) => case.say_number(count as u64),
+        Err(Failed) => case.say("failed"),
     }
 }
 

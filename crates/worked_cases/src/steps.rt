@@ -1,32 +1,20 @@
-use crate::scanner::Scanner;
-use crate::texts::Parts;
-use anyhow::Result;
-use std::alloc::Global;
+use crate::case::Case;
 
-/// What is called step by step.
-pub trait Steps {
-    /// Makes the call that the word names, with what it reads of the input. A call that answers nothing
-    /// gives an empty text.
-    fn step(&mut self, alloc: Global, call: &str, input: &mut Scanner<'_>) -> Result<String>;
+/// What a case calls step by step.
+pub trait Called {
+    /// Makes the call of this name: reads what it is given, and answers what it gives.
+    fn call(&mut self, name: &str, case: &mut Case<'_>);
 }
 
-/// The answers of calls that stand with `;` between them.
-pub fn steps_answer<S: Steps + Drop>(
-    alloc: Global,
-    called: S,
-    input: &mut Scanner<'_>,
-) -> Result<String> {
+/// Makes the calls of a case, which have `;` between them, and so have their answers.
+pub fn call_all<C: Called + Drop>(called: C, case: &mut Case<'_>) {
     let mut called = called;
-    let mut answers = Parts::new(alloc, "; ");
-    for _ in 0..input.left() {
-        let call = input.word()?;
-        let answer = called.step(alloc, call, input)?;
-        if !answer.is_empty() {
-            answers.push(answer)?;
-        }
-        if !input.takes(b';') {
+    for _ in 0..case.left() {
+        let name = case.word();
+        case.next_answer();
+        called.call(name, case);
+        if !case.takes(b';') {
             break;
         }
     }
-    answers.text()
 }

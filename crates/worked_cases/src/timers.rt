@@ -1,48 +1,49 @@
-ghost use Rattle.std.specs.Prelude.{◌<◌, IfOk};
-
-use crate::scanner::Scanner;
-use crate::steps::Steps;
-use crate::texts::some_text;
-use anyhow::{Result, bail};
-use beam_values::Mark;
-use std::alloc::Global;
+use crate::case::Case;
+use crate::steps::Called;
+use beam_values::{Mark, Time};
 use timer_core::Timers;
 
-impl Steps for Timers {
-    fn step(&mut self, alloc: Global, call: &str, input: &mut Scanner<'_>) -> Result<String> {
-        match call {
+impl Called for Timers {
+    fn call(&mut self, name: &str, case: &mut Case<'_>) {
+        match name {
             "set" => {
-                let name = read_name(input)?;
-                self.set(name, input.time()?);
-                Ok(String::new(alloc))
+                let timer = case.name();
+                let time = case.time();
+                self.set(timer, time);
             }
             "clear" => {
-                self.clear(read_name(input)?);
-                Ok(String::new(alloc))
+                let timer = case.name();
+                self.clear(timer);
             }
-            "time" => some_text(alloc, self.time(read_name(input)?).map(|time| time.ms())),
-            "least" => some_text(alloc, self.least().map(|time| time.ms())),
-            "due" => due(alloc, self, Mark::at(input.time()?)),
-            "final" => due(alloc, self, Mark::FINAL),
-            _ => bail!("timers have no call {call}"),
+            "time" => {
+                let timer = case.name();
+                say_time(self.time(timer), case);
+            }
+            "least" => say_time(self.least(), case),
+            "due" => {
+                let time = case.time();
+                say_due(self, Mark::at(time), case);
+            }
+            "final" => say_due(self, Mark::FINAL, case),
+            _ => case.fail("timers have no such call"),
         }
     }
 }
 
-// One of the eight names of timers.
-fn read_name(input: &mut Scanner<'_>) -> Result<u8>
-    ensures { IfOk result (λ name. name < 8) }
-{
-    let name = input.number()?;
-    if name >= 8 {
-        bail!("{name} names no timer");
+fn say_due(timers: &Timers, mark: Mark, case: &mut Case<'_>) {
+    match timers.first_due(mark) {
+        Some(timer) => {
+            case.say_number(timer.name);
+            case.say("at");
+            case.say_number(timer.time.ms());
+        }
+        None => case.say("none"),
     }
-    Ok(name)
 }
 
-fn due(alloc: Global, timers: &Timers, mark: Mark) -> Result<String> {
-    match timers.first_due(mark) {
-        Some(timer) => Ok(format!(in alloc; "{} at {}", timer.name, timer.time.ms())?),
-        None => Ok(String::from_str(alloc, "none")?),
+fn say_time(time: Option<Time>, case: &mut Case<'_>) {
+    match time {
+        Some(time) => case.say_number(time.ms()),
+        None => case.say("none"),
     }
 }

@@ -1,57 +1,59 @@
-use crate::scanner::Scanner;
-use crate::steps::Steps;
-use crate::texts::{range_text, some_text};
-use anyhow::{Result, bail};
+use crate::case::Case;
+use crate::steps::Called;
 use beam_values::Range;
 use offset_tracker::Tracker;
-use std::alloc::Global;
 
-/// The tracker of a range `[FROM,TO)`, and the `;` after it.
-pub fn tracker_over(input: &mut Scanner<'_>) -> Result<Tracker> {
-    let (from, to) = input.ends()?;
-    input.mark(b';')?;
-    let Some(range) = Range::new(from, to) else {
-        bail!("the ends are the wrong way round");
-    };
-    Ok(Tracker::new(range))
+/// The tracker of a range, and the `;` after it.
+pub fn read_tracker(case: &mut Case<'_>) -> Tracker {
+    let range = case.range();
+    case.mark(b';');
+    Tracker::new(range)
 }
 
-impl Steps for Tracker {
-    fn step(&mut self, alloc: Global, call: &str, input: &mut Scanner<'_>) -> Result<String> {
-        match call {
-            "claim" => claim(alloc, self, input.number()?),
-            "split" => split(alloc, self, input),
-            "checkpoint" => residual_text(alloc, self.checkpoint()),
-            "may" => Ok(format!(in alloc; "{}", self.may_claim(input.number()?))?),
-            "done" => Ok(format!(in alloc; "{}", self.check_done())?),
-            "range" => Ok(range_text(alloc, self.range())?),
-            "attempted" => some_text(alloc, self.attempted()),
-            _ => bail!("a tracker has no call {call}"),
+impl Called for Tracker {
+    fn call(&mut self, name: &str, case: &mut Case<'_>) {
+        match name {
+            "claim" => claim(self, case),
+            "split" => split(self, case),
+            "checkpoint" => say_residual(self.checkpoint(), case),
+            "may" => {
+                let position = case.number();
+                case.say_bool(self.may_claim(position));
+            }
+            "done" => case.say_bool(self.check_done()),
+            "range" => case.say_range(self.range()),
+            "attempted" => case.say_some(self.attempted()),
+            _ => case.fail("a tracker has no such call"),
         }
     }
 }
 
-fn claim(alloc: Global, tracker: &mut Tracker, position: u64) -> Result<String> {
-    if !tracker.may_claim(position) {
-        bail!("{position} may not be claimed");
+fn claim(tracker: &mut Tracker, case: &mut Case<'_>) {
+    let position = case.number();
+    if tracker.may_claim(position) {
+        let is_claimed = tracker.try_claim(position);
+        case.say_bool(is_claimed);
+    } else {
+        case.fail("the position may not be claimed");
     }
-    Ok(format!(in alloc; "{}", tracker.try_claim(position))?)
 }
 
 // A split `NUM/DEN`.
-fn split(alloc: Global, tracker: &mut Tracker, input: &mut Scanner<'_>) -> Result<String> {
-    let num = input.number::<u64>()?;
-    input.mark(b'/')?;
-    let den = input.number::<u64>()?;
-    if num > den || den < 1 || den > 1_000_000 {
-        bail!("{num}/{den} is no split");
+fn split(tracker: &mut Tracker, case: &mut Case<'_>) {
+    let num = case.number::<u64>();
+    case.mark(b'/');
+    let den = case.number::<u64>();
+    if num <= den && 1 <= den && den <= 1_000_000 {
+        let residual = tracker.try_split(num, den);
+        say_residual(residual, case);
+    } else {
+        case.fail("there is no such split");
     }
-    residual_text(alloc, tracker.try_split(num, den))
 }
 
-fn residual_text(alloc: Global, residual: Option<Range>) -> Result<String> {
+fn say_residual(residual: Option<Range>, case: &mut Case<'_>) {
     match residual {
-        Some(range) => Ok(range_text(alloc, range)?),
-        None => Ok(String::from_str(alloc, "none")?),
+        Some(range) => case.say_range(range),
+        None => case.say("none"),
     }
 }

@@ -1,60 +1,66 @@
-use crate::scanner::Scanner;
-use crate::texts::{Parts, span_text};
-use anyhow::{Result, bail};
+use crate::case::Case;
 use beam_values::{List, Span, Strategy, Time};
-use std::alloc::Global;
 use windowing::{StrategyRefusal, assign, check_strategy};
 
 /// `global`, `fixed SIZE`, `sliding SIZE PERIOD`, `sessions GAP` or `kept`.
-pub fn read_strategy(input: &mut Scanner<'_>) -> Result<Strategy> {
-    match input.word()? {
-        "global" => Ok(Strategy::Global),
-        "fixed" => Ok(Strategy::Fixed {
-            size: input.number()?,
-        }),
-        "sliding" => Ok(Strategy::Sliding {
-            size: input.number()?,
-            period: input.number()?,
-        }),
-        "sessions" => Ok(Strategy::Sessions {
-            gap: input.number()?,
-        }),
-        "kept" => Ok(Strategy::Kept),
-        word => bail!("there is no strategy {word}"),
+pub fn read_strategy(case: &mut Case<'_>) -> Strategy {
+    match case.word() {
+        "global" => Strategy::Global,
+        "fixed" => Strategy::Fixed {
+            size: case.number(),
+        },
+        "sliding" => Strategy::Sliding {
+            size: case.number(),
+            period: case.number(),
+        },
+        "sessions" => Strategy::Sessions { gap: case.number() },
+        "kept" => Strategy::Kept,
+        _ => {
+            case.fail("there is no such strategy");
+            Strategy::Kept
+        }
     }
 }
 
 /// Whether a plan may have the strategy.
-pub fn strategy_answer(alloc: Global, input: &mut Scanner<'_>) -> Result<String> {
-    let strategy = read_strategy(input)?;
-    let Err(refusal) = check_strategy(&strategy) else {
-        return Ok(String::from_str(alloc, "ok")?);
-    };
-    let name = match refusal {
+pub fn answer_strategy(case: &mut Case<'_>) {
+    let strategy = read_strategy(case);
+    match check_strategy(&strategy) {
+        Ok(()) => case.say("ok"),
+        Err(refusal) => say_refusal(refusal, case),
+    }
+}
+
+fn say_refusal(refusal: StrategyRefusal, case: &mut Case<'_>) {
+    case.say("refusal");
+    case.say_number(refusal.number());
+    case.say(match refusal {
         StrategyRefusal::Size => "size",
         StrategyRefusal::Period => "period",
         StrategyRefusal::TooManyWindows => "too many windows",
-    };
-    Ok(format!(in alloc; "refusal {} {name}", refusal.number())?)
+    });
 }
 
 /// The windows of a time.
-pub fn window_answer(alloc: Global, input: &mut Scanner<'_>) -> Result<String> {
-    let strategy = read_strategy(input)?;
-    let time = input.time()?;
-    let mut windows = Parts::new(alloc, " ");
-    for span in windows_of(alloc, &strategy, time)?.as_slice() {
-        windows.push(span_text(alloc, *span)?)?;
+pub fn answer_window(case: &mut Case<'_>) {
+    let strategy = read_strategy(case);
+    let time = case.time();
+    let windows = windows_of(&strategy, time, case);
+    for window in windows.as_slice() {
+        case.say_span(*window);
     }
-    windows.text()
+    if windows.is_empty() {
+        case.say("none");
+    }
 }
 
-/// The windows of a time under a strategy that a plan may have.
-pub fn windows_of(alloc: Global, strategy: &Strategy, time: Time) -> Result<List<Span>> {
+/// The windows of a time under a strategy that a plan may have and that gives windows.
+pub fn windows_of(strategy: &Strategy, time: Time, case: &mut Case<'_>) -> List<Span> {
+    let mut windows = List::new(case.alloc());
     if check_strategy(strategy).is_err() || matches!(strategy, Strategy::Kept) {
-        bail!("the strategy gives no windows");
+        case.fail("the strategy gives no windows");
+    } else if let Err(refused) = assign(strategy, time, &mut windows) {
+        case.no_memory(refused);
     }
-    let mut spans = List::new(alloc);
-    assign(strategy, time, &mut spans)?;
-    Ok(spans)
+    windows
 }

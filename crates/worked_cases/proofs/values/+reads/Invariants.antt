@@ -4,8 +4,5 @@ use Rattle.worked_cases.proofs.values.+reads.Given as goal
 abbrev pub decreases-value_within : goal.decreases-value_within
 decreases-value_within l = 2 * l.depth
 
-abbrev pub decreases-pair_within : goal.decreases-pair_within
-decreases-pair_within l = 2 * l.depth + 1
-
 abbrev pub decreases-items_within : goal.decreases-items_within
 decreases-items_within l = 2 * l.depth + 1

@@ -1,0 +1,408 @@
+ghost use Rattle.std.specs.Prelude.{◌<◌, IfSome};
+
+use beam_text::{push_blob, push_value};
+use beam_values::{Bytes, List, NoMemory, Range, Span, Time, Value};
+use itoa::Buffer;
+use std::alloc::Global;
+use std::str::{FromStr, from_utf8};
+
+/// A case while it is run: what is left to read of its input, what it expects, and what was answered so
+/// far. The first fault stays; what is read and answered after it means nothing.
+#[derive(Drop)]
+pub struct Case<'a> {
+    rest: &'a [u8],
+    expected: Bytes,
+    answer: Bytes,
+    // What stands before the next part of the answer.
+    separator: &'static [u8],
+    fault: Option<&'static str>,
+    alloc: Global,
+}
+
+/// The input. Every reading passes the spaces before it.
+impl<'a> Case<'a> {
+    pub fn new(alloc: Global) -> Case<'a> {
+        Case {
+            rest: b"",
+            expected: Bytes::new(alloc),
+            answer: Bytes::new(alloc),
+            separator: b"",
+            fault: None,
+            alloc,
+        }
+    }
+
+    pub fn alloc(&self) -> Global {
+        self.alloc
+    }
+
+    /// Goes on with this input.
+    pub fn read(&mut self, input: &'a str) {
+        self.rest = input.as_bytes();
+    }
+
+    /// How many bytes are left to read.
+    pub fn left(&self) -> usize {
+        self.rest.len()
+    }
+
+    /// Whether the mark comes next.
+    pub fn shows(&mut self, mark: u8) -> bool {
+        self.rest = self.rest.trim_ascii_start();
+        self.rest.first() == Some(&mark)
+    }
+
+    /// Reads the mark where it comes next, and says whether it does.
+    pub fn takes(&mut self, mark: u8) -> bool {
+        self.rest = self.rest.trim_ascii_start();
+        match self.rest.split_first() {
+            Some((first, rest)) if *first == mark => {
+                self.rest = rest;
+                true
+            }
+            _ => false,
+        }
+    }
+
+    pub fn mark(&mut self, mark: u8) {
+        if !self.takes(mark) {
+            self.fail("a mark is missing");
+        }
+    }
+
+    /// Whether nothing is left before the next `;`.
+    pub fn is_over(&mut self) -> bool {
+        self.shows(b';') || self.rest.is_empty()
+    }
+
+    pub fn end(&mut self) {
+        if !self.rest.trim_ascii_start().is_empty() {
+            self.fail("the input goes on");
+        }
+    }
+
+    /// A run of letters, digits, `_` and `-`.
+    pub fn word(&mut self) -> &'a str {
+        let rest = self.rest.trim_ascii_start();
+        let len = rest
+            .iter()
+            .position(|byte| !is_word_byte(*byte))
+            .unwrap_or(rest.len());
+        let (word, after) = rest.split_at(len);
+        self.rest = after;
+        if len == 0 {
+            self.fail("a word is missing");
+        }
+        from_utf8(word).unwrap_or("")
+    }
+
+    pub fn number<N: FromStr + Default>(&mut self) -> N
+    where
+        N::Err: Drop,
+    {
+        match self.word().parse::<N>() {
+            Ok(number) => number,
+            Err(_) => {
+                self.fail("a number isn't one, or out of its bounds");
+                N::default()
+            }
+        }
+    }
+
+    /// One of eight names, 0 to 7.
+    pub fn name(&mut self) -> u8
+        ensures { result < 8 }
+    {
+        let name = self.number::<u8>();
+        if name < 8 {
+            return name;
+        }
+        self.fail("a name is 0 to 7");
+        0
+    }
+
+    pub fn time(&mut self) -> Time {
+        let ms = self.number::<i64>();
+        if ms < Time::LEAST_MS || ms > Time::GREATEST_MS {
+            self.fail("a time is out of its bounds");
+        }
+        match Time::new(ms.clamp(Time::LEAST_MS, Time::GREATEST_MS)) {
+            Some(time) => time,
+            None => unreachable!(),
+        }
+    }
+
+    /// Offsets `[FROM,TO)`.
+    pub fn range(&mut self) -> Range {
+        let (from, to) = self.ends::<u64>();
+        if from > to {
+            self.fail("the ends of a range are the wrong way round");
+        }
+        Range::between(from, to.max(from))
+    }
+
+    /// A window `[START,END)`.
+    pub fn span(&mut self) -> Span {
+        let (start, end) = self.ends::<i64>();
+        if start < end {
+            return Span::between(start, end);
+        }
+        self.fail("a window is empty");
+        Span::between(0, 1)
+    }
+
+    fn ends<N: FromStr + Default + Drop>(&mut self) -> (N, N)
+    where
+        N::Err: Drop,
+    {
+        self.mark(b'[');
+        let from = self.number();
+        self.mark(b',');
+        let to = self.number();
+        self.mark(b')');
+        (from, to)
+    }
+
+    /// Bytes between quotes, with the escapes `\"`, `\\`, `\n`, `\r`, `\t` and `\xNN`.
+    pub fn text(&mut self) -> Bytes {
+        let mut text = Bytes::new(self.alloc);
+        self.mark(b'"');
+        for _ in 0..self.rest.len() {
+            match self.byte() {
+                b'"' => return text,
+                byte => self.push_unescaped(byte, &mut text),
+            }
+        }
+        self.fail("a text isn't closed");
+        text
+    }
+
+    /// All that is left after a space, with the escapes of [`Case::text`].
+    pub fn line_rest(&mut self) -> Bytes {
+        let mut text = Bytes::new(self.alloc);
+        let _space = self.byte();
+        for _ in 0..self.rest.len() {
+            if self.rest.is_empty() {
+                break;
+            }
+            let byte = self.byte();
+            self.push_unescaped(byte, &mut text);
+        }
+        text
+    }
+
+    /// All that is left as pairs of hexadecimal digits.
+    pub fn hex(&mut self) -> Bytes {
+        let mut bytes = Bytes::new(self.alloc);
+        for _ in 0..self.rest.len() {
+            self.rest = self.rest.trim_ascii_start();
+            if self.rest.is_empty() {
+                break;
+            }
+            let byte = self.hex_byte();
+            self.push_to(&mut bytes, &[byte]);
+        }
+        bytes
+    }
+
+    fn byte(&mut self) -> u8 {
+        match self.rest.split_first() {
+            Some((byte, rest)) => {
+                self.rest = rest;
+                *byte
+            }
+            None => {
+                self.fail("the input ends too early");
+                0
+            }
+        }
+    }
+
+    // The byte, or the one that it and what follows it stand for.
+    fn push_unescaped(&mut self, byte: u8, text: &mut Bytes) {
+        if byte != b'\\' {
+            return self.push_to(text, &[byte]);
+        }
+        let byte = match self.byte() {
+            b'n' => b'\n',
+            b'r' => b'\r',
+            b't' => b'\t',
+            b'x' => self.hex_byte(),
+            byte if byte == b'"' || byte == b'\\' => byte,
+            _ => {
+                self.fail("there is no such escape");
+                0
+            }
+        };
+        self.push_to(text, &[byte]);
+    }
+
+    fn hex_byte(&mut self) -> u8 {
+        let high = digit_of(self.byte());
+        let low = digit_of(self.byte());
+        match (high, low) {
+            (Some(high), Some(low)) => 16 * high + low,
+            _ => {
+                self.fail("a byte is two hexadecimal digits");
+                0
+            }
+        }
+    }
+}
+
+/// The answer. Its parts have a space between them.
+impl<'a> Case<'a> {
+    pub fn expect(&mut self, expected: &[u8]) {
+        if self.expected.extend_from_slice(expected).is_err() {
+            self.fail(NO_MEMORY);
+        }
+    }
+
+    pub fn expected(&self) -> &[u8] {
+        self.expected.as_slice()
+    }
+
+    pub fn answer(&self) -> &[u8] {
+        self.answer.as_slice()
+    }
+
+    pub fn is_as_expected(&self) -> bool {
+        self.expected.as_slice() == self.answer.as_slice()
+    }
+
+    /// Has `; ` before the next part, where there is one already.
+    pub fn next_answer(&mut self) {
+        if !self.answer.is_empty() {
+            self.separator = b"; ";
+        }
+    }
+
+    pub fn say(&mut self, word: &str) {
+        self.say_bytes(word.as_bytes());
+    }
+
+    pub fn say_bytes(&mut self, part: &[u8]) {
+        self.push_answer(self.separator);
+        self.push_answer(part);
+        self.separator = b" ";
+    }
+
+    fn push_answer(&mut self, bytes: &[u8]) {
+        if self.answer.extend_from_slice(bytes).is_err() {
+            self.fail(NO_MEMORY);
+        }
+    }
+
+    pub fn say_bool(&mut self, yes: bool) {
+        self.say(if yes { "true" } else { "false" });
+    }
+
+    pub fn say_number<N: Into<i128>>(&mut self, number: N) {
+        self.say_bytes(Buffer::new().format(number.into()).as_bytes());
+    }
+
+    /// What there is, or `none`.
+    pub fn say_some<N: Into<i128> + Drop>(&mut self, number: Option<N>) {
+        match number {
+            Some(number) => self.say_number(number),
+            None => self.say("none"),
+        }
+    }
+
+    pub fn say_range(&mut self, range: Range) {
+        self.say_ends(range.from(), range.to());
+    }
+
+    pub fn say_span(&mut self, span: Span) {
+        self.say_ends(span.start(), span.end());
+    }
+
+    fn say_ends<N: Into<i128>>(&mut self, from: N, to: N) {
+        self.say("[");
+        self.separator = b"";
+        self.say_number(from);
+        self.push_answer(b",");
+        self.separator = b"";
+        self.say_number(to);
+        self.push_answer(b")");
+    }
+
+    /// Bytes as the value of them is printed.
+    pub fn say_text(&mut self, bytes: &[u8]) {
+        self.say("");
+        if push_blob(bytes, &mut self.answer).is_err() {
+            self.fail(NO_MEMORY);
+        }
+    }
+
+    pub fn say_value(&mut self, value: &Value) {
+        self.say("");
+        if push_value(value, &mut self.answer).is_err() {
+            self.fail(NO_MEMORY);
+        }
+    }
+
+    pub fn say_hex(&mut self, bytes: &[u8]) {
+        self.say("");
+        for byte in bytes {
+            self.push_answer(&[hex_digit(byte / 16), hex_digit(byte % 16)]);
+        }
+    }
+}
+
+const NO_MEMORY: &str = "no memory";
+
+/// What went wrong.
+impl<'a> Case<'a> {
+    /// The case isn't written in the form of its kind.
+    pub fn fail(&mut self, fault: &'static str) {
+        if self.fault.is_none() {
+            self.fault = Some(fault);
+        }
+    }
+
+    pub fn no_memory(&mut self, _refused: NoMemory) {
+        self.fail(NO_MEMORY);
+    }
+
+    pub fn fault(&self) -> Option<&'static str> {
+        self.fault
+    }
+
+    /// Adds the item to the list.
+    pub fn keep<T: Drop>(&mut self, items: &mut List<T>, item: T) {
+        if items.push(item).is_err() {
+            self.fail(NO_MEMORY);
+        }
+    }
+
+    fn push_to(&mut self, text: &mut Bytes, bytes: &[u8]) {
+        if text.extend_from_slice(bytes).is_err() {
+            self.fail(NO_MEMORY);
+        }
+    }
+}
+
+fn is_word_byte(byte: u8) -> bool {
+    byte.is_ascii_alphanumeric() || byte == b'_' || byte == b'-'
+}
+
+fn digit_of(byte: u8) -> Option<u8>
+    ensures { IfSome result (λ digit. digit < 16) }
+{
+    match byte {
+        b'0'..=b'9' => Some(byte - b'0'),
+        b'a'..=b'f' => Some(byte - b'a' + 10),
+        _ => None,
+    }
+}
+
+fn hex_digit(digit: u8) -> u8
+    requires { digit < 16 }
+{
+    if digit < 10 {
+        b'0' + digit
+    } else {
+        b'a' + digit - 10
+    }
+}

@@ -1,0 +1,135 @@
+use crate::answer::{answer, answer_block};
+use crate::case::Case;
+use crate::expanded::expanded;
+use std::rt::Files;
+use std::str::{Lines, from_utf8};
+use std::{fs, io};
+
+/// How many cases there were.
+#[derive(Clone, Copy)]
+pub struct Tally {
+    pub cases: u64,
+    pub failed: u64,
+}
+
+impl Tally {
+    pub const NONE: Tally = Tally {
+        cases: 0,
+        failed: 0,
+    };
+
+    pub fn and(self, more: Tally) -> Tally {
+        Tally {
+            cases: self.cases.saturating_add(more.cases),
+            failed: self.failed.saturating_add(more.failed),
+        }
+    }
+
+    fn counting(self, passed: bool) -> Tally {
+        self.and(Tally {
+            cases: 1,
+            failed: u64::from(!passed),
+        })
+    }
+}
+
+/// The lines of a file of cases that aren't empty and don't begin with `#`.
+#[derive(Drop)]
+pub struct Script<'a> {
+    lines: Lines<'a>,
+    number: u64,
+}
+
+impl<'a> Script<'a> {
+    pub fn next_line(&mut self) -> Option<&'a str> {
+        for _ in 0..u64::MAX {
+            let line = self.lines.next()?;
+            self.number = self.number.saturating_add(1);
+            if !line.is_empty() && !line.starts_with('#') {
+                return Some(line);
+            }
+        }
+        None
+    }
+
+    /// Has the case read the next line of its block, if there is one before the line `end`.
+    pub fn next_of_block(&mut self, case: &mut Case<'a>) -> bool {
+        match self.next_line() {
+            Some("end") => false,
+            Some(line) => {
+                case.read(line);
+                true
+            }
+            None => {
+                case.fail("the block has no end");
+                false
+            }
+        }
+    }
+}
+
+/// Runs the cases of a file, and prints each that fails and how many passed.
+pub fn run_file(rt: &(impl Files + Print + AllocGlobal), name: &str) -> io::Result<Tally> {
+    let text = fs::read_to_string(rt, name)?;
+    let mut script = Script {
+        lines: text.as_str().lines(),
+        number: 0,
+    };
+    let mut tally = Tally::NONE;
+    for _ in 0..u64::MAX {
+        let Some(line) = script.next_line() else {
+            break;
+        };
+        tally = tally.counting(passes(rt, name, line, &mut script)?);
+    }
+    println!(rt; "{name}: {} ok", tally.cases.saturating_sub(tally.failed))?;
+    Ok(tally)
+}
+
+// Runs the case that begins with the line.
+fn passes<'a>(
+    rt: &(impl Print + AllocGlobal),
+    name: &str,
+    line: &'a str,
+    script: &mut Script<'a>,
+) -> io::Result<bool> {
+    if line.contains(" => ") {
+        return line_passes(rt, name, script.number, line);
+    }
+    let mut case = Case::new(rt.alloc());
+    case.read(line);
+    answer_block(script, &mut case);
+    is_shown_to_pass(rt, name, script.number, &case)
+}
+
+fn line_passes(
+    rt: &(impl Print + AllocGlobal),
+    name: &str,
+    number: u64,
+    line: &str,
+) -> io::Result<bool> {
+    let line = expanded(rt.alloc(), line)?;
+    let mut case = Case::new(rt.alloc());
+    if let Some((input, expected)) = line.as_str().split_once(" => ") {
+        case.expect(expected.as_bytes());
+        case.read(input);
+        answer(&mut case);
+        case.end();
+    }
+    is_shown_to_pass(rt, name, number, &case)
+}
+
+// Whether a case passes. Where it doesn't, that is printed with the number of its last line.
+fn is_shown_to_pass(rt: &impl Print, name: &str, number: u64, case: &Case<'_>) -> io::Result<bool> {
+    if let Some(fault) = case.fault() {
+        println!(rt; "FAILED {name}:{number} {fault}")?;
+        return Ok(false);
+    }
+    if case.is_as_expected() {
+        return Ok(true);
+    }
+    let expected = from_utf8(case.expected()).unwrap_or("");
+    let got = from_utf8(case.answer()).unwrap_or("");
+    println!(rt; "FAILED {name}:{number} expected {expected} got {got}")?;
+    Ok(false)
+}
