@@ -262,12 +262,16 @@ impl<'a> Case<'a> {
         self.expected.as_slice()
     }
 
-    pub fn answer(&self) -> &[u8] {
-        self.answer.as_slice()
+    /// What was answered, or the fault.
+    pub fn got(&self) -> &[u8] {
+        match self.fault {
+            Some(fault) => fault.as_bytes(),
+            None => self.answer.as_slice(),
+        }
     }
 
-    pub fn is_as_expected(&self) -> bool {
-        self.expected.as_slice() == self.answer.as_slice()
+    pub fn passes(&self) -> bool {
+        self.fault.is_none() && self.expected.as_slice() == self.answer.as_slice()
     }
 
     /// Has `; ` before the next part, where there is one already.
@@ -363,10 +367,6 @@ impl<'a> Case<'a> {
 
     pub fn no_memory(&mut self, _refused: NoMemory) {
         self.fail(NO_MEMORY);
-    }
-
-    pub fn fault(&self) -> Option<&'static str> {
-        self.fault
     }
 
     /// Adds the item to the list.

@@ -3,31 +3,36 @@ use std::alloc::{AllocError, Global};
 /// The most that a part of a line is repeated.
 const MOST_TIMES: u32 = 20_000;
 
-/// The line with each `{COUNT*PART}` written out: the part so many times. What has another form stays.
+/// The line with each `{COUNT*PART}` written out: the part so many times. Braces round anything else stay.
 pub fn expanded(alloc: Global, line: &str) -> Result<String, AllocError> {
     let mut whole = String::new(alloc);
     let mut pieces = line.split('{');
     whole.push_str(pieces.next().unwrap_or(""))?;
     for piece in pieces {
-        match piece.split_once('}') {
-            Some((repeated, rest)) => {
-                push_repeated(repeated, &mut whole)?;
-                whole.push_str(rest)?;
-            }
-            None => whole.push_str(piece)?,
-        }
+        push_piece(piece, &mut whole)?;
     }
     Ok(whole)
 }
 
-fn push_repeated(repeated: &str, whole: &mut String) -> Result<(), AllocError> {
-    let (count, part) = repeated.split_once('*').unwrap_or(("", repeated));
-    let times = count.parse::<u32>().unwrap_or(0);
-    if times > MOST_TIMES {
-        return whole.push_str(repeated);
-    }
+// What follows a brace.
+fn push_piece(piece: &str, whole: &mut String) -> Result<(), AllocError> {
+    let Some((times, part, rest)) = repetition(piece) else {
+        whole.push_str("{")?;
+        return whole.push_str(piece);
+    };
     for _ in 0..times {
         whole.push_str(part)?;
     }
-    Ok(())
+    whole.push_str(rest)
+}
+
+fn repetition(piece: &str) -> Option<(u32, &str, &str)> {
+    let (repeated, rest) = piece.split_once('}')?;
+    let (count, part) = repeated.split_once('*')?;
+    let times = count.parse::<u32>().ok()?;
+    if times <= MOST_TIMES {
+        Some((times, part, rest))
+    } else {
+        None
+    }
 }

@@ -1,7 +1,7 @@
 use crate::case::Case;
 use crate::elements::say_element;
 use crate::values::read_value;
-use crate::windows::{read_strategy, windows_of};
+use crate::windows::{add_windows, read_strategy};
 use beam_values::{Element, List, NoMemory, PaneTag, Span, Strategy, Time, Timing, Value};
 use plain_model::grouped;
 use std::alloc::Global;
@@ -34,7 +34,9 @@ fn panes_of(
 fn add_elements(strategy: &Strategy, elements: &mut List<Element>, case: &mut Case<'_>) {
     let time = case.time();
     let value = read_value(case);
-    for window in windows_of(strategy, time, case).as_slice() {
+    let mut windows = List::new(case.alloc());
+    add_windows(strategy, time, &mut windows, case);
+    for window in windows.as_slice() {
         match element_in(case.alloc(), &value, time, *window) {
             Ok(element) => case.keep(elements, element),
             Err(refused) => case.no_memory(refused),

@@ -15,6 +15,7 @@ impl Called for Pieces {
             }
             "give_back" => give_back(self, case),
             "take" => say_taken(self.take(), case),
+            "pending" => say_pending(self.pending(), case),
             "len" => case.say_number(self.len() as u64),
             "finished" => {
                 let node = case.number();
@@ -68,9 +69,23 @@ fn least_time() -> Time {
 }
 
 fn say_taken(taken: Option<Piece>, case: &mut Case<'_>) {
-    let Some(piece) = taken else {
-        return case.say("none");
-    };
+    match taken {
+        Some(piece) => say_piece(piece, case),
+        None => case.say("none"),
+    }
+}
+
+fn say_pending(pending: &[Piece], case: &mut Case<'_>) {
+    for piece in pending {
+        case.next_answer();
+        say_piece(*piece, case);
+    }
+    if pending.is_empty() {
+        case.say("none");
+    }
+}
+
+fn say_piece(piece: Piece, case: &mut Case<'_>) {
     case.say_number(piece.node);
     case.say_number(piece.item);
     case.say_range(piece.range);

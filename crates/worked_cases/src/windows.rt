@@ -41,11 +41,17 @@ fn say_refusal(refusal: StrategyRefusal, case: &mut Case<'_>) {
     });
 }
 
-/// The windows of a time.
+/// The windows of times, each under its strategy: `STRATEGY TIME; STRATEGY TIME`.
 pub fn answer_window(case: &mut Case<'_>) {
-    let strategy = read_strategy(case);
-    let time = case.time();
-    let windows = windows_of(&strategy, time, case);
+    let mut windows = List::new(case.alloc());
+    for _ in 0..case.left() {
+        let strategy = read_strategy(case);
+        let time = case.time();
+        add_windows(&strategy, time, &mut windows, case);
+        if !case.takes(b';') {
+            break;
+        }
+    }
     for window in windows.as_slice() {
         case.say_span(*window);
     }
@@ -54,13 +60,11 @@ pub fn answer_window(case: &mut Case<'_>) {
     }
 }
 
-/// The windows of a time under a strategy that a plan may have and that gives windows.
-pub fn windows_of(strategy: &Strategy, time: Time, case: &mut Case<'_>) -> List<Span> {
-    let mut windows = List::new(case.alloc());
+/// Adds the windows of a time under a strategy that a plan may have and that gives windows.
+pub fn add_windows(strategy: &Strategy, time: Time, windows: &mut List<Span>, case: &mut Case<'_>) {
     if check_strategy(strategy).is_err() || matches!(strategy, Strategy::Kept) {
         case.fail("the strategy gives no windows");
-    } else if let Err(refused) = assign(strategy, time, &mut windows) {
+    } else if let Err(refused) = assign(strategy, time, windows) {
         case.no_memory(refused);
     }
-    windows
 }
