@@ -13,7 +13,7 @@ use Rattle.beam_values.specs.declared.plan.NodeKind.{NodeKind}
 use Rattle.beam_values.specs.declared.plan.NodeKind.TheVariants.{Source}
 use Rattle.beam_values.specs.declared.plan.Plan.{Plan}
 
--- a mark that a node holds back
+-- a node is held back at a mark
 pub record Hold : Type 0 where
   pub node : ℕ
   pub mark : ℤ

@@ -1,5 +1,5 @@
 -- Legal logs: the calls of a Stateful node for one key and window, in one order (Beam Programming Guide, State and Timers).
-use Rattle.std.specs.Prelude.{◌≡◌, ℕ, ◌≤◌, ◌-◌, ◌==◌, ◌≤ℤ◌, Bool, ◌&&◌, true, bytes_eq, List, [], ◌∷◌, slice_get, Option, Some, None}
+use Rattle.std.specs.Prelude.{◌≡◌, ℕ, ◌≤◌, ◌-◌, ◌==◌, ◌≤ℤ◌, Bool, ◌&&◌, true, bytes_eq, List, [], ◌∷◌, length, slice_get, Option, Some, None}
 use Rattle.std.specs.List.{All, count_by}
 use Rattle.beam_values.specs.Intervals.{Interval}
 use Rattle.beam_values.specs.Spans.{same_span}
@@ -17,7 +17,7 @@ use Rattle.beam_values.specs.declared.plan.NodeKind.TheVariants.{Stateful}
 use Rattle.beam_values.specs.declared.plan.Plan.{Plan}
 use Rattle.beam_values.specs.declared.plan.StateKind.{StateKind}
 use Rattle.beam_values.specs.declared.value.Value.{Value}
-use Rattle.beam_model.specs.Panes.{mark_after}
+use Rattle.beam_model.specs.Panes.{mark_after, IsCommit}
 use Rattle.beam_model.specs.Sessions.{is_keyed}
 use Rattle.beam_model.specs.Steps.{steps}
 
@@ -55,7 +55,9 @@ IsLegalLog plan commits log =
 abbrev pub is_log_of : ℕ → Value → Interval → KeyLog → Bool
 is_log_of node key span log = log.node == node && bytes_eq (spelling log.key) (spelling key) && same_span log.span span
 
--- there is one log for each node, key and window at most, and each is legal
+-- there is one log for each node, key and window at most, and each is legal, its entries of commits from 1 to the last
 pub record AreLogsLegal (plan : Plan) (commits : List CommitMarks) (logs : List KeyLog) : Type 0 where
+  pub sized : All (λ commit. length commit.marks ≡ length plan.nodes) commits
+  pub of_commits : All (λ log. All (λ entry. IsCommit (length commits - 1) entry.commit) log.entries) logs
   pub each : All (IsLegalLog plan commits) logs
   pub once : (node : ℕ) (key : Value) (span : Interval) → count_by (is_log_of node key span) logs ≤ 1

@@ -100,8 +100,8 @@ is_late rules mark zero own = true
 is_late rules mark (suc c) own = is_expired rules.trigger own.end (mark c)
 
 -- an entry of this commit has this own window
-abbrev pub Arrives : List Taken → ℕ → Interval → Type 0
-Arrives taken c w = 1 ≤ count_by (λ t. t.commit == c && same_span t.element.span w) taken
+abbrev pub arrives : List Taken → ℕ → Interval → Bool
+arrives taken c w = nat_le 1 (count_by (λ t. t.commit == c && same_span t.element.span w) taken)
 
 -- What stands after a commit, of what stood before it and the own windows of its entries: all of these; where windows merge, those that stood and are
 -- expired, and the sessions of the others.
@@ -113,10 +113,10 @@ StandsNext rules mark stood arrived w =
       | false ↦ stood w ⊎ arrived w
     ]
 
--- a window of the key stands after this commit; nothing stands after the opening
-abbrev pub Stands : GroupRules → (ℕ → ℤ) → List Taken → ℕ → Interval → Type 0
-Stands rules mark taken zero w = ⊥
-Stands rules mark taken (suc c) w = StandsNext rules (mark c) (Stands rules mark taken c) (Arrives taken (suc c)) w
+-- A window of the key stands after this commit, where `arrived` are the own windows of the entries of each; nothing stands after the opening.
+abbrev pub Stands : GroupRules → (ℕ → ℤ) → (ℕ → Interval → Bool) → ℕ → Interval → Type 0
+Stands rules mark arrived zero w = ⊥
+Stands rules mark arrived (suc c) w = StandsNext rules (mark c) (Stands rules mark arrived c) (λ v. arrived (suc c) v ≡ true) w
 
 -- an entry belongs to a window that is its own; where windows merge, to each in which its own lies
 abbrev pub belongs : GroupRules → Interval → Taken → Bool
@@ -180,33 +180,40 @@ panes_in c w panes = filter (λ pane. pane.commit == c && is_of_window w pane) p
 
 -- ---- what is legal of one node and key, after the commits from 1 to `last`
 
+abbrev pub IsCommit : ℕ → ℕ → Type 0
+IsCommit last c = (1 ≤ c) × (c ≤ last)
+
 pub record IsLegalHistory (rules : GroupRules) (node : ℕ) (key : Value) (mark : ℕ → ℤ) (last : ℕ) (taken dropped : List Taken) (panes : List Pane) : Type 0 where
   -- an arrival is dropped exactly where it is late
-  pub kept : All (λ t. is_late rules mark t.commit t.element.span ≡ false) taken
+  pub kept : count_by (λ t. is_late rules mark t.commit t.element.span) taken ≡ 0
   pub late : All (λ t. is_late rules mark t.commit t.element.span ≡ true) dropped
+  -- each is of a commit so far
+  pub taken_commits : count_by (λ t. nat_lt last t.commit) taken ≡ 0
+  pub dropped_commits : All (λ t. t.commit ≤ last) dropped
+  pub pane_commits : All (λ pane. IsCommit last pane.commit) panes
   -- what stood lies in what stands next, and what arrived in what stands then
-  pub onward : (c : ℕ) → suc c ≤ last → (v : Interval) → Stands rules mark taken c v → (w : Interval) × Stands rules mark taken (suc c) w × LiesIn v w
-  pub placed : (c : ℕ) → c ≤ last → (v : Interval) → Arrives taken c v → (w : Interval) × Stands rules mark taken c w × LiesIn v w
+  pub onward : (c : ℕ) → suc c ≤ last → (v : Interval) → Stands rules mark (arrives taken) c v → (w : Interval) × Stands rules mark (arrives taken) (suc c) w × LiesIn v w
+  pub placed : (c : ℕ) → c ≤ last → (v : Interval) → arrives taken c v ≡ true → (w : Interval) × Stands rules mark (arrives taken) c w × LiesIn v w
   -- each window that stands fires by the trigger, and no other does
-  pub fired : (c : ℕ) (w : Interval) → 1 ≤ c → c ≤ last → Stands rules mark taken c w
+  pub fired : (c : ℕ) (w : Interval) → 1 ≤ c → c ≤ last → Stands rules mark (arrives taken) c w
       → IsFired rules node key c (mark c) w (entries_upto rules w c taken) (panes_before c panes) (panes_in c w panes)
-  pub only : All (λ pane. Stands rules mark taken pane.commit pane.element.span) panes
+  pub only : All (λ pane. Stands rules mark (arrives taken) pane.commit pane.element.span) panes
 
 -- a window stood after a commit, and after the next one did not, but one in which it lies
 pub record IsTakenFirst (rules : GroupRules) (mark : ℕ → ℤ) (taken : List Taken) (last : ℕ) (gone into : Interval) : Type 0 where
   pub c : ℕ
   pub within : suc c ≤ last
-  pub stood : Stands rules mark taken c gone
-  pub stands_no_more : Stands rules mark taken (suc c) gone → ⊥
-  pub stands : Stands rules mark taken (suc c) into
+  pub stood : Stands rules mark (arrives taken) c gone
+  pub stands_no_more : Stands rules mark (arrives taken) (suc c) gone → ⊥
+  pub stands : Stands rules mark (arrives taken) (suc c) into
   pub lies : LiesIn gone into
 
 -- a cell whose window stands has the entries that belong to it; one that was merged has none, and names the window that took it first
 abbrev pub HasEntries : GroupRules → ℕ → (ℕ → ℤ) → ℕ → List Taken → Interval → List Entry → Option Interval → Type 0
 HasEntries rules node mark last taken w entries None =
-    Stands rules mark taken last w × IsSameBag (map (taken_entry node) entries) (filter (belongs rules w) taken)
+    Stands rules mark (arrives taken) last w × IsSameBag (map (taken_entry node) entries) (filter (belongs rules w) taken)
 HasEntries rules node mark last taken w entries (Some into) =
-    (Stands rules mark taken last w → ⊥) × (entries ≡ []) × IsTakenFirst rules mark taken last w into
+    (Stands rules mark (arrives taken) last w → ⊥) × (entries ≡ []) × IsTakenFirst rules mark taken last w into
 
 -- its other fields tell its panes
 pub record TellsPanes (rules : GroupRules) (node : ℕ) (panes : List Pane) (cell : Cell) : Type 0 where
@@ -222,16 +229,13 @@ pub record AreLegalCells (rules : GroupRules) (node : ℕ) (mark : ℕ → ℤ) 
   pub has : All (λ cell. HasEntries rules node mark last taken cell.span cell.entries cell.merged_into) cells
   pub tells : All (TellsPanes rules node panes) cells
   pub once : (w : Interval) → count_by (λ cell. same_span cell.span w) cells ≤ 1
-  pub ever : (c : ℕ) (w : Interval) → c ≤ last → Stands rules mark taken c w → 1 ≤ count_by (λ cell. same_span cell.span w) cells
+  pub ever : (c : ℕ) (w : Interval) → c ≤ last → Stands rules mark (arrives taken) c w → 1 ≤ count_by (λ cell. same_span cell.span w) cells
 
 -- ---- what is legal of a run
 
 -- each entry of a cell has its key
 abbrev pub IsKeyed : Cell → Type 0
 IsKeyed cell = All (λ entry. is_keyed cell.key entry.element ≡ true) cell.entries
-
-abbrev pub IsCommit : ℕ → ℕ → Type 0
-IsCommit last c = (1 ≤ c) × (c ≤ last)
 
 -- one node and key
 pub record IsLegalAt (plan : Plan) (commits : List CommitMarks) (cells : List Cell) (dropped : List Dropped) (panes : List Pane) (node : ℕ) (key : Value) : Type 0 where
@@ -240,12 +244,13 @@ pub record IsLegalAt (plan : Plan) (commits : List CommitMarks) (cells : List Ce
   pub cells_tell : AreLegalCells (rules_of plan node) node (mark_after commits node) (length commits - 1)
       (taken_at node key (taken_by cells)) (panes_at node key panes) (filter (is_cell_at_key node key) cells)
 
--- The panes, cells and dropped elements of a run whose commits, from the opening on, left these marks: of each Group and key they are legal; each is of a
--- commit from 1 to the last; and the panes stand by commit, node, key and window.
+-- The panes, cells and dropped elements of a run whose commits, from the opening on, left these marks: all are at Groups, each of a commit from 1 to the
+-- last; of each Group and key they are legal; and the panes stand by commit, node, key and window.
 pub record ArePanesLegal (plan : Plan) (commits : List CommitMarks) (cells : List Cell) (dropped : List Dropped) (panes : List Pane) : Type 0 where
+  pub sized : All (λ commit. length commit.marks ≡ length plan.nodes) commits
+  pub cells_at : All (λ cell. is_group plan cell.node ≡ true) cells
+  pub dropped_at : All (λ lost. is_group plan lost.node ≡ true) dropped
+  pub panes_at : All (λ pane. is_group plan pane.node ≡ true) panes
   pub each : (node : ℕ) (key : Value) → is_group plan node ≡ true → IsLegalAt plan commits cells dropped panes node key
   pub keyed : All IsKeyed cells
-  pub taken_commits : All (λ t. IsCommit (length commits - 1) t.commit) (taken_by cells)
-  pub dropped_commits : All (λ lost. IsCommit (length commits - 1) lost.commit) dropped
-  pub pane_commits : All (λ pane. IsCommit (length commits - 1) pane.commit) panes
   pub ordered : IsSorted pane_cmp panes

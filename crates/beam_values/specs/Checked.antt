@@ -54,12 +54,26 @@ abbrev pub is_no_file : List (List ℕ) → Bool
 is_no_file [] = true
 is_no_file (name ∷ names) = false
 
--- the arguments and the files that a source takes
+-- the arguments that a source takes
+abbrev pub is_source_argument : SourceKind → Args → Bool
+is_source_argument Lines args = is_nothing args
+is_source_argument TimedLines args = is_nothing args
+is_source_argument Count args = is_two_upto 1000000000 1000000 args
+is_source_argument Made args = is_two_upto 1000000 1000000 args
+
+-- whether a source reads files
+abbrev pub reads_file : SourceKind → Bool
+reads_file Lines = true
+reads_file TimedLines = true
+reads_file Count = false
+reads_file Made = false
+
+-- the files that a source reads: at least one, or none
+abbrev pub is_source_files : ℕ → SourceKind → List (List ℕ) → Bool
+is_source_files earlier work names = if reads_file work then are_files earlier names else is_no_file names
+
 abbrev pub is_source_allowed : ℕ → SourceKind → Args → List (List ℕ) → Bool
-is_source_allowed earlier Lines args names = is_nothing args && are_files earlier names
-is_source_allowed earlier TimedLines args names = is_nothing args && are_files earlier names
-is_source_allowed earlier Count args names = is_two_upto 1000000000 1000000 args && is_no_file names
-is_source_allowed earlier Made args names = is_two_upto 1000000 1000000 args && is_no_file names
+is_source_allowed earlier work args names = is_source_argument work args && is_source_files earlier work names
 
 -- a lag is at least 0
 abbrev pub is_estimator_allowed : Estimator → Bool
