@@ -1,7 +1,7 @@
 -- What calls of functions, sources and stateful functions give (Beam Programming Guide, ParDo, State and Timers; Splittable DoFn).
 use Rattle.std.specs.Prelude.{◌≡◌, ℕ, ℤ, ◌+◌, ◌-◌, ◌<◌, ◌≤◌, Bool, true, false, ◌&&◌, nat_lt, not, List, [], ◌++◌, length, map, take, drop, Option, Some, None}
 use Rattle.std.specs.List.{list_any}
-use Rattle.beam_values.specs.Checked.{is_two_upto, is_nothing}
+use Rattle.beam_values.specs.Checked.{reads_file}
 use Rattle.beam_values.specs.Intervals.{Interval}
 use Rattle.beam_values.specs.Lines.{is_line_feed}
 use Rattle.beam_values.specs.States.{KeptState}
@@ -27,27 +27,15 @@ use Rattle.dofn_traits.specs.declared.calls.Timed.{Timed}
 abbrev pub AddsOutputs : FnKind → Args → Element → List Element → List Element → Type 0
 AddsOutputs kind args e old new = (outputs : List Element) × (emits kind args e ≡ Some outputs) × (new ≡ old ++ outputs)
 
--- the arguments that a source takes
-abbrev pub is_source_argument : SourceKind → Args → Bool
-is_source_argument Lines args = is_nothing args
-is_source_argument TimedLines args = is_nothing args
-is_source_argument Count args = is_two_upto 1000000000 1000000 args
-is_source_argument Made args = is_two_upto 1000000 1000000 args
-
-abbrev pub reads_file : SourceKind → Bool
-reads_file Lines = true
-reads_file TimedLines = true
-reads_file Count = false
-reads_file Made = false
-
 -- What is seen of an item of this length for one of its positions: bytes that begin at `base` and end at or before its end. Of a file they reach from
--- before the position, where there is a byte before it, up to it or past it.
+-- before the position, where there is a byte before it, up to it or past it; what is counted or made has as many positions as its arguments say.
 pub record IsView (kind : SourceKind) (args : Args) (bytes : List ℕ) (base len p : ℕ) : Type 0 where
   pub inside : p < len
   pub within : base + length bytes ≤ len
   pub from_base : reads_file kind ≡ true → base ≤ p
   pub from_before : reads_file kind ≡ true → 0 < p → base < p
   pub reached : reads_file kind ≡ true → p ≤ base + length bytes
+  pub counted : reads_file kind ≡ false → positions_in kind args [] ≡ len
 
 -- they are the bytes of this file, and the item has that many positions
 pub record IsViewOf (file : List ℕ) (kind : SourceKind) (args : Args) (bytes : List ℕ) (base len : ℕ) : Type 0 where
@@ -62,7 +50,7 @@ is_cut_short kind bytes base len p =
 abbrev pub timed_value : Timed → model.TimedValue
 timed_value timed = record { value = timed.value; time = timed.time }
 
--- a mark that a position declares takes the place of one before
+-- a mark that a position declares takes the place of one before; so what is handed in is best empty
 abbrev pub declared_after : Option ℤ → Option ℤ → Option ℤ
 declared_after old None = old
 declared_after old (Some mark) = Some mark

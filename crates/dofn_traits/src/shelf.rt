@@ -1,10 +1,10 @@
 ghost use Rattle.std.specs.Prelude.{◌≡◌, ◌≢◌, ◌↔◌, ◌≤◌, ℕ, Bool, true, None, List as ListOf, OnOk, IfOk, IsErrOf};
-ghost use Rattle.beam_values.specs.Checked.{is_function_allowed, is_state_allowed};
+ghost use Rattle.beam_values.specs.Checked.{is_function_allowed, is_source_argument, is_state_allowed};
 ghost use Rattle.beam_ports.specs.Counts.{Rose};
 ghost use Rattle.beam_model.specs.Functions.{emits};
 ghost use Rattle.beam_model.specs.Positions as model;
 ghost use Rattle.beam_model.specs.Steps.{steps};
-ghost use Rattle.dofn_traits.specs.Calls.{is_source_argument, is_cut_short, kept_in, AddsOutputs, AddsStep, IsView, IsViewOf, IsFound, IsNextWithin, IsUnharmed};
+ghost use Rattle.dofn_traits.specs.Calls.{is_cut_short, kept_in, AddsOutputs, AddsStep, IsView, IsViewOf, IsFound, IsNextWithin, IsUnharmed};
 
 use crate::{CallRefusal, Emission, Found};
 use beam_values::{Args, Element, FnKind, List, LogInput, SourceKind, Span, StateKind, Value};
@@ -60,6 +60,7 @@ pub trait Shelf: Send {
         ensures found { IfOk result (λ found. (file : ListOf ℕ) → IsViewOf file kind args.now bytes.now base len
             → IsFound kind args.now file p out.old out.new found) }
         ensures next { IfOk result (IsNextWithin p len) }
+        ensures unchanged { IfOk result (λ found. found ≡ Found.More → out.new ≡ out.old) }
         ensures more { IfOk result (λ found. (found ≡ Found.More) ↔ (is_cut_short kind bytes.now base len p ≡ true)) }
         ensures failed { IsErrOf result CallRefusal.Failed → Rose (faults self.old) (faults self.new) }
         ensures counts { faults self.old ≤ faults self.new }
