@@ -28,7 +28,7 @@ impl<T> Boxed<T> {
         &self.inner
     }
 
-    /// Takes no memory. Only one of more than 2^62 shares is refused.
+    /// Takes no memory. It is refused only where there are 2^63 - 1 shares.
     pub fn share(&self) -> Result<Boxed<T>, NoMemory>
         ensures { IfOk result (λ b. b ≡ self.now) }
     {

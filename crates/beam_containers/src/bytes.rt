@@ -139,5 +139,3 @@ impl Bytes {
         }
     }
 }
-
-const _: () = prove!(size_of::<Bytes>() == 24);

@@ -27,6 +27,7 @@ mod outcome;
 mod piece;
 mod plan;
 mod range;
+mod sizes;
 mod span;
 mod state_cell;
 mod time;
