@@ -1,6 +1,7 @@
 use super::*;
 use beam_values::{
-    Boxed, Bytes, Element, List, NoMemory, PaneTag, Span, Time, Timing, Value, cmp_values,
+    Boxed, Bytes, Element, List, NoMemory, PaneTag, SharedList, Span, Time, Timing, Value,
+    cmp_values,
 };
 use std::alloc::Global;
 use std::cmp::Ordering;
@@ -86,7 +87,7 @@ fn two(alloc: Global, first: Value, second: Value) -> Result<Value, NoMemory> {
     let mut items = List::new(alloc);
     items.push(first)?;
     items.push(second)?;
-    Ok(Value::Seq(items))
+    Ok(Value::Seq(SharedList::from_list(alloc, items)?))
 }
 
 fn value_of(alloc: Global, expected: Expected) -> Result<Value, NoMemory> {
@@ -206,7 +207,7 @@ fn seq(alloc: Global, number: i64, len: usize) -> Result<Value, NoMemory> {
     for _ in 0..len {
         items.push(Value::Int(number))?;
     }
-    Ok(Value::Seq(items))
+    Ok(Value::Seq(SharedList::from_list(alloc, items)?))
 }
 
 fn samples(alloc: Global) -> Result<List<Value>, NoMemory> {

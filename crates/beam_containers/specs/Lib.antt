@@ -1,3 +1,4 @@
 pub mod formers
 pub mod Roomy
+pub mod SharedPlaces
 pub mod Stored

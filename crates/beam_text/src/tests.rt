@@ -3,7 +3,7 @@ use crate::element::push_element;
 use crate::{push_value, render};
 use beam_values::{
     Args, Arrival, Boxed, Bytes, Element, KeyLog, List, LogEntry, LogInput, NoMemory, Node,
-    NodeKind, Outcome, PaneTag, Plan, Span, StateKind, Time, Timer, Timing, Value,
+    NodeKind, Outcome, PaneTag, Plan, SharedList, Span, StateKind, Time, Timer, Timing, Value,
 };
 use std::alloc::Global;
 use std::process::Abort;
@@ -24,7 +24,7 @@ fn ints(alloc: Global, numbers: &[i64]) -> Result<Value, NoMemory> {
     for number in numbers {
         items.push(Value::Int(*number))?;
     }
-    Ok(Value::Seq(items))
+    Ok(Value::Seq(SharedList::from_list(alloc, items)?))
 }
 
 fn expect(rt: &impl Abort, alloc: Global, value: Value, text: &str) -> Result<(), Fail> {

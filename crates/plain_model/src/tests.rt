@@ -1,8 +1,8 @@
 //! Tables of files, positions and elements, each with what it gives counted by hand.
 use crate::{Emitted, emission, grouped, lines, next_position, plain_panes};
 use beam_values::{
-    Args, Boxed, Bytes, Element, List, NoMemory, PaneTag, SourceKind, Span, Strategy, Time, Timing,
-    Value, cmp_values,
+    Args, Boxed, Bytes, Element, List, NoMemory, PaneTag, SharedList, SourceKind, Span, Strategy,
+    Time, Timing, Value, cmp_values,
 };
 use std::alloc::Global;
 use std::cmp::Ordering;
@@ -27,7 +27,7 @@ fn ints(alloc: Global, numbers: &[i64]) -> Result<Value, NoMemory> {
     for number in numbers {
         items.push(Value::Int(*number))?;
     }
-    Ok(Value::Seq(items))
+    Ok(Value::Seq(SharedList::from_list(alloc, items)?))
 }
 
 // An element in the window of ten milliseconds from `start`; without a key its value isn't a pair.
@@ -295,6 +295,7 @@ fn texts(alloc: Global, key: &str, parts: &[&str]) -> Result<Value, NoMemory> {
     for part in parts {
         items.push(blob(alloc, part)?)?;
     }
+    let items = SharedList::from_list(alloc, items)?;
     pair(alloc, blob(alloc, key)?, Value::Seq(items))
 }
 
