@@ -19,7 +19,7 @@ impl Called for RoomyList<i64> {
             "remove" => remove(self, case),
             "pop" => case.say_some(self.pop()),
             "len" => case.say_number(self.len() as u64),
-            "items" => say_items(self.as_slice(), case),
+            "items" => say_items(self, case),
             _ => case.fail("a list has no such call"),
         }
     }
@@ -41,11 +41,11 @@ fn remove(list: &mut RoomyList<i64>, case: &mut Case<'_>) {
     }
 }
 
-fn say_items(items: &[i64], case: &mut Case<'_>) {
-    for item in items {
+fn say_items(list: &RoomyList<i64>, case: &mut Case<'_>) {
+    for item in list.as_slice() {
         case.say_number(*item);
     }
-    if items.is_empty() {
+    if list.is_empty() {
         case.say("none");
     }
 }

@@ -15,7 +15,7 @@ impl Called for Pieces {
             }
             "give_back" => give_back(self, case),
             "take" => say_taken(self.take(), case),
-            "pending" => say_pending(self.pending(), case),
+            "pending" => say_pending(self, case),
             "len" => case.say_number(self.len() as u64),
             "finished" => {
                 let node = case.number();
@@ -75,12 +75,13 @@ fn say_taken(taken: Option<Piece>, case: &mut Case<'_>) {
     }
 }
 
-fn say_pending(pending: &[Piece], case: &mut Case<'_>) {
-    for piece in pending {
+// The first piece to be taken comes last.
+fn say_pending(pieces: &Pieces, case: &mut Case<'_>) {
+    for piece in pieces.pending() {
         case.next_answer();
         say_piece(*piece, case);
     }
-    if pending.is_empty() {
+    if pieces.is_empty() {
         case.say("none");
     }
 }
