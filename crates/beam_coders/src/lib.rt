@@ -20,6 +20,3 @@ pub use laws::{write_and_compare, write_and_read};
 pub use reading::read_value;
 pub use refusal::{CoderRefusal, ReadRefusal};
 pub use writing::write_value;
-
-#[cfg(test)]
-mod tests;
