@@ -15,6 +15,3 @@ mod writes;
 
 pub use rendering::render;
 pub use value::{push_blob, push_value};
-
-#[cfg(test)]
-mod tests;
