@@ -14,8 +14,6 @@ mod grouping;
 mod positions;
 mod reading;
 mod sessions;
-#[cfg(test)]
-mod tests;
 
 pub use grouping::plain_panes;
 pub use positions::{Emitted, TimedValue, emission, next_position};
