@@ -14,7 +14,4 @@ mod strategy;
 
 pub use assignment::assign;
 pub use fixed::fixed_window;
-pub use strategy::{GREATEST_LENGTH, MOST_WINDOWS, StrategyRefusal, check_strategy};
-
-#[cfg(test)]
-mod tests;
+pub use strategy::{GREATEST_SIZE, MOST_WINDOWS, StrategyRefusal, check_strategy};
