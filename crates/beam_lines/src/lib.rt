@@ -10,6 +10,3 @@ mod timed;
 
 pub use line::{FirstLine, first_line, starts_line};
 pub use timed::{TimedLine, key_field, time_of, timed_line};
-
-#[cfg(test)]
-mod tests;
