@@ -8,6 +8,3 @@
 mod state;
 
 pub use state::KeyState;
-
-#[cfg(test)]
-mod tests;
