@@ -12,7 +12,5 @@ pub mod laws;
 mod merge;
 mod order;
 mod pieces;
-#[cfg(test)]
-mod tests;
 
 pub use pieces::Pieces;
