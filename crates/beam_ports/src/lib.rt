@@ -20,6 +20,3 @@ pub use memory_store::MemoryStore;
 pub use refusal::{Failed, OpenRefusal};
 pub use sink::Sink;
 pub use store::{Opened, Store};
-
-#[cfg(test)]
-mod tests;
