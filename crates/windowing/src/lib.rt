@@ -14,4 +14,5 @@ mod strategy;
 
 pub use assignment::assign;
 pub use fixed::fixed_window;
-pub use strategy::{GREATEST_SIZE, MOST_WINDOWS, StrategyRefusal, check_strategy};
+pub use strategy::{GREATEST_LENGTH, MOST_WINDOWS, StrategyRefusal, check_strategy};
+
