@@ -5,7 +5,7 @@
 //! them. Its calls are equations on these two, by the order of `specs/Order.antt`. Each call also says
 //! that nothing is lost or held twice: for every list of ranges that are out, as those that are worked or
 //! committed, the pending pieces and these ranges together go on to hold each offset of each item just
-//! once (`specs/Holding.antt`). [`laws`] has how a range that is out may be cut. Read `pieces.rt` first.
+//! once (`specs/Partition.antt`). [`laws`] has how a range that is out may be cut. Read `pieces.rt` first.
 #![tactic(auto)]
 
 pub mod laws;
