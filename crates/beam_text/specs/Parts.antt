@@ -2,14 +2,16 @@
 use Rattle.std.specs.Prelude.{◌≡◌, ℕ, ◌<◌, Bool, List, [], ◌∷◌, ◌++◌, Vec, codes, decimal, length, map, slice_index_or}
 use Rattle.std.specs.Fmt.{signed_decimal}
 use Rattle.std.specs.Borrow.{Bor}
+use Rattle.std.specs.List.{flat_map}
 use Rattle.std.specs.declared.alloc.Global.{Global}
 use Rattle.beam_values.specs.declared.element.Element.{Element}
 use Rattle.beam_values.specs.declared.arrival.Arrival.{Arrival}
 use Rattle.beam_values.specs.declared.log.KeyLog.{KeyLog}
 use Rattle.beam_values.specs.declared.plan.NodeKind.{NodeKind}
 use Rattle.beam_values.specs.declared.plan.NodeKind.TheVariants.{Write}
+use Rattle.beam_values.specs.declared.value.Value.{Value}
 use Rattle.beam_model.specs.Flow.{elements_at}
-use Rattle.beam_model.specs.Rendering.{IsLines, title}
+use Rattle.beam_model.specs.Rendering.{IsLines, items_written, title}
 
 -- such a text was added at the end
 abbrev pub AppendsText : (List ℕ → Type 0) → List ℕ → List ℕ → Type 0
@@ -39,3 +41,7 @@ IsNodeText labelled _ elements text = text ≡ []
 abbrev pub call_place : KeyLog → List ℕ
 call_place log =
     codes "log" ++ 9 ∷ (decimal log.node ++ 9 ∷ (signed_decimal log.span.start ++ 9 ∷ (signed_decimal log.span.end ++ 9 ∷ [])))
+
+-- the items of the sequences of what was written
+abbrev pub items_in : List Arrival → List Value
+items_in written = flat_map (λ arrival. items_written arrival.element) written

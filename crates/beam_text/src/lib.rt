@@ -1,17 +1,19 @@
 //! The texts of values, elements and whole outcomes, as the runner prints them.
 //!
-//! Values and elements are exact by `beam_values::specs::Texts`, and [`render`] by
-//! `beam_model::specs::Rendering`: the layer above may rely on its text being the rendering of the
-//! outcome, whatever order the elements and the logs came in. A text is appended in one pass; where
-//! memory is refused what was appended so far is of no use, and the caller drops it. What is put in
-//! order is references: no element is copied. Read `rendering.rt` first.
+//! Values and elements are exact by `beam_values::specs::Texts`, [`render`] and [`summary`] by
+//! `beam_model::specs::Rendering`: the layer above may rely on the one being the rendering of the
+//! outcome, whatever order the elements and the logs came in, and on the other being its totals. A text
+//! is appended in one pass. Where memory is refused, [`push_value`] and [`push_blob`] leave the text as
+//! it was. What is put in order is references: no element is copied. Read `rendering.rt` first.
 #![tactic(auto)]
 
 mod element;
 mod logs;
 mod rendering;
+mod totals;
 mod value;
 mod writes;
 
 pub use rendering::render;
+pub use totals::summary;
 pub use value::{push_blob, push_value};
