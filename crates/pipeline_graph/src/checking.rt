@@ -1,7 +1,7 @@
 ghost use Rattle.std.specs.Prelude.{◌≡◌, ◌≤◌, [], length, nat_lt, None, IfOk, IfErr, OnOk, OnErr};
 ghost use Rattle.std.specs.List.{list_all, list_any};
 ghost use Rattle.beam_values.specs.Checked.{IsChecked, file_count, files_of_kind, graph_refusal, has_input, is_write_in, node_refusal, nodes_refusal};
-ghost use Rattle.beam_values.specs.Nodes.{facts_of, is_write_kind};
+ghost use Rattle.beam_values.specs.Nodes.{facts_of, is_write_kind, with_facts};
 ghost use Rattle.pipeline_graph.specs.Known.{is_set_after};
 ghost use Rattle.pipeline_graph.specs.Refusals.{IsFirst};
 
@@ -12,7 +12,7 @@ use crate::settings::{
     is_trigger_allowed,
 };
 use crate::strategies::{NodeFacts, agrees, facts_after, first_strategy, is_kept};
-use beam_values::{GraphRefusal, List, Node, NodeKind, Plan};
+use beam_values::{GraphRefusal, List, NoMemory, Node, NodeKind, Plan};
 use std::alloc::Global;
 
 /// The greatest number of nodes of a plan.
@@ -55,15 +55,20 @@ fn check_nodes(alloc: Global, nodes: &[Node]) -> Result<List<NodeFacts>, CheckRe
     let mut files = 0;
     for (number, node) in nodes.iter().enumerate() {
         let (before, _) = nodes.split_at(number);
-        let known = facts.as_slice();
-        if let Some(refusal) = node_refusal(before, known, files, node) {
+        if let Some(refusal) = node_refusal(before, facts.as_slice(), files, node) {
             return Err(CheckRefusal::Bad(refusal));
         }
-        let above = first_strategy(known, node.inputs.as_slice());
-        facts.push(facts_after(&node.kind, above))?;
+        add_facts(&mut facts, node)?;
         files += file_count(&node.kind);
     }
     Ok(facts)
+}
+
+fn add_facts(facts: &mut List<NodeFacts>, node: &Node) -> Result<(), NoMemory>
+    ensures { OnOk result (facts.new ≡ with_facts facts.old node.now) }
+{
+    let above = first_strategy(facts.as_slice(), node.inputs.as_slice());
+    facts.push(facts_after(&node.kind, above))
 }
 
 // The first rule that a node breaks after those before it, of which these facts are known and which read
