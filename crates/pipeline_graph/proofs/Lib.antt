@@ -1,1 +1,2 @@
+mod FollowerLists
 mod Unrefused

@@ -1,2 +1,3 @@
+pub mod Followers
 pub mod Known
 pub mod Refusals

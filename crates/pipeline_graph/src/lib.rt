@@ -3,6 +3,7 @@
 #![tactic(auto)]
 
 mod checking;
+mod followers;
 mod kinds;
 mod refusal;
 mod settings;

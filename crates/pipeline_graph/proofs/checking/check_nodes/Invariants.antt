@@ -1,4 +1,3 @@
-use Rattle.std.proofs.Common.{take}
 use Rattle.pipeline_graph.proofs.Unrefused.{IsCheckedTo}
 use Rattle.pipeline_graph.proofs.checking.check_nodes.Given as goal
 
