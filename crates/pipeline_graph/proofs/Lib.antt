@@ -1,2 +1,4 @@
+mod CheckedPlans
 mod FollowerLists
+mod NodeStrategies
 mod Unrefused

@@ -1,16 +1,15 @@
 -- Nodes that break no rule, one after another.
-use Rattle.std.proofs.Common.{◌≡◌, ℕ, ◌+◌, ◌<◌, ◌≤◌, ◌&&◌, nat_lt, Bool, true, false, cond, List, [], ◌∷◌, ◌++◌, length, get_or, take, drop, Option, Some, None, refl, sym, ap, subst, ◌∙◌, zero-add, add_assoc, arith}
-use Rattle.std.specs.Prelude.{fold, not}
+use Rattle.std.proofs.Common.{◌≡◌, ℕ, ◌+◌, ◌<◌, ◌≤◌, ◌&&◌, nat_lt, Bool, true, false, cond, List, [], ◌∷◌, ◌++◌, length, get_or, take, drop, Option, Some, None, refl, sym, ap, ◌∙◌, arith}
+use Rattle.std.specs.Prelude.{not}
 use Rattle.std.specs.Option.{option_or}
 use Rattle.std.specs.List.{list_all, list_any}
 use Rattle.std.proofs.lemmas.Bool.{and_parts, and_right, both_ways, leb-true, not-false}
 use Rattle.std.proofs.lemmas.Grind.{fold-append}
-use Rattle.std.proofs.lemmas.List.{take_more, drop_more, drop_all, take_all}
+use Rattle.std.proofs.lemmas.List.{take_more, drop_more}
 use Rattle.beam_values.specs.Checked.{file_count, files_of_kind, has_arity, has_input, is_set, is_source_allowed, is_write_in, node_refusal, nodes_refusal}
 use Rattle.beam_values.specs.Nodes.{NodeFacts, facts_of, is_source_kind, with_facts}
 use Rattle.beam_values.specs.declared.graph_refusal.GraphRefusal.{GraphRefusal}
 use Rattle.beam_values.specs.declared.plan.Args.{Args}
-use Rattle.beam_values.specs.declared.plan.Estimator.{Estimator}
 use Rattle.beam_values.specs.declared.plan.Node.{Node}
 use Rattle.beam_values.specs.declared.plan.NodeKind.{NodeKind}
 use Rattle.beam_values.specs.declared.plan.NodeKind.TheVariants.{Source, ParDo, Flatten, WindowInto, Group, Stateful, Write}
@@ -19,7 +18,7 @@ use Rattle.beam_values.specs.declared.plan.SourceKind.TheVariants.{Lines, TimedL
 
 -- ---- rules one after another
 
-unbroken : {X : Type 0} (broken : Bool) (rule : X) (rest : Option X) → cond broken (Some rule) rest ≡ None → (broken ≡ false) × (rest ≡ None)
+pub unbroken : {X : Type 0} (broken : Bool) (rule : X) (rest : Option X) → cond broken (Some rule) rest ≡ None → (broken ≡ false) × (rest ≡ None)
 unbroken true rule rest none = absurd cc
 unbroken false rule rest none = (refl, none)
 
@@ -61,7 +60,7 @@ few_files earlier Count args (file ∷ files) few allowed = absurd (both_ways _ 
 few_files earlier Made args [] few allowed = omega arith
 few_files earlier Made args (file ∷ files) few allowed = absurd (both_ways _ (and_right _ _ refl) allowed)
 
-set_files : (before : List Node) (kind : NodeKind) (inputs : List ℕ) → file_count before ≤ 256 → is_set before kind inputs ≡ true
+pub set_files : (before : List Node) (kind : NodeKind) (inputs : List ℕ) → file_count before ≤ 256 → is_set before kind inputs ≡ true
     → file_count before + files_of_kind kind ≤ 256
 set_files before (Source work args files estimator) inputs few set = few_files (file_count before) work args files few (and_parts _ _ set).0
 set_files before (ParDo work args) inputs few set = omega arith

@@ -1,3 +1,5 @@
 pub mod Followers
+pub mod Indexes
 pub mod Known
 pub mod Refusals
+pub mod Rules

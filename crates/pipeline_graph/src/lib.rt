@@ -4,7 +4,18 @@
 
 mod checking;
 mod followers;
+mod graph;
 mod kinds;
 mod refusal;
 mod settings;
 mod strategies;
+
+pub use beam_values::GraphRefusal;
+pub use checking::MOST_NODES;
+pub use graph::Graph;
+pub use kinds::MOST_INPUTS;
+pub use refusal::{CheckRefusal, refusal_number};
+pub use settings::{
+    GREATEST_COUNT, GREATEST_FIELD, GREATEST_MADE, GREATEST_STEP, LONGEST_FILE_NAME,
+    LONGEST_PREFIX, MOST_FILES,
+};
