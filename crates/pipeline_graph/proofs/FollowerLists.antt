@@ -15,7 +15,7 @@ pub record IsAdded (number : ℕ) (inputs : List ℕ) (before after : List (List
 
 -- ---- node after node
 
-enumerate_from-append : {X : Type 0} (n : ℕ) (xs ys : List X) → enumerate_from n (xs ++ ys) ≡ enumerate_from n xs ++ enumerate_from (n + length xs) ys
+pub enumerate_from-append : {X : Type 0} (n : ℕ) (xs ys : List X) → enumerate_from n (xs ++ ys) ≡ enumerate_from n xs ++ enumerate_from (n + length xs) ys
 enumerate_from-append n [] ys = ap (λ (m : ℕ). enumerate_from m ys) (sym (add-zero n))
 enumerate_from-append n (x ∷ xs) ys =
     ap (λ l. (n, x) ∷ l)

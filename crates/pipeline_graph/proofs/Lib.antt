@@ -1,4 +1,5 @@
 mod CheckedPlans
+pub mod FollowerChains
 mod FollowerLists
 mod NodeStrategies
 mod Unrefused

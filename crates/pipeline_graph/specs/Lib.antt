@@ -3,3 +3,4 @@ pub mod Indexes
 pub mod Known
 pub mod Refusals
 pub mod Rules
+pub mod Taking

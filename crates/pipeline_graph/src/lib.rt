@@ -6,6 +6,7 @@ mod checking;
 mod followers;
 mod graph;
 mod kinds;
+pub mod laws;
 mod refusal;
 mod settings;
 mod strategies;
