@@ -8,11 +8,14 @@ use Rattle.std.proofs.lemmas.Int.{ints}
 use Rattle.std.proofs.lemmas.List.{length-take-le}
 use Rattle.std.proofs.lemmas.List.Folds.{list_all_at, list_any_at, Any-from_list_any}
 use Rattle.std.proofs.lemmas.Option.{slice_get_within, slice_get-get_or}
-use Rattle.beam_values.specs.Checked.{IsChecked, has_arity, has_input, file_count, is_count, is_early_allowed, is_estimator_allowed, is_file_name, is_kept, is_set, is_source_allowed, is_trigger_allowed, is_write_in, node_refusal, nodes_refusal, write_refusal}
+use Rattle.beam_values.specs.Checked.{IsChecked, has_arity, has_input, file_count, is_count, is_early_allowed, is_estimator_allowed, is_file_name, is_function_allowed, is_kept, is_set, is_source_allowed, is_trigger_allowed, is_write_in, node_refusal, nodes_refusal, write_refusal}
 use Rattle.beam_values.specs.Nodes.{is_source_kind, is_stateful_kind, is_write_kind, is_stateful, is_write}
 use Rattle.beam_values.specs.Strategies.{IsAllowed, IsLength, is_allowed, is_length}
 use Rattle.beam_values.specs.declared.graph_refusal.GraphRefusal.TheVariants.{NoWrite}
 use Rattle.beam_values.specs.declared.plan.Args.{Args}
+use Rattle.beam_values.specs.declared.plan.Args.TheVariants.{Nothing, Text, Number, Two}
+use Rattle.beam_values.specs.declared.plan.FnKind.{FnKind}
+use Rattle.beam_values.specs.declared.plan.FnKind.TheVariants.{KeyField, Words, Field, KeepPrefix, FieldInt, Swap, Shift, SumSeq, CountSeq, MaxSeq, Unseq, Values}
 use Rattle.beam_values.specs.declared.plan.Estimator.{Estimator}
 use Rattle.beam_values.specs.declared.plan.Estimator.TheVariants as estimator
 use Rattle.beam_values.specs.declared.plan.Node.{Node}
@@ -24,6 +27,7 @@ use Rattle.beam_values.specs.declared.plan.SourceKind.TheVariants.{Lines, TimedL
 use Rattle.beam_values.specs.declared.plan.Strategy.{Strategy}
 use Rattle.beam_values.specs.declared.plan.Strategy.TheVariants.{Global, Fixed, Sliding, Sessions, Kept}
 use Rattle.beam_values.specs.declared.plan.Trigger.{Trigger}
+use Rattle.beam_model.specs.Premises.{IsForward}
 use Rattle.pipeline_graph.specs.Rules.{HasFiles, HasInputs, HasLag, HasSettings, IsCount, IsFileName, IsTriggerSet, is_source_argument}
 use Rattle.pipeline_graph.proofs.Unrefused.{IsUnrefused, file_count-push, neither, set_files, unbroken, unrefused}
 
@@ -221,6 +225,24 @@ no_stateful plan n checked = by_node (slice_get plan.nodes n) refl
     by_node : (found : Option Node) → slice_get plan.nodes n ≡ found → unwrap_or (option_map (λ node. is_stateful_kind node.kind) found) false ≡ false
     by_node None here = refl
     by_node (Some node) here = by_kind node.kind (node_settings plan n node checked here)
+
+-- a shift that is allowed goes forward
+pub goes_forward : (work : FnKind) (args : Args) → is_function_allowed work args ≡ true → IsForward work args
+goes_forward Shift (Number n) test = int_le_true _ _ (and_parts _ _ test).0
+goes_forward Shift Nothing test = absurd cc
+goes_forward Shift (Text text) test = absurd cc
+goes_forward Shift (Two first second) test = absurd cc
+goes_forward KeyField args test = tt
+goes_forward Words args test = tt
+goes_forward Field args test = tt
+goes_forward KeepPrefix args test = tt
+goes_forward FieldInt args test = tt
+goes_forward Swap args test = tt
+goes_forward SumSeq args test = tt
+goes_forward CountSeq args test = tt
+goes_forward MaxSeq args test = tt
+goes_forward Unseq args test = tt
+goes_forward Values args test = tt
 
 -- ---- files
 

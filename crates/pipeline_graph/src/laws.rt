@@ -2,13 +2,16 @@
 
 ghost use Rattle.std.specs.Prelude.{◌≡◌, ℕ, ◌<◌, ◌≤◌, true, false, if◌then◌else◌, length, slice_get, Some, All};
 ghost use Rattle.std.specs.List.{Any, flat_map};
-ghost use Rattle.beam_values.specs.Checked.{IsChecked, file_count};
+ghost use Rattle.beam_values.specs.Checked.{IsChecked, file_count, is_function_allowed};
 ghost use Rattle.beam_values.specs.Nodes.{HasNoStatefulAbove, below_group, is_group_kind, is_stateful, is_write, is_write_kind, onward_of, strategy_of};
 ghost use Rattle.beam_values.specs.Strategies.{IsAllowed};
 ghost use Rattle.beam_values.specs.declared.element.Element.{Element};
+ghost use Rattle.beam_values.specs.declared.plan.Args.{Args};
+ghost use Rattle.beam_values.specs.declared.plan.FnKind.{FnKind};
 ghost use Rattle.beam_values.specs.declared.plan.Node.{Node};
 ghost use Rattle.beam_values.specs.declared.plan.Plan.{Plan};
 ghost use Rattle.beam_model.specs.Chains.{chain};
+ghost use Rattle.beam_model.specs.Premises.{IsForward};
 ghost use Rattle.pipeline_graph.specs.Followers.{followers_of};
 ghost use Rattle.pipeline_graph.specs.Rules.{HasInputs, HasOwnStrategy, HasSettings, is_window_into_kind};
 ghost use Rattle.pipeline_graph.specs.Taking.{taken_by};
@@ -34,6 +37,11 @@ pub fn nodes_have_inputs_and_settings_of_their_kind()
         → HasInputs node.kind (length node.inputs) }
     ensures settings { (plan : Plan) (n : ℕ) (node : Node) → IsChecked plan → slice_get plan.nodes n ≡ Some node
         → HasSettings node.kind }
+{}
+
+/// A function that is allowed its argument gives nothing before the element that it is on.
+pub fn allowed_functions_go_forward()
+    ensures { (work : FnKind) (args : Args) → is_function_allowed work args ≡ true → IsForward work args }
 {}
 
 /// Keyed state isn't taken yet.

@@ -1,5 +1,12 @@
 //! Checked pipelines: a plan that breaks no rule, with the followers and the strategy of each node at
 //! hand (Beam Programming Guide, Creating a pipeline; Windowing).
+//!
+//! The rules and their order stand in `beam_values::specs::Checked`. [`Graph::check`] refuses a plan by
+//! the first rule that it breaks, and takes every plan that breaks none; only want of memory comes
+//! between. Contracts see a [`Graph`] as its plan. The followers of a node (`specs/Followers.antt`) and
+//! its strategy are found by its number. The layer above may rely on these and on [`laws`]: what the
+//! nodes of a checked plan have (`specs/Rules.antt`), and that a chain goes by followers. Read `graph.rt`
+//! first, then `checking.rt`.
 #![tactic(auto)]
 
 mod checking;
@@ -20,3 +27,6 @@ pub use settings::{
     GREATEST_COUNT, GREATEST_FIELD, GREATEST_MADE, GREATEST_STEP, LONGEST_FILE_NAME,
     LONGEST_PREFIX, MOST_FILES,
 };
+
+#[cfg(test)]
+mod tests;
