@@ -19,7 +19,7 @@ use Rattle.pipeline_graph.proofs.CheckedPlans.{inputs_lower}
 use Rattle.pipeline_graph.proofs.FollowerLists.{enumerate_from-append}
 
 -- the followers of a node among these, the first of which has the number `next`
-abbrev followers_from : ℕ → List Node → ℕ → List ℕ
+abbrev pub followers_from : ℕ → List Node → ℕ → List ℕ
 followers_from next nodes from = flat_map (λ numbered. named from numbered.0 numbered.1.inputs) (enumerate_from next nodes)
 
 -- ---- no node up to this one follows it
@@ -77,7 +77,7 @@ IsBetween first end number = (first ≤ number) × (number < end)
 named_between : (from number first end : ℕ) (inputs : List ℕ) → IsBetween first end number → All (IsBetween first end) (named from number inputs)
 named_between from number first end inputs between = All-map (IsBetween first end) (λ _. number) (filter (λ input. input == from) inputs) (λ k d inside. between)
 
-followers_between : (from next end : ℕ) (nodes : List Node) → next + length nodes ≤ end → All (IsBetween next end) (followers_from next nodes from)
+pub followers_between : (from next end : ℕ) (nodes : List Node) → next + length nodes ≤ end → All (IsBetween next end) (followers_from next nodes from)
 followers_between from next end [] within = All-nil (IsBetween next end)
 followers_between from next end (node ∷ later) within =
     All-append (IsBetween next end) (named from next node.inputs) (followers_from (next + 1) later from)

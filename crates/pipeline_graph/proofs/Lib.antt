@@ -1,5 +1,6 @@
 mod CheckedPlans
-pub mod FollowerChains
+mod FollowerChains
 mod FollowerLists
+mod FollowerMeanings
 mod NodeStrategies
 mod Unrefused

@@ -1,7 +1,8 @@
 //! What follows of a checked plan. Each function does nothing: its contract is the law.
 
-ghost use Rattle.std.specs.Prelude.{◌≡◌, ℕ, ◌<◌, ◌≤◌, true, false, if◌then◌else◌, length, slice_get, Some, All};
-ghost use Rattle.std.specs.List.{Any, flat_map};
+ghost use Rattle.std.specs.Prelude.{◌≡◌, ℕ, ◌<◌, ◌≤◌, ◌==◌, true, false, if◌then◌else◌, length, slice_get, Some, All};
+ghost use Rattle.std.specs.List.{Any, Contains, count_by, flat_map};
+ghost use Rattle.std.specs.List.Sorted.{IsNonDecreasing};
 ghost use Rattle.beam_values.specs.Checked.{IsChecked, file_count, is_function_allowed};
 ghost use Rattle.beam_values.specs.Nodes.{HasNoStatefulAbove, below_group, is_group_kind, is_stateful, is_write, is_write_kind, onward_of, strategy_of};
 ghost use Rattle.beam_values.specs.Strategies.{IsAllowed};
@@ -17,7 +18,7 @@ ghost use Rattle.pipeline_graph.specs.Rules.{HasInputs, HasOwnStrategy, HasSetti
 ghost use Rattle.pipeline_graph.specs.Taking.{taken_by};
 
 /// A pipeline has 1 to 64 nodes, of which one is a Write, and its sources read at most 256 files together.
-pub fn plans_are_small_and_write()
+pub fn plans_are_small_and_write_something()
     ensures nodes { (plan : Plan) → IsChecked plan → (1 ≤ length plan.nodes) × (length plan.nodes ≤ 64) }
     ensures write { (plan : Plan) → IsChecked plan → Any (λ node. is_write_kind node.kind ≡ true) plan.nodes }
     ensures files { (plan : Plan) → IsChecked plan → file_count plan.nodes ≤ 256 }
@@ -65,10 +66,20 @@ pub fn strategies_follow_kinds()
         → onward_of plan n ≡ (if is_group_kind node.kind then below_group (strategy_of plan n) else strategy_of plan n) }
 {}
 
-/// The followers of a node are nodes after it.
-pub fn followers_come_later()
-    ensures { (plan : Plan) (n : ℕ) → IsChecked plan
+/// The followers of a node are the nodes that name it as an input, each as often as it does, in the
+/// order of their numbers. In a checked plan they come after it.
+pub fn followers_name_the_node()
+    ensures times { (plan : Plan) (n follower : ℕ) (node : Node) → slice_get plan.nodes follower ≡ Some node
+        → count_by (λ m. m == follower) (followers_of plan n) ≡ count_by (λ input. input == n) node.inputs }
+    ensures ascend { (plan : Plan) (n : ℕ) → IsNonDecreasing (followers_of plan n) }
+    ensures later { (plan : Plan) (n : ℕ) → IsChecked plan
         → All (λ follower. (n < follower) × (follower < length plan.nodes)) (followers_of plan n) }
+{}
+
+/// A follower takes elements of its own strategy, unless it is a WindowInto.
+pub fn followers_take_elements_of_their_strategy()
+    ensures { (plan : Plan) (n follower : ℕ) (node : Node) → IsChecked plan → Contains (followers_of plan n) follower
+        → slice_get plan.nodes follower ≡ Some node → is_window_into_kind node.kind ≡ false → strategy_of plan follower ≡ onward_of plan n }
 {}
 
 /// What an output of a node brings is what its followers make of it, one after another.
