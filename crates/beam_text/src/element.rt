@@ -5,7 +5,8 @@ use crate::push_value;
 use beam_values::{Bytes, Element, NoMemory, Timing};
 use itoa::Buffer;
 
-pub(crate) fn push_element(element: &Element, out: &mut Bytes) -> Result<(), NoMemory>
+/// Appends the line of a written element: its window, the timing and index of its pane, and its value.
+pub fn push_element(element: &Element, out: &mut Bytes) -> Result<(), NoMemory>
     ensures { OnOk result (out.new ≡ out.old ++ element_line element.now) }
 {
     let mut digits = Buffer::new();

@@ -14,6 +14,7 @@ mod totals;
 mod value;
 mod writes;
 
+pub use element::push_element;
 pub use rendering::render;
 pub use totals::summary;
 pub use value::{push_blob, push_value};

@@ -27,7 +27,6 @@ mod outcome;
 mod piece;
 mod plan;
 mod range;
-mod sizes;
 mod span;
 mod state_cell;
 mod time;

@@ -8,7 +8,7 @@ use Rattle.std.proofs.lemmas.Int.{ints}
 use Rattle.std.proofs.lemmas.List.{length-take-le}
 use Rattle.std.proofs.lemmas.List.Folds.{list_all_at, list_any_at, Any-from_list_any}
 use Rattle.std.proofs.lemmas.Option.{slice_get_within, slice_get-get_or}
-use Rattle.beam_values.specs.Checked.{IsChecked, has_arity, has_input, file_count, is_count, is_early_allowed, is_estimator_allowed, is_file_name, is_function_allowed, is_kept, is_set, is_source_allowed, is_trigger_allowed, is_write_in, node_refusal, nodes_refusal, write_refusal}
+use Rattle.beam_values.specs.Checked.{IsChecked, has_arity, has_input, file_count, is_count, is_early_allowed, is_estimator_allowed, is_file_name, is_function_allowed, is_kept, is_set, is_source_allowed, is_trigger_allowed, is_write_in, node_refusal, nodes_refusal, write_refusal, is_source_argument}
 use Rattle.beam_values.specs.Nodes.{is_source_kind, is_stateful_kind, is_write_kind, is_stateful, is_write}
 use Rattle.beam_values.specs.Strategies.{IsAllowed, IsLength, is_allowed, is_length}
 use Rattle.beam_values.specs.declared.graph_refusal.GraphRefusal.TheVariants.{NoWrite}
@@ -28,7 +28,7 @@ use Rattle.beam_values.specs.declared.plan.Strategy.{Strategy}
 use Rattle.beam_values.specs.declared.plan.Strategy.TheVariants.{Global, Fixed, Sliding, Sessions, Kept}
 use Rattle.beam_values.specs.declared.plan.Trigger.{Trigger}
 use Rattle.beam_model.specs.Premises.{IsForward}
-use Rattle.pipeline_graph.specs.Rules.{HasFiles, HasInputs, HasLag, HasSettings, IsCount, IsFileName, IsTriggerSet, is_source_argument}
+use Rattle.pipeline_graph.specs.Rules.{HasFiles, HasInputs, HasLag, HasSettings, IsCount, IsFileName, IsTriggerSet}
 use Rattle.pipeline_graph.proofs.Unrefused.{IsUnrefused, file_count-push, neither, set_files, unbroken, unrefused}
 
 -- ---- tests of lists

@@ -1,6 +1,6 @@
 -- What the nodes of a checked plan have (Beam Programming Guide, Creating a pipeline; the limits are this profile's).
 use Rattle.std.specs.Prelude.{◌≡◌, ◌≢◌, ℕ, ◌≤◌, pos, ◌≤ℤ◌, Bool, true, false, List, [], length, All, IfSome}
-use Rattle.beam_values.specs.Checked.{is_function_allowed, is_nothing, is_two_upto}
+use Rattle.beam_values.specs.Checked.{is_function_allowed, is_source_argument}
 use Rattle.beam_values.specs.Strategies.{IsAllowed, greatest_length}
 use Rattle.beam_values.specs.declared.plan.Args.{Args}
 use Rattle.beam_values.specs.declared.plan.Estimator.{Estimator}
@@ -22,13 +22,6 @@ abbrev pub HasInputs : NodeKind → ℕ → Type 0
 HasInputs (Source work args files estimator) count = count ≡ 0
 HasInputs Flatten count = (1 ≤ count) × (count ≤ 8)
 HasInputs _ count = count ≡ 1
-
--- the arguments that a source takes
-abbrev pub is_source_argument : SourceKind → Args → Bool
-is_source_argument Lines args = is_nothing args
-is_source_argument TimedLines args = is_nothing args
-is_source_argument Count args = is_two_upto 1000000000 1000000 args
-is_source_argument Made args = is_two_upto 1000000 1000000 args
 
 abbrev pub IsFileName : List ℕ → Type 0
 IsFileName name = (1 ≤ length name) × (length name ≤ 4096)

@@ -6,6 +6,7 @@ use crate::lines::{answer_key, answer_line, answer_time, answer_timed};
 use crate::outcomes::answer_outcome;
 use crate::ports::{read_sink, read_store};
 use crate::running::Script;
+use crate::sizes::answer_size;
 use crate::sources::{answer_emission, answer_lines, answer_next};
 use crate::steps::call_all;
 use crate::trackers::read_tracker;
@@ -35,6 +36,7 @@ pub fn answer(case: &mut Case<'_>) {
         "emission" => answer_emission(case),
         "next" => answer_next(case),
         "grouped" => answer_grouped(case),
+        "size" => answer_size(case),
         kind => answer_calls(kind, case),
     }
 }

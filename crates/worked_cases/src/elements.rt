@@ -1,7 +1,7 @@
 use crate::case::Case;
 use crate::values::read_value;
-use beam_text::render_elements;
-use beam_values::{Element, PaneTag, Timing};
+use beam_text::push_element;
+use beam_values::{Bytes, Element, PaneTag, Timing};
 
 /// An element as its time, its window, the timing and the index of its pane, and its value.
 pub fn read_element(case: &mut Case<'_>) -> Element {
@@ -46,8 +46,9 @@ pub fn say_element(element: &Element, case: &mut Case<'_>) {
 /// The line of an element.
 pub fn answer_row(case: &mut Case<'_>) {
     let element = read_element(case);
-    match render_elements(case.alloc(), &[element]) {
-        Ok(row) => case.say_text(row.as_slice()),
+    let mut row = Bytes::new(case.alloc());
+    match push_element(&element, &mut row) {
+        Ok(()) => case.say_text(row.as_slice()),
         Err(refused) => case.no_memory(refused),
     }
 }

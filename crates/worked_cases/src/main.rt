@@ -20,6 +20,7 @@ mod outcomes;
 mod pieces;
 mod ports;
 mod running;
+mod sizes;
 mod sources;
 mod states;
 mod steps;
