@@ -3,7 +3,7 @@ ghost use Rattle.std.specs.Prelude.{◌<◌, length};
 use crate::case::Case;
 use crate::steps::Called;
 use beam_ports::{Failed, MemorySink, MemoryStore, OpenRefusal, Sink, Store};
-use beam_values::{FileText, List};
+use beam_values::{FileText, List, NoMemory};
 
 /// A store with the files `NAME TEXT NAME TEXT`, and the calls that fail.
 pub fn read_store(case: &mut Case<'_>) -> MemoryStore {
@@ -59,7 +59,10 @@ impl Called for MemoryStore {
 fn read(store: &mut MemoryStore, case: &mut Case<'_>) {
     let name = case.text();
     let at = case.number();
-    let mut buf = case.text().into_vec();
+    let text = case.text();
+    let Ok(mut buf) = Vec::from_slice(case.alloc(), text.as_slice()) else {
+        return case.no_memory(NoMemory);
+    };
     match open_and_read(store, name.as_slice(), at, buf.as_mut_slice()) {
         Ok((file, len, count)) => {
             case.say_number(file);
