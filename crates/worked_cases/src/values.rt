@@ -1,5 +1,5 @@
 use crate::case::Case;
-use beam_values::{Boxed, List, NoMemory, SharedList, Value};
+use beam_values::{Boxed, List, NoMemory, Value};
 use std::alloc::Global;
 
 /// How deep the values of a case may stand in one another.
@@ -24,8 +24,7 @@ fn value_within(case: &mut Case<'_>, depth: u32) -> Value {
         return made_pair(key, value, case);
     }
     if case.takes(b'[') {
-        let items = items_within(case, depth - 1);
-        return made_seq(items, case);
+        return Value::Seq(items_within(case, depth - 1));
     }
     plain_value(case)
 }
@@ -50,16 +49,6 @@ fn items_within(case: &mut Case<'_>, depth: u32) -> List<Value> {
 fn made_pair(key: Value, value: Value, case: &mut Case<'_>) -> Value {
     match pair_of(case.alloc(), key, value) {
         Ok(pair) => pair,
-        Err(refused) => {
-            case.no_memory(refused);
-            Value::Null
-        }
-    }
-}
-
-fn made_seq(items: List<Value>, case: &mut Case<'_>) -> Value {
-    match SharedList::from_list(case.alloc(), items) {
-        Ok(items) => Value::Seq(items),
         Err(refused) => {
             case.no_memory(refused);
             Value::Null
