@@ -8,7 +8,7 @@ ghost use Rattle.beam_coders.specs.Reading.{blob_at, items_at, tagged_at, value_
 use crate::bits::signed_bits;
 use crate::varint::varint_of;
 use crate::{CoderRefusal, ReadRefusal};
-use beam_values::{Boxed, Bytes, List, SharedList, Value};
+use beam_values::{Boxed, Bytes, List, Value};
 use std::alloc::Global;
 
 /// How many values may stand inside one another.
@@ -85,7 +85,7 @@ fn tagged_of(
         4 => {
             let (count, rest) = varint_of(64, bytes)?;
             let (items, rest) = items_of(alloc, depth, count, rest)?;
-            Ok((Value::Seq(SharedList::from_list(alloc, items)?), rest))
+            Ok((Value::Seq(items), rest))
         }
         _ => Err(ReadRefusal::Bad(CoderRefusal::Tag(tag))),
     }

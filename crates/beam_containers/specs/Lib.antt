@@ -1,4 +1,3 @@
 pub mod formers
 pub mod Roomy
-pub mod SharedPlaces
 pub mod Stored

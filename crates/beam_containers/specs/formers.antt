@@ -1,3 +1,2 @@
 pub mod boxed
 pub mod list
-pub mod shared_list

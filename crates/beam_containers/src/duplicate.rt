@@ -1,6 +1,6 @@
 ghost use Rattle.std.specs.Prelude.{◌≡◌, IfOk};
 
-use crate::{Boxed, Bytes, List, NoMemory, SharedList};
+use crate::{Boxed, Bytes, List, NoMemory};
 use std::alloc::Global;
 
 /// A copy that may want memory, and equals what it copies.
@@ -46,12 +46,6 @@ impl<T: Duplicate> Duplicate for List<T> {
 
 impl<T: Drop> Duplicate for Boxed<T> {
     fn duplicate(&self, _alloc: Global) -> Result<Boxed<T>, NoMemory> {
-        self.share()
-    }
-}
-
-impl<T: Drop> Duplicate for SharedList<T> {
-    fn duplicate(&self, _alloc: Global) -> Result<SharedList<T>, NoMemory> {
         self.share()
     }
 }

@@ -33,7 +33,7 @@ mod time;
 mod value;
 
 pub use arrival::Arrival;
-pub use beam_containers::{Boxed, Bytes, Duplicate, List, NoMemory, RoomyList, SharedList};
+pub use beam_containers::{Boxed, Bytes, Duplicate, List, NoMemory, RoomyList};
 pub use bits::unsigned_bits;
 pub use cell::{Cell, Dropped, Entry, Pane};
 pub use cell_order::{cmp_cells, cmp_grouped, cmp_keys, cmp_spans, cmp_window_keys};

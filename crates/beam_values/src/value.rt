@@ -1,6 +1,6 @@
 ghost use Rattle.std.specs.Prelude.{◌≡◌, IfOk};
 
-use beam_containers::{Boxed, Bytes, Duplicate, NoMemory, SharedList};
+use beam_containers::{Boxed, Bytes, Duplicate, List, NoMemory};
 use std::alloc::Global;
 
 /// The data of an element: a tree of whole numbers and byte strings.
@@ -10,11 +10,11 @@ pub enum Value {
     Int(i64),
     Blob(Bytes),
     Pair(Boxed<Value>, Boxed<Value>),
-    Seq(SharedList<Value>),
+    Seq(List<Value>),
 }
 
 impl Value {
-    /// A copy, which shares the parts of a pair and the items of a sequence.
+    #[cycle(copies)]
     pub fn copy(&self, alloc: Global) -> Result<Value, NoMemory>
         ensures { IfOk result (λ v. v ≡ self.now) }
     {
@@ -23,9 +23,20 @@ impl Value {
             Value::Int(n) => Ok(Value::Int(*n)),
             Value::Blob(bytes) => Ok(Value::Blob(bytes.duplicate(alloc)?)),
             Value::Pair(key, value) => Ok(Value::Pair(key.share()?, value.share()?)),
-            Value::Seq(items) => Ok(Value::Seq(items.share()?)),
+            Value::Seq(items) => Ok(Value::Seq(copy_all(alloc, items.as_slice())?)),
         }
     }
+}
+
+#[cycle(copies)]
+fn copy_all(alloc: Global, values: &[Value]) -> Result<List<Value>, NoMemory>
+    ensures { IfOk result (λ copies. copies ≡ values.now) }
+{
+    let mut copies = Vec::with_capacity(alloc, values.len())?;
+    for value in values {
+        copies.push(value.copy(alloc)?)?;
+    }
+    Ok(List::from_vec(copies))
 }
 
 impl Duplicate for Value {

@@ -7,7 +7,7 @@ ghost use Rattle.beam_values.specs.Elements.{element_cmp};
 ghost use Rattle.beam_values.specs.Cells.{window_key_cmp, grouped_cmp};
 
 use beam_values::{
-    Boxed, Element, List, NoMemory, PaneTag, SharedList, Timing, Value, cmp_grouped, cmp_window_keys, copy_key,
+    Boxed, Element, List, NoMemory, PaneTag, Timing, Value, cmp_grouped, cmp_window_keys, copy_key,
     last_time, part_of,
 };
 use std::alloc::Global;
@@ -59,8 +59,7 @@ fn pane_of(alloc: Global, first: &Element, group: &[Element]) -> Result<Element,
         (λ pane. pane ≡ pane_with (key_of first.now) first.now.span (map part_of group.now)) }
 {
     let key = Boxed::new(alloc, copy_key(alloc, first)?)?;
-    let items = SharedList::from_list(alloc, copy_parts(alloc, group)?)?;
-    let parts = Boxed::new(alloc, Value::Seq(items))?;
+    let parts = Boxed::new(alloc, Value::Seq(copy_parts(alloc, group)?))?;
     Ok(Element {
         value: Value::Pair(key, parts),
         time: last_time(first.span),

@@ -10,7 +10,7 @@ ghost use Rattle.beam_model.specs.Account.{cell_arrivals};
 ghost use Rattle.run_engine.specs.Grouped.{entry_arrival, as_shown, entries_of, IsEntryOf, IsFiredCell, parts_of, pane_of_cell, fired_pane, fresh_cell, place_cmp, entry_cmp, HasNoneAfter, AreCells};
 
 use beam_values::{
-    Boxed, Cell, Element, Entry, List, NoMemory, Pane, PaneTag, SharedList, Timing, Value, cmp_cells,
+    Boxed, Cell, Element, Entry, List, NoMemory, Pane, PaneTag, Timing, Value, cmp_cells,
     cmp_grouped, cmp_spans, cmp_values, copy_key, key_or, last_time, part_of,
 };
 use std::alloc::Global;
@@ -163,8 +163,8 @@ fn pane_of(alloc: Global, cell: &Cell) -> Result<Element, NoMemory>
     ensures { IfOk result (λ pane. pane ≡ pane_of_cell cell.now) }
 {
     let key = Boxed::new(alloc, cell.key.copy(alloc)?)?;
-    let items = SharedList::from_list(alloc, copy_parts(alloc, cell.entries.as_slice())?)?;
-    let parts = Boxed::new(alloc, Value::Seq(items))?;
+    let parts = copy_parts(alloc, cell.entries.as_slice())?;
+    let parts = Boxed::new(alloc, Value::Seq(parts))?;
     Ok(Element {
         value: Value::Pair(key, parts),
         time: last_time(cell.span),

@@ -1,8 +1,7 @@
 //! Entries put into cells, by key and then by window, with the cells and panes counted by hand.
 use super::group;
 use beam_values::{
-    Boxed, Cell, Element, Entry, List, Pane, PaneTag, SharedList, Span, Time, Timing, Value,
-    cmp_values,
+    Boxed, Cell, Element, Entry, List, Pane, PaneTag, Span, Time, Timing, Value, cmp_values,
 };
 use std::alloc::Global;
 use std::cmp::Ordering;
@@ -78,7 +77,6 @@ fn keyed_parts(alloc: Global, key: Option<i64>, parts: &[i64]) -> Result<Value, 
         items.push(Value::Int(*part))?;
     }
     let key = Boxed::new(alloc, key_value(key))?;
-    let items = SharedList::from_list(alloc, items)?;
     Ok(Value::Pair(key, Boxed::new(alloc, Value::Seq(items))?))
 }
 

@@ -9,5 +9,5 @@ returns c =
     let first = c.args.first.now in
     pane_built (key_of first) first.span (map part_of c.args.group.now) c.in_ok-key.key c.in_ok-parts.parts c.last_time.result
     (c.in_ok-key.ensures ∙ c.in_ok-copy_key.ensures)
-    (c.in_ok-parts.ensures ∙ ap Seq (c.in_ok-items.ensures ∙ c.in_ok-copy_parts.ensures))
+    (c.in_ok-parts.ensures ∙ ap Seq c.in_ok-copy_parts.ensures)
     c.last_time.ensures
