@@ -1,5 +1,4 @@
-ghost use Rattle.std.specs.Prelude.{◌≡◌, ◌++◌, ◌∷◌, [], IfOk, OnOk, IfSome, IfNone, ◌⊎◌, decimal};
-ghost use Rattle.beam_values.specs.Texts.{blob_text};
+ghost use Rattle.std.specs.Prelude.{◌≡◌, ◌++◌, IfOk, OnOk, IfSome, IfNone, ◌⊎◌, decimal};
 ghost use Rattle.beam_command.specs.Notes.{note_line, work_text, place_text, attempt_text, cause_text};
 ghost use Rattle.beam_command.specs.Ends.{IsLongNoted};
 

@@ -1,6 +1,5 @@
-ghost use Rattle.std.specs.Prelude.{◌≡◌, ◌↔◌, ℕ, List, Option, Some, None, IsSome, map};
+ghost use Rattle.std.specs.Prelude.{◌≡◌, ◌↔◌, ℕ, Some, None, IsSome, map};
 ghost use Rattle.beam_values.specs.Files.{first_named};
-ghost use Rattle.beam_values.specs.declared.file_text.FileText.{FileText};
 ghost use Rattle.beam_ports.specs.Counts.{Rose};
 ghost use Rattle.beam_ports.specs.Observed.{observed_store, observed_sink, WhereTold};
 ghost use Rattle.beam_model.specs.Account.{IsAccounted};
@@ -9,7 +8,7 @@ ghost use Rattle.beam_model.specs.Plain.{ArePlainlyWritten};
 ghost use Rattle.beam_model.specs.Positions.{items, item_len};
 ghost use Rattle.run_engine.specs.PanesRun.{IsPanesRun, AreCommitsCounted, IsInOrder};
 ghost use Rattle.beam_command.specs.Words.{words_of, TakesPanes, file_word};
-ghost use Rattle.beam_command.specs.Ends.{HasCause, HasRun, IsRun, IsPrinted, IsNoted, IsNotedUpTo, IsWritten, StaysOrNoMemory, IsEndOfPoison, IsEndOfClean, IsEndOfAbsent, FindsPoisonIn, plan_of, size_of};
+ghost use Rattle.beam_command.specs.Ends.{HasCause, IsRun, IsPrinted, IsNoted, IsNotedUpTo, IsWritten, StaysOrNoMemory, IsEndOfPoison, IsEndOfClean, IsEndOfAbsent, FindsPoisonIn, plan_of, size_of};
 
 use crate::notes::{fixed_line, note_line};
 use crate::words::panes_command;

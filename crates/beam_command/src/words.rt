@@ -2,7 +2,7 @@ ghost use Rattle.std.specs.Prelude.{◌≡◌, ◌≤◌, MatchOption, IsTrue, �
 ghost use Rattle.std.specs.Option.{SomeIff};
 ghost use Rattle.beam_values.specs.Strategies.{greatest_length};
 ghost use Rattle.beam_values.specs.Windows.{or_zero};
-ghost use Rattle.beam_command.specs.Words.{words_of, TakesPanes, IsNumberWithin, IsFileName, number_of_text, file_word, size_word};
+ghost use Rattle.beam_command.specs.Words.{words_of, TakesPanes, IsNumberWithin, IsFileName, number_of_text, file_word};
 ghost use Rattle.beam_command.specs.Ends.{size_of};
 
 use windowing::GREATEST_LENGTH;

@@ -2,12 +2,10 @@ ghost use Rattle.std.specs.Prelude.{◌≡◌, ◌++◌, ◌∷◌, [], All, IfO
 ghost use Rattle.std.specs.List.{flat_map};
 ghost use Rattle.std.specs.List.Sorted.{IsPermutation, IsSorted, IsStrictlySortedBy};
 ghost use Rattle.beam_values.specs.Bags.{IsSameBag};
-ghost use Rattle.std.specs.Ordering.{ordering_then};
-ghost use Rattle.beam_values.specs.Cells.{span_cmp, cell_cmp, pane_cmp};
-ghost use Rattle.beam_values.specs.Grouping.{key_of, part_of, IsPlainGrouping};
-ghost use Rattle.beam_values.specs.Orders.{value_cmp};
+ghost use Rattle.beam_values.specs.Cells.{cell_cmp, pane_cmp};
+ghost use Rattle.beam_values.specs.Grouping.{part_of, IsPlainGrouping};
 ghost use Rattle.beam_model.specs.Account.{cell_arrivals};
-ghost use Rattle.run_engine.specs.Grouped.{entry_arrival, as_shown, entries_of, IsEntryOf, IsFiredCell, parts_of, pane_of_cell, fired_pane, fresh_cell, place_cmp, entry_cmp, HasNoneAfter, AreCells};
+ghost use Rattle.run_engine.specs.Grouped.{entry_arrival, as_shown, entries_of, IsEntryOf, IsFiredCell, pane_of_cell, fired_pane, fresh_cell, place_cmp, entry_cmp, HasNoneAfter, AreCells};
 
 use beam_values::{
     Boxed, Cell, Element, Entry, List, NoMemory, Pane, PaneTag, Timing, Value, cmp_cells,

@@ -1,4 +1,4 @@
-ghost use Rattle.std.specs.Prelude.{◌≡◌, ◌≤◌, ◌<◌, ◌+◌, ◌++◌, ◌⊎◌, ℕ, List, [], ◌∷◌, length, take, drop, map, min, None, true, IsTrue, ◌↔◌, OnOk, IfOk, IsErrOf, All};
+ghost use Rattle.std.specs.Prelude.{◌≡◌, ◌≤◌, ◌<◌, ◌+◌, ◌++◌, List, [], length, take, drop, map, min, None, true, IsTrue, ◌↔◌, OnOk, IfOk, IsErrOf, All};
 ghost use Rattle.std.specs.List.{list_any};
 ghost use Rattle.beam_values.specs.Strategies.{IsLength};
 ghost use Rattle.beam_values.specs.Lines.{next_start};

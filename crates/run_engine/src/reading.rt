@@ -1,6 +1,5 @@
-ghost use Rattle.std.specs.Prelude.{◌≡◌, ◌≤◌, ℕ, List, Option, Some, length, IfOk, OnOk, OnErr, IsErrOf, IsSomeAnd};
+ghost use Rattle.std.specs.Prelude.{◌≡◌, ◌≤◌, ℕ, List, Some, length, IfOk, OnOk, OnErr, IsErrOf, IsSomeAnd};
 ghost use Rattle.beam_ports.specs.Counts.{Rose};
-ghost use Rattle.beam_ports.specs.Files.{Opening};
 
 use beam_ports::{Failed, Opened, Store};
 use beam_values::NoMemory;
