@@ -1,5 +1,5 @@
 -- The lines of a file, and what the program holds of what a position emits.
-use Rattle.std.specs.Prelude.{◌≤◌, ◌<◌, ℕ, List, [], ◌∷◌, length, map, if◌then◌else◌}
+use Rattle.std.specs.Prelude.{◌≤◌, ℕ, List, [], ◌∷◌, length, map, if◌then◌else◌}
 use Rattle.beam_values.specs.Lines.{starts_line, line_at, spread}
 use Rattle.beam_values.specs.declared.plan.Args.{Args}
 use Rattle.beam_values.specs.declared.plan.SourceKind.{SourceKind}
@@ -32,7 +32,3 @@ IsWithinLimits Lines args = Unit {0}
 IsWithinLimits TimedLines args = Unit {0}
 IsWithinLimits Count args = (first_arg args ≤ 1000000000) × (second_arg args ≤ 1000000)
 IsWithinLimits Made args = (first_arg args ≤ 1000000) × (second_arg args ≤ 1000000)
-
--- an item with such arguments has the position
-abbrev pub IsPosition : SourceKind → Args → List ℕ → ℕ → Type 0
-IsPosition work args file p = IsWithinLimits work args × (p < model.positions_in work args file)

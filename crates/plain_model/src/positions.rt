@@ -4,7 +4,7 @@ ghost use Rattle.beam_values.specs.Functions as functions;
 ghost use Rattle.beam_model.specs.Values.{int};
 ghost use Rattle.beam_model.specs.Positions as model;
 ghost use Rattle.beam_model.specs.Functions.{first_arg, second_arg};
-ghost use Rattle.plain_model.specs.Emissions.{shown, IsWithinLimits, IsPosition};
+ghost use Rattle.plain_model.specs.Emissions.{shown, IsWithinLimits};
 
 use beam_lines::{TimedLine, first_line, starts_line, timed_line};
 use beam_values::{Args, Bytes, List, NoMemory, SourceKind, Time, Value};
@@ -67,7 +67,8 @@ fn emission_within(
     file: &[u8],
     p: u64,
 ) -> Result<Emitted, NoMemory>
-    requires { IsPosition work args.now file.now p }
+    requires limits { IsWithinLimits work args.now }
+    requires position { p < model.positions_in work args.now file.now }
     ensures { IfOk result (λ emitted. shown emitted ≡ model.emission_within work args.now file.now p) }
 {
     match work {
