@@ -6,6 +6,7 @@ pub mod Induction
 pub mod Lexicographic
 pub mod OneSpelling
 pub mod SignedBits
+pub mod Sessions
 pub mod Sorts
 pub mod Spellings
 pub mod Spreads
