@@ -1,0 +1,71 @@
+ghost use Rattle.std.specs.Prelude.{◌≡◌, [], ◌∷◌, ◌++◌, Some, None, OnOk, OnErr};
+ghost use Rattle.beam_values.specs.Marks.{seen_after};
+
+use crate::seen::seen_after;
+use crate::{Logged, Receipt};
+use beam_values::{Arrival, Element, Estimator, List, NoMemory, Time};
+use std::alloc::Global;
+use std::marker::Model;
+
+/// What a bundle has put out so far. Contracts see it as the receipt that it would seal.
+#[derive(Debug, Drop)]
+pub struct Staging {
+    receipt: Receipt,
+}
+
+impl Model for Staging {
+    ghost use Rattle.bundle_commit.specs.declared.job.Receipt.{Receipt};
+    ghost use Rattle.bundle_commit.specs.contracts.job.Receipt as receipts;
+
+    ghost Value = { Receipt };
+
+    ghost coded = { receipts.the_row.coded };
+
+    ghost view = { λ s. s.receipt };
+}
+
+impl Staging {
+    /// Nothing is put out yet. `seen` is what the estimator has seen before. Takes no memory.
+    pub fn new(alloc: Global, seen: Time) -> Staging
+        ensures { result ≡ record { arrivals = []; seen = seen; logged = None } }
+    {
+        Staging {
+            receipt: Receipt {
+                arrivals: List::new(alloc),
+                seen,
+                logged: None,
+            },
+        }
+    }
+
+    /// Adds an element that comes to a barrier.
+    pub fn add(&mut self, node: u32, element: Element) -> Result<(), NoMemory>
+        ensures ok { OnOk result (self.new ≡ record self.old { arrivals = self.old.arrivals ++ record { node = node; element = element } ∷ [] }) }
+        ensures err { OnErr result (self.new ≡ self.old) }
+    {
+        self.receipt.arrivals.push(Arrival { node, element })
+    }
+
+    /// Notes a position: the greatest time of its outputs, and the mark that it declared. What was seen
+    /// never falls. Takes no memory.
+    pub fn observe(&mut self, e: &Estimator, time: Option<Time>, declared: Option<Time>)
+        ensures { self.new ≡ record self.old { seen = seen_after e.now self.old.seen time declared } }
+    {
+        self.receipt.seen = seen_after(e, self.receipt.seen, time, declared);
+    }
+
+    /// Notes what the calls of a stateful function left, in place of what was noted before. Takes no memory.
+    pub fn put_logged(&mut self, logged: Logged)
+        ensures { self.new ≡ record self.old { logged = Some logged } }
+    {
+        self.receipt.logged = Some(logged);
+    }
+
+    /// All that was put out, in order. Takes no memory.
+    pub fn seal(self) -> Receipt
+        ensures { result ≡ self }
+    {
+        let Staging { receipt } = self;
+        receipt
+    }
+}
