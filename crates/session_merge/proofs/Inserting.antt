@@ -5,7 +5,7 @@ use Rattle.std.proofs.lemmas.Int.{ints}
 use Rattle.std.proofs.lemmas.List.Elements.{All-contains, Contains-append_left, Contains-append_right, Contains-append_cases, Contains-push, Contains-push_cases}
 use Rattle.beam_values.specs.Intervals.{Interval}
 use Rattle.beam_values.specs.Sessions.{IsApart, LiesIn, IsNonEmpty, IsSessionOf, IsSession}
-use Rattle.beam_values.proofs.Sessions.{session_of_contained, one_that_holds}
+use Rattle.beam_values.proofs.Sessions.{session_moved, session_of_contained, one_that_holds}
 use Rattle.session_merge.specs.Merging.{GivesWay, AreSessionsOf}
 use Rattle.session_merge.proofs.Lists.{contains_first, contains_later, contains_cases}
 
@@ -162,3 +162,21 @@ sessions_pushed spans old new absorbed x h one all merged holds way are =
       | inl before ↦ All-contains IsNonEmpty spans v all before
       | inr same ↦ subst IsNonEmpty (sym same) one
     ]
+
+-- no window is listed where none was inserted
+pub sessions_none : AreSessionsOf (Contains []) []
+sessions_none = all_sessions (Contains []) [] (λ v at. absurd (none v at)) (λ w at. absurd (none w at)) (λ v at. absurd (none v at))
+  where
+    none : (v : Interval) → Contains [] v → ⊥
+    none v at = omega (arith, at.1)
+
+-- sets that have the same windows have the same sessions
+pub sessions_moved : (S T : Interval → Type 0) (listed : List Interval) → ((v : Interval) → S v → T v) → ((v : Interval) → T v → S v)
+    → AreSessionsOf S listed → AreSessionsOf T listed
+sessions_moved S T listed to from are = record {
+  exact = λ w. (
+    λ at. session_moved S T w to from ((are.exact w).0 at),
+    λ session. (are.exact w).1 (session_moved T S w from to session),
+  );
+  cover = λ v is. are.cover v (from v is);
+}
