@@ -8,7 +8,6 @@
 #![tactic(auto)]
 
 mod job;
-mod seen;
 mod staging;
 
 pub use job::{Job, Logged, Receipt};

@@ -1,11 +1,11 @@
 ghost use Rattle.std.specs.Prelude.{◌≡◌, [], ◌∷◌, ◌++◌, Some, None, OnOk, OnErr};
 ghost use Rattle.beam_values.specs.Marks.{seen_after};
 
-use crate::seen::seen_after;
 use crate::{Logged, Receipt};
 use beam_values::{Arrival, Element, Estimator, List, NoMemory, Time};
 use std::alloc::Global;
 use std::marker::Model;
+use watermarks::observe;
 
 /// What a bundle has put out so far. Contracts see it as the receipt that it would seal.
 #[derive(Debug, Drop)]
@@ -51,7 +51,7 @@ impl Staging {
     pub fn observe(&mut self, e: &Estimator, time: Option<Time>, declared: Option<Time>)
         ensures { self.new ≡ record self.old { seen = seen_after e.now self.old.seen time declared } }
     {
-        self.receipt.seen = seen_after(e, self.receipt.seen, time, declared);
+        self.receipt.seen = observe(e, self.receipt.seen, time, declared);
     }
 
     /// Notes what the calls of a stateful function left, in place of what was noted before. Takes no memory.
