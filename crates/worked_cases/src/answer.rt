@@ -1,5 +1,6 @@
 use crate::case::Case;
 use crate::coders::{answer_coder, answer_element, answer_order, answer_write};
+use crate::commands::answer_command;
 use crate::elements::answer_row;
 use crate::grouping::answer_grouped;
 use crate::lines::{answer_key, answer_line, answer_time, answer_timed};
@@ -64,6 +65,7 @@ fn answer_calls(kind: &str, case: &mut Case<'_>) {
 pub fn answer_block<'a>(script: &mut Script<'a>, case: &mut Case<'a>) {
     match case.word() {
         "outcome" => answer_outcome(script, case),
+        "command" => answer_command(script, case),
         _ => case.fail("a line is KIND INPUT => EXPECTED"),
     }
 }

@@ -11,6 +11,7 @@
 mod answer;
 mod case;
 mod coders;
+mod commands;
 mod elements;
 mod expanded;
 mod grouping;
