@@ -4,7 +4,7 @@ use beam_command::beam_main;
 use beam_ports::{MemorySink, MemoryStore};
 use beam_values::{Bytes, FileText, List, NoMemory};
 use itoa::Buffer;
-use std::alloc::{AllocError, Global};
+use std::alloc::Global;
 
 /// How many bytes a write takes where the case says nothing.
 const USUAL_WRITE: usize = 1 << 20;
@@ -62,13 +62,14 @@ fn read_words(case: &mut Case<'_>, setting: &mut Setting) {
         let word = case.word();
         kept = keep_word(alloc, setting, if word == "\"\"" { "" } else { word });
     }
-    if kept.is_err() {
-        case.no_memory(NoMemory);
+    if let Err(refused) = kept {
+        case.no_memory(refused);
     }
 }
 
-fn keep_word(alloc: Global, setting: &mut Setting, word: &str) -> Result<(), AllocError> {
-    setting.words.push(String::from_str(alloc, word)?)
+fn keep_word(alloc: Global, setting: &mut Setting, word: &str) -> Result<(), NoMemory> {
+    setting.words.push(String::from_str(alloc, word)?)?;
+    Ok(())
 }
 
 fn read_lines<'a>(
