@@ -96,6 +96,18 @@ impl<'a> Case<'a> {
         from_utf8(word).unwrap_or("")
     }
 
+    /// A run of anything but spaces.
+    pub fn unspaced(&mut self) -> &'a str {
+        let rest = self.rest.trim_ascii_start();
+        let len = rest
+            .iter()
+            .position(|byte| *byte == b' ')
+            .unwrap_or(rest.len());
+        let (word, after) = rest.split_at(len);
+        self.rest = after;
+        from_utf8(word).unwrap_or("")
+    }
+
     pub fn number<N: FromStr + Default>(&mut self) -> N
     where
         N::Err: Drop,

@@ -51,7 +51,7 @@ pub fn answer_command<'a>(script: &mut Script<'a>, case: &mut Case<'a>) {
     run(case, setting);
 }
 
-// The words after the name of the program, plain or between quotes.
+// The words after the name of the program.
 fn read_words(case: &mut Case<'_>, setting: &mut Setting) {
     let alloc = case.alloc();
     let mut kept = keep_word(alloc, setting, "beam_run");
@@ -59,7 +59,7 @@ fn read_words(case: &mut Case<'_>, setting: &mut Setting) {
         if case.is_over() || kept.is_err() {
             break;
         }
-        let word = case.word();
+        let word = case.unspaced();
         kept = keep_word(alloc, setting, if word == "\"\"" { "" } else { word });
     }
     if let Err(refused) = kept {
