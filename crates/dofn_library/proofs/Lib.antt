@@ -1,0 +1,4 @@
+pub mod Digits
+pub mod Fields
+pub mod Strictness
+pub mod Words

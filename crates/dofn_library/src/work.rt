@@ -1,0 +1,9 @@
+//! What the functions do, one type for each.
+
+mod pairs;
+mod texts;
+mod times;
+
+pub use pairs::{FieldInt, Swap, Values};
+pub use texts::{Field, KeepPrefix, KeyField, Words};
+pub use times::Shift;

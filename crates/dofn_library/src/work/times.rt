@@ -1,0 +1,33 @@
+ghost use Rattle.beam_values.specs.declared.plan.FnKind.TheVariants as kinds;
+
+use crate::ElementWork;
+use crate::arguments::{later, number_of};
+use beam_values::{Args, Element, FnKind, List};
+use dofn_traits::CallRefusal;
+use std::alloc::Global;
+
+/// Any value, so many milliseconds later.
+pub struct Shift;
+
+impl ElementWork for Shift {
+    ghost work = { kinds.Shift };
+
+    fn kind() -> FnKind {
+        FnKind::Shift
+    }
+
+    fn give(
+        alloc: Global,
+        args: &Args,
+        e: &Element,
+        out: &mut List<Element>,
+    ) -> Result<(), CallRefusal> {
+        out.push(Element {
+            value: e.value.copy(alloc)?,
+            time: later(e.time, number_of(args)),
+            span: e.span,
+            pane: e.pane,
+        })?;
+        Ok(())
+    }
+}
