@@ -1,4 +1,5 @@
 pub mod Digits
 pub mod Fields
+pub mod NumbersIn
 pub mod Strictness
 pub mod Words

@@ -6,6 +6,7 @@
 #![tactic(auto)]
 
 mod arguments;
+mod numbers;
 mod shapes;
 mod strict;
 mod texts;
@@ -26,5 +27,13 @@ pub type FieldInt = Strict<work::FieldInt>;
 pub type Swap = Strict<work::Swap>;
 
 pub type Shift = Strict<work::Shift>;
+
+pub type SumSeq = Strict<work::SumSeq>;
+
+pub type CountSeq = Strict<work::CountSeq>;
+
+pub type MaxSeq = Strict<work::MaxSeq>;
+
+pub type Unseq = Strict<work::Unseq>;
 
 pub type Values = Strict<work::Values>;
