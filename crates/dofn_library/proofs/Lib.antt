@@ -1,5 +1,7 @@
+pub mod Cells
 pub mod Digits
 pub mod Fields
 pub mod NumbersIn
+pub mod SameValues
 pub mod Strictness
 pub mod Words

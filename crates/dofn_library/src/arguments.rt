@@ -1,5 +1,5 @@
 ghost use Rattle.std.specs.Prelude.{◌≡◌, ◌≤ℤ◌, pos};
-ghost use Rattle.beam_values.specs.Strategies.{greatest_length};
+ghost use Rattle.beam_values.specs.Times.{least_time};
 ghost use Rattle.beam_values.specs.Windows.{or_zero};
 ghost use Rattle.beam_model.specs.Functions.{text_arg, number_arg, later_by};
 
@@ -32,13 +32,13 @@ pub fn count_of(args: &Args) -> usize
     usize::try_from(number_of(args)).unwrap_or(0)
 }
 
-/// A time so many milliseconds later, or the greatest time.
-pub fn later(time: Time, delay: i64) -> Time
+/// The time so many milliseconds after one, or the greatest time.
+pub fn later(ms: i64, delay: i64) -> Time
+    requires past_least { least_time ≤ℤ ms }
     requires forward { pos 0 ≤ℤ delay }
-    requires within { delay ≤ℤ greatest_length }
-    ensures { result ≡ later_by delay time }
+    ensures { result ≡ later_by delay ms }
 {
-    let ms = (time.ms() + delay).min(Time::GREATEST_MS);
+    let ms = ms.saturating_add(delay).min(Time::GREATEST_MS);
     match Time::new(ms) {
         Some(time) => time,
         None => unreachable!(),

@@ -6,13 +6,18 @@
 #![tactic(auto)]
 
 mod arguments;
+mod element_work;
+mod kept;
 mod numbers;
 mod shapes;
+mod state_work;
 mod strict;
 mod texts;
 pub mod work;
 
-pub use strict::{ElementWork, Strict};
+pub use element_work::ElementWork;
+pub use state_work::StateWork;
+pub use strict::Strict;
 
 pub type KeyField = Strict<work::KeyField>;
 
@@ -37,3 +42,9 @@ pub type MaxSeq = Strict<work::MaxSeq>;
 pub type Unseq = Strict<work::Unseq>;
 
 pub type Values = Strict<work::Values>;
+
+pub type Dedupe = Strict<work::Dedupe>;
+
+pub type RunningSum = Strict<work::RunningSum>;
+
+pub type LatestThenEmit = Strict<work::LatestThenEmit>;

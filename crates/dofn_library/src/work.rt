@@ -1,11 +1,17 @@
 //! What the functions do, one type for each.
 
+mod dedupe;
+mod latest;
 mod pairs;
 mod sequences;
+mod sums;
 mod texts;
 mod times;
 
+pub use dedupe::Dedupe;
+pub use latest::LatestThenEmit;
 pub use pairs::{FieldInt, Swap, Values};
 pub use sequences::{CountSeq, MaxSeq, SumSeq, Unseq};
+pub use sums::RunningSum;
 pub use texts::{Field, KeepPrefix, KeyField, Words};
 pub use times::Shift;

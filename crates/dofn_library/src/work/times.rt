@@ -24,7 +24,7 @@ impl ElementWork for Shift {
     ) -> Result<(), CallRefusal> {
         out.push(Element {
             value: e.value.copy(alloc)?,
-            time: later(e.time, number_of(args)),
+            time: later(e.time.ms(), number_of(args)),
             span: e.span,
             pane: e.pane,
         })?;

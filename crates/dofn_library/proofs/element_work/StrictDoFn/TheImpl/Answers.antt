@@ -1,6 +1,6 @@
 use Rattle.std.proofs.Common.{refl}
 use Rattle.dofn_library.proofs.Strictness.{outputs_added, failure_rose, given_unharmed}
-use Rattle.dofn_library.proofs.strict.StrictDoFn.TheImpl.Goals as goal
+use Rattle.dofn_library.proofs.element_work.StrictDoFn.TheImpl.Goals as goal
 
 pub call-tells : goal.call-tells
 call-tells g x c = record {
