@@ -1,5 +1,5 @@
 -- What calls of functions, sources and stateful functions give (Beam Programming Guide, ParDo, State and Timers; Splittable DoFn).
-use Rattle.std.specs.Prelude.{◌≡◌, ℕ, ℤ, ◌+◌, ◌-◌, ◌<◌, ◌≤◌, Bool, true, false, ◌&&◌, nat_lt, not, List, ◌++◌, length, map, take, drop, Option, Some, None}
+use Rattle.std.specs.Prelude.{◌≡◌, ℕ, ℤ, ◌+◌, ◌-◌, ◌<◌, ◌≤◌, Bool, true, false, ◌&&◌, nat_lt, not, List, [], ◌++◌, length, map, take, drop, Option, Some, None}
 use Rattle.std.specs.List.{list_any}
 use Rattle.beam_values.specs.Checked.{reads_file}
 use Rattle.beam_values.specs.Intervals.{Interval}
