@@ -1,6 +1,6 @@
 pub mod Above
 mod Agreement
-mod Ascending
+pub mod Ascending
 pub mod Barriers
 mod Branches
 pub mod Coverings

@@ -6,6 +6,7 @@
 #![tactic(auto)]
 
 mod arguments;
+mod batches;
 mod element_work;
 mod kept;
 mod numbers;
@@ -47,4 +48,9 @@ pub type Dedupe = Strict<work::Dedupe>;
 
 pub type RunningSum = Strict<work::RunningSum>;
 
+pub type BatchUntil = Strict<work::BatchUntil>;
+
 pub type LatestThenEmit = Strict<work::LatestThenEmit>;
+
+#[cfg(test)]
+mod tests;

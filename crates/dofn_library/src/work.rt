@@ -1,5 +1,6 @@
 //! What the functions do, one type for each.
 
+mod batches;
 mod dedupe;
 mod latest;
 mod pairs;
@@ -8,6 +9,7 @@ mod sums;
 mod texts;
 mod times;
 
+pub use batches::BatchUntil;
 pub use dedupe::Dedupe;
 pub use latest::LatestThenEmit;
 pub use pairs::{FieldInt, Swap, Values};

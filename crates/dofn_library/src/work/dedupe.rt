@@ -9,6 +9,7 @@ use std::alloc::Global;
 use timer_core::Timers;
 
 /// Each value once.
+#[derive(Drop)]
 pub struct Dedupe;
 
 impl StateWork for Dedupe {

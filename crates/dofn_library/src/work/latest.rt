@@ -16,6 +16,7 @@ use std::alloc::Global;
 use timer_core::Timers;
 
 /// The value with the greatest time, so long after that time.
+#[derive(Drop)]
 pub struct LatestThenEmit;
 
 impl StateWork for LatestThenEmit {

@@ -8,6 +8,7 @@ use dofn_traits::CallRefusal;
 use std::alloc::Global;
 
 /// A pair with the number that its part writes.
+#[derive(Drop)]
 pub struct FieldInt;
 
 impl ElementWork for FieldInt {
@@ -32,6 +33,7 @@ impl ElementWork for FieldInt {
 }
 
 /// The pair with its parts in the other order.
+#[derive(Drop)]
 pub struct Swap;
 
 impl ElementWork for Swap {
@@ -55,6 +57,7 @@ impl ElementWork for Swap {
 }
 
 /// The part of a pair.
+#[derive(Drop)]
 pub struct Values;
 
 impl ElementWork for Values {

@@ -8,6 +8,7 @@ use dofn_traits::CallRefusal;
 use std::alloc::Global;
 
 /// The sum of the numbers of a pair's sequence. Only the whole sum has to fit.
+#[derive(Drop)]
 pub struct SumSeq;
 
 impl ElementWork for SumSeq {
@@ -33,6 +34,7 @@ impl ElementWork for SumSeq {
 }
 
 /// How many items a pair's sequence has.
+#[derive(Drop)]
 pub struct CountSeq;
 
 impl ElementWork for CountSeq {
@@ -60,6 +62,7 @@ impl ElementWork for CountSeq {
 }
 
 /// The greatest of the numbers of a pair's sequence; of none it is `Null`.
+#[derive(Drop)]
 pub struct MaxSeq;
 
 impl ElementWork for MaxSeq {
@@ -84,6 +87,7 @@ impl ElementWork for MaxSeq {
 }
 
 /// Each item of a pair's sequence, with the key.
+#[derive(Drop)]
 pub struct Unseq;
 
 impl ElementWork for Unseq {

@@ -17,6 +17,7 @@ use std::alloc::Global;
 use timer_core::Timers;
 
 /// The sum of the numbers so far.
+#[derive(Drop)]
 pub struct RunningSum;
 
 impl StateWork for RunningSum {

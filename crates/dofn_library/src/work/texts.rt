@@ -10,6 +10,7 @@ use dofn_traits::CallRefusal;
 use std::alloc::Global;
 
 /// A byte string, split at its first TAB.
+#[derive(Drop)]
 pub struct KeyField;
 
 impl ElementWork for KeyField {
@@ -35,6 +36,7 @@ impl ElementWork for KeyField {
 }
 
 /// Each word of a byte string.
+#[derive(Drop)]
 pub struct Words;
 
 impl ElementWork for Words {
@@ -60,6 +62,7 @@ impl ElementWork for Words {
 }
 
 /// The field of a byte string that has this number.
+#[derive(Drop)]
 pub struct Field;
 
 impl ElementWork for Field {
@@ -83,6 +86,7 @@ impl ElementWork for Field {
 }
 
 /// A byte string that begins so, as it is.
+#[derive(Drop)]
 pub struct KeepPrefix;
 
 impl ElementWork for KeepPrefix {

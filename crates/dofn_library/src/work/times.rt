@@ -7,6 +7,7 @@ use dofn_traits::CallRefusal;
 use std::alloc::Global;
 
 /// Any value, so many milliseconds later.
+#[derive(Drop)]
 pub struct Shift;
 
 impl ElementWork for Shift {
