@@ -27,4 +27,3 @@ pub use duplicate::Duplicate;
 pub use list::List;
 pub use memory::NoMemory;
 pub use roomy::RoomyList;
-

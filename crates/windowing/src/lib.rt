@@ -15,4 +15,3 @@ mod strategy;
 pub use assignment::assign;
 pub use fixed::fixed_window;
 pub use strategy::{GREATEST_LENGTH, MOST_WINDOWS, StrategyRefusal, check_strategy};
-
