@@ -4,6 +4,7 @@ use crate::commands::answer_command;
 use crate::elements::answer_row;
 use crate::grouping::answer_grouped;
 use crate::lines::{answer_key, answer_line, answer_time, answer_timed};
+use crate::marks::{answer_attempt, answer_seen};
 use crate::outcomes::answer_outcome;
 use crate::ports::{read_sink, read_store};
 use crate::running::Script;
@@ -11,10 +12,12 @@ use crate::sizes::answer_size;
 use crate::sources::{answer_emission, answer_lines, answer_next};
 use crate::steps::call_all;
 use crate::trackers::read_tracker;
+use crate::triggers::{answer_dropped, answer_fire, answer_moment};
 use crate::values::read_value;
 use crate::windows::{answer_strategy, answer_window};
 use beam_values::RoomyList;
 use keyed_state::KeyState;
+use session_merge::SessionSet;
 use split_core::Pieces;
 use timer_core::Timers;
 
@@ -38,6 +41,11 @@ pub fn answer(case: &mut Case<'_>) {
         "next" => answer_next(case),
         "grouped" => answer_grouped(case),
         "size" => answer_size(case),
+        "fire" => answer_fire(case),
+        "moment" => answer_moment(case),
+        "dropped" => answer_dropped(case),
+        "seen" => answer_seen(case),
+        "attempt" => answer_attempt(case),
         kind => answer_calls(kind, case),
     }
 }
@@ -57,6 +65,7 @@ fn answer_calls(kind: &str, case: &mut Case<'_>) {
         "list" => call_all(RoomyList::<i64>::new(case.alloc()), case),
         "store" => call_all(read_store(case), case),
         "sink" => call_all(read_sink(case), case),
+        "sessions" => call_all(SessionSet::new(case.alloc()), case),
         _ => case.fail("there is no such kind"),
     }
 }

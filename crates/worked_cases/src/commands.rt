@@ -62,6 +62,7 @@ fn read_words(case: &mut Case<'_>, setting: &mut Setting) {
         let word = case.unspaced();
         kept = keep_word(alloc, setting, if word == "\"\"" { "" } else { word });
     }
+    case.end();
     if let Err(refused) = kept {
         case.no_memory(refused);
     }
