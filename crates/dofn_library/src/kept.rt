@@ -54,10 +54,10 @@ pub fn push_keyed(
 fn shared_key(alloc: Global, key: &Value, e: &Element) -> Result<Boxed<Value>, NoMemory>
     ensures { IfOk result (λ shared. shared ≡ key.now) }
 {
-    if let Value::Pair(own, _) = &e.value {
-        if cmp_values(own.get(), key) == Ordering::Equal {
-            return own.share();
-        }
+    if let Value::Pair(own, _) = &e.value
+        && cmp_values(own.get(), key) == Ordering::Equal
+    {
+        return own.share();
     }
     Boxed::new(alloc, key.copy(alloc)?)
 }

@@ -1,8 +1,11 @@
-//! The functions of pipelines: what each gives of an element (Beam Programming Guide, ParDo).
+//! The functions of pipelines as objects: what each gives of an element (Beam Programming Guide, ParDo),
+//! and with state what it leaves and gives (State and Timers).
 //!
-//! Every type here is a strict object: it gives exactly what the definitions `emits` of `beam_model`
-//! say, fails on poison alone and before it asks for any memory, and counts one fault for each such
-//! call and none else. Read `strict.rt` first, then `work.rt`.
+//! Every type here is strict: it gives exactly what `emits` and `steps` of `beam_model` say, fails on
+//! poison alone and before it asks for any memory, and counts one fault for each such call and none
+//! else. The layer above may rely on this, which [`Strict`] says once for all of them by the clauses of
+//! its calls. A call borrows its input: what it gives shares the parts of pairs. Read `strict.rt`,
+//! `element_work.rt` and `state_work.rt` first; `work/` has what each function does.
 #![tactic(auto)]
 
 mod arguments;
@@ -20,36 +23,52 @@ pub use element_work::ElementWork;
 pub use state_work::StateWork;
 pub use strict::Strict;
 
+/// [`work::KeyField`] as an object.
 pub type KeyField = Strict<work::KeyField>;
 
+/// [`work::Words`] as an object.
 pub type Words = Strict<work::Words>;
 
+/// [`work::Field`] as an object.
 pub type Field = Strict<work::Field>;
 
+/// [`work::KeepPrefix`] as an object.
 pub type KeepPrefix = Strict<work::KeepPrefix>;
 
+/// [`work::FieldInt`] as an object.
 pub type FieldInt = Strict<work::FieldInt>;
 
+/// [`work::Swap`] as an object.
 pub type Swap = Strict<work::Swap>;
 
+/// [`work::Shift`] as an object.
 pub type Shift = Strict<work::Shift>;
 
+/// [`work::SumSeq`] as an object.
 pub type SumSeq = Strict<work::SumSeq>;
 
+/// [`work::CountSeq`] as an object.
 pub type CountSeq = Strict<work::CountSeq>;
 
+/// [`work::MaxSeq`] as an object.
 pub type MaxSeq = Strict<work::MaxSeq>;
 
+/// [`work::Unseq`] as an object.
 pub type Unseq = Strict<work::Unseq>;
 
+/// [`work::Values`] as an object.
 pub type Values = Strict<work::Values>;
 
+/// [`work::Dedupe`] as an object.
 pub type Dedupe = Strict<work::Dedupe>;
 
+/// [`work::RunningSum`] as an object.
 pub type RunningSum = Strict<work::RunningSum>;
 
+/// [`work::BatchUntil`] as an object.
 pub type BatchUntil = Strict<work::BatchUntil>;
 
+/// [`work::LatestThenEmit`] as an object.
 pub type LatestThenEmit = Strict<work::LatestThenEmit>;
 
 #[cfg(test)]

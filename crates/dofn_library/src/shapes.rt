@@ -13,6 +13,7 @@ pub struct Keyed<'a> {
     pub part: &'a Boxed<Value>,
 }
 
+/// The bytes of a byte string; a value of another form has none.
 pub fn blob_of(value: &Value) -> Option<&[u8]>
     ensures { option_copied result ≡ as_blob value.now }
 {
@@ -22,6 +23,7 @@ pub fn blob_of(value: &Value) -> Option<&[u8]>
     }
 }
 
+/// The number of a whole number.
 pub fn int_of(value: &Value) -> Option<i64>
     ensures { result ≡ as_int value.now }
 {
@@ -31,6 +33,7 @@ pub fn int_of(value: &Value) -> Option<i64>
     }
 }
 
+/// The two parts of a pair.
 pub fn pair_of(value: &Value) -> Option<Keyed<'_>>
     ensures { option_map (λ pair. record { key = pair.key.now; part = pair.part.now }) result ≡ as_pair value.now }
 {
@@ -40,6 +43,7 @@ pub fn pair_of(value: &Value) -> Option<Keyed<'_>>
     }
 }
 
+/// The items of a sequence.
 pub fn items_of(value: &Value) -> Option<&[Value]>
     ensures { option_copied result ≡ as_seq value.now }
 {

@@ -129,12 +129,8 @@ fn functions_of_pairs_and_times(rt: HostRuntime) -> Result<(), Fail> {
     let alloc = rt.alloc();
     let swapped = [pair(alloc, Value::Null, blob(alloc, b"k")?)?];
     let value = keyed(alloc, Value::Null)?;
-    assert!(rt;
-        is_same(
-            given(alloc, Swap::new(alloc), Args::Nothing, value),
-            &swapped
-        )
-    );
+    let boxed: Box<dyn DoFn> = Box::new(alloc, Swap::new(alloc))?;
+    assert!(rt; is_same(given(alloc, boxed, Args::Nothing, value), &swapped));
     let value = keyed(alloc, Value::Int(7))?;
     let expected = [Value::Int(7)];
     assert!(rt;

@@ -23,6 +23,7 @@ pub fn field(text: &[u8], number: usize) -> Option<&[u8]>
     Some(key_field(rest).0)
 }
 
+/// Whether the text begins with another.
 pub fn begins_with(text: &[u8], prefix: &[u8]) -> bool
     ensures { result ≡ begins_with prefix.now text.now }
 {

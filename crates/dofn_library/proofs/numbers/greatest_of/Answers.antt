@@ -1,4 +1,4 @@
-use Rattle.std.proofs.Common.{◌≡◌, ◌∙◌, Some, None, take, ap, sym, arith, rules}
+use Rattle.std.proofs.Common.{◌∙◌, Some, None, take, ap, sym, arith, rules}
 use Rattle.std.specs.Option.{option_map}
 use Rattle.beam_values.specs.declared.value.Value.TheVariants.{Int}
 use Rattle.beam_values.specs.declared.value.Value.TheViews.{rolls-Null, rolls-Int}
@@ -8,7 +8,7 @@ use Rattle.std.proofs.lemmas.Int.{to_z-of_z}
 use Rattle.std.proofs.lemmas.List.{take_all}
 use Rattle.beam_model.specs.Values.{as_int, numbers_in}
 use Rattle.beam_model.specs.Functions.{greatest_of}
-use Rattle.dofn_library.proofs.NumbersIn.{numbers_more, no_numbers, greatest_so_far, greater, greatest_more, greatest_is}
+use Rattle.dofn_library.proofs.NumbersIn.{numbers_more, no_numbers, greatest_so_far, greatest_more, greatest_is}
 use Rattle.dofn_library.proofs.numbers.greatest_of.Goals as goal
 use Rattle.dofn_library.proofs.numbers.greatest_of.Goals.{in-Some, in-None}
 

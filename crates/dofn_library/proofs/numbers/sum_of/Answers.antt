@@ -1,4 +1,4 @@
-use Rattle.std.proofs.Common.{◌≡◌, ◌+ℤ◌, ◌∙◌, Some, take, ap, sym, arith, rules}
+use Rattle.std.proofs.Common.{◌∙◌, Some, take, ap, sym, arith, rules}
 use Rattle.std.specs.Option.{option_map}
 use mir.Val.{SFits}
 use mir.Syntax.{w64}
