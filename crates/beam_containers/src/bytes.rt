@@ -116,8 +116,8 @@ impl Bytes {
         Ok(())
     }
 
-    /// After `Ok` the next `places` bytes need no memory, unless the string is copied before them. What
-    /// is kept is not seen by contracts.
+    /// Changes no byte: nothing else is promised. Room for `places` more bytes is made, which a copy
+    /// doesn't have, but contracts don't see it.
     pub fn reserve(&mut self, places: usize) -> Result<(), NoMemory>
         ensures { self.new ≡ self.old }
     {

@@ -70,8 +70,9 @@ impl<T> List<T> {
         self.items.get(at)
     }
 
-    /// After `Ok` the next `places` pushes need no memory. What is kept is not seen by contracts;
-    /// where a later push must not fail use a [`crate::RoomyList`].
+    /// Changes no item: nothing else is promised. Room for `places` more items is made, so that the next
+    /// pushes are faster, but contracts don't see it; where a later push must not fail use a
+    /// [`crate::RoomyList`].
     pub fn reserve(&mut self, places: usize) -> Result<(), NoMemory>
         ensures { self.new ≡ self.old }
     {

@@ -91,7 +91,7 @@ impl Long {
         Ok(())
     }
 
-    /// After `Ok` the next `places` bytes need no memory.
+    /// Changes no byte. Room for `places` more bytes is made, but contracts don't see it.
     pub fn reserve(&mut self, places: usize) -> Result<(), NoMemory>
         ensures { self.new ≡ self.old }
     {
