@@ -21,9 +21,9 @@ use Rattle.beam_values.specs.Windows.{or_zero}
 use Rattle.beam_values.specs.declared.value.Value.{Value}
 use Rattle.beam_values.specs.declared.element.Element.{Element}
 use Rattle.beam_values.proofs.Lexicographic.{same_where_tied}
-use Rattle.beam_values.specs.Sessions.{LiesIn, IsInside, IsSession}
+use Rattle.beam_values.specs.Sessions.{Overlaps, LiesIn, hull, IsInside, IsSession}
 use Rattle.beam_model.specs.Sessions.{is_keyed, Merged, IsMergedIn, IsMerging, in_session}
-use Rattle.plain_model.specs.Sessions.{Overlaps, IsSettled, hull, IsOneOf, IsPart, spans_with, IsInSession}
+use Rattle.plain_model.specs.Sessions.{IsSettled, IsOneOf, IsPart, spans_with, IsInSession}
 
 keyed_apart : (a b : Element) → (value_cmp (key_of b) (key_of a) ≡ Equal → ⊥) → (t : Bool) → is_keyed (key_of a) b ≡ t → false ≡ t
 keyed_apart a b other false e = refl

@@ -1,24 +1,15 @@
 -- Sessions as they are found: a part of a session, and elements that are in theirs.
 use Rattle.std.specs.Prelude.{◌≡◌, ◌⊎◌, ℤ, ◌<ℤ◌, List}
 use Rattle.std.specs.List.{Any}
-use Rattle.std.specs.Int.{int_min, int_max}
 use Rattle.beam_values.specs.Intervals.{Interval}
 use Rattle.beam_values.specs.Grouping.{key_of}
 use Rattle.beam_values.specs.declared.element.Element.{Element}
 use Rattle.beam_values.specs.Sessions.{IsApart, LiesIn, IsInside, IsSession}
 use Rattle.beam_model.specs.Sessions.{spans_of}
 
--- windows with an instant in common
-abbrev pub Overlaps : Interval → Interval → Type 0
-Overlaps a b = (a.start <ℤ b.end) × (b.start <ℤ a.end)
-
 -- a window is in a session or apart from it
 abbrev pub IsSettled : Interval → Interval → Type 0
 IsSettled session span = LiesIn span session ⊎ IsApart span session
-
--- the least window in which two lie
-abbrev pub hull : Interval → Interval → Interval
-hull a b = record { start = int_min a.start b.start; end = int_max a.end b.end }
 
 abbrev pub IsOneOf : List Interval → Interval → Type 0
 IsOneOf spans span = Any (λ other. other ≡ span) spans

@@ -5,9 +5,9 @@ ghost use Rattle.beam_values.specs.Grouping.{key_of};
 ghost use Rattle.beam_values.specs.Elements.{element_cmp};
 ghost use Rattle.beam_values.specs.declared.plan.Strategy.TheVariants.{Sessions};
 ghost use Rattle.beam_model.specs.Plain.{IsGroupedBy};
-ghost use Rattle.beam_values.specs.Sessions.{LiesIn, IsSession};
+ghost use Rattle.beam_values.specs.Sessions.{Overlaps, LiesIn, hull, IsSession};
 ghost use Rattle.beam_model.specs.Sessions.{IsMerging, is_keyed};
-ghost use Rattle.plain_model.specs.Sessions.{Overlaps, IsSettled, hull, IsOneOf, IsPart, spans_with, IsInSession};
+ghost use Rattle.plain_model.specs.Sessions.{IsSettled, IsOneOf, IsPart, spans_with, IsInSession};
 
 use crate::cell::is_keyed_alike;
 use crate::grouping::plain_panes;

@@ -11,10 +11,10 @@ use Rattle.std.proofs.lemmas.List.Edits.{split_between}
 use Rattle.std.proofs.lemmas.List.Elements.{All-append, All-cons, All-contains, Contains-append_left, Contains-append_right, Contains-append_cases, Contains-push, Contains-push_cases}
 use Rattle.std.proofs.lemmas.List.Kept.{AllPairs-cons}
 use Rattle.beam_values.specs.Intervals.{Interval}
-use Rattle.beam_values.specs.Sessions.{IsApart, LiesIn, IsInside, IsNonEmpty, IsSession}
+use Rattle.beam_values.specs.Sessions.{Overlaps, IsApart, LiesIn, hull, IsInside, IsNonEmpty, IsSession}
 use Rattle.beam_values.proofs.Sessions.{session_from_contained}
 use Rattle.session_merge.specs.Merging.{AreApart, GivesWay}
-use Rattle.session_merge.specs.Runs.{Overlaps, hull, IsRun, IsHull}
+use Rattle.session_merge.specs.Runs.{IsRun, IsHull}
 use Rattle.session_merge.proofs.Lists.{pairs_across, pairs_append, pairs_first, pairs_second, all_first, all_second, within_take, within_drop, within_between, contains_cases, all_of}
 
 abbrev pub IsBefore : Interval → Interval → Type 0

@@ -10,7 +10,8 @@ use Rattle.std.proofs.lemmas.Option.{get_or_from_slice_get}
 use Rattle.std.proofs.lemmas.List.Elements.{All-contains, Contains-append_left, Contains-append_right, Contains-append_cases}
 use Rattle.beam_values.specs.Intervals.{Interval}
 use Rattle.beam_values.specs.Sessions.{IsApart, LiesIn, IsInside, IsNonEmpty, IsSessionOf}
-use Rattle.session_merge.specs.Merging.{AreApart, IsTakenOut, AreSessionsOf, lies_in, those_outside}
+use Rattle.beam_values.specs.Spans.{lies_in}
+use Rattle.session_merge.specs.Merging.{AreApart, IsTakenOut, AreSessionsOf, those_outside}
 use Rattle.session_merge.proofs.Lists.{pairs_across, pairs_second, contains_first, contains_later, contains_cases, contains_filter, contains_filtered}
 use Rattle.session_merge.proofs.Inserting.{all_sessions, covered, begins_in}
 use Rattle.session_merge.proofs.Places.{IsBefore, apart_first, apart_second, apart_append}

@@ -1,8 +1,9 @@
 -- Windows of one key that don't overlap, and one more window merged into them (Beam Programming Guide, Session windows; The Dataflow Model, window
 -- merging).
-use Rattle.std.specs.Prelude.{◌≡◌, ◌↔◌, ◌≤ℤ◌, Bool, ◌&&◌, not, int_le, List, ◌∷◌, ◌++◌, filter, All, AllPairs, Any, Contains}
+use Rattle.std.specs.Prelude.{◌≡◌, ◌↔◌, ◌≤ℤ◌, not, List, ◌∷◌, ◌++◌, filter, All, AllPairs, Any, Contains}
 use Rattle.beam_values.specs.Intervals.{Interval}
 use Rattle.beam_values.specs.Sessions.{LiesIn, IsNonEmpty, IsSessionOf}
+use Rattle.beam_values.specs.Spans.{lies_in}
 
 -- none of them is empty, and each ends before or where the next one starts
 pub record AreApart (spans : List Interval) : Type 0 where
@@ -31,10 +32,6 @@ pub record IsTakenOut (old : List Interval) (span : Interval) (new : List Interv
 pub record AreSessionsOf (S : Interval → Type 0) (listed : List Interval) : Type 0 where
   pub exact : (w : Interval) → Contains listed w ↔ IsSessionOf S w
   pub cover : (span : Interval) → S span → Any (LiesIn span) listed
-
--- a window lies in another, as a test
-abbrev pub lies_in : Interval → Interval → Bool
-lies_in inner outer = int_le outer.start inner.start && int_le inner.end outer.end
 
 -- those of some windows that don't lie in another
 abbrev pub those_outside : Interval → List Interval → List Interval

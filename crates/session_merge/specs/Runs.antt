@@ -1,16 +1,7 @@
 -- How one more window is merged into windows in order: the run of those that it overlaps, and the least window that holds them all.
-use Rattle.std.specs.Prelude.{◌≡◌, ◌⊎◌, ◌<ℤ◌, ◌≤ℤ◌, List, ◌∷◌, ◌++◌, All, Any}
-use Rattle.std.specs.Int.{int_min, int_max}
+use Rattle.std.specs.Prelude.{◌≡◌, ◌⊎◌, ◌≤ℤ◌, List, ◌∷◌, ◌++◌, All, Any}
 use Rattle.beam_values.specs.Intervals.{Interval}
-use Rattle.beam_values.specs.Sessions.{LiesIn, IsNonEmpty}
-
--- two windows have an instant in common
-abbrev pub Overlaps : Interval → Interval → Type 0
-Overlaps a b = (a.start <ℤ b.end) × (b.start <ℤ a.end)
-
--- the least window in which two lie
-abbrev pub hull : Interval → Interval → Interval
-hull a b = record { start = int_min a.start b.start; end = int_max a.end b.end }
+use Rattle.beam_values.specs.Sessions.{Overlaps, LiesIn, IsNonEmpty}
 
 -- the run of those that a window overlaps, between those that end by its start and those that start at its end or later
 pub record IsRun (old : List Interval) (span : Interval) (front run back : List Interval) : Type 0 where

@@ -1,8 +1,8 @@
 ghost use Rattle.std.specs.Prelude.{◌≡◌, ◌≤◌, ◌<◌, ◌≤ℤ◌, ◌<ℤ◌, ◌∷◌, ◌++◌, length, take, drop, slice_range, slice_get, Contains, Some, MatchOption, IfOk, OnOk, OnErr};
 ghost use Rattle.std.specs.List.{AllWithin};
-ghost use Rattle.beam_values.specs.Sessions.{IsNonEmpty};
+ghost use Rattle.beam_values.specs.Sessions.{IsNonEmpty, hull};
 ghost use Rattle.session_merge.specs.Merging.{AreApart};
-ghost use Rattle.session_merge.specs.Runs.{IsRun, IsHull, IsMerge, hull};
+ghost use Rattle.session_merge.specs.Runs.{IsRun, IsHull, IsMerge};
 
 use beam_values::{List, NoMemory, Span};
 use std::alloc::Global;

@@ -1,6 +1,7 @@
 use Rattle.std.proofs.Common.{sym, subst, ◌∙◌, ap}
 use Rattle.beam_values.specs.Intervals.{Interval}
-use Rattle.session_merge.specs.Runs.{IsHull, hull}
+use Rattle.beam_values.specs.Sessions.{hull}
+use Rattle.session_merge.specs.Runs.{IsHull}
 use Rattle.session_merge.proofs.Places.{hull_found}
 use Rattle.session_merge.proofs.runs.hull_of.Goals as goal
 
