@@ -35,17 +35,11 @@ fn write_count(nodes: &[Node]) -> usize
 {
     let mut count = 0;
     for node in nodes {
-        if is_write(&node.kind) {
+        if node.kind.is_write() {
             count += 1;
         }
     }
     count
-}
-
-fn is_write(kind: &NodeKind) -> bool
-    ensures { result ≡ is_write_kind kind.now }
-{
-    matches!(kind, NodeKind::Write { .. })
 }
 
 /// For each node the elements that arrived at it, in the order in which they came: one list a node,

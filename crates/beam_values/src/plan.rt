@@ -1,4 +1,5 @@
 ghost use Rattle.std.specs.Prelude.{◌≡◌, IfOk};
+ghost use Rattle.beam_values.specs.Nodes.{is_write_kind};
 
 use beam_containers::{Bytes, Duplicate, List, NoMemory};
 use std::alloc::Global;
@@ -125,6 +126,14 @@ pub enum NodeKind {
     Write {
         label: Bytes,
     },
+}
+
+impl NodeKind {
+    pub fn is_write(&self) -> bool
+        ensures { result ≡ is_write_kind self.now }
+    {
+        matches!(self, NodeKind::Write { .. })
+    }
 }
 
 /// A node and the nodes that it takes its elements from, by their numbers, which are below its own in a

@@ -1,6 +1,6 @@
 pub mod Followers
 pub mod Indexes
-pub mod Known
 pub mod Refusals
 pub mod Rules
+pub mod Settings
 pub mod Taking

@@ -2,10 +2,10 @@ ghost use Rattle.std.specs.Prelude.{◌≡◌, ◌≤◌, [], length, nat_lt, No
 ghost use Rattle.std.specs.List.{list_all, list_any};
 ghost use Rattle.beam_values.specs.Checked.{IsChecked, file_count, files_of_kind, graph_refusal, has_input, is_write_in, node_refusal, nodes_refusal};
 ghost use Rattle.beam_values.specs.Nodes.{facts_of, is_write_kind, with_facts};
-ghost use Rattle.pipeline_graph.specs.Known.{is_set_after};
+ghost use Rattle.pipeline_graph.specs.Settings.{is_set_after};
 ghost use Rattle.pipeline_graph.specs.Refusals.{IsFirst};
 
-use crate::kinds::{has_arity, is_source, is_write};
+use crate::kinds::{has_arity, is_source};
 use crate::refusal::CheckRefusal;
 use crate::settings::{
     is_estimator_allowed, is_function_allowed, is_source_allowed, is_strategy_allowed,
@@ -41,7 +41,7 @@ pub(crate) fn check_plan(alloc: Global, plan: &Plan) -> Result<List<NodeFacts>, 
 fn has_write(nodes: &[Node]) -> bool
     ensures { result ≡ list_any (λ node. is_write_kind node.kind) nodes.now }
 {
-    nodes.iter().any(|node| is_write(&node.kind))
+    nodes.iter().any(|node| node.kind.is_write())
 }
 
 // Node after node, each with what is known of those before it.
@@ -125,7 +125,7 @@ fn is_write_at(before: &[Node], number: u32) -> bool
 {
     match before.get(number as usize) {
         None => false,
-        Some(node) => is_write(&node.kind),
+        Some(node) => node.kind.is_write(),
     }
 }
 

@@ -1,6 +1,6 @@
 ghost use Rattle.std.specs.Prelude.{◌≡◌};
 ghost use Rattle.beam_values.specs.Checked.{has_arity};
-ghost use Rattle.beam_values.specs.Nodes.{is_source_kind, is_write_kind};
+ghost use Rattle.beam_values.specs.Nodes.{is_source_kind};
 
 use beam_values::NodeKind;
 
@@ -11,12 +11,6 @@ pub(crate) fn is_source(kind: &NodeKind) -> bool
     ensures { result ≡ is_source_kind kind.now }
 {
     matches!(kind, NodeKind::Source { .. })
-}
-
-pub(crate) fn is_write(kind: &NodeKind) -> bool
-    ensures { result ≡ is_write_kind kind.now }
-{
-    matches!(kind, NodeKind::Write { .. })
 }
 
 // What a source may have is another rule's.

@@ -1,6 +1,6 @@
 ghost use Rattle.std.specs.Prelude.{◌≡◌};
 ghost use Rattle.beam_values.specs.Checked.{is_kept, is_same_strategy};
-ghost use Rattle.pipeline_graph.specs.Known.{agrees_in};
+ghost use Rattle.pipeline_graph.specs.Settings.{agrees_in};
 ghost use Rattle.beam_values.specs.Nodes.{below_group, facts_after, facts_at, first_strategy};
 
 use beam_values::{NodeKind, Strategy};

@@ -1,4 +1,4 @@
--- The settings of a node, by what is known of the nodes before it.
+-- What a node asks of its settings, judged by what is known of the nodes before it: the strategies of what they put out, and how many files they read.
 use Rattle.std.specs.Prelude.{ℕ, Bool, List, ◌&&◌, true, false, not}
 use Rattle.std.specs.List.{list_all}
 use Rattle.beam_values.specs.Checked.{is_estimator_allowed, is_function_allowed, is_kept, is_same_strategy, is_source_allowed, is_trigger_allowed}
