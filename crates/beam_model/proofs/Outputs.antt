@@ -41,12 +41,12 @@ if_then P f h (Some x) = h x
 at_some : {X : Type 0} (P : X → Type 0) (o : Option X) (x : X) → o ≡ Some x → IfSome o P → P x
 at_some P o x is h = subst (λ (it : Option _). IfSome it P) is h
 
-module _ (e : Element) where
+module _ (e : Element) (within : e.time ≤ℤ greatest_time) where
   abbrev Kept : List Element → Type 0
   Kept outputs = AllByRecursion (KeepsPlace e) outputs
 
   valued_keeps : (v : Value) → KeepsPlace e (valued e v)
-  valued_keeps v = record { span = refl; pane = refl; time = omega (arith, ints) }
+  valued_keeps v = record { span = refl; pane = refl; time = omega (arith, ints); bound = within }
 
   one_keeps : (v : Value) → Kept (one e v)
   one_keeps v = (valued_keeps v, tt)
@@ -56,7 +56,7 @@ module _ (e : Element) where
   prefix_keeps prefix (Some text) = by_test (begins_with prefix text)
     where
       by_test : (begins : Bool) → Kept (if begins then e ∷ [] else [])
-      by_test true = (record { span = refl; pane = refl; time = omega (arith, ints) }, tt)
+      by_test true = (record { span = refl; pane = refl; time = omega (arith, ints); bound = within }, tt)
       by_test false = tt
 
   from_blob_keeps : (give : List ℕ → Option (List Element)) → ((text : List ℕ) → IfSome (give text) Kept) → IfSome (from_blob e give) Kept
@@ -69,35 +69,35 @@ module _ (e : Element) where
   part_keeps : (change : Value → Option Value) → IfSome (from_pair e (λ keyed. option_map (one e) (on_part change keyed))) Kept
   part_keeps change = from_pair_keeps (λ keyed. option_map (one e) (on_part change keyed)) (λ keyed. if_map Kept (one e) one_keeps (on_part change keyed))
 
-  shift_keeps : (delay : ℤ) → pos 0 ≤ℤ delay → e.time ≤ℤ greatest_time → KeepsPlace e (record e { time = later_by delay e.time })
-  shift_keeps delay forward within = record { span = refl; pane = refl; time = omega (arith, ints, clamps) }
+  shift_keeps : (delay : ℤ) → pos 0 ≤ℤ delay → KeepsPlace e (record e { time = later_by delay e.time })
+  shift_keeps delay forward = record { span = refl; pane = refl; time = omega (arith, ints, clamps); bound = omega (arith, ints, clamps) }
 
-  emits_keeps : (kind : FnKind) (args : Args) → e.time ≤ℤ greatest_time → IsForward kind args → IfSome (emits kind args e) Kept
-  emits_keeps KeyField args within forward = from_blob_keeps (λ text. Some (one e (keyed_text text))) (λ text. one_keeps (keyed_text text))
-  emits_keeps Words args within forward =
+  emits_keeps : (kind : FnKind) (args : Args) → IsForward kind args → IfSome (emits kind args e) Kept
+  emits_keeps KeyField args forward = from_blob_keeps (λ text. Some (one e (keyed_text text))) (λ text. one_keeps (keyed_text text))
+  emits_keeps Words args forward =
       from_blob_keeps (λ text. Some (map (λ word. valued e (blob word)) (words text)))
       (λ text. each-map (KeepsPlace e) (λ word. valued e (blob word)) (λ word. valued_keeps (blob word)) (words text))
-  emits_keeps Field args within forward =
+  emits_keeps Field args forward =
       from_blob_keeps (λ text. option_map (λ field. one e (blob field)) (slice_get (fields text) (or_zero (number_arg args))))
       (λ text. if_map Kept (λ field. one e (blob field)) (λ field. one_keeps (blob field)) (slice_get (fields text) (or_zero (number_arg args))))
-  emits_keeps KeepPrefix args within forward = prefix_keeps (text_arg args) (as_blob e.value)
-  emits_keeps FieldInt args within forward = part_keeps int_in
-  emits_keeps Swap args within forward = from_pair_keeps (λ keyed. Some (one e (pair keyed.part keyed.key))) (λ keyed. one_keeps (pair keyed.part keyed.key))
-  emits_keeps Shift args within forward = (shift_keeps (number_arg args) forward within, tt)
-  emits_keeps SumSeq args within forward = part_keeps sum_in
-  emits_keeps CountSeq args within forward = part_keeps count_in
-  emits_keeps MaxSeq args within forward = part_keeps greatest_in
-  emits_keeps Unseq args within forward =
+  emits_keeps KeepPrefix args forward = prefix_keeps (text_arg args) (as_blob e.value)
+  emits_keeps FieldInt args forward = part_keeps int_in
+  emits_keeps Swap args forward = from_pair_keeps (λ keyed. Some (one e (pair keyed.part keyed.key))) (λ keyed. one_keeps (pair keyed.part keyed.key))
+  emits_keeps Shift args forward = (shift_keeps (number_arg args) forward, tt)
+  emits_keeps SumSeq args forward = part_keeps sum_in
+  emits_keeps CountSeq args forward = part_keeps count_in
+  emits_keeps MaxSeq args forward = part_keeps greatest_in
+  emits_keeps Unseq args forward =
       from_pair_keeps (λ keyed. option_map (map (λ item. valued e (pair keyed.key item))) (as_seq keyed.part))
       (λ keyed. if_map Kept (map (λ item. valued e (pair keyed.key item)))
       (λ items. each-map (KeepsPlace e) (λ item. valued e (pair keyed.key item)) (λ item. valued_keeps (pair keyed.key item)) items)
       (as_seq keyed.part))
-  emits_keeps Values args within forward = from_pair_keeps (λ keyed. Some (one e keyed.part)) (λ keyed. one_keeps keyed.part)
+  emits_keeps Values args forward = from_pair_keeps (λ keyed. Some (one e keyed.part)) (λ keyed. one_keeps keyed.part)
 
 pub emitted_keep : (kind : FnKind) (args : Args) (e : Element) (outputs : List Element)
     → e.time ≤ℤ greatest_time → IsForward kind args → emits kind args e ≡ Some outputs → All (KeepsPlace e) outputs
 emitted_keep kind args e outputs within forward is =
-    All-from_recursion (KeepsPlace e) outputs (at_some (Kept e) (emits kind args e) outputs is (emits_keeps e kind args within forward))
+    All-from_recursion (KeepsPlace e) outputs (at_some (Kept e within) (emits kind args e) outputs is (emits_keeps e within kind args forward))
 
 -- ---- stateful calls
 

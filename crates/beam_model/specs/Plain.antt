@@ -15,7 +15,10 @@ use Rattle.beam_values.specs.declared.plan.Plan.{Plan}
 use Rattle.beam_values.specs.declared.plan.Strategy.{Strategy}
 use Rattle.beam_values.specs.declared.plan.Strategy.TheVariants.{Sessions}
 use Rattle.beam_model.specs.Chains.{Output, Arrives, PoisonAt, chain}
+use Rattle.beam_model.specs.Estimators.{AreSoundAbove}
 use Rattle.beam_model.specs.Flow.{elements_at}
+use Rattle.beam_model.specs.Panes.{trigger_of}
+use Rattle.beam_model.specs.Plans.{default_trigger}
 use Rattle.beam_model.specs.Positions.{SourceItem}
 use Rattle.beam_model.specs.Sessions.{IsMerging}
 use Rattle.beam_model.specs.Spread.{spread_all}
@@ -63,7 +66,7 @@ IsPlainAt plan items barrier elements =
 abbrev pub NothingIsDroppedAbove : Plan → ℕ → List Dropped → Type 0
 NothingIsDroppedAbove plan barrier dropped = All (λ lost. is_above plan lost.node barrier ≡ false) dropped
 
--- At each Write with no Stateful node above it: what was written is what plain grouping of the whole input brings there, and no Group above it dropped an
+-- At each Write with no Stateful node above it: all that was written is brought there by plain grouping of the whole input, and no Group above it dropped an
 -- element.
 pub record IsPlainlyWritten (items : List SourceItem) (o : Outcome) (node : ℕ) : Type 0 where
   pub plain : IsPlainAt o.plan items node (elements_at node o.written)
@@ -71,3 +74,15 @@ pub record IsPlainlyWritten (items : List SourceItem) (o : Outcome) (node : ℕ)
 
 abbrev pub ArePlainlyWritten : List SourceItem → Outcome → Type 0
 ArePlainlyWritten items o = (node : ℕ) → is_write o.plan node ≡ true → HasNoStatefulAbove o.plan node → IsPlainlyWritten items o node
+
+-- each Group above the barrier has the default trigger: it fires one pane of a window, once the window is past
+abbrev pub HasDefaultTriggersAbove : Plan → ℕ → Type 0
+HasDefaultTriggersAbove plan barrier = (node : ℕ) → IsGroupAbove plan barrier node → trigger_of plan node ≡ default_trigger
+
+-- The same of those Writes alone above which every Group has the default trigger and every estimator is sound: there no element comes too late, and no
+-- pane comes twice. Take a source over the lines `70000 a x` and `5000 a y`, a Group by minutes and a Write. With a lag of 65000 the Write took both panes.
+-- With a monotonic estimator nothing is said of it: the second line may come after its window was fired, and then be dropped.
+abbrev pub ArePlainlyWrittenWhere : List SourceItem → Outcome → Type 0
+ArePlainlyWrittenWhere items o =
+    (node : ℕ) → is_write o.plan node ≡ true → HasNoStatefulAbove o.plan node → HasDefaultTriggersAbove o.plan node → AreSoundAbove o.plan items node
+    → IsPlainlyWritten items o node

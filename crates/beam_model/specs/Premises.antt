@@ -15,6 +15,7 @@ use Rattle.beam_values.specs.declared.value.Value.{Value}
 use Rattle.beam_model.specs.Chains.{Output, Arrives, PoisonAt}
 use Rattle.beam_model.specs.Functions.{number_arg}
 use Rattle.beam_values.specs.Nodes.{is_barrier_kind, is_par_do_kind}
+use Rattle.beam_values.specs.Times.{greatest_time}
 use Rattle.beam_values.specs.Sessions.{IsApart}
 use Rattle.beam_model.specs.Sessions.{is_keyed}
 
@@ -31,11 +32,13 @@ abbrev pub EndsAfter : Plan → ℕ → Output → Type 0
 EndsAfter plan n (Arrives arrival) = IsAfter is_barrier_kind plan n arrival.node
 EndsAfter plan n (PoisonAt node) = IsAfter is_par_do_kind plan n node
 
--- with the window and the pane's tag of an element, and not before it
+-- With the window and the pane's tag of an element, not before it, and within the bounds of a time: shifted by 10, an element at 9223372036854770 is put out
+-- at 9223372036854775.
 pub record KeepsPlace (e output : Element) : Type 0 where
   pub span : output.span ≡ e.span
   pub pane : output.pane ≡ e.pane
   pub time : e.time ≤ℤ output.time
+  pub bound : output.time ≤ℤ greatest_time
 
 -- a shift goes forward
 abbrev pub IsForward : FnKind → Args → Type 0

@@ -17,6 +17,7 @@ ghost use Rattle.beam_values.specs.declared.piece.Done.{Done};
 ghost use Rattle.beam_values.specs.declared.log.KeyLog.{KeyLog};
 ghost use Rattle.beam_values.specs.declared.log.LogInput.{LogInput};
 ghost use Rattle.beam_values.specs.declared.cell.Pane.{Pane};
+ghost use Rattle.beam_values.specs.declared.outcome.Outcome.{Outcome};
 ghost use Rattle.beam_values.specs.declared.plan.Args.{Args};
 ghost use Rattle.beam_values.specs.declared.plan.FnKind.{FnKind};
 ghost use Rattle.beam_values.specs.declared.plan.Node.{Node};
@@ -29,7 +30,7 @@ ghost use Rattle.beam_model.specs.Flow.{elements_at, pane_chains, log_chains, fl
 ghost use Rattle.beam_model.specs.Functions.{emits};
 ghost use Rattle.beam_values.specs.Sessions.{IsNonEmpty};
 ghost use Rattle.beam_model.specs.Premises.{EndsAfter, done_range, KeepsPlace, IsForward, IsOfCall, AreOneOrApart};
-ghost use Rattle.beam_model.specs.Plain.{IsPlainRun, IsPlainAt, node_of};
+ghost use Rattle.beam_model.specs.Plain.{ArePlainlyWritten, ArePlainlyWrittenWhere, IsPlainRun, IsPlainAt, node_of};
 ghost use Rattle.beam_model.specs.Positions.{nothing, positions_in, emission, next_position, SourceItem};
 ghost use Rattle.beam_values.specs.Sessions.{IsApart, IsSession};
 ghost use Rattle.beam_model.specs.Sessions.{IsMerging};
@@ -92,7 +93,8 @@ pub fn a_cut_range_covers_the_same()
         ≡ times_done (done_range node item from middle ∷ done_range node item middle to ∷ []) place }
 {}
 
-/// What a function gives of an element is in its window, with its pane's tag, and never before it.
+/// What a function gives of an element is in its window, with its pane's tag, never before it, and at no
+/// later time than there is.
 pub fn functions_keep_window_and_pane()
     ensures { (kind : FnKind) (args : Args) (e : Element) (outputs : List Element)
         → e.time ≤ℤ greatest_time → IsForward kind args → emits kind args e ≡ Some outputs
@@ -180,4 +182,10 @@ pub fn nodes_stand_above_by_inputs()
 /// What an output of a node brings ends below that node.
 pub fn outputs_end_below_their_node()
     ensures { (plan : Plan) (n : ℕ) (e : Element) → All (λ output. is_above plan n (node_of output) ≡ true) (chain plan n e) }
+{}
+
+/// What is plainly written under any triggers and estimators is so in particular under default triggers
+/// and sound estimators.
+pub fn plain_writing_needs_no_sound_estimators()
+    ensures { (items : List SourceItem) (o : Outcome) → ArePlainlyWritten items o → ArePlainlyWrittenWhere items o }
 {}
