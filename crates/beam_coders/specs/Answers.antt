@@ -9,7 +9,7 @@ abbrev pub Fails : {Y : Type 0} → ReadRefusal → Result Y CoderRefusal → Ty
 Fails refusals.NoMemory read = Unit {0}
 Fails (refusals.Bad refusal) read = read ≡ Err refusal
 
--- what is answered, seen by `view`, is what the grammar gives, unless there was no memory
+-- the answer, seen by `view`, is that of the grammar, unless there was no memory
 abbrev pub Gives : {X Y : Type 0} → (X → Y) → Result X ReadRefusal → Result Y CoderRefusal → Type 0
 Gives view (Ok x) read = read ≡ Ok (view x)
 Gives view (Err e) read = Fails e read

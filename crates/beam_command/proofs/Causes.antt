@@ -68,38 +68,38 @@ absent_noted name before after stays absent = elim stays [
   | inr none ↦ inr none.0
 ]
 
-module _ (words : List (List ℕ)) (met : Observed) (takes : TakesPanes words) (whole : Rose met.store.before met.store.after → ⊥)
-    (told : List FileText) (tells : met.store.files ≡ Some told) where
+module _ (words : List (List ℕ)) (observed : Observed) (takes : TakesPanes words) (whole : Rose observed.store.before observed.store.after → ⊥)
+    (told : List FileText) (tells : observed.store.files ≡ Some told) where
   abbrev Ran : Status → Option Outcome → Type 0
-  Ran s outcome = HasRun s outcome (IsPanesRun met.store.files (file_word words) (size_of words))
+  Ran s outcome = HasRun s outcome (IsPanesRun observed.store.files (file_word words) (size_of words))
 
   -- an absent name ends the command so, where the store did not fail
-  pub end_of_absent : first_named (file_word words) told ≡ None → (s : Status) (outcome : Option Outcome) → HasCause words met s → Ran s outcome → IsEndOfAbsent (file_word words) s
+  pub end_of_absent : first_named (file_word words) told ≡ None → (s : Status) (outcome : Option Outcome) → HasCause words observed s → Ran s outcome → IsEndOfAbsent (file_word words) s
   end_of_absent absent status.Ok outcome cause ran = absurd (none_is_no_some _ absent (ran.2.found told tells))
   end_of_absent absent status.SinkFault outcome cause ran = absurd (none_is_no_some _ absent (ran.2.found told tells))
   end_of_absent absent status.Usage outcome cause ran = absurd (cause.0 takes)
   end_of_absent absent (status.NoSource name) outcome cause ran = inl (ap (λ n. status.NoSource n) cause.2.0)
   end_of_absent absent (status.SourceFault kit) outcome cause ran = absurd (whole cause.2.1)
   end_of_absent absent (status.WorkFault note) outcome cause ran =
-      elim note.cause as (λ k. WorkFails met.store (file_word words) (size_of words) k → IsEndOfAbsent (file_word words) (status.WorkFault note)) [
+      elim note.cause as (λ k. WorkFails observed.store (file_word words) (size_of words) k → IsEndOfAbsent (file_word words) (status.WorkFault note)) [
         | Call ↦ λ fails. absurd (none_is_no_some _ absent (fails told tells).0)
         | Read ↦ λ fails. absurd (whole fails)
       ] cause.2.1
   end_of_absent absent status.NoMemory outcome cause ran = inr refl
 
   module _ (found : IsSome (first_named (file_word words) told)) (poison : FindsPoisonIn words told) where
-    no_outcome : (o : Outcome) → IsPanesRun met.store.files (file_word words) (size_of words) o → ⊥
+    no_outcome : (o : Outcome) → IsPanesRun observed.store.files (file_word words) (size_of words) o → ⊥
     no_outcome o is = accounted-no_poison (items told o.plan) o (is.account told tells) (subst (λ plan. HasPoison plan (items told plan)) (sym is.plan) poison)
 
     -- a poison line ends the command so, where the store did not fail
-    pub end_of_poison : (s : Status) (outcome : Option Outcome) → HasCause words met s → Ran s outcome → IsEndOfPoison s
+    pub end_of_poison : (s : Status) (outcome : Option Outcome) → HasCause words observed s → Ran s outcome → IsEndOfPoison s
     end_of_poison status.Ok outcome cause ran = absurd (no_outcome ran.0 ran.2)
     end_of_poison status.SinkFault outcome cause ran = absurd (no_outcome ran.0 ran.2)
     end_of_poison status.Usage outcome cause ran = absurd (cause.0 takes)
     end_of_poison (status.NoSource name) outcome cause ran = absurd (none_is_no_some _ (cause.2.1 told tells) found)
     end_of_poison (status.SourceFault kit) outcome cause ran = absurd (whole cause.2.1)
     end_of_poison (status.WorkFault note) outcome cause ran =
-        elim note.cause as (λ k. note ≡ first_fault k → WorkFails met.store (file_word words) (size_of words) k → IsEndOfPoison (status.WorkFault note)) [
+        elim note.cause as (λ k. note ≡ first_fault k → WorkFails observed.store (file_word words) (size_of words) k → IsEndOfPoison (status.WorkFault note)) [
           | Call ↦ λ is fails. inl (ap (λ n. status.WorkFault n) is)
           | Read ↦ λ is fails. absurd (whole fails)
         ] cause.2.0 cause.2.1

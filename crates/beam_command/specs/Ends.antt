@@ -37,18 +37,18 @@ FindsPoisonIn words told = HasPoison (plan_of words) (items told (plan_of words)
 
 -- nothing was written
 abbrev pub IsUnwritten : Observed → Type 0
-IsUnwritten met = met.out.taken_after ≡ met.out.taken_before
+IsUnwritten observed = observed.out.taken_after ≡ observed.out.taken_before
 
 -- an end comes only so
 abbrev pub HasCause : List (List ℕ) → Observed → Status → Type 0
 -- the run came to its end, and its text was written
-HasCause words met status.Ok = TakesPanes words
+HasCause words observed status.Ok = TakesPanes words
 -- the same, and the sink failed
-HasCause words met status.SinkFault = TakesPanes words × Rose met.out.before met.out.after
+HasCause words observed status.SinkFault = TakesPanes words × Rose observed.out.before observed.out.after
 -- the words are no command
-HasCause words met status.Usage = (TakesPanes words → ⊥) × IsUnwritten met
+HasCause words observed status.Usage = (TakesPanes words → ⊥) × IsUnwritten observed
 -- the run did not come to its end
-HasCause words met s = TakesPanes words × IsUnwritten met × Prevents met.store (file_word words) (size_of words) s
+HasCause words observed s = TakesPanes words × IsUnwritten observed × Prevents observed.store (file_word words) (size_of words) s
 
 -- at these ends there is an outcome, of which this holds; at another one there is none
 abbrev pub HasRun : Status → Option Outcome → (Outcome → Type 0) → Type 0

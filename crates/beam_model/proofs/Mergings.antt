@@ -112,7 +112,7 @@ module _ (xs ys : List Element) (same : IsSameBag xs ys) (some : All (λ e. IsNo
         (λ j e inside. one_session (get_or ms j e) n (each j e inside) (every k d within) (nonempty j e inside)))
         (omega (arith, counted, count_member (λ m. own_cell n.element m.element) ns k d within (in_own_cell n.element)))
 
--- what merged elements become is what their sessions among those of a merging make of them
+-- a merging makes of each element the one with the session that holds it
 sessions_put : (ms ns : List Merged) → AllByRecursion (λ n. session_among ms n.element ≡ n.session) ns
     → map in_session ns ≡ map (in_session_among ms) (map (λ n. n.element) ns)
 sessions_put ms [] h = refl

@@ -108,7 +108,7 @@ module _ (plan : Plan) (barrier node : ℕ) (w : Element → ℕ) where
         ∙ same_below node (omega arith)
         ∙ sym (sum_by-same (λ p. outputs_weight p.node p.element) (below node) more all_below)
 
-  -- what arrives at the node is what the positions bring there, and what the panes do
+  -- the arrivals of the node are those that the positions bring, and those of the panes
   pub arrivals_weigh : (items : List SourceItem) (arrivals panes : List Arrival)
       → IsSameBag (filter (is_met plan barrier) (plain_flow plan items panes)) (map Arrives arrivals)
       → sum_by w (elements_at node arrivals) ≡ sum_by weight_at (spread_all plan items) + sum_by (λ p. outputs_weight p.node p.element) panes

@@ -82,7 +82,7 @@ pub fn followers_take_elements_of_their_strategy()
         → slice_get plan.nodes follower ≡ Some node → is_window_into_kind node.kind ≡ false → strategy_of plan follower ≡ onward_of plan n }
 {}
 
-/// What an output of a node brings is what its followers make of it, one after another.
+/// An output of a node brings all that its followers make of it, one after another.
 pub fn chains_go_by_followers()
     ensures { (plan : Plan) (n : ℕ) (e : Element) → IsChecked plan → chain plan n e ≡ flat_map (taken_by plan e) (followers_of plan n) }
 {}

@@ -43,7 +43,7 @@ out_same : (xs ys : List Done) → IsSameBag xs ys → (node item : ℕ) → IsO
 out_same xs ys same node item h = omega (arith, h, same.weighs (λ d. counted (part_at node item d)))
 
 module _ (out rest others : List Done) (node item from s t to attempts : ℕ) (seen : ℤ) where
-  -- what the rest has is what was out
+  -- the rest has all that was out
   rest_was_out : IsSameBag out (part node item from to ∷ others) → IsSameBag rest (part node item from s ∷ part node item t to ∷ others)
       → (n i : ℕ) → IsOut rest n i → IsOut out n i
   rest_was_out whole cut n i h =
