@@ -6,6 +6,7 @@ mod Branches
 pub mod Coverings
 mod Flows
 mod Groupings
+mod LegalRuns
 mod Lists
 mod Matching
 mod Mergings

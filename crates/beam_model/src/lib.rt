@@ -6,8 +6,8 @@
 //! none of it. Read `specs/Positions.antt`, `Functions.antt`, `Steps.antt` and `Chains.antt` for what
 //! single positions and elements give, then `Spread.antt`, `Flow.antt`, `Plain.antt`, `Covers.antt`,
 //! `Account.antt` and `Rendering.antt` for whole runs; `Vectors.antt` computes each function and
-//! source, and `proofs/Witnesses.antt` and `proofs/Branches.antt` show on examples what the
-//! definitions refuse and admit. The layer above may rely on these definitions and on the laws in
+//! source, and `proofs/Witnesses.antt`, `proofs/Branches.antt` and `proofs/LegalRuns.antt` show on
+//! examples what the definitions refuse and admit. The layer above may rely on these definitions and on the laws in
 //! `laws.rt` and `covering_laws.rt`, each the contract of a function without a body.
 #![tactic(auto)]
 
