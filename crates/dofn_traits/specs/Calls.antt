@@ -10,7 +10,6 @@ use Rattle.beam_values.specs.declared.log.LogInput.{LogInput}
 use Rattle.beam_values.specs.declared.plan.Args.{Args}
 use Rattle.beam_values.specs.declared.plan.FnKind.{FnKind}
 use Rattle.beam_values.specs.declared.plan.SourceKind.{SourceKind}
-use Rattle.beam_values.specs.declared.plan.SourceKind.TheVariants.{Lines, TimedLines, Count, Made}
 use Rattle.beam_values.specs.declared.plan.StateKind.{StateKind}
 use Rattle.beam_values.specs.declared.state_cell.StateCell.{StateCell}
 use Rattle.beam_values.specs.declared.value.Value.{Value}

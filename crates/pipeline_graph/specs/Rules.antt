@@ -2,7 +2,6 @@
 use Rattle.std.specs.Prelude.{◌≡◌, ◌≢◌, ℕ, ◌≤◌, pos, ◌≤ℤ◌, Bool, true, false, List, [], length, All, IfSome}
 use Rattle.beam_values.specs.Checked.{is_function_allowed, is_source_argument}
 use Rattle.beam_values.specs.Strategies.{IsAllowed, greatest_length}
-use Rattle.beam_values.specs.declared.plan.Args.{Args}
 use Rattle.beam_values.specs.declared.plan.Estimator.{Estimator}
 use Rattle.beam_values.specs.declared.plan.Estimator.TheVariants as estimator
 use Rattle.beam_values.specs.declared.plan.NodeKind.{NodeKind}
