@@ -2,10 +2,13 @@ use crate::case::Case;
 use crate::coders::{answer_coder, answer_element, answer_order, answer_write};
 use crate::commands::answer_command;
 use crate::elements::answer_row;
+use crate::functions::answer_function;
+use crate::graphs::answer_graph;
 use crate::grouping::answer_grouped;
+use crate::keyed::answer_stateful;
 use crate::lines::{answer_key, answer_line, answer_time, answer_timed};
 use crate::marks::{answer_attempt, answer_seen};
-use crate::outcomes::answer_outcome;
+use crate::outcomes::{answer_outcome, answer_summary};
 use crate::ports::{read_sink, read_store};
 use crate::running::Script;
 use crate::sizes::answer_size;
@@ -20,6 +23,7 @@ use keyed_state::KeyState;
 use session_merge::SessionSet;
 use split_core::Pieces;
 use timer_core::Timers;
+use watermarks::Holds;
 
 /// Answers a case of one line.
 pub fn answer(case: &mut Case<'_>) {
@@ -44,6 +48,8 @@ pub fn answer(case: &mut Case<'_>) {
         "fire" => answer_fire(case),
         "moment" => answer_moment(case),
         "dropped" => answer_dropped(case),
+        "function" => answer_function(case),
+        "stateful" => answer_stateful(case),
         "seen" => answer_seen(case),
         "attempt" => answer_attempt(case),
         kind => answer_calls(kind, case),
@@ -65,6 +71,7 @@ fn answer_calls(kind: &str, case: &mut Case<'_>) {
         "list" => call_all(RoomyList::<i64>::new(case.alloc()), case),
         "store" => call_all(read_store(case), case),
         "sink" => call_all(read_sink(case), case),
+        "holds" => call_all(Holds::new(case.alloc()), case),
         "sessions" => call_all(SessionSet::new(case.alloc()), case),
         _ => case.fail("there is no such kind"),
     }
@@ -74,6 +81,8 @@ fn answer_calls(kind: &str, case: &mut Case<'_>) {
 pub fn answer_block<'a>(script: &mut Script<'a>, case: &mut Case<'a>) {
     match case.word() {
         "outcome" => answer_outcome(script, case),
+        "summary" => answer_summary(script, case),
+        "graph" => answer_graph(script, case),
         "command" => answer_command(script, case),
         _ => case.fail("a line is KIND INPUT => EXPECTED"),
     }

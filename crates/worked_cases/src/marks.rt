@@ -9,7 +9,7 @@ use watermarks::{mark_of, observe};
 /// What an estimator has seen after a position, and its mark then: `ESTIMATOR; SEEN; TIME|none;
 /// DECLARED|none`.
 pub fn answer_seen(case: &mut Case<'_>) {
-    let estimator = read_estimator(case);
+    let estimator = within_limits(read_estimator(case));
     case.mark(b';');
     let seen = case.time();
     case.mark(b';');
@@ -32,17 +32,22 @@ fn read_time(case: &mut Case<'_>) -> Option<Time> {
 }
 
 // A lag is cut to its limits.
-fn read_estimator(case: &mut Case<'_>) -> Estimator
+fn within_limits(estimator: Estimator) -> Estimator
     ensures { is_estimator_allowed result ≡ true }
 {
+    match estimator {
+        Estimator::Lag(lag) => Estimator::Lag(lag.clamp(0, 31_536_000_000_000)),
+        estimator => estimator,
+    }
+}
+
+/// `none`, `monotonic`, `lag N` or `declared`.
+pub fn read_estimator(case: &mut Case<'_>) -> Estimator {
     match case.word() {
         "none" => Estimator::None,
         "monotonic" => Estimator::Monotonic,
         "declared" => Estimator::Declared,
-        "lag" => {
-            let lag = case.number::<i64>();
-            Estimator::Lag(lag.clamp(0, 31_536_000_000_000))
-        }
+        "lag" => Estimator::Lag(case.number()),
         _ => {
             case.fail("there is no such estimator");
             Estimator::None

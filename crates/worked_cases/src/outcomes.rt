@@ -2,10 +2,10 @@ use crate::case::Case;
 use crate::elements::read_element;
 use crate::running::Script;
 use crate::values::read_value;
-use beam_text::render;
+use beam_text::{render, summary};
 use beam_values::{
-    Args, Arrival, Bytes, KeyLog, List, LogEntry, LogInput, NoMemory, Node, NodeKind, Outcome,
-    Plan, StateKind, Timer,
+    Args, Arrival, FileLen, KeyLog, List, LogEntry, LogInput, Node, NodeKind, Outcome, Plan,
+    StateKind, Timer,
 };
 use std::alloc::Global;
 
@@ -13,33 +13,45 @@ use std::alloc::Global;
 #[derive(Drop)]
 struct Shown {
     nodes: List<Node>,
+    files: List<FileLen>,
     written: List<Arrival>,
     logs: List<KeyLog>,
 }
 
 /// The rendering of an outcome, which the lines of a block describe.
 pub fn answer_outcome<'a>(script: &mut Script<'a>, case: &mut Case<'a>) {
-    let alloc = case.alloc();
-    let mut shown = Shown {
-        nodes: List::new(alloc),
-        written: List::new(alloc),
-        logs: List::new(alloc),
-    };
-    read_lines(script, case, &mut shown);
-    match rendered(alloc, shown) {
+    let outcome = read_outcome(script, case);
+    match render(case.alloc(), &outcome) {
         Ok(text) => case.say_bytes(text.as_slice()),
         Err(refused) => case.no_memory(refused),
     }
 }
 
-fn read_lines<'a>(script: &mut Script<'a>, case: &mut Case<'a>, shown: &mut Shown) {
+/// The summary of such an outcome.
+pub fn answer_summary<'a>(script: &mut Script<'a>, case: &mut Case<'a>) {
+    let outcome = read_outcome(script, case);
+    match summary(case.alloc(), &outcome) {
+        Ok(text) => case.say_bytes(text.as_slice()),
+        Err(refused) => case.no_memory(refused),
+    }
+}
+
+fn read_outcome<'a>(script: &mut Script<'a>, case: &mut Case<'a>) -> Outcome {
+    let alloc = case.alloc();
+    let mut shown = Shown {
+        nodes: List::new(alloc),
+        files: List::new(alloc),
+        written: List::new(alloc),
+        logs: List::new(alloc),
+    };
     for _ in 0..u64::MAX {
         if !script.next_of_block(case) {
             break;
         }
-        add_line(case, shown);
+        add_line(case, &mut shown);
         case.end();
     }
+    outcome_of(alloc, shown)
 }
 
 fn add_line(case: &mut Case<'_>, shown: &mut Shown) {
@@ -50,6 +62,14 @@ fn add_line(case: &mut Case<'_>, shown: &mut Shown) {
                 inputs: List::new(case.alloc()),
             };
             case.keep(&mut shown.nodes, node);
+        }
+        "item" => {
+            let file = FileLen {
+                node: case.number(),
+                item: case.number(),
+                len: case.number(),
+            };
+            case.keep(&mut shown.files, file);
         }
         "written" => {
             let arrival = Arrival {
@@ -127,15 +147,16 @@ fn read_call(case: &mut Case<'_>) -> LogInput {
     })
 }
 
-fn rendered(alloc: Global, shown: Shown) -> Result<Bytes, NoMemory> {
+fn outcome_of(alloc: Global, shown: Shown) -> Outcome {
     let Shown {
         nodes,
+        files,
         written,
         logs,
     } = shown;
-    let outcome = Outcome {
+    Outcome {
         plan: Plan { version: 1, nodes },
-        files: List::new(alloc),
+        files,
         done: List::new(alloc),
         cells: List::new(alloc),
         panes: List::new(alloc),
@@ -144,6 +165,5 @@ fn rendered(alloc: Global, shown: Shown) -> Result<Bytes, NoMemory> {
         written,
         commits: List::new(alloc),
         stopped: None,
-    };
-    render(alloc, &outcome)
+    }
 }

@@ -71,8 +71,8 @@ fn read_watched(case: &mut Case<'_>) -> Watched {
     }
 }
 
-// `default`, or what differs from it: `early N`, `late N`, `lateness N`.
-fn read_trigger(case: &mut Case<'_>) -> Trigger {
+/// `default`, or what differs from it: `early N`, `late N`, `lateness N`.
+pub fn read_trigger(case: &mut Case<'_>) -> Trigger {
     let mut trigger = Trigger {
         early: None,
         late: 1,
@@ -103,4 +103,11 @@ pub fn read_mark(case: &mut Case<'_>) -> Mark {
         return Mark::FINAL;
     }
     Mark::at(case.time())
+}
+
+pub fn say_mark(mark: Mark, case: &mut Case<'_>) {
+    if mark.is_final() {
+        return case.say("final");
+    }
+    case.say_number(mark.ms());
 }

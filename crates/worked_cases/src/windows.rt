@@ -22,6 +22,27 @@ pub fn read_strategy(case: &mut Case<'_>) -> Strategy {
     }
 }
 
+/// A strategy in the form in which it is read.
+pub fn say_strategy(strategy: &Strategy, case: &mut Case<'_>) {
+    match *strategy {
+        Strategy::Global => case.say("global"),
+        Strategy::Fixed { size } => {
+            case.say("fixed");
+            case.say_number(size);
+        }
+        Strategy::Sliding { size, period } => {
+            case.say("sliding");
+            case.say_number(size);
+            case.say_number(period);
+        }
+        Strategy::Sessions { gap } => {
+            case.say("sessions");
+            case.say_number(gap);
+        }
+        Strategy::Kept => case.say("kept"),
+    }
+}
+
 /// Whether a plan may have the strategy.
 pub fn answer_strategy(case: &mut Case<'_>) {
     let strategy = read_strategy(case);
