@@ -1,0 +1,10 @@
+-- A buffer that is filled from the front.
+use Rattle.std.proofs.Common.{◌≡◌, ℕ, ◌+◌, List, ◌++◌, length, take, drop, sym, ap, ◌∙◌}
+use Rattle.std.proofs.Math.Seq.{take-add, take-append-add}
+
+-- what was there is the front of the text, and what comes is the text from there on
+pub filled_more : (front buffer text : List ℕ) (done n : ℕ) → length front ≡ done → front ≡ take done text → take n buffer ≡ take n (drop done text)
+    → take (done + n) (front ++ buffer) ≡ take (done + n) text
+filled_more front buffer text done n size begun read =
+    ap (λ k. take (k + n) (front ++ buffer)) (sym size) ∙ take-append-add front buffer n ∙ ap (λ t. t ++ take n buffer) begun
+    ∙ ap (λ t. take done text ++ t) read ∙ sym (take-add done n text)

@@ -1,0 +1,44 @@
+-- What is held of a file whose positions are worked, and what it serves for.
+use Rattle.std.specs.Prelude.{◌≡◌, ◌⊎◌, ℕ, ◌+◌, ◌<◌, Bool, true, false, List, length, take, drop, Option, Some}
+use Rattle.beam_ports.specs.Files.{Opening}
+use Rattle.beam_values.specs.Checked.{reads_file}
+use Rattle.beam_values.specs.declared.plan.Args.{Args}
+use Rattle.beam_values.specs.declared.plan.SourceKind.{SourceKind}
+use Rattle.dofn_traits.specs.Calls.{IsView, IsViewOf}
+
+-- The number of an opened file and its length, and bytes of it: those from `base` on. Nothing is held of it where there are none.
+pub record Paged : Type 0 where
+  pub file : ℕ
+  pub len : ℕ
+  pub base : ℕ
+  pub bytes : List ℕ
+
+-- where the text is told, the bytes are its bytes from `base` on
+abbrev pub HoldsFile : Option Opening → Paged → Type 0
+HoldsFile opening held =
+    (text : List ℕ) → opening ≡ Some (record { len = held.len; text = Some text }) → length text ≡ held.len
+    → held.bytes ≡ take (length held.bytes) (drop held.base text)
+
+-- What is held serves to work a position: it has the byte there and, where there is one, the byte before it. So it is a view of the file for any
+-- source that reads files.
+pub record Serves (held : Paged) (p : ℕ) : Type 0 where
+  pub reached : p < held.base + length held.bytes
+  pub view : (kind : SourceKind) (args : Args) → reads_file kind ≡ true → IsView kind args held.bytes held.base held.len p
+
+-- where the text is told, it is a view of that text
+abbrev pub ShowsText : Option Opening → Paged → Type 0
+ShowsText opening held =
+    (text : List ℕ) → opening ≡ Some (record { len = held.len; text = Some text }) → length text ≡ held.len
+    → (kind : SourceKind) (args : Args) → reads_file kind ≡ true → IsViewOf text kind args held.bytes held.base held.len
+
+-- it reaches the end of the file
+abbrev pub ReachesEnd : Paged → Type 0
+ReachesEnd held = held.base + length held.bytes ≡ held.len
+
+-- where more was asked for, more is held now, or all up to the end of the file
+abbrev pub ReachesOn : Bool → Paged → Paged → Type 0
+ReachesOn more old new = more ≡ true → (length old.bytes < length new.bytes) ⊎ ReachesEnd new
+
+-- what is held can be the answer as it is
+abbrev pub IsEnough : Bool → Paged → ℕ → Type 0
+IsEnough more held p = Serves held p × ((more ≡ false) ⊎ ReachesEnd held)

@@ -1,0 +1,100 @@
+ghost use Rattle.std.specs.Prelude.{◌≡◌, ◌+◌, ◌<◌, ◌≤◌, ℕ, [], length, IsSomeAnd, IsErrOf, IsOk, OnOk, Ok};
+ghost use Rattle.beam_ports.specs.Counts.{Rose};
+ghost use Rattle.beam_ports.specs.Files.{KeepsOpenings};
+
+use crate::reading::read_whole;
+use beam_ports::Store;
+use dofn_traits::Look;
+use std::alloc::Global;
+use std::marker::Model;
+
+/// Why a look at a file gave nothing.
+#[derive(Clone, Copy, Debug, PartialEq, Eq)]
+pub enum PageRefusal {
+    /// A read failed; the store counted it.
+    Failed,
+    NoMemory,
+}
+
+/// What is held of an opened file whose positions are worked.
+///
+/// Contracts see the file's number and length, and the bytes that are held with their offset. Here the
+/// whole file is read at the first look; no clause says so.
+#[derive(Drop)]
+pub struct Pager {
+    alloc: Global,
+    file: u32,
+    len: u64,
+    bytes: Vec<u8>,
+}
+
+impl Model for Pager {
+    ghost use Rattle.std.specs.Prelude.{◌≡◌, ◌<◌, length};
+    ghost use Rattle.sdf_library.specs.Paging.{Paged};
+
+    ghost Value = { Paged };
+
+    ghost view = { λ it. record { file = it.file; len = it.len; base = 0; bytes = it.bytes.items } };
+
+    ghost invariant = { λ it. 0 < length it.bytes.items → length it.bytes.items ≡ it.len };
+}
+
+impl Pager {
+    ghost use Rattle.sdf_library.specs.Paging.{HoldsFile, Serves, ShowsText, ReachesOn, IsEnough};
+
+    /// The pager of an opened file. It holds nothing of it yet.
+    pub fn new(alloc: Global, file: u32, len: u64) -> Pager
+        ensures { result ≡ record { file = file; len = len; base = 0; bytes = [] } }
+    {
+        Pager {
+            alloc,
+            file,
+            len,
+            bytes: Vec::new(alloc),
+        }
+    }
+
+    /// What is held, as it is.
+    pub fn bytes(&self) -> Look<'_>
+        ensures bytes { result.bytes.now ≡ self.now.bytes }
+        ensures base { result.base ≡ self.now.base }
+        ensures len { result.len ≡ self.now.len }
+        ensures within { self.now.base + length self.now.bytes ≤ self.now.len }
+    {
+        Look {
+            bytes: self.bytes.as_slice(),
+            base: 0,
+            len: self.len,
+        }
+    }
+
+    /// Holds what the position `p` needs, and with `more` more than before.
+    pub fn ensure_held<S: Store>(
+        &mut self,
+        store: &mut S,
+        p: u64,
+        more: bool,
+    ) -> Result<(), PageRefusal>
+        requires inside { p < self.old.len }
+        requires open { IsSomeAnd (S.opened store.old self.old.file) (λ opening. opening.len ≡ self.old.len) }
+        requires held { HoldsFile (S.opened store.old self.old.file) self.old }
+        ensures serves { OnOk result (Serves self.new p) }
+        ensures more { OnOk result (ReachesOn more self.old self.new) }
+        ensures enough { IsEnough more self.old p → IsOk result × (self.new ≡ self.old) × (store.new ≡ store.old) }
+        ensures failed { IsErrOf result PageRefusal.Failed → Rose (S.faults store.old) (S.faults store.new) }
+        // After every answer:
+        ensures file { self.new.file ≡ self.old.file }
+        ensures len { self.new.len ≡ self.old.len }
+        ensures open { IsSomeAnd (S.opened store.new self.new.file) (λ opening. opening.len ≡ self.new.len) }
+        ensures held { HoldsFile (S.opened store.new self.new.file) self.new }
+        ensures shown { ShowsText (S.opened store.new self.new.file) self.new }
+        ensures told { S.files store.new ≡ S.files store.old }
+        ensures kept { KeepsOpenings (S.opened store.old) (S.opened store.new) }
+        ensures counts { S.faults store.old ≤ S.faults store.new }
+    {
+        if self.bytes.is_empty() {
+            self.bytes = read_whole(self.alloc, store, self.file, self.len)?;
+        }
+        Ok(())
+    }
+}
