@@ -8,6 +8,7 @@ mod Flows
 mod Groupings
 mod LegalRuns
 mod Lists
+pub mod MadeLines
 mod Matching
 mod Mergings
 mod Outputs

@@ -1,4 +1,3 @@
 mod FileLines
-mod MadeLines
 pub mod Runs
 mod Merging

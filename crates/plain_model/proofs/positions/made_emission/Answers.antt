@@ -4,7 +4,7 @@ use Rattle.beam_values.specs.Functions as functions
 use Rattle.beam_values.specs.declared.value.Value.TheVariants.{Blob}
 use Rattle.beam_model.specs.Positions as model
 use Rattle.plain_model.specs.Emissions.{shown}
-use Rattle.plain_model.proofs.MadeLines.{made_emits}
+use Rattle.beam_model.proofs.MadeLines.{made_emits}
 use Rattle.plain_model.proofs.positions.made_emission.Goals as goal
 
 pub returns : goal.returns
