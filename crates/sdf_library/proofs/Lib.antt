@@ -1,1 +1,4 @@
 pub mod Filling
+pub mod Strictness
+pub mod Telling
+pub mod Views

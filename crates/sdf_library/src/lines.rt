@@ -1,0 +1,48 @@
+ghost use Rattle.std.specs.Prelude.{◌≡◌, ◌+◌, ◌-◌, ◌≤◌, true, false, length, min, MatchOption};
+ghost use Rattle.std.specs.List.{list_any};
+ghost use Rattle.beam_values.specs.Lines.{is_line_feed, starts_line, line_len, line_at, next_start};
+ghost use Rattle.beam_values.specs.declared.plan.SourceKind.TheVariants as kinds;
+ghost use Rattle.dofn_traits.specs.Calls.{is_cut_short};
+
+use beam_lines::{first_line, starts_line};
+
+/// The line at a position of a file, which is seen to its end.
+#[derive(Clone, Copy)]
+pub(crate) struct SeenLine<'a> {
+    /// Whether it starts there.
+    pub(crate) starts: bool,
+    /// From the position on.
+    pub(crate) text: &'a [u8],
+    /// The position after it.
+    pub(crate) next: u64,
+}
+
+/// What the bytes from `base` on tell of the position `p` of a file; nothing where they are cut short.
+pub(crate) fn seen_line(bytes: &[u8], base: u64, len: u64, p: u64) -> Option<SeenLine<'_>>
+    requires from_base { base ≤ p }
+    requires reached { p ≤ base + length bytes.now }
+    requires within { base + length bytes.now ≤ len }
+    ensures { MatchOption result (is_cut_short kinds.Lines bytes.now base len p ≡ true) (λ line.
+        (is_cut_short kinds.Lines bytes.now base len p ≡ false) × (line.starts ≡ starts_line bytes.now (p - base))
+        × (line.text.now ≡ line_at bytes.now (p - base)) × (line.next ≡ base + next_start bytes.now (p - base))) }
+{
+    let at = (p - base) as usize;
+    let rest = bytes.split_at(at).1;
+    let line = first_line(rest);
+    if base + (bytes.len() as u64) < len && !is_ended(rest, line.next) {
+        return None;
+    }
+    Some(SeenLine {
+        starts: starts_line(bytes, at),
+        text: line.text,
+        next: p + line.next as u64,
+    })
+}
+
+// Whether an LF ends the line that `rest` begins with, where the next one would start at `next`.
+fn is_ended(rest: &[u8], next: usize) -> bool
+    requires { next ≡ min (line_len rest.now + 1) (length rest.now) }
+    ensures { result ≡ list_any is_line_feed rest.now }
+{
+    next > 0 && starts_line(rest, next)
+}
