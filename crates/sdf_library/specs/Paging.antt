@@ -5,6 +5,7 @@ use Rattle.beam_values.specs.Checked.{reads_file}
 use Rattle.beam_values.specs.declared.plan.Args.{Args}
 use Rattle.beam_values.specs.declared.plan.SourceKind.{SourceKind}
 use Rattle.dofn_traits.specs.Calls.{IsView, IsViewOf}
+use Rattle.dofn_traits.specs.declared.calls.Look.{Look}
 
 -- The number of an opened file and its length, and bytes of it: those from `base` on. Nothing is held of it where there are none.
 pub record Paged : Type 0 where
@@ -42,3 +43,13 @@ ReachesOn more old new = more ≡ true → (length old.bytes < length new.bytes)
 -- what is held can be the answer as it is
 abbrev pub IsEnough : Bool → Paged → ℕ → Type 0
 IsEnough more held p = Serves held p × ((more ≡ false) ⊎ ReachesEnd held)
+
+-- after a call the same file is held, and where its text is told the bytes are its bytes
+pub record KeepsPage (opening : Option Opening) (old new : Paged) : Type 0 where
+  pub file : new.file ≡ old.file
+  pub len : new.len ≡ old.len
+  pub held : HoldsFile opening new
+
+-- what a look at this file shows is all that is held of it
+abbrev pub shown_by : ℕ → Look → Paged
+shown_by file look = record { file = file; len = look.len; base = look.base; bytes = look.bytes.now }

@@ -1,4 +1,6 @@
-ghost use Rattle.std.specs.Prelude.{◌≡◌, ◌+◌, ◌<◌, ◌≤◌, ℕ, [], length, IsSomeAnd, IsErrOf, IsOk, OnOk, Ok};
+ghost use Rattle.std.specs.Prelude.{◌≡◌, ◌+◌, ◌<◌, ◌≤◌, ℕ, [], length, IsSomeAnd, IsErrOf, IsOk, IsOkAnd, OnOk, IfOk, Ok};
+ghost use Rattle.std.specs.Borrow.{sem};
+ghost use Rattle.std.specs.Io.BufRead.{Rests};
 ghost use Rattle.beam_ports.specs.Counts.{Rose};
 ghost use Rattle.beam_ports.specs.Files.{KeepsOpenings};
 
@@ -40,7 +42,8 @@ impl Model for Pager {
 }
 
 impl Pager {
-    ghost use Rattle.sdf_library.specs.Paging.{HoldsFile, Serves, ShowsText, ReachesOn, IsEnough};
+    ghost use Rattle.sdf_library.specs.Paging.{HoldsFile, Serves, ShowsText, ReachesOn, IsEnough, KeepsPage, shown_by};
+    ghost use Rattle.sdf_library.specs.contracts.pager.Pager.{the_row};
 
     /// The pager of an opened file. It holds nothing of it yet.
     pub fn new(alloc: Global, file: u32, len: u64) -> Pager
@@ -96,5 +99,33 @@ impl Pager {
             self.bytes = read_whole(self.alloc, store, self.file, self.len)?;
         }
         Ok(())
+    }
+
+    /// [`Pager::ensure_held`], and then what is held.
+    pub fn look<S: Store>(
+        &mut self,
+        store: &mut S,
+        p: u64,
+        more: bool,
+    ) -> Result<Look<'_>, PageRefusal>
+        requires inside { p < self.old.len }
+        requires open { IsSomeAnd (S.opened store.old self.old.file) (λ opening. opening.len ≡ self.old.len) }
+        requires held { HoldsFile (S.opened store.old self.old.file) self.old }
+        ensures len { IfOk result (λ look. look.len ≡ self.old.len) }
+        ensures serves { IfOk result (λ look. Serves (shown_by self.old.file look) p) }
+        ensures more { IfOk result (λ look. ReachesOn more self.old (shown_by self.old.file look)) }
+        ensures shown { IfOk result (λ look. ShowsText (S.opened store.new self.old.file) (shown_by self.old.file look)) }
+        ensures enough { IsEnough more self.old p → IsOkAnd result (λ look. shown_by self.old.file look ≡ self.old) × (store.new ≡ store.old) }
+        ensures failed { IsErrOf result PageRefusal.Failed → Rose (S.faults store.old) (S.faults store.new) }
+        // After every answer; of the pager, once the look isn't used any more:
+        ensures* page { sem 𝓛 (Rests the_row self.entry (λ new. KeepsPage (S.opened store.new self.old.file) self.old new
+            × IfOk result (λ look. new ≡ shown_by self.old.file look))) }
+        ensures open { IsSomeAnd (S.opened store.new self.old.file) (λ opening. opening.len ≡ self.old.len) }
+        ensures told { S.files store.new ≡ S.files store.old }
+        ensures kept { KeepsOpenings (S.opened store.old) (S.opened store.new) }
+        ensures counts { S.faults store.old ≤ S.faults store.new }
+    {
+        self.ensure_held(store, p, more)?;
+        Ok(self.bytes())
     }
 }

@@ -1,0 +1,151 @@
+//! Each source on what it takes, those of files by way of a pager, and a read that fails. The expected
+//! values are counted by hand.
+ghost use Rattle.std.specs.Prelude.{◌≡◌, [], true};
+ghost use Rattle.beam_values.specs.Checked.{is_source_argument, reads_file};
+ghost use Rattle.dofn_traits.specs.Calls.{IsView};
+
+use crate::{Count, Lines, Made, PageRefusal, Pager, TimedLines};
+use beam_ports::{MemoryStore, Store};
+use beam_values::{Args, Bytes, FileText, List, NoMemory, Time, Value};
+use dofn_traits::{CallRefusal, Emission, Found, SplittableFn, Timed};
+use std::alloc::Global;
+use std::test::Fail;
+
+fn no_emission(alloc: Global) -> Emission {
+    Emission {
+        items: List::new(alloc),
+        declared: None,
+    }
+}
+
+fn store_of(alloc: Global, text: &[u8], failing: &[u64]) -> Result<MemoryStore, NoMemory> {
+    let mut files = List::new(alloc);
+    files.push(FileText {
+        name: Bytes::from_slice(alloc, b"f")?,
+        bytes: Bytes::from_slice(alloc, text)?,
+    })?;
+    Ok(MemoryStore::new(files, List::from_slice(alloc, failing)?))
+}
+
+// What a source emits of a whole file, position by position.
+fn emitted<F: SplittableFn, S: Store>(
+    alloc: Global,
+    source: F,
+    store: &mut S,
+) -> Result<Emission, CallRefusal>
+    requires allowed { is_source_argument (F.work source) Args.Nothing ≡ true }
+    requires reads { reads_file (F.work source) ≡ true }
+{
+    let mut source = source;
+    let Ok(opened) = store.open_file(b"f") else {
+        return Err(CallRefusal::Failed);
+    };
+    let mut pager = Pager::new(alloc, opened.file, opened.len);
+    let mut out = no_emission(alloc);
+    let mut p = 0;
+    while p < opened.len {
+        let Ok(look) = pager.look(store, p, false) else {
+            return Err(CallRefusal::Failed);
+        };
+        let found = source.call(&Args::Nothing, look.bytes, look.base, look.len, p, &mut out)?;
+        let Found::Here(next) = found else {
+            return Err(CallRefusal::Failed);
+        };
+        p = next;
+    }
+    Ok(out)
+}
+
+// What a source without files emits at a position.
+fn given<F: SplittableFn>(
+    alloc: Global,
+    source: F,
+    args: Args,
+    len: u64,
+    p: u64,
+) -> Result<Emission, CallRefusal>
+    requires allowed { is_source_argument (F.work source) args ≡ true }
+    requires view { IsView (F.work source) args [] 0 len p }
+{
+    let mut source = source;
+    let mut out = no_emission(alloc);
+    source.call(&args, &[], 0, len, p, &mut out)?;
+    Ok(out)
+}
+
+// Whether exactly these texts were emitted, at these times.
+fn has_texts(given: &Result<Emission, CallRefusal>, expected: &[(&[u8], i64)]) -> bool {
+    let Ok(emission) = given else {
+        return false;
+    };
+    emission.items.len() == expected.len()
+        && emission
+            .items
+            .as_slice()
+            .iter()
+            .zip(expected)
+            .all(|(item, expected)| is_text(item, expected.0, expected.1))
+}
+
+fn is_text(item: &Timed, text: &[u8], ms: i64) -> bool {
+    match &item.value {
+        Value::Blob(bytes) => bytes.as_slice() == text && item.time.ms() == ms,
+        _ => false,
+    }
+}
+
+#[test]
+fn lines_of_a_file(rt: HostRuntime) -> Result<(), Fail> {
+    let alloc = rt.alloc();
+    let mut store = store_of(alloc, b"a\r\n\nlast", &[])?;
+    let lines = emitted(alloc, Lines::new(alloc), &mut store);
+    let expected = [
+        (b"a".as_slice(), Time::LEAST_MS),
+        (b"", Time::LEAST_MS),
+        (b"last", Time::LEAST_MS),
+    ];
+    assert!(rt; has_texts(&lines, &expected));
+    Ok(())
+}
+
+#[test]
+fn timed_lines_of_a_file(rt: HostRuntime) -> Result<(), Fail> {
+    let alloc = rt.alloc();
+    let mut store = store_of(alloc, b"-5\ta\tb\n!7\n3\t\n", &[])?;
+    let lines = emitted(alloc, TimedLines::new(alloc), &mut store);
+    assert!(rt; has_texts(&lines, &[(b"a\tb".as_slice(), -5), (b"", 3)]));
+    let declared = lines.ok().and_then(|emission| emission.declared);
+    assert_eq!(rt; declared, Time::new(7));
+    Ok(())
+}
+
+#[test]
+fn counted_and_made_numbers(rt: HostRuntime) -> Result<(), Fail> {
+    let alloc = rt.alloc();
+    let made = given(alloc, Made::new(alloc), Args::Two(4, 7), 4, 0);
+    assert!(rt; has_texts(&made, &[(b"k7\t7".as_slice(), 59)]));
+    let counted = given(alloc, Count::new(alloc), Args::Two(4, 1000), 4, 3)?;
+    assert_eq!(rt; counted.items.len(), 1);
+    let item = counted.items.get(0).ok_or("nothing")?;
+    assert_eq!(rt; item.time.ms(), 3000);
+    assert!(rt; matches!(item.value, Value::Int(3)));
+    Ok(())
+}
+
+#[test]
+fn a_failed_read_is_told(rt: HostRuntime) -> Result<(), Fail> {
+    let alloc = rt.alloc();
+    let mut store = store_of(alloc, b"ab", &[1])?;
+    let Ok(opened) = store.open_file(b"f") else {
+        return Err("absent")?;
+    };
+    assert_eq!(rt; opened.len, 2);
+    let mut pager = Pager::new(alloc, opened.file, opened.len);
+    let failed = pager.ensure_held(&mut store, 1, false);
+    assert_eq!(rt; failed, Err(PageRefusal::Failed));
+    assert_eq!(rt; store.faults(), 1);
+    assert_eq!(rt; pager.bytes().bytes.len(), 0);
+    assert_eq!(rt; pager.ensure_held(&mut store, 1, true), Ok(()));
+    assert_eq!(rt; pager.bytes().bytes, b"ab".as_slice());
+    Ok(())
+}
