@@ -14,14 +14,14 @@ pub record Paged : Type 0 where
   pub base : ℕ
   pub bytes : List ℕ
 
--- where the text is told, the bytes are its bytes from `base` on
+-- where the text is told, the bytes are its bytes from `base` on: of `abc`, the bytes `bc` with base 1
 abbrev pub HoldsFile : Option Opening → Paged → Type 0
 HoldsFile opening held =
     (text : List ℕ) → opening ≡ Some (record { len = held.len; text = Some text }) → length text ≡ held.len
     → held.bytes ≡ take (length held.bytes) (drop held.base text)
 
 -- What is held serves to work a position: it has the byte there and, where there is one, the byte before it. So it is a view of the file for any
--- source that reads files.
+-- source that reads files. By hand: `bc` with base 1 serves position 2, and not 1 or 3.
 pub record Serves (held : Paged) (p : ℕ) : Type 0 where
   pub reached : p < held.base + length held.bytes
   pub view : (kind : SourceKind) (args : Args) → reads_file kind ≡ true → IsView kind args held.bytes held.base held.len p
@@ -36,11 +36,11 @@ ShowsText opening held =
 abbrev pub ReachesEnd : Paged → Type 0
 ReachesEnd held = held.base + length held.bytes ≡ held.len
 
--- where more was asked for, more is held now, or all up to the end of the file
+-- where more was asked for, more bytes are held now, or all up to the end of the file
 abbrev pub ReachesOn : Bool → Paged → Paged → Type 0
 ReachesOn more old new = more ≡ true → (length old.bytes < length new.bytes) ⊎ ReachesEnd new
 
--- what is held can be the answer as it is
+-- what is held can be the answer as it is: it serves, and no more was asked for or no more is there
 abbrev pub IsEnough : Bool → Paged → ℕ → Type 0
 IsEnough more held p = Serves held p × ((more ≡ false) ⊎ ReachesEnd held)
 

@@ -19,7 +19,9 @@ pub data Seen : Type 0 where
   CutShort : Seen
   Whole : model.Emission → ℕ → Seen
 
--- The bytes from `base` on are as a file of their own, in which the position is counted from `base`. What is counted or made needs none.
+-- What a position emits, and the one after it, as the bytes show them: the bytes from `base` on are as a file of their own, in which the position is
+-- counted from `base`. What is counted or made needs none. By hand: of `ab LF cd LF`, the bytes `LF cd LF` from 2 on show that position 3 emits `cd`
+-- and the next one is 6, and that position 4 emits nothing and the next one is 6 too.
 abbrev pub emission_seen : SourceKind → Args → List ℕ → ℕ → ℕ → model.Emission
 emission_seen Lines args bytes base p = emission_within Lines args bytes (p - base)
 emission_seen TimedLines args bytes base p = emission_within TimedLines args bytes (p - base)
@@ -32,13 +34,14 @@ next_seen TimedLines bytes base p = base + next_start bytes (p - base)
 next_seen Count bytes base p = p + 1
 next_seen Made bytes base p = p + 1
 
--- The position `p` of an item with `len` positions, of which the bytes from `base` on are looked at. A look at a file tells what the whole file does.
+-- The position `p` of an item with `len` positions, of which the bytes from `base` on are looked at. By hand: of the six bytes `ab LF cd LF`, the
+-- bytes `LF cd` from 2 on cut position 3 short; with the last LF, or as the last bytes of a file of five, they show it whole.
 abbrev pub seen : SourceKind → Args → List ℕ → ℕ → ℕ → ℕ → Seen
 seen kind args bytes base len p =
     if is_cut_short kind bytes base len p then CutShort else Whole (emission_seen kind args bytes base p) (next_seen kind bytes base p)
 
--- The call answers exactly what is seen, and adds what is emitted. It fails on poison alone, and then asked for no memory; nor did it where more bytes
--- are wanted.
+-- A call answers what is seen, and adds what is emitted. It fails on poison alone, and there and where more bytes are wanted it asks for no memory. By
+-- hand: at a mark line `!7` it answers the next position, adds no value, and the mark is 7 from then on.
 abbrev pub Tells : Seen → Emission → Emission → Result Found CallRefusal → Type 0
 Tells CutShort old new (Ok More) = new ≡ old
 Tells CutShort old new (Ok (Here at)) = ⊥
@@ -60,7 +63,7 @@ Adds model.Poison old new (Ok done) = ⊥
 Adds model.Poison old new (Err NoMemory) = ⊥
 Adds model.Poison old new (Err Failed) = Unit {0}
 
--- the count of faults after a call that answers so
+-- the count of faults after a call that answers so: 3 after poison where it was 2, and else 2
 abbrev pub counted : ℕ → Result Found CallRefusal → ℕ
 counted faults (Ok found) = faults
 counted faults (Err NoMemory) = faults

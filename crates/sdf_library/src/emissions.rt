@@ -1,4 +1,4 @@
-ghost use Rattle.std.specs.Prelude.{OnOk};
+ghost use Rattle.std.specs.Prelude.{◌≡◌, ◌≤◌, pos, OnOk};
 ghost use Rattle.beam_model.specs.Positions.{emits_one};
 ghost use Rattle.dofn_traits.specs.Calls.{AddsEmission};
 
@@ -9,4 +9,15 @@ pub(crate) fn push_timed(value: Value, time: Time, out: &mut Emission) -> Result
     ensures { OnOk result (AddsEmission (emits_one value time) out.old out.new) }
 {
     out.items.push(Timed { value, time })
+}
+
+/// A number of milliseconds within the bounds of a time.
+pub(crate) fn time_at(ms: u64) -> Time
+    requires { ms ≤ 9223372036854775 }
+    ensures { result ≡ pos ms }
+{
+    match Time::new(ms as i64) {
+        Some(time) => time,
+        None => unreachable!(),
+    }
 }

@@ -1,4 +1,4 @@
-ghost use Rattle.std.specs.Prelude.{◌≡◌, ◌+◌, ◌-◌, ◌≤◌, true, false, length, min, MatchOption};
+ghost use Rattle.std.specs.Prelude.{◌≡◌, ◌+◌, ◌-◌, ◌≤◌, true, false, length, min, IfNone, IfSome, OnSome};
 ghost use Rattle.std.specs.List.{list_any};
 ghost use Rattle.beam_values.specs.Lines.{is_line_feed, starts_line, line_len, line_at, next_start};
 ghost use Rattle.beam_values.specs.declared.plan.SourceKind.TheVariants as kinds;
@@ -6,25 +6,27 @@ ghost use Rattle.dofn_traits.specs.Calls.{is_cut_short};
 
 use beam_lines::{first_line, starts_line};
 
-/// The line at a position of a file, which is seen to its end.
+/// What a file has from a position on, up to the end of the line there.
 #[derive(Clone, Copy)]
 pub(crate) struct SeenLine<'a> {
-    /// Whether it starts there.
+    /// Whether the line starts at the position.
     pub(crate) starts: bool,
-    /// From the position on.
+    /// Without its end.
     pub(crate) text: &'a [u8],
-    /// The position after it.
+    /// The position after this one.
     pub(crate) next: u64,
 }
 
-/// What the bytes from `base` on tell of the position `p` of a file; nothing where they are cut short.
+/// The line at the position `p` of a file, in bytes from `base` on; none where they end before it does.
 pub(crate) fn seen_line(bytes: &[u8], base: u64, len: u64, p: u64) -> Option<SeenLine<'_>>
     requires from_base { base ≤ p }
     requires reached { p ≤ base + length bytes.now }
     requires within { base + length bytes.now ≤ len }
-    ensures { MatchOption result (is_cut_short kinds.Lines bytes.now base len p ≡ true) (λ line.
-        (is_cut_short kinds.Lines bytes.now base len p ≡ false) × (line.starts ≡ starts_line bytes.now (p - base))
-        × (line.text.now ≡ line_at bytes.now (p - base)) × (line.next ≡ base + next_start bytes.now (p - base))) }
+    ensures cut { IfNone result (is_cut_short kinds.Lines bytes.now base len p ≡ true) }
+    ensures whole { OnSome result (is_cut_short kinds.Lines bytes.now base len p ≡ false) }
+    ensures starts { IfSome result (λ line. line.starts ≡ starts_line bytes.now (p - base)) }
+    ensures text { IfSome result (λ line. line.text.now ≡ line_at bytes.now (p - base)) }
+    ensures next { IfSome result (λ line. line.next ≡ base + next_start bytes.now (p - base)) }
 {
     let at = (p - base) as usize;
     let rest = bytes.split_at(at).1;

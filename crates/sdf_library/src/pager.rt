@@ -71,7 +71,8 @@ impl Pager {
         }
     }
 
-    /// Holds what the position `p` needs, and with `more` more than before.
+    /// Holds what the position `p` needs, and with `more` more than before. Where that is held already,
+    /// nothing is read.
     pub fn ensure_held<S: Store>(
         &mut self,
         store: &mut S,

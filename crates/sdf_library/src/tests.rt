@@ -11,6 +11,13 @@ use dofn_traits::{CallRefusal, Emission, Found, SplittableFn, Timed};
 use std::alloc::Global;
 use std::test::Fail;
 
+// A pager may go to the thread of a worker.
+fn handed<T: Send>(value: T) -> T
+    ensures { result ≡ value }
+{
+    value
+}
+
 fn no_emission(alloc: Global) -> Emission {
     Emission {
         items: List::new(alloc),
@@ -140,7 +147,7 @@ fn a_failed_read_is_told(rt: HostRuntime) -> Result<(), Fail> {
         return Err("absent")?;
     };
     assert_eq!(rt; opened.len, 2);
-    let mut pager = Pager::new(alloc, opened.file, opened.len);
+    let mut pager = handed(Pager::new(alloc, opened.file, opened.len));
     let failed = pager.ensure_held(&mut store, 1, false);
     assert_eq!(rt; failed, Err(PageRefusal::Failed));
     assert_eq!(rt; store.faults(), 1);

@@ -1,7 +1,9 @@
 //! What the sources do, one type for each.
 
+mod count;
 mod files;
-mod numbers;
+mod made;
 
+pub use count::Count;
 pub use files::{Lines, TimedLines};
-pub use numbers::{Count, Made};
+pub use made::Made;

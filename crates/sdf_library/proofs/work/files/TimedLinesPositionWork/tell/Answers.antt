@@ -6,4 +6,4 @@ pub returns-in_err-emit_line : goal.returns-in_err-emit_line
 returns-in_err-emit_line c =
     let line = c.in-Some.ensures in
     line_refused c.args._args.now c.args.bytes.now c.args.base c.args.len c.args.p c.args.out.now c.emit_line.new.out c.in_err-emit_line.field-0.0 _ c.from_residual.ensures.1
-    line.0 (sym line.1 ∙ c.if-line.true) (rw (← line.2) c.in_err-emit_line.ensures)
+    line.whole (sym line.starts ∙ c.if-line.true) (rw (← line.text) c.in_err-emit_line.ensures)

@@ -1,39 +1,13 @@
-ghost use Rattle.std.specs.Prelude.{◌≡◌, ◌+◌, ◌≤◌, pos, ◌∷◌, ◌++◌, codes, decimal, IfOk};
+ghost use Rattle.std.specs.Prelude.{◌≡◌, ◌∷◌, ◌++◌, codes, decimal, IfOk};
 ghost use Rattle.beam_values.specs.declared.plan.SourceKind.TheVariants as kinds;
-ghost use Rattle.beam_model.specs.Functions.{second_arg};
 
 use crate::PositionWork;
-use crate::emissions::push_timed;
-use beam_values::{Args, Bytes, NoMemory, SourceKind, Time, Value};
+use crate::arguments::second_argument;
+use crate::emissions::{push_timed, time_at};
+use beam_values::{Args, Bytes, NoMemory, SourceKind, Value};
 use dofn_traits::{CallRefusal, Emission, Found};
 use itoa::Buffer;
 use std::alloc::Global;
-
-/// The numbers from 0, each some milliseconds after the one before.
-#[derive(Drop)]
-pub struct Count;
-
-impl PositionWork for Count {
-    ghost work = { kinds.Count };
-
-    fn kind() -> SourceKind {
-        SourceKind::Count
-    }
-
-    fn tell(
-        _alloc: Global,
-        args: &Args,
-        _bytes: &[u8],
-        _base: u64,
-        _len: u64,
-        p: u64,
-        out: &mut Emission,
-    ) -> Result<Found, CallRefusal> {
-        let time = time_at(p * second_argument(args));
-        push_timed(Value::Int(p as i64), time, out)?;
-        Ok(Found::Here(p + 1))
-    }
-}
 
 /// Made-up timed lines.
 #[derive(Drop)]
@@ -75,24 +49,4 @@ fn made_text(alloc: Global, key: u64, number: u64) -> Result<Bytes, NoMemory>
     text.push(b'\t')?;
     text.extend_from_slice(digits.format(number).as_bytes())?;
     Ok(text)
-}
-
-fn second_argument(args: &Args) -> u64
-    ensures { result ≡ second_arg args.now }
-{
-    match args {
-        Args::Two(_, second) => *second,
-        _ => 0,
-    }
-}
-
-// A number of milliseconds within the bounds of a time.
-fn time_at(ms: u64) -> Time
-    requires { ms ≤ 9223372036854775 }
-    ensures { result ≡ pos ms }
-{
-    match Time::new(ms as i64) {
-        Some(time) => time,
-        None => unreachable!(),
-    }
 }

@@ -1,6 +1,6 @@
 use Rattle.std.proofs.Common.{refl, arith}
 use Rattle.sdf_library.proofs.Telling.{two_within, made_refused, made_told}
-use Rattle.sdf_library.proofs.work.numbers.MadePositionWork.tell.Goals as goal
+use Rattle.sdf_library.proofs.work.made.MadePositionWork.tell.Goals as goal
 
 pub returns-in_err-text : goal.returns-in_err-text
 returns-in_err-text c =
