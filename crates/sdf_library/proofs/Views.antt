@@ -73,12 +73,6 @@ starts_seen file bytes base (suc q) shown from_base from_before reached =
     sym (ap (starts_line bytes) at ∙ ap is_line_feed byte)
 
 module _ (file bytes : List ℕ) (base p : ℕ) (shown : bytes ≡ take (length bytes) (drop base file)) (from_base : base ≤ p) (reached : p ≤ base + length bytes) where
-  rest : List ℕ
-  rest = drop (p - base) bytes
-
-  behind : List ℕ
-  behind = drop (base + length bytes) file
-
   rest_of_file : drop p file ≡ drop (p - base) bytes ++ drop (base + length bytes) file
   rest_of_file =
       let there : p ≡ base + (p - base) = omega arith in
