@@ -1,0 +1,5 @@
+pub mod Placing
+pub mod Cells
+pub mod Rounds
+pub mod Commits
+pub mod Looking

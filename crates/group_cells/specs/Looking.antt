@@ -1,0 +1,39 @@
+-- What is found in the cells: the place of one, and the least moment at which one of a Group is due.
+use Rattle.std.specs.Prelude.{◌≡◌, ℕ, ℤ, ◌≤ℤ◌, Bool, true, ◌&&◌, ◌==◌, List, if◌then◌else◌, position, Option, Some, None, IsSome, MatchOption}
+use Rattle.std.specs.List.{All, Any}
+use Rattle.beam_values.specs.Intervals.{Interval}
+use Rattle.beam_values.specs.Spans.{same_span}
+use Rattle.beam_values.specs.declared.cell.Cell.{Cell}
+use Rattle.beam_values.specs.declared.plan.Plan.{Plan}
+use Rattle.beam_values.specs.declared.plan.Trigger.{Trigger}
+use Rattle.beam_values.specs.declared.value.Value.{Value}
+use Rattle.beam_model.specs.Panes.{is_cell_at_key, trigger_of}
+use Rattle.pane_triggers.specs.NextMarks.{next_mark}
+use Rattle.group_cells.specs.Placing.{is_standing}
+use Rattle.group_cells.specs.Cells.{unseen_in}
+
+-- the cell of a node, key and window
+abbrev pub is_cell_of : ℕ → Value → Interval → Cell → Bool
+is_cell_of node key span cell = is_cell_at_key node key cell && same_span cell.span span
+
+-- the place of that cell, if there is one
+abbrev pub place_of : ℕ → Value → Interval → List Cell → Option ℕ
+place_of node key span cells = position (is_cell_of node key span) cells
+
+-- the least mark at which a cell fires a pane, as long as nothing else changes; one that was merged fires none
+abbrev pub moment_of : Trigger → Cell → Option ℤ
+moment_of trigger cell = if is_standing cell.merged_into then next_mark trigger cell.span.end cell.on_time (unseen_in cell.entries) else None
+
+-- a cell of the node is due then
+abbrev pub IsDueAt : Plan → ℕ → ℤ → Cell → Type 0
+IsDueAt plan node moment cell = (cell.node ≡ node) × (moment_of (trigger_of plan node) cell ≡ Some moment)
+
+-- no cell of the node is due before then
+abbrev pub IsNotDueBefore : Plan → ℕ → ℤ → Cell → Type 0
+IsNotDueBefore plan node moment cell =
+    cell.node ≡ node → MatchOption (moment_of (trigger_of plan node) cell) (Unit {0}) (λ own. moment ≤ℤ own)
+
+-- the least moment of the cells of a node; none where none is ever due
+abbrev pub IsNextDue : Plan → ℕ → List Cell → Option ℤ → Type 0
+IsNextDue plan node cells None = All (λ cell. cell.node ≡ node → moment_of (trigger_of plan node) cell ≡ None) cells
+IsNextDue plan node cells (Some moment) = Any (IsDueAt plan node moment) cells × All (IsNotDueBefore plan node moment) cells

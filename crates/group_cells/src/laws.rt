@@ -1,0 +1,32 @@
+//! What rounds mean over whole runs. Each function does nothing: its contract is the law.
+
+ghost use Rattle.std.specs.Prelude.{◌≡◌, ◌++◌, ℕ, true, List, length, map};
+ghost use Rattle.std.specs.List.{All, filter};
+ghost use Rattle.beam_values.specs.Bags.{IsSameBag};
+ghost use Rattle.beam_values.specs.Checked.{IsChecked};
+ghost use Rattle.beam_values.specs.declared.arrival.Arrival.{Arrival};
+ghost use Rattle.beam_values.specs.declared.cell.Cell.{Cell};
+ghost use Rattle.beam_values.specs.declared.cell.Pane.{Pane};
+ghost use Rattle.beam_values.specs.declared.marks.StageMarks.{StageMarks};
+ghost use Rattle.beam_values.specs.declared.plan.Plan.{Plan};
+ghost use Rattle.beam_values.specs.Nodes.{is_group};
+ghost use Rattle.beam_model.specs.Panes.{IsKeyed, taken_by};
+ghost use Rattle.group_cells.specs.Commits.{SeenGroups, AreRounds, HasGap, KeepsLegal, NoneFalls, dropped_arrival, is_dropped, is_taken, taken_arrival};
+
+/// A commit that goes by rounds, and drops what comes too late, keeps what is legal.
+pub fn rounds_keep_what_is_legal()
+    ensures { (plan : Plan) (c : ℕ) (before after : List StageMarks) (arrivals : List Arrival) (old new : SeenGroups) (fired : List Pane)
+        → IsChecked plan → length before ≡ length plan.nodes → length after ≡ length plan.nodes
+        → All (HasGap plan) arrivals → NoneFalls before after
+        → new.dropped ≡ old.dropped ++ map (dropped_arrival c) (filter (is_dropped plan before) arrivals)
+        → AreRounds plan c before after arrivals old.cells new.cells fired
+        → KeepsLegal plan c before after old new fired }
+{}
+
+/// Rounds lose no arrival and no entry: those in time are entries now, in whichever cells.
+pub fn rounds_keep_all_entries()
+    ensures { (plan : Plan) (c : ℕ) (before after : List StageMarks) (arrivals : List Arrival) (cells new : List Cell) (fired : List Pane)
+        → All IsKeyed cells → All (λ cell. is_group plan cell.node ≡ true) cells
+        → AreRounds plan c before after arrivals cells new fired
+        → IsSameBag (taken_by new) (taken_by cells ++ map (taken_arrival c) (filter (is_taken plan before) arrivals)) }
+{}
