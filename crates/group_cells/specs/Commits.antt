@@ -128,7 +128,7 @@ pub record IsCommitted (plan : Plan) (c : ℕ) (before after : List StageMarks) 
   -- those that are too late are dropped, in order
   pub dropped : new.dropped ≡ old.dropped ++ map (dropped_arrival c) (filter (is_dropped plan before) arrivals)
   -- those at other nodes are left
-  pub left : left ≡ filter (λ arrival. not (is_at_group plan arrival)) arrivals
+  pub others : left ≡ filter (λ arrival. not (is_at_group plan arrival)) arrivals
   -- the panes are of this commit, by node, key and window
   pub at_groups : All (λ pane. is_group plan pane.node ≡ true) fired
   pub of_commit : All (λ pane. pane.commit ≡ c) fired
