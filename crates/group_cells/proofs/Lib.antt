@@ -16,3 +16,5 @@ pub mod KeyCells
 pub mod LongerMarks
 pub mod PositiveGaps
 pub mod AllKeys
+pub mod KeptGaps
+pub mod FirstCommit

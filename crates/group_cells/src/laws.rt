@@ -1,17 +1,18 @@
 //! What rounds mean over whole runs. Each function does nothing: its contract is the law.
 
-ghost use Rattle.std.specs.Prelude.{◌≡◌, ◌++◌, ℕ, true, List, length, map};
+ghost use Rattle.std.specs.Prelude.{◌≡◌, ◌++◌, ◌∷◌, [], ℕ, true, List, length, map};
 ghost use Rattle.std.specs.List.{All, filter};
 ghost use Rattle.beam_values.specs.Bags.{IsSameBag};
 ghost use Rattle.beam_values.specs.Checked.{IsChecked};
 ghost use Rattle.beam_values.specs.declared.arrival.Arrival.{Arrival};
 ghost use Rattle.beam_values.specs.declared.cell.Cell.{Cell};
 ghost use Rattle.beam_values.specs.declared.cell.Pane.{Pane};
+ghost use Rattle.beam_values.specs.declared.marks.CommitMarks.{CommitMarks};
 ghost use Rattle.beam_values.specs.declared.marks.StageMarks.{StageMarks};
 ghost use Rattle.beam_values.specs.declared.plan.Plan.{Plan};
 ghost use Rattle.beam_values.specs.Nodes.{is_group};
-ghost use Rattle.beam_model.specs.Panes.{IsKeyed, taken_by};
-ghost use Rattle.group_cells.specs.Commits.{SeenGroups, AreRounds, HasGap, KeepsLegal, NoneFalls, dropped_arrival, is_dropped, is_taken, taken_arrival};
+ghost use Rattle.beam_model.specs.Panes.{ArePanesLegal, IsKeyed, taken_by};
+ghost use Rattle.group_cells.specs.Commits.{SeenGroups, AreRounds, HasGap, HaveGaps, KeepsLegal, NeverFalls, NoneFalls, as_commit, dropped_arrival, is_dropped, is_taken, taken_arrival};
 
 /// A commit that goes by rounds, and drops what comes too late, keeps what is legal.
 pub fn rounds_keep_what_is_legal()
@@ -29,4 +30,23 @@ pub fn rounds_keep_all_entries()
         → All IsKeyed cells → All (λ cell. is_group plan cell.node ≡ true) cells
         → AreRounds plan c before after arrivals cells new fired
         → IsSameBag (taken_by new) (taken_by cells ++ map (taken_arrival c) (filter (is_taken plan before) arrivals)) }
+{}
+
+/// Nothing at all is legal after the opening, from which the first commit goes on.
+pub fn nothing_is_legal()
+    ensures { (plan : Plan) (opening : CommitMarks) → length opening.marks ≡ length plan.nodes → ArePanesLegal plan (opening ∷ []) [] [] [] }
+{}
+
+/// What sessions took keeps own windows of the gap's length, where the arrivals have them.
+pub fn rounds_keep_gaps()
+    ensures { (plan : Plan) (c : ℕ) (before : List StageMarks) (arrivals : List Arrival) (cells new : List Cell)
+        → IsSameBag (taken_by new) (taken_by cells ++ map (taken_arrival c) (filter (is_taken plan before) arrivals))
+        → HaveGaps plan (taken_by cells) → All (HasGap plan) arrivals → HaveGaps plan (taken_by new) }
+{}
+
+/// Marks that never fall go on so with a commit at which none falls.
+pub fn marks_go_on()
+    ensures { (earlier : List CommitMarks) (before after : List StageMarks)
+        → NeverFalls (earlier ++ as_commit before ∷ []) → NoneFalls before after
+        → NeverFalls ((earlier ++ as_commit before ∷ []) ++ as_commit after ∷ []) }
 {}
