@@ -189,7 +189,7 @@ pub record IsLegalHistory (rules : GroupRules) (node : ℕ) (key : Value) (mark 
   pub late : All (λ t. is_late rules mark t.commit t.element.span ≡ true) dropped
   -- each is of a commit so far
   pub taken_commits : count_by (λ t. nat_lt last t.commit) taken ≡ 0
-  pub dropped_commits : All (λ t. t.commit ≤ last) dropped
+  pub dropped_commits : All (λ t. IsCommit last t.commit) dropped
   pub pane_commits : All (λ pane. IsCommit last pane.commit) panes
   -- what stood lies in what stands next, and what arrived in what stands then
   pub onward : (c : ℕ) → suc c ≤ last → (v : Interval) → Stands rules mark (arrives taken) c v → (w : Interval) × Stands rules mark (arrives taken) (suc c) w × LiesIn v w

@@ -68,23 +68,23 @@ module _ (plan : Plan) (node : ℕ) (key : Value) (cells : List Cell) (arrivals 
       subst (λ (n : ℕ). HasLength (strategy_of plan n) t.element.span) here
       (All-filter (is_at_key node key) (λ x. HasLength (strategy_of plan x.node) x.element.span) (taken_by cells) gaps k d within))
 
-  gaps_new : All (HasGap plan) arrivals → All (λ (e : Element). HasLength (strategy_of plan node) e.span) (elements_keyed node key arrivals)
-  gaps_new gaps =
+  gaps_new : is_group plan node ≡ true → All (HasGap plan) arrivals → All (λ (e : Element). HasLength (strategy_of plan node) e.span) (elements_keyed node key arrivals)
+  gaps_new at_group gaps =
       All-map (λ (e : Element). HasLength (strategy_of plan node) e.span) (λ a. a.element) (filter (λ a. (a.node == node) && is_keyed key a.element) arrivals)
       (λ k d within.
       let a = get_or (filter (λ (x : Arrival). (x.node == node) && is_keyed key x.element) arrivals) k d in
       let here : a.node ≡ node = eqb-true a.node node ((and_parts (a.node == node) (is_keyed key a.element) (filter_passes (λ x. (x.node == node) && is_keyed key x.element) arrivals k d within)).0) in
       subst (λ (n : ℕ). HasLength (strategy_of plan n) a.element.span) here
-      (All-filter (λ x. (x.node == node) && is_keyed key x.element) (HasGap plan) arrivals gaps k d within))
+      (All-filter (λ x. (x.node == node) && is_keyed key x.element) (HasGap plan) arrivals gaps k d within (subst (λ (n : ℕ). is_group plan n ≡ true) (sym here) at_group)))
 
-  pub gapped_at : IsChecked plan → All IsKeyed cells → HaveGaps plan (taken_by cells) → All (HasGap plan) arrivals → (c : ℕ) (mark : ℤ) → (rules_of plan node).merges ≡ true
+  pub gapped_at : is_group plan node ≡ true → IsChecked plan → All IsKeyed cells → HaveGaps plan (taken_by cells) → All (HasGap plan) arrivals → (c : ℕ) (mark : ℤ) → (rules_of plan node).merges ≡ true
       → Gapped (gap_of (strategy_of plan node)) (all_taken node (cells_keyed node key cells)) (map (entry_of c) (filter (is_in_time (rules_of plan node) mark) (elements_keyed node key arrivals)))
-  gapped_at checked keyed old new c mark merges = record {
+  gapped_at at_group checked keyed old new c mark merges = record {
     some = long_positive (strategy_of plan node) merges (positive_gaps plan node checked);
     old = λ k d within. has_length (strategy_of plan node) merges (get_or (all_taken node (cells_keyed node key cells)) k d).element.span (gaps_old keyed old k d within);
     new = All-map (λ (e : Entry). e.element.span.end ≡ e.element.span.start +ℤ gap_of (strategy_of plan node)) (entry_of c) (filter (is_in_time (rules_of plan node) mark) (elements_keyed node key arrivals))
         (All-filter (is_in_time (rules_of plan node) mark) (λ (e : Element). e.span.end ≡ e.span.start +ℤ gap_of (strategy_of plan node)) (elements_keyed node key arrivals)
-        (λ k d within. has_length (strategy_of plan node) merges (get_or (elements_keyed node key arrivals) k d).span (gaps_new new k d within)));
+        (λ k d within. has_length (strategy_of plan node) merges (get_or (elements_keyed node key arrivals) k d).span (gaps_new at_group new k d within)));
   }
 
 -- ---- what is dropped
@@ -222,13 +222,13 @@ module _ (plan : Plan) (before after : List StageMarks) (arrivals : List Arrival
           (subst (λ (A : Type 0). A) (λ i. IsLegalHistory (rules_of plan node) node key (mark_after longer node) (suc (length earlier)) (taken_here i) (dropped_here i) (panes_here i))
           (round_history (rules_of plan node) node key (gap_of (strategy_of plan node)) (mark_after until node) (mark_after longer node) (length earlier) (elements_keyed node key arrivals) own own_new
           (taken_at node key (map taken_drop old.dropped)) late (panes_at node key panes) (panes_at node key fired) history cells_tell (marks_rise earlier before after node never) (marks_stay earlier before after node)
-          (gapped_at plan node key old.cells arrivals checked legal.keyed old_gaps gaps (suc (length earlier)) (mark_after until node (length earlier))) lates commits round));
+          (gapped_at plan node key old.cells arrivals group checked legal.keyed old_gaps gaps (suc (length earlier)) (mark_after until node (length earlier))) lates commits round));
       cells_tell =
           subst (λ (n : ℕ). AreLegalCells (rules_of plan node) node (mark_after longer node) n (taken_at node key (taken_by new.cells)) (panes_at node key (panes ++ fired)) own_new) (sym last_longer)
           (subst (λ (A : Type 0). A) (λ i. AreLegalCells (rules_of plan node) node (mark_after longer node) (suc (length earlier)) (taken_here i) (panes_here i) own_new)
           (round_cells (rules_of plan node) node key (gap_of (strategy_of plan node)) (mark_after until node) (mark_after longer node) (length earlier) (elements_keyed node key arrivals) own own_new
           (taken_at node key (map taken_drop old.dropped)) late (panes_at node key panes) (panes_at node key fired) history cells_tell (marks_rise earlier before after node never) (marks_stay earlier before after node)
-          (gapped_at plan node key old.cells arrivals checked legal.keyed old_gaps gaps (suc (length earlier)) (mark_after until node (length earlier))) lates commits round));
+          (gapped_at plan node key old.cells arrivals group checked legal.keyed old_gaps gaps (suc (length earlier)) (mark_after until node (length earlier))) lates commits round));
     }
 
   abbrev HasSize : CommitMarks → Type 0
@@ -250,10 +250,10 @@ module _ (plan : Plan) (before after : List StageMarks) (arrivals : List Arrival
 
 -- **rounds keep what is legal**
 pub keep_legal : (plan : Plan) (c : ℕ) (before after : List StageMarks) (arrivals : List Arrival) (old new : SeenGroups) (fired : List Pane)
-    → IsChecked plan → length before ≡ length plan.nodes → length after ≡ length plan.nodes → All (HasGap plan) arrivals → NoneFalls before after
+    → IsChecked plan → length before ≡ length plan.nodes → length after ≡ length plan.nodes → All (HasGap plan) arrivals
     → new.dropped ≡ old.dropped ++ map (dropped_arrival c) (filter (is_dropped plan before) arrivals)
     → AreRounds plan c before after arrivals old.cells new.cells fired → KeepsLegal plan c before after old new fired
-keep_legal plan c before after arrivals old new fired checked sized resized gaps rise dropped rounds earlier panes numbered never old_gaps legal =
+keep_legal plan c before after arrivals old new fired checked sized resized gaps dropped rounds earlier panes numbered never old_gaps legal =
     let is : c ≡ suc (length earlier) = omega arith in
     legal_after plan before after arrivals old new fired checked sized resized gaps earlier panes
     (subst (λ (n : ℕ). new.dropped ≡ old.dropped ++ map (dropped_arrival n) (filter (is_dropped plan before) arrivals)) is dropped)

@@ -24,7 +24,7 @@ first_history rules node key mark = record {
   kept = refl;
   late = All-nil (λ (t : Taken). is_late rules mark t.commit t.element.span ≡ true);
   taken_commits = refl;
-  dropped_commits = All-nil (λ (t : Taken). t.commit ≤ 0);
+  dropped_commits = All-nil (λ (t : Taken). IsCommit 0 t.commit);
   pane_commits = All-nil (λ (pane : Pane). IsCommit 0 pane.commit);
   onward = λ c h. absurd (omega arith);
   placed = λ c h v k. let no_ : false ≡ true = k in absurd (cc);

@@ -3,9 +3,9 @@ use Rattle.std.proofs.Common.{◌≡◌, ℕ, Bool, true, false, List, ◌++◌,
 use Rattle.std.specs.Prelude.{not, ◌+ℤ◌}
 use Rattle.std.specs.List.{All, filter}
 use Rattle.std.specs.Ordering.{int_eq}
-use Rattle.std.proofs.lemmas.Bool.{not-false}
+use Rattle.std.proofs.lemmas.Bool.{and_parts, not-false}
 use Rattle.std.proofs.lemmas.Bool.Decides.{Decides-int_eq}
-use Rattle.std.proofs.lemmas.List.Elements.{All-append, All-filter, All-map, All-weaker}
+use Rattle.std.proofs.lemmas.List.Elements.{All-append, All-filter, All-map, All-weaker, filter_passes}
 use Rattle.beam_values.specs.Bags.{IsSameBag}
 use Rattle.beam_values.specs.Intervals.{Interval}
 use Rattle.beam_values.specs.Nodes.{strategy_of}
@@ -51,7 +51,10 @@ gaps_stay plan c before arrivals cells new same old gaps =
     ∙ count_none off all
     (All-weaker (λ t. HasLength (strategy_of plan t.node) t.element.span) (λ t. off t ≡ false) (λ t h. ap not (long_test (strategy_of plan t.node) t.element.span h)) all
     (All-append (λ (t : Taken). HasLength (strategy_of plan t.node) t.element.span) (taken_by cells) (map (taken_arrival c) (filter (is_taken plan before) arrivals)) old
-    (All-map (λ (t : Taken). HasLength (strategy_of plan t.node) t.element.span) (taken_arrival c) (filter (is_taken plan before) arrivals) (All-filter (is_taken plan before) (HasGap plan) arrivals gaps))))))
+    (All-map (λ (t : Taken). HasLength (strategy_of plan t.node) t.element.span) (taken_arrival c) (filter (is_taken plan before) arrivals)
+    (λ k d within.
+    All-filter (is_taken plan before) (HasGap plan) arrivals gaps k d within
+    (and_parts _ _ (filter_passes (is_taken plan before) arrivals k d within)).0))))))
   where
     off : Taken → Bool
     off = λ t. not (is_long (strategy_of plan t.node) t.element.span)

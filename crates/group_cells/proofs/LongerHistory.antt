@@ -208,16 +208,16 @@ module _ (rules : GroupRules) (node : ℕ) (key : Value) (mark new_mark : ℕ �
         (λ k d within. late_same rules mark new_mark c (get_or taken k d).commit adds.marks_same (low _ (earlier_commits k d within)) (get_or taken k d).element.span ∙ none_counted (λ e. is_late rules mark e.commit e.element.span) taken old.kept k d within)
         (λ k d within. ap (λ n. is_late rules new_mark n (get_or news k d).element.span) (adds.new_commits k d within) ∙ late_same rules mark new_mark c (suc c) adds.marks_same (omega arith) (get_or news k d).element.span ∙ adds.new_kept k d within));
     late = All-append (λ e. is_late rules new_mark e.commit e.element.span ≡ true) dropped late
-        (λ k d within. late_same rules mark new_mark c (get_or dropped k d).commit adds.marks_same (omega (arith, old.dropped_commits k d within)) (get_or dropped k d).element.span ∙ old.late k d within)
+        (λ k d within. late_same rules mark new_mark c (get_or dropped k d).commit adds.marks_same (omega (arith, (old.dropped_commits k d within).1)) (get_or dropped k d).element.span ∙ old.late k d within)
         (λ k d within. ap (λ n. is_late rules new_mark n (get_or late k d).element.span) (adds.late_commits k d within) ∙ late_same rules mark new_mark c (suc c) adds.marks_same (omega arith) (get_or late k d).element.span ∙ adds.new_late k d within);
     taken_commits = bag_count (λ e. nat_lt (suc c) e.commit) all (taken ++ news) adds.moved
         ∙ count_none (λ e. nat_lt (suc c) e.commit) (taken ++ news)
         (All-append (λ e. nat_lt (suc c) e.commit ≡ false) taken news
         (All-weaker (λ e. nat_lt c e.commit ≡ false) (λ e. nat_lt (suc c) e.commit ≡ false) (λ e h. grind (arith, nat_tests)) taken earlier_commits)
         (All-weaker (λ e. e.commit ≡ suc c) (λ e. nat_lt (suc c) e.commit ≡ false) (λ e h. grind (arith, nat_tests)) news adds.new_commits));
-    dropped_commits = All-append (λ e. e.commit ≤ suc c) dropped late
-        (All-weaker (λ e. e.commit ≤ c) (λ e. e.commit ≤ suc c) (λ e h. omega arith) dropped old.dropped_commits)
-        (All-weaker (λ e. e.commit ≡ suc c) (λ e. e.commit ≤ suc c) (λ e h. omega arith) late adds.late_commits);
+    dropped_commits = All-append (λ e. IsCommit (suc c) e.commit) dropped late
+        (All-weaker (λ e. IsCommit c e.commit) (λ e. IsCommit (suc c) e.commit) (λ e h. (h.0, omega (arith, h.1))) dropped old.dropped_commits)
+        (All-weaker (λ e. e.commit ≡ suc c) (λ e. IsCommit (suc c) e.commit) (λ e h. (omega arith, omega arith)) late adds.late_commits);
     pane_commits = All-append (λ p. IsCommit (suc c) p.commit) panes newest
         (All-weaker (λ p. IsCommit c p.commit) (λ p. IsCommit (suc c) p.commit) (λ p h. (h.0, omega (arith, h.1))) panes old.pane_commits)
         (All-weaker (λ p. p.commit ≡ suc c) (λ p. IsCommit (suc c) p.commit) (λ p h. (omega arith, omega arith)) newest adds.pane_commits);

@@ -16,12 +16,12 @@ use Rattle.group_cells.specs.Placing.{is_standing}
 abbrev pub unseen_in : List Entry → ℕ
 unseen_in entries = count_by (λ entry. not entry.shown) entries
 
--- the pane that a cell fires at a mark, if one
+-- the timing of the pane that a cell fires at a mark, if it fires one
 abbrev pub firing_of : GroupRules → ℤ → Cell → Option Timing
 firing_of rules mark cell =
     if is_standing cell.merged_into then firing rules.trigger cell.span.end mark cell.on_time (unseen_in cell.entries) else None
 
--- the entries that its pane holds
+-- the entries that the pane of a cell holds
 abbrev pub entries_held : Mode → List Entry → List Entry
 entries_held Discarding entries = filter (λ entry. not entry.shown) entries
 entries_held Accumulating entries = entries
@@ -43,7 +43,7 @@ abbrev pub FiresIts : GroupRules → ℕ → Value → ℕ → ℤ → List Pane
 FiresIts rules node key c mark fired cell =
     is_standing cell.merged_into ≡ true
     → IsFiredAs node key c cell.span cell.next_index (map (taken_entry node) (entries_held rules.trigger.mode cell.entries))
-        (firing_of rules mark cell) (filter (is_of_window cell.span) fired)
+    (firing_of rules mark cell) (filter (is_of_window cell.span) fired)
 
 -- a pane is of a cell that fires
 abbrev pub is_fired_by : GroupRules → ℤ → Pane → Cell → Bool

@@ -34,7 +34,7 @@ pub record SeenGroups : Type 0 where
 abbrev pub is_at_group : Plan → Arrival → Bool
 is_at_group plan arrival = is_group plan arrival.node
 
--- it isn't too late, at the marks before the commit
+-- an arrival isn't too late at the marks before the commit
 abbrev pub arrives_in_time : Plan → List StageMarks → Arrival → Bool
 arrives_in_time plan before arrival =
     is_in_time (rules_of plan arrival.node) (marks_at before arrival.node).mark_in arrival.element
@@ -51,7 +51,7 @@ taken_arrival c arrival = record { node = arrival.node; element = arrival.elemen
 abbrev pub dropped_arrival : ℕ → Arrival → Dropped
 dropped_arrival c arrival = record { node = arrival.node; element = arrival.element; commit = c }
 
--- of one Group and key
+-- the elements that arrived at one node with one key
 abbrev pub elements_keyed : ℕ → Value → List Arrival → List Element
 elements_keyed node key arrivals =
     map (λ arrival. arrival.element) (filter (λ arrival. arrival.node == node && is_keyed key arrival.element) arrivals)
@@ -65,7 +65,7 @@ HasLength (Sessions gap) span = span.end ≡ span.start +ℤ gap
 HasLength _ span = Unit {0}
 
 abbrev pub HasGap : Plan → Arrival → Type 0
-HasGap plan arrival = HasLength (strategy_of plan arrival.node) arrival.element.span
+HasGap plan arrival = is_at_group plan arrival ≡ true → HasLength (strategy_of plan arrival.node) arrival.element.span
 
 abbrev pub HaveGaps : Plan → List Taken → Type 0
 HaveGaps plan taken = All (λ t. HasLength (strategy_of plan t.node) t.element.span) taken
@@ -90,8 +90,8 @@ pub record NeverFalls (commits : List CommitMarks) : Type 0 where
 abbrev pub as_commit : List StageMarks → CommitMarks
 as_commit marks = record { marks = marks }
 
--- What is legal before the commit is legal after it: for any marks of the commits so far, from the opening on, that end with the marks before this one, and
--- any panes fired so far.
+-- What is legal before the commit is legal after it: for any marks of the commits so far, from the opening on, that never fall and end with the marks before
+-- this one, and any panes fired so far, where what sessions took has own windows of the gap's length.
 abbrev pub KeepsLegal : Plan → ℕ → List StageMarks → List StageMarks → SeenGroups → SeenGroups → List Pane → Type 0
 KeepsLegal plan c before after old new fired =
     (earlier : List CommitMarks) (panes : List Pane)
@@ -104,7 +104,7 @@ KeepsLegal plan c before after old new fired =
 pub record AreRounds (plan : Plan) (c : ℕ) (before after : List StageMarks) (arrivals : List Arrival) (cells new : List Cell) (fired : List Pane) : Type 0 where
   pub each : (node : ℕ) (key : Value) → is_group plan node ≡ true
       → IsRound (rules_of plan node) node key c (marks_at before node).mark_in (marks_at after node).mark_in
-          (elements_keyed node key arrivals) (cells_keyed node key cells) (cells_keyed node key new) (panes_at node key fired)
+      (elements_keyed node key arrivals) (cells_keyed node key cells) (cells_keyed node key new) (panes_at node key fired)
   -- every cell is of a Group, and each of its entries has its key
   pub cells_at : All (λ cell. is_group plan cell.node ≡ true) new
   pub keyed : All IsKeyed new

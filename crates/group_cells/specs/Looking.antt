@@ -1,4 +1,4 @@
--- What is found in the cells: the place of one, and the least moment at which one of a Group is due.
+-- What is found in the cells: the place of a cell, and the least moment at which a cell of a node is due.
 use Rattle.std.specs.Prelude.{◌≡◌, ℕ, ℤ, ◌≤ℤ◌, Bool, true, ◌&&◌, ◌==◌, List, if◌then◌else◌, position, Option, Some, None, IsSome, MatchOption}
 use Rattle.std.specs.List.{All, Any}
 use Rattle.beam_values.specs.Intervals.{Interval}
@@ -16,7 +16,7 @@ use Rattle.group_cells.specs.Cells.{unseen_in}
 abbrev pub is_cell_of : ℕ → Value → Interval → Cell → Bool
 is_cell_of node key span cell = is_cell_at_key node key cell && same_span cell.span span
 
--- the place of that cell, if there is one
+-- the place of that cell, if there is one, also of one that was merged
 abbrev pub place_of : ℕ → Value → Interval → List Cell → Option ℕ
 place_of node key span cells = position (is_cell_of node key span) cells
 

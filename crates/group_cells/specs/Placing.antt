@@ -25,7 +25,7 @@ abbrev pub stands_as : Interval → Cell → Bool
 stands_as w cell = is_standing cell.merged_into && same_span cell.span w
 
 -- Where windows merge, an open window that lies in a session gives way to it, unless it is that session. With lateness 0, at the mark 20, `[18, 28)` gives way to
--- `[0, 28)`; `[0, 10)` is expired and doesn't.
+-- `[12, 28)`; a window that ends at 20 is expired and gives way to none.
 abbrev pub is_absorbed : GroupRules → ℤ → Interval → Interval → Bool
 is_absorbed rules before session w =
     rules.merges && (not (is_expired rules.trigger w.end before) && (lies_in w session && not (same_span w session)))
@@ -56,7 +56,7 @@ abbrev pub opened : GroupRules → ℤ → ℕ → List Cell → Opening → Lis
 opened rules before node cells opening =
     if list_any (stands_as opening.span) cells then cells
     else map (once_opened rules before opening.span) cells
-        ++ fresh_cell node opening.key opening.span (flat_map (handed_over rules before opening.span) cells) ∷ []
+    ++ fresh_cell node opening.key opening.span (flat_map (handed_over rules before opening.span) cells) ∷ []
 
 abbrev pub opened_all : GroupRules → ℤ → ℕ → List Opening → List Cell → List Cell
 opened_all rules before node openings cells = fold (opened rules before node) cells openings

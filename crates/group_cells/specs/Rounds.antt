@@ -27,7 +27,7 @@ is_open rules before cell = is_standing cell.merged_into && not (is_expired rule
 abbrev pub open_windows : GroupRules → ℤ → List Cell → List Interval
 open_windows rules before cells = map (λ cell. cell.span) (filter (is_open rules before) cells)
 
--- each is one of the sessions into which some windows merge
+-- each of the windows is a session of the open and the own windows, and each own window lies in one
 pub record AreSessionsOver (own open_ windows : List Interval) : Type 0 where
   pub each : All (IsSessionOf (Contains (open_ ++ own))) windows
   pub covers : All (λ span. Any (LiesIn span) windows) own

@@ -18,13 +18,13 @@ ghost use Rattle.group_cells.specs.Commits.{SeenGroups, AreRounds, HasGap, HaveG
 pub fn rounds_keep_what_is_legal()
     ensures { (plan : Plan) (c : ℕ) (before after : List StageMarks) (arrivals : List Arrival) (old new : SeenGroups) (fired : List Pane)
         → IsChecked plan → length before ≡ length plan.nodes → length after ≡ length plan.nodes
-        → All (HasGap plan) arrivals → NoneFalls before after
+        → All (HasGap plan) arrivals
         → new.dropped ≡ old.dropped ++ map (dropped_arrival c) (filter (is_dropped plan before) arrivals)
         → AreRounds plan c before after arrivals old.cells new.cells fired
         → KeepsLegal plan c before after old new fired }
 {}
 
-/// Rounds lose no arrival and no entry: those in time are entries now, in whichever cells.
+/// Rounds lose no entry and no arrival in time: all of them are entries now, in whichever cells.
 pub fn rounds_keep_all_entries()
     ensures { (plan : Plan) (c : ℕ) (before after : List StageMarks) (arrivals : List Arrival) (cells new : List Cell) (fired : List Pane)
         → All IsKeyed cells → All (λ cell. is_group plan cell.node ≡ true) cells
