@@ -1,5 +1,5 @@
-mod CheckedPlans
-mod FollowerChains
+pub mod CheckedPlans
+pub mod FollowerChains
 mod FollowerLists
 mod FollowerMeanings
 mod NodeStrategies

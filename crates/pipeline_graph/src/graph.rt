@@ -68,7 +68,8 @@ impl Graph {
     /// The nodes that name this one as an input, ascending, and as often as they name it.
     pub fn followers(&self, node: u32) -> &[u32]
         requires { node < length self.now.nodes }
-        ensures { result.now ≡ followers_of self.now node }
+        ensures value { result.now ≡ followers_of self.now node }
+        ensures checked { IsChecked self.now }
     {
         self.followers.as_slice()[node as usize].as_slice()
     }

@@ -1,0 +1,3 @@
+pub mod Passings
+pub mod Poisons
+pub mod Stops

@@ -1,0 +1,19 @@
+-- Elements on their way to nodes that take them, and what they bring there.
+use Rattle.std.specs.Prelude.{ℕ, List, map, reverse}
+use Rattle.std.specs.List.{flat_map}
+use Rattle.beam_values.specs.declared.element.Element.{Element}
+use Rattle.beam_values.specs.declared.plan.Plan.{Plan}
+use Rattle.beam_model.specs.Chains.{Output}
+use Rattle.pipeline_graph.specs.Taking.{taken_by}
+use Rattle.chain_exec.specs.declared.deliveries.Delivery.{Delivery}
+
+-- an element on its way to each of these nodes
+abbrev pub deliveries_to : List ℕ → Element → List Delivery
+deliveries_to nodes e = map (λ node. record { node = node; element = e }) nodes
+
+abbrev pub brought_by : Plan → Delivery → List Output
+brought_by plan delivery = taken_by plan delivery.element delivery.node
+
+-- what a stack of them brings; the last one is on top
+abbrev pub brought_by_all : Plan → List Delivery → List Output
+brought_by_all plan stack = flat_map (brought_by plan) (reverse stack)

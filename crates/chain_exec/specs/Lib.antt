@@ -1,0 +1,5 @@
+pub mod Batches
+pub mod Causes
+pub mod Deliveries
+pub mod Passing
+pub mod Unused

@@ -1,0 +1,35 @@
+ghost use Rattle.chain_exec.specs.Unused.{IsUnused};
+
+use crate::deliveries::Delivery;
+use beam_values::{Element, List, Span};
+use std::alloc::Global;
+
+/// Lists that are used again from call to call, so that memory is asked for seldom. They say nothing.
+#[derive(Debug, Drop)]
+pub struct Buffers {
+    /// What is still on its way, the next one last.
+    pub(crate) stack: List<Delivery>,
+    /// What a node puts out.
+    pub(crate) outputs: List<Element>,
+    pub(crate) windows: List<Span>,
+}
+
+impl Buffers {
+    /// Takes no memory.
+    pub fn new(alloc: Global) -> Buffers {
+        Buffers {
+            stack: List::new(alloc),
+            outputs: List::new(alloc),
+            windows: List::new(alloc),
+        }
+    }
+
+    /// Empties what a refused call has left.
+    pub(crate) fn clear(&mut self)
+        ensures { IsUnused self.new }
+    {
+        self.stack.truncate(0);
+        self.outputs.truncate(0);
+        self.windows.truncate(0);
+    }
+}

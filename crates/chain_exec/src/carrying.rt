@@ -1,0 +1,171 @@
+ghost use Rattle.std.specs.Prelude.{◌≡◌, ◌≢◌, ◌≤◌, ◌<◌, ◌+◌, ◌++◌, [], true, None, length, map, IfErr, OnOk};
+ghost use Rattle.beam_values.specs.Checked.{is_function_allowed};
+ghost use Rattle.beam_values.specs.declared.plan.NodeKind.TheVariants.{ParDo};
+ghost use Rattle.beam_model.specs.Chains.{Arrives, chain};
+ghost use Rattle.beam_model.specs.Functions.{emits};
+ghost use Rattle.dofn_traits.specs.Calls.{AddsOutputs};
+ghost use Rattle.pipeline_graph.specs.Rules.{HasSettings};
+ghost use Rattle.chain_exec.specs.Causes.{first_poison, observed_shelf, IsCallRefused};
+ghost use Rattle.chain_exec.specs.Deliveries.{brought_by, brought_by_all};
+ghost use Rattle.chain_exec.specs.Passing.{put_out, stops_of, stops_of_all, IsPassRefused, Passes};
+ghost use Rattle.chain_exec.specs.Unused.{IsUnused};
+
+use crate::ExecRefusal;
+use crate::buffers::Buffers;
+use crate::deliveries::{Delivery, deliver, deliver_each, put_in_windows};
+use beam_values::{Args, Cause, Element, FnKind, List, NodeKind};
+use bundle_commit::Staging;
+use dofn_traits::{CallRefusal, Shelf};
+use pipeline_graph::Graph;
+use std::alloc::Global;
+use windowing::assign;
+
+impl Buffers {
+    /// Stages what an output of a node brings to the barriers. The buffers are unused before and after.
+    pub(crate) fn send<F: Shelf>(
+        &mut self,
+        alloc: Global,
+        graph: &Graph,
+        shelf: &mut F,
+        node: u32,
+        element: Element,
+        staging: &mut Staging,
+    ) -> Result<(), ExecRefusal>
+        requires known { node < length graph.now.nodes }
+        requires unused { IsUnused self.old }
+        ensures unused { OnOk result (IsUnused self.new) }
+        ensures staged { OnOk result (map Arrives staging.new.arrivals ≡ map Arrives staging.old.arrivals ++ chain graph.now node element) }
+        ensures only { staging.new ≡ record staging.old { arrivals = staging.new.arrivals } }
+        ensures refused { IfErr result (IsCallRefused (observed_shelf F.strict F.faults shelf.old shelf.new) (chain graph.now node element)) }
+        ensures counts { F.faults shelf.old ≤ F.faults shelf.new }
+        ensures strict { F.strict shelf.new ≡ F.strict shelf.old }
+        ensures unharmed { F.strict shelf.old ≡ true → first_poison (chain graph.now node element) ≡ None → F.faults shelf.new ≡ F.faults shelf.old }
+    {
+        deliver(alloc, graph.followers(node), element, &mut self.stack)?;
+        self.carry(alloc, graph, shelf, staging)
+    }
+
+    // Takes what is on its way to the barriers, depth first, and stages it there.
+    fn carry<F: Shelf>(
+        &mut self,
+        alloc: Global,
+        graph: &Graph,
+        shelf: &mut F,
+        staging: &mut Staging,
+    ) -> Result<(), ExecRefusal>
+        requires outputs { self.old.outputs ≡ [] }
+        requires windows { self.old.windows ≡ [] }
+        ensures unused { OnOk result (IsUnused self.new) }
+        ensures staged { OnOk result (map Arrives staging.new.arrivals ≡ map Arrives staging.old.arrivals ++ brought_by_all graph.now self.old.stack) }
+        ensures only { staging.new ≡ record staging.old { arrivals = staging.new.arrivals } }
+        ensures refused { IfErr result (IsCallRefused (observed_shelf F.strict F.faults shelf.old shelf.new) (brought_by_all graph.now self.old.stack)) }
+        ensures counts { F.faults shelf.old ≤ F.faults shelf.new }
+        ensures strict { F.strict shelf.new ≡ F.strict shelf.old }
+        ensures unharmed { F.strict shelf.old ≡ true → first_poison (brought_by_all graph.now self.old.stack) ≡ None
+            → F.faults shelf.new ≡ F.faults shelf.old }
+    {
+        while let Some(delivery) = self.stack.pop() {
+            self.take(alloc, graph, shelf, delivery, staging)?;
+        }
+        Ok(())
+    }
+
+    // Takes one element at its node.
+    fn take<F: Shelf>(
+        &mut self,
+        alloc: Global,
+        graph: &Graph,
+        shelf: &mut F,
+        delivery: Delivery,
+        staging: &mut Staging,
+    ) -> Result<(), ExecRefusal>
+        requires outputs { self.old.outputs ≡ [] }
+        requires windows { self.old.windows ≡ [] }
+        ensures outputs { OnOk result (self.new.outputs ≡ []) }
+        ensures windows { OnOk result (self.new.windows ≡ []) }
+        ensures staged { OnOk result (map Arrives staging.new.arrivals ++ brought_by_all graph.now self.new.stack
+            ≡ map Arrives staging.old.arrivals ++ (brought_by graph.now delivery ++ brought_by_all graph.now self.old.stack)) }
+        ensures less { OnOk result (stops_of_all graph.now self.new.stack < stops_of graph.now delivery + stops_of_all graph.now self.old.stack) }
+        ensures only { staging.new ≡ record staging.old { arrivals = staging.new.arrivals } }
+        ensures refused { IfErr result (IsCallRefused (observed_shelf F.strict F.faults shelf.old shelf.new) (brought_by graph.now delivery)) }
+        ensures counts { F.faults shelf.old ≤ F.faults shelf.new }
+        ensures strict { F.strict shelf.new ≡ F.strict shelf.old }
+        ensures unharmed { F.strict shelf.old ≡ true → first_poison (brought_by graph.now delivery) ≡ None → F.faults shelf.new ≡ F.faults shelf.old }
+    {
+        let Delivery { node, element } = delivery;
+        // An element is on its way to nodes of the plan alone.
+        let Some(at) = graph.plan().nodes.get(node as usize) else {
+            return Ok(());
+        };
+        let followers = graph.followers(node);
+        self.pass(alloc, node, &at.kind, followers, shelf, element, staging)
+    }
+
+    // Lets an element pass a node of this kind: at a barrier it is staged, and what another node makes of
+    // it is put on its way to the followers.
+    fn pass<F: Shelf>(
+        &mut self,
+        alloc: Global,
+        node: u32,
+        kind: &NodeKind,
+        followers: &[u32],
+        shelf: &mut F,
+        element: Element,
+        staging: &mut Staging,
+    ) -> Result<(), ExecRefusal>
+        requires settings { HasSettings kind.now }
+        requires outputs { self.old.outputs ≡ [] }
+        requires windows { self.old.windows ≡ [] }
+        ensures outputs { OnOk result (self.new.outputs ≡ []) }
+        ensures windows { OnOk result (self.new.windows ≡ []) }
+        ensures passed { OnOk result (Passes node kind.now followers.now element self.old.stack self.new.stack staging.old.arrivals staging.new.arrivals) }
+        ensures only { staging.new ≡ record staging.old { arrivals = staging.new.arrivals } }
+        ensures refused { IfErr result (IsPassRefused (observed_shelf F.strict F.faults shelf.old shelf.new) node kind.now element) }
+        ensures counts { F.faults shelf.old ≤ F.faults shelf.new }
+        ensures strict { F.strict shelf.new ≡ F.strict shelf.old }
+        ensures unharmed { F.strict shelf.old ≡ true → put_out kind.now element ≢ None → F.faults shelf.new ≡ F.faults shelf.old }
+    {
+        match kind {
+            NodeKind::Source { .. } => Ok(()),
+            NodeKind::ParDo { work, args } => {
+                call_function(node, *work, args, shelf, &element, &mut self.outputs)?;
+                Ok(deliver_each(alloc, followers, &mut self.outputs, &mut self.stack)?)
+            }
+            NodeKind::Flatten => Ok(deliver(alloc, followers, element, &mut self.stack)?),
+            NodeKind::WindowInto { strategy } => {
+                assign(strategy, element.time, &mut self.windows)?;
+                put_in_windows(alloc, element, &mut self.windows, &mut self.outputs)?;
+                Ok(deliver_each(alloc, followers, &mut self.outputs, &mut self.stack)?)
+            }
+            NodeKind::Group { .. } | NodeKind::Stateful { .. } | NodeKind::Write { .. } => {
+                Ok(staging.add(node, element)?)
+            }
+        }
+    }
+}
+
+// Calls the function of a node.
+fn call_function<F: Shelf>(
+    node: u32,
+    work: FnKind,
+    args: &Args,
+    shelf: &mut F,
+    element: &Element,
+    out: &mut List<Element>,
+) -> Result<(), ExecRefusal>
+    requires { is_function_allowed work args.now ≡ true }
+    ensures outputs { OnOk result (AddsOutputs work args.now element.now out.old out.new) }
+    ensures refused { IfErr result (IsPassRefused (observed_shelf F.strict F.faults shelf.old shelf.new) node (ParDo work args.now) element.now) }
+    ensures counts { F.faults shelf.old ≤ F.faults shelf.new }
+    ensures strict { F.strict shelf.new ≡ F.strict shelf.old }
+    ensures unharmed { F.strict shelf.old ≡ true → emits work args.now element.now ≢ None → F.faults shelf.new ≡ F.faults shelf.old }
+{
+    match shelf.call_fn(work, args, element, out) {
+        Ok(()) => Ok(()),
+        Err(CallRefusal::Failed) => Err(ExecRefusal::Faulted {
+            at: node,
+            cause: Cause::Call,
+        }),
+        Err(CallRefusal::NoMemory) => Err(ExecRefusal::NoMemory),
+    }
+}
