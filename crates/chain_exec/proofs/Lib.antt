@@ -1,3 +1,5 @@
+pub mod Emissions
+pub mod Looks
 pub mod Passings
 pub mod Poisons
 pub mod Stops

@@ -1,6 +1,6 @@
 -- What an element brings by way of the node that it passes.
 use Rattle.std.proofs.Common.{◌≡◌, ℕ, List, [], ◌∷◌, ◌++◌, map, reverse, Option, Some, slice_get, refl, sym, ap, ◌∙◌, append_assoc}
-use Rattle.std.specs.Prelude.{unwrap_or}
+use Rattle.std.specs.Prelude.{ℤ, unwrap_or}
 use Rattle.std.specs.Option.{option_map}
 use Rattle.std.specs.List.{flat_map}
 use Rattle.std.proofs.lemmas.Grind.{flat_map-append}
@@ -15,10 +15,14 @@ use Rattle.beam_values.specs.declared.plan.NodeKind.{NodeKind}
 use Rattle.beam_values.specs.declared.plan.NodeKind.TheVariants.{Source, ParDo, Flatten, WindowInto, Group, Stateful, Write}
 use Rattle.beam_values.specs.declared.plan.Plan.{Plan}
 use Rattle.beam_model.specs.Chains.{Output, Arrives, carried, chain, through}
+use Rattle.beam_model.specs.Positions.{Emits}
+use Rattle.beam_model.specs.Spread.{emission_outputs, from_source}
+use Rattle.dofn_traits.specs.Calls.{timed_value}
+use Rattle.dofn_traits.specs.declared.calls.Timed.{Timed}
 use Rattle.pipeline_graph.specs.Followers.{followers_of}
 use Rattle.pipeline_graph.specs.Taking.{taken_by}
 use Rattle.pipeline_graph.proofs.FollowerChains.{chain-followers}
-use Rattle.chain_exec.specs.Deliveries.{brought_by, brought_by_all, deliveries_to}
+use Rattle.chain_exec.specs.Deliveries.{brought_by, brought_by_all, deliveries_to, element_of}
 use Rattle.chain_exec.specs.Passing.{Passes, in_window, kept_at, put_out}
 use Rattle.chain_exec.specs.declared.deliveries.Delivery.{Delivery}
 
@@ -100,3 +104,15 @@ module _ (plan : Plan) (checked : IsChecked plan) where
       ∙ ap (flat_map (brought_by plan)) (reverse-reverse (deliveries_to followers e))
       ∙ ap (λ fs. flat_map (brought_by plan) (deliveries_to fs e)) followed
       ∙ sym (chain_delivered node e)
+
+  -- so do the values of an emission
+  pub brought_values : (node : ℕ) (items : List Timed) (declared : Option ℤ) (followers : List ℕ) (before stack : List Delivery) → followers ≡ followers_of plan node
+      → before ≡ [] → stack ≡ before ++ reverse (flat_map (deliveries_to followers) (map element_of items))
+      → brought_by_all plan stack ≡ emission_outputs plan node (Emits (map timed_value items) declared)
+  brought_values node items declared followers before stack followed none is =
+      ap (brought_by_all plan) (is ∙ ap (λ (s : List Delivery). s ++ reverse (flat_map (deliveries_to followers) (map element_of items))) none)
+      ∙ ap (flat_map (brought_by plan)) (reverse-reverse (flat_map (deliveries_to followers) (map element_of items)))
+      ∙ ap (λ fs. flat_map (brought_by plan) (flat_map (deliveries_to fs) (map element_of items))) followed
+      ∙ sym (chains_delivered node (map element_of items))
+      ∙ flat_map-map (chain plan node) element_of items
+      ∙ sym (flat_map-map (λ v. chain plan node (from_source v)) timed_value items)

@@ -4,12 +4,19 @@ use Rattle.std.specs.List.{flat_map}
 use Rattle.beam_values.specs.declared.element.Element.{Element}
 use Rattle.beam_values.specs.declared.plan.Plan.{Plan}
 use Rattle.beam_model.specs.Chains.{Output}
+use Rattle.beam_model.specs.Spread.{from_source}
+use Rattle.dofn_traits.specs.Calls.{timed_value}
+use Rattle.dofn_traits.specs.declared.calls.Timed.{Timed}
 use Rattle.pipeline_graph.specs.Taking.{taken_by}
 use Rattle.chain_exec.specs.declared.deliveries.Delivery.{Delivery}
 
 -- an element on its way to each of these nodes
 abbrev pub deliveries_to : List ℕ → Element → List Delivery
 deliveries_to nodes e = map (λ node. record { node = node; element = e }) nodes
+
+-- a value that a source emitted, as an element
+abbrev pub element_of : Timed → Element
+element_of timed = from_source (timed_value timed)
 
 abbrev pub brought_by : Plan → Delivery → List Output
 brought_by plan delivery = taken_by plan delivery.element delivery.node

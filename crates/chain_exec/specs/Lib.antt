@@ -3,3 +3,5 @@ pub mod Causes
 pub mod Deliveries
 pub mod Passing
 pub mod Unused
+pub mod Positions
+pub mod Sources

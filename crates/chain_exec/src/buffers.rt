@@ -1,7 +1,9 @@
+ghost use Rattle.std.specs.Prelude.{◌≡◌, [], None};
 ghost use Rattle.chain_exec.specs.Unused.{IsUnused};
 
 use crate::deliveries::Delivery;
 use beam_values::{Element, List, Span};
+use dofn_traits::Emission;
 use std::alloc::Global;
 
 /// Lists that are used again from call to call, so that memory is asked for seldom. They say nothing.
@@ -12,6 +14,8 @@ pub struct Buffers {
     /// What a node puts out.
     pub(crate) outputs: List<Element>,
     pub(crate) windows: List<Span>,
+    /// What a position emits.
+    pub(crate) emission: Emission,
 }
 
 impl Buffers {
@@ -21,15 +25,22 @@ impl Buffers {
             stack: List::new(alloc),
             outputs: List::new(alloc),
             windows: List::new(alloc),
+            emission: Emission {
+                items: List::new(alloc),
+                declared: None,
+            },
         }
     }
 
     /// Empties what a refused call has left.
     pub(crate) fn clear(&mut self)
-        ensures { IsUnused self.new }
+        ensures unused { IsUnused self.new }
+        ensures emission { self.new.emission ≡ record { items = []; declared = None } }
     {
         self.stack.truncate(0);
         self.outputs.truncate(0);
         self.windows.truncate(0);
+        self.emission.items.truncate(0);
+        self.emission.declared = None;
     }
 }

@@ -3,16 +3,18 @@ ghost use Rattle.beam_values.specs.Checked.{is_function_allowed};
 ghost use Rattle.beam_values.specs.declared.plan.NodeKind.TheVariants.{ParDo};
 ghost use Rattle.beam_model.specs.Chains.{Arrives, chain};
 ghost use Rattle.beam_model.specs.Functions.{emits};
+ghost use Rattle.beam_model.specs.Spread.{emission_outputs};
 ghost use Rattle.dofn_traits.specs.Calls.{AddsOutputs};
 ghost use Rattle.pipeline_graph.specs.Rules.{HasSettings};
 ghost use Rattle.chain_exec.specs.Causes.{first_poison, observed_shelf, IsCallRefused};
 ghost use Rattle.chain_exec.specs.Deliveries.{brought_by, brought_by_all};
 ghost use Rattle.chain_exec.specs.Passing.{put_out, stops_of, stops_of_all, IsPassRefused, Passes};
+ghost use Rattle.chain_exec.specs.Positions.{emission_of};
 ghost use Rattle.chain_exec.specs.Unused.{IsUnused};
 
 use crate::ExecRefusal;
 use crate::buffers::Buffers;
-use crate::deliveries::{Delivery, deliver, deliver_each, put_in_windows};
+use crate::deliveries::{Delivery, deliver, deliver_each, deliver_values, put_in_windows};
 use beam_values::{Args, Cause, Element, FnKind, List, NodeKind};
 use bundle_commit::Staging;
 use dofn_traits::{CallRefusal, Shelf};
@@ -42,6 +44,32 @@ impl Buffers {
         ensures unharmed { F.strict shelf.old ≡ true → first_poison (chain graph.now node element) ≡ None → F.faults shelf.new ≡ F.faults shelf.old }
     {
         deliver(alloc, graph.followers(node), element, &mut self.stack)?;
+        self.carry(alloc, graph, shelf, staging)
+    }
+
+    /// Stages what the emission that is held brings, from the source of this number.
+    pub(crate) fn send_emission<F: Shelf>(
+        &mut self,
+        alloc: Global,
+        graph: &Graph,
+        shelf: &mut F,
+        node: u32,
+        staging: &mut Staging,
+    ) -> Result<(), ExecRefusal>
+        requires known { node < length graph.now.nodes }
+        requires unused { IsUnused self.old }
+        ensures staged { OnOk result (map Arrives staging.new.arrivals ≡ map Arrives staging.old.arrivals
+            ++ emission_outputs graph.now node (emission_of self.old.emission)) }
+        ensures only { staging.new ≡ record staging.old { arrivals = staging.new.arrivals } }
+        ensures refused { IfErr result (IsCallRefused (observed_shelf F.strict F.faults shelf.old shelf.new)
+            (emission_outputs graph.now node (emission_of self.old.emission))) }
+        ensures counts { F.faults shelf.old ≤ F.faults shelf.new }
+        ensures strict { F.strict shelf.new ≡ F.strict shelf.old }
+        ensures unharmed { F.strict shelf.old ≡ true → first_poison (emission_outputs graph.now node (emission_of self.old.emission)) ≡ None
+            → F.faults shelf.new ≡ F.faults shelf.old }
+    {
+        let followers = graph.followers(node);
+        deliver_values(alloc, followers, &mut self.emission.items, &mut self.stack)?;
         self.carry(alloc, graph, shelf, staging)
     }
 

@@ -1,9 +1,10 @@
 ghost use Rattle.std.specs.Prelude.{◌≡◌, ◌++◌, [], map, reverse, OnOk};
 ghost use Rattle.std.specs.List.{flat_map};
-ghost use Rattle.chain_exec.specs.Deliveries.{deliveries_to};
+ghost use Rattle.chain_exec.specs.Deliveries.{deliveries_to, element_of};
 ghost use Rattle.chain_exec.specs.Passing.{in_window};
 
-use beam_values::{Element, List, NoMemory, Span};
+use beam_values::{Element, List, NoMemory, PaneTag, Span, Time, Timing};
+use dofn_traits::Timed;
 use std::alloc::Global;
 
 /// An element on its way to a node that takes it.
@@ -81,4 +82,36 @@ pub fn put_in_windows(
         span: last,
         ..element
     })
+}
+
+/// The same for each value that a source emitted, as an element.
+pub fn deliver_values(
+    alloc: Global,
+    nodes: &[u32],
+    values: &mut List<Timed>,
+    stack: &mut List<Delivery>,
+) -> Result<(), NoMemory>
+    ensures stack { OnOk result (stack.new ≡ stack.old ++ reverse (flat_map (deliveries_to nodes.now) (map element_of values.old))) }
+    ensures used { OnOk result (values.new ≡ []) }
+{
+    while let Some(timed) = values.pop() {
+        deliver(alloc, nodes, element_of(timed), stack)?;
+    }
+    Ok(())
+}
+
+// An element as it comes from a source.
+fn element_of(timed: Timed) -> Element
+    ensures { result ≡ element_of timed }
+{
+    let Timed { value, time } = timed;
+    Element {
+        value,
+        time,
+        span: Span::between(Time::LEAST_MS, Time::GREATEST_MS + 1),
+        pane: PaneTag {
+            timing: Timing::Unknown,
+            index: 0,
+        },
+    }
 }

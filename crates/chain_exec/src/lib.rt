@@ -13,8 +13,11 @@ mod batch;
 mod buffers;
 mod carrying;
 mod deliveries;
+mod position;
 mod refusal;
+mod source;
 
 pub use batch::run_batch;
 pub use buffers::Buffers;
+pub use position::{Step, run_position};
 pub use refusal::ExecRefusal;
