@@ -1,28 +1,21 @@
 -- What positions emit, and refusals of work on them.
-use Rattle.std.proofs.Common.{◌≡◌, ◌≢◌, ℕ, ◌+◌, ◌<◌, ◌≤◌, Bool, true, false, List, [], ◌∷◌, ◌++◌, length, get_or, map, fold, take, Option, Some, None, refl, sym, ap, subst, ◌∙◌, arith}
+use Rattle.std.proofs.Common.{◌≡◌, ℕ, ◌+◌, ◌<◌, Bool, true, false, List, [], ◌∷◌, ◌++◌, length, get_or, map, fold, take, Option, None, refl, sym, ap, ◌∙◌, arith}
 use Rattle.std.specs.Prelude.{ℤ, ◌==◌, ◌↔◌, IsTrue, not}
 use Rattle.std.proofs.lemmas.List.{take_more, map-append}
 use Rattle.std.proofs.lemmas.Bool.{false≢true}
 use Rattle.std.proofs.lemmas.Bool.Decides.{nat_tests}
 use Rattle.beam_values.specs.Marks.{seen_after}
-use Rattle.beam_values.specs.declared.fault.Cause.TheVariants.{Call, Read}
 use Rattle.beam_values.specs.declared.plan.Estimator.{Estimator}
 use Rattle.beam_values.specs.declared.plan.Plan.{Plan}
 use Rattle.beam_model.specs.Chains.{Arrives}
 use Rattle.beam_model.specs.Holds.{estimator_of}
-use Rattle.beam_model.specs.Positions.{TimedValue, Emission, Emits, Poison, emission}
+use Rattle.beam_model.specs.Positions.{TimedValue, Emits}
 use Rattle.beam_model.specs.Spread.{emission_outputs}
-use Rattle.beam_ports.specs.Files.{Opening}
 use Rattle.bundle_commit.specs.declared.job.Receipt.{Receipt}
 use Rattle.dofn_traits.specs.Calls.{timed_value}
 use Rattle.dofn_traits.specs.declared.calls.Emission as calls
 use Rattle.dofn_traits.specs.declared.calls.Timed.{Timed}
-use Rattle.chain_exec.specs.Causes.{ObservedShelf, first_poison, IsCallRefused}
-use Rattle.chain_exec.specs.Positions.{StoreCounts, HasValue, IsPositionRefused, IsSourceRefused, IsWorked, emission_of, latest_time, later_time}
-use Rattle.chain_exec.specs.Sources.{SourceWork, IsText}
-use Rattle.chain_exec.specs.declared.refusal.ExecRefusal.{ExecRefusal}
-use Rattle.chain_exec.specs.declared.refusal.ExecRefusal.TheVariants.{Faulted, NoMemory}
-use Rattle.chain_exec.proofs.Poisons.{rose_after}
+use Rattle.chain_exec.specs.Positions.{HasValue, IsWorked, emission_of, latest_time, later_time}
 
 latest-snoc : (start : Option ℤ) (values : List TimedValue) (v : TimedValue) → fold later_time start (values ++ v ∷ []) ≡ later_time (fold later_time start values) v
 latest-snoc start [] v = refl
@@ -36,35 +29,6 @@ latest-push items i timed inside is =
     ∙ ap latest_time (sym (map-append timed_value (take i items) (timed ∷ [])))
     ∙ ap (λ (t : Timed). latest_time (map timed_value (take i items ++ t ∷ []))) is
     ∙ ap (λ (l : List Timed). latest_time (map timed_value l)) (sym (take_more items i timed inside))
-
--- poison of the source is the first poison
-first_of_source : (plan : Plan) (node at : ℕ) (e : Emission) → at ≡ node → e ≡ Poison → first_poison (emission_outputs plan node e) ≡ Some at
-first_of_source plan node at e same poison = ap (λ (it : Emission). first_poison (emission_outputs plan node it)) poison ∙ ap (λ (n : ℕ). Some n) (sym same)
-
--- where no output of a position is poison, what it emits is none
-pub clean_emission : (plan : Plan) (node : ℕ) (e : Emission) → first_poison (emission_outputs plan node e) ≡ None → e ≢ Poison
-clean_emission plan node e none poison = let one = first_of_source plan node node e refl poison in absurd cc
-
-module _ (plan : Plan) (node : ℕ) (source : SourceWork) (opening : Option Opening) (len p : ℕ) (store : StoreCounts) where
-  -- a refusal of the source is one of the position
-  pub source_refused : (shelf : ObservedShelf) (refusal : ExecRefusal) → IsSourceRefused shelf store node source opening len p refusal
-      → IsPositionRefused shelf store plan node source opening len p refusal
-  source_refused shelf (Faulted at Read) is = is
-  source_refused shelf (Faulted at Call) is =
-      (is.0, λ strict text known. first_of_source plan node at (emission source.work source.args text p) is.1 (is.2 strict text known))
-  source_refused shelf NoMemory is = tt
-
-  -- and so is one on the way of what it emitted
-  pub sent_refused : (strict : Bool) (start before after : ℕ) (emitted : Emission) → start ≤ before
-      → ((text : List ℕ) → IsText source.work opening len text → emitted ≡ emission source.work source.args text p)
-      → (refusal : ExecRefusal) → IsCallRefused (record { strict = strict; before = before; after = after }) (emission_outputs plan node emitted) refusal
-      → IsPositionRefused (record { strict = strict; before = start; after = after }) store plan node source opening len p refusal
-  sent_refused strict start before after emitted kept told (Faulted at Read) is = absurd is
-  sent_refused strict start before after emitted kept told (Faulted at Call) is = (
-    rose_after start before after kept is.0,
-    λ s text known. subst (λ (e : Emission). first_poison (emission_outputs plan node e) ≡ Some at) (told text known) (is.1 s),
-  )
-  sent_refused strict start before after emitted kept told NoMemory is = tt
 
 -- it has a value where its list isn't empty
 has_value : (items : List Timed) (declared : Option ℤ) (empty : Bool) → empty ≡ (length items == 0) → IsTrue (not empty) ↔ HasValue (Emits (map timed_value items) declared)

@@ -11,8 +11,7 @@ use Rattle.beam_ports.specs.Files.{Opening, KeepsOpenings}
 use Rattle.dofn_traits.specs.Calls.{AddsEmission, IsView, declared_after, timed_value}
 use Rattle.dofn_traits.specs.declared.calls.Emission.{Emission}
 use Rattle.sdf_library.specs.Paging.{Paged, ReachesOn}
-use Rattle.chain_exec.specs.Causes.{ObservedShelf}
-use Rattle.chain_exec.specs.Positions.{StoreCounts, IsReadRefused, IsSeenRefused, IsSourceRefused, emission_of}
+use Rattle.chain_exec.specs.Positions.{StoreCounts, IsSeenRefused, IsSourceRefused, emission_of}
 use Rattle.chain_exec.specs.Sources.{SourceWork, IsLookAt, IsLookInto, IsText, is_look_cut_short}
 use Rattle.chain_exec.specs.declared.refusal.ExecRefusal.{ExecRefusal}
 use Rattle.chain_exec.specs.declared.refusal.ExecRefusal.TheVariants.{Faulted, NoMemory}
@@ -68,14 +67,7 @@ adds_all (model.Emits values declared) old new none adds =
     by_mark (Some m) = refl
 adds_all model.Poison old new none adds = absurd adds
 
--- a refused read, and a refused call, are refusals of the whole work on a position
-pub read_refused : (shelf : ObservedShelf) (start before after : ℕ) (node : ℕ) (source : SourceWork) (opening : Option Opening) (len p : ℕ) → start ≤ before
-    → (refusal : ExecRefusal) → IsReadRefused (record { before = before; after = after }) node source.work refusal
-    → IsSourceRefused shelf (record { before = start; after = after }) node source opening len p refusal
-read_refused shelf start before after node source opening len p kept (Faulted at Read) is = (rose_after start before after kept is.0, is.1, is.2)
-read_refused shelf start before after node source opening len p kept (Faulted at Call) is = absurd is
-read_refused shelf start before after node source opening len p kept NoMemory is = tt
-
+-- a refused call is a refusal of the whole work on a position
 pub seen_refused : (strict : Bool) (start before after : ℕ) (store : StoreCounts) (node : ℕ) (source : SourceWork) (pager : Paged) (opening : Option Opening) (len p : ℕ)
     → start ≤ before → ((text : List ℕ) → IsText source.work opening len text → IsLookInto text source pager)
     → (refusal : ExecRefusal) → IsSeenRefused (record { strict = strict; before = before; after = after }) node source pager p refusal
