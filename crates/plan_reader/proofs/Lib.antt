@@ -1,0 +1,8 @@
+pub mod Causes
+pub mod Documents
+pub mod FewNodes
+pub mod Members
+pub mod Seen
+pub mod Sizes
+pub mod Texts
+pub mod Turns

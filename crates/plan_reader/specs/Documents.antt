@@ -1,0 +1,75 @@
+-- What a plan document means: the plan, or the first rule that the document breaks. It is a function of the value that its JSON text
+-- reads as.
+use Rattle.std.specs.Prelude.{ℕ, ◌<◌, ◌^◌, ⊤, Bool, IfOk, false, ◌==◌, List, length, nat_lt, if◌then◌else◌, Option, Some, None, is_some, ok_or, Ok, Err}
+use Rattle.std.specs.Option.{option_map_or}
+use Rattle.std.specs.Str.{is_utf8}
+use Rattle.serde_json.specs.Data.{Data, Num}
+use Rattle.serde_json.specs.Find.{as_array, as_object, as_u64}
+use Rattle.serde_json.specs.Read.{read}
+use Rattle.beam_values.specs.Checked.{graph_refusal}
+use Rattle.beam_values.specs.declared.plan.Plan.{Plan}
+use Rattle.plan_reader.specs.declared.refusal.PlanKey.TheVariants as key
+use Rattle.plan_reader.specs.declared.refusal.PlanRefusal.{PlanRefusal}
+use Rattle.plan_reader.specs.declared.refusal.PlanRefusal.TheVariants.{Syntax, Field, Graph, Version, Length}
+use Rattle.plan_reader.specs.Forms.{◌>>=◌, needed, has_only, any_number_in, items_list}
+use Rattle.plan_reader.specs.Keys.{document_keys}
+use Rattle.plan_reader.specs.Nodes.{names_of, nodes_of}
+use Rattle.plan_reader.specs.Places.{at_top}
+use Rattle.plan_reader.specs.Refusals.{Meaning}
+
+-- ---- the top object
+
+-- the whole number 1
+abbrev pub is_one : Num → Bool
+is_one number = option_map_or (λ n. n == 1) (as_u64 number) false
+
+-- an object of version 1
+abbrev pub version_of : Data → Meaning ⊤
+version_of d = if is_some (as_object d) then (do
+  value ← needed (at_top key.Beam) d
+  beam ← any_number_in (at_top key.Beam) value
+  if is_one beam then Ok tt else Err Version)
+    else Err (Field (at_top key.Other))
+
+-- the array of its nodes, where it has no other keys
+abbrev pub array_of : Data → Meaning (List Data)
+array_of d = do
+  value ← needed (at_top key.Nodes) d
+  nodes ← ok_or (as_array value) (Field (at_top key.Nodes))
+  if has_only document_keys d then Ok (items_list nodes) else Err (Field (at_top key.Other))
+
+-- so many nodes as 32 bits can number; for private clauses, since every document that is read has no more
+abbrev pub HasFewNodes : Data → Type 0
+HasFewNodes d = IfOk (array_of d) (λ nodes. length nodes < 2 ^ 32)
+
+-- ---- the plan
+
+-- a plan that is a pipeline
+abbrev pub checked : Plan → Meaning Plan
+checked plan = option_map_or (λ refusal. Err (Graph refusal)) (graph_refusal plan) (Ok plan)
+
+abbrev pub plan_of : Data → Meaning Plan
+plan_of d = do
+  version ← version_of d
+  array ← array_of d
+  names ← names_of array
+  nodes ← nodes_of names array
+  checked (record { version = 1; nodes = nodes })
+
+-- ---- the bytes
+
+abbrev pub longest_document : ℕ
+longest_document = 1048576
+
+abbrev pub length_refusal : ℕ → Option PlanRefusal
+length_refusal len = if nat_lt longest_document len then Some (Length len) else None
+
+-- the value of the JSON text, where the bytes are one
+abbrev pub json_of : List ℕ → Option Data
+json_of bytes = if is_utf8 bytes then read bytes else None
+
+abbrev pub text_of : List ℕ → Meaning Plan
+text_of bytes = ok_or (json_of bytes) Syntax >>= plan_of
+
+abbrev pub document_of : List ℕ → Meaning Plan
+document_of bytes = option_map_or (λ refusal. Err refusal) (length_refusal (length bytes)) (text_of bytes)

@@ -1,0 +1,11 @@
+pub mod Documents
+pub mod Forms
+pub mod Keys
+pub mod Nodes
+pub mod Places
+pub mod Refusals
+pub mod Seen
+pub mod Settings
+pub mod Texts
+pub mod Vectors
+pub mod Words

@@ -1,0 +1,71 @@
+-- The nodes of a document: first all names, then node after node its kind, its inputs, its further keys, and that it has no others.
+use Rattle.std.specs.Prelude.{ℕ, Bool, List, [], length, nat_le, bytes_eq, position, not, ◌&&◌, if◌then◌else◌, is_some, ok_or, Ok, Err}
+use Rattle.std.specs.List.{list_any}
+use Rattle.serde_json.specs.Data.{Data}
+use Rattle.serde_json.specs.Find.{as_object}
+use Rattle.beam_values.specs.declared.plan.Node.{Node}
+use Rattle.plan_reader.specs.declared.refusal.Place.{Place}
+use Rattle.plan_reader.specs.declared.refusal.PlanKey.TheVariants as key
+use Rattle.plan_reader.specs.declared.refusal.PlanRefusal.TheVariants as refusal
+use Rattle.plan_reader.specs.declared.words.KindWord.{KindWord}
+use Rattle.plan_reader.specs.declared.words.KindWord.TheVariants as kind
+use Rattle.plan_reader.specs.Forms.{◌>>=◌, one_by_one, needed, or_absent, has_only, string_in, word_in, strings_in}
+use Rattle.plan_reader.specs.Keys.{node_keys}
+use Rattle.plan_reader.specs.Places.{in_node}
+use Rattle.plan_reader.specs.Refusals.{Meaning}
+use Rattle.plan_reader.specs.Settings.{settings_of}
+use Rattle.plan_reader.specs.Words.{meaning_in, kinds}
+
+-- ---- names
+
+-- 1 to 64 bytes, and no name of an earlier node
+abbrev pub is_new_name : List (List ℕ) → List ℕ → Bool
+is_new_name earlier name = nat_le 1 (length name) && nat_le (length name) 64 && not (list_any (bytes_eq name) earlier)
+
+-- the name of the node after those of these names
+abbrev pub name_of : List (List ℕ) → Data → Meaning (List ℕ)
+name_of earlier d = if is_some (as_object d) then (do
+  value ← needed (in_node (length earlier) key.Name) d
+  name ← string_in (in_node (length earlier) key.Name) value
+  if is_new_name earlier name then Ok name else Err (refusal.Name (in_node (length earlier) key.Name)))
+    else Err (refusal.Field (in_node (length earlier) key.Other))
+
+abbrev pub names_of : List Data → Meaning (List (List ℕ))
+names_of nodes = one_by_one name_of [] nodes
+
+-- ---- inputs
+
+-- the number of the node of this name
+abbrev pub number_of : List (List ℕ) → Place → List ℕ → Meaning ℕ
+number_of names place name = ok_or (position (bytes_eq name) names) (refusal.Name place)
+
+abbrev pub numbers_of : List (List ℕ) → Place → List (List ℕ) → Meaning (List ℕ)
+numbers_of names place inputs = one_by_one (λ _ name. number_of names place name) [] inputs
+
+-- the numbers of the nodes of an array of names
+abbrev pub inputs_in : List (List ℕ) → Place → Data → Meaning (List ℕ)
+inputs_in names place d = strings_in place d >>= numbers_of names place
+
+-- a source may leave its inputs out, and has none then
+abbrev pub inputs_of : KindWord → List (List ℕ) → ℕ → Data → Meaning (List ℕ)
+inputs_of kind.Source names node d = or_absent [] (inputs_in names) (in_node node key.Input) d
+inputs_of _ names node d = needed (in_node node key.Input) d >>= inputs_in names (in_node node key.Input)
+
+-- ---- nodes
+
+abbrev pub kind_of : ℕ → Data → Meaning KindWord
+kind_of node d = needed (in_node node key.Kind) d >>= word_in (meaning_in kinds) (in_node node key.Kind)
+
+-- a node that has no other keys than its kind and its work list
+abbrev pub closed : ℕ → Data → Node → Meaning Node
+closed node d read = if has_only (node_keys read.kind) d then Ok read else Err (refusal.Field (in_node node key.Other))
+
+abbrev pub node_of : List (List ℕ) → ℕ → Data → Meaning Node
+node_of names node d = do
+  word ← kind_of node d
+  inputs ← inputs_of word names node d
+  settings ← settings_of word node d
+  closed node d (record { kind = settings; inputs = inputs })
+
+abbrev pub nodes_of : List (List ℕ) → List Data → Meaning (List Node)
+nodes_of names nodes = one_by_one (λ before d. node_of names (length before) d) [] nodes

@@ -1,0 +1,181 @@
+ghost use Rattle.std.specs.Prelude.{◌≡◌};
+ghost use Rattle.plan_reader.specs.Places.{key_word, in_node, at_top};
+ghost use Rattle.plan_reader.specs.Refusals.{refusal_number};
+
+use beam_values::{GraphRefusal, NoMemory};
+use pipeline_graph::CheckRefusal;
+use std::alloc::{AllocError, AllocFailed};
+
+/// A key of a plan document, by its word.
+#[derive(Clone, Copy, Debug, PartialEq, Eq)]
+pub enum PlanKey {
+    Beam,
+    Nodes,
+    Name,
+    Kind,
+    Input,
+    Work,
+    Files,
+    Count,
+    Number,
+    Estimator,
+    Text,
+    Windows,
+    Early,
+    Late,
+    Lateness,
+    Mode,
+    Log,
+    Label,
+    /// The whole object, or a key that it doesn't list.
+    Other,
+}
+
+impl PlanKey {
+    /// The word of the key in a document.
+    pub fn word(&self) -> &'static str
+        ensures { result.now ≡ key_word self.now }
+    {
+        match self {
+            PlanKey::Beam => "beam",
+            PlanKey::Nodes => "nodes",
+            PlanKey::Name => "name",
+            PlanKey::Kind => "kind",
+            PlanKey::Input => "input",
+            PlanKey::Work => "work",
+            PlanKey::Files => "files",
+            PlanKey::Count => "count",
+            PlanKey::Number => "number",
+            PlanKey::Estimator => "estimator",
+            PlanKey::Text => "text",
+            PlanKey::Windows => "windows",
+            PlanKey::Early => "early",
+            PlanKey::Late => "late",
+            PlanKey::Lateness => "lateness",
+            PlanKey::Mode => "mode",
+            PlanKey::Log => "log",
+            PlanKey::Label => "label",
+            PlanKey::Other => "other",
+        }
+    }
+}
+
+/// Where a document breaks a rule: a key of its top object, or of a node by its number.
+#[derive(Clone, Copy, Debug, PartialEq, Eq)]
+pub struct Place {
+    pub node: Option<u32>,
+    pub key: PlanKey,
+}
+
+impl Place {
+    pub(crate) fn top(key: PlanKey) -> Place
+        ensures { result ≡ at_top key }
+    {
+        Place { node: None, key }
+    }
+
+    pub(crate) fn in_node(node: u32, key: PlanKey) -> Place
+        ensures { result ≡ in_node node key }
+    {
+        Place {
+            node: Some(node),
+            key,
+        }
+    }
+}
+
+/// Why a document is no plan: the first rule that it breaks.
+#[derive(Clone, Copy, Debug, PartialEq, Eq)]
+pub enum PlanRefusal {
+    /// The bytes are no JSON text.
+    Syntax,
+    /// A needed key is missing, a value isn't of the key's form, or a key isn't listed.
+    Field(Place),
+    /// A word isn't known, an input names no node, or a string's length isn't allowed.
+    Name(Place),
+    /// A number isn't whole or is outside its limits.
+    Number(Place),
+    /// The plan is read, and is no pipeline.
+    Graph(GraphRefusal),
+    /// The document isn't of version 1.
+    Version,
+    /// The document has this many bytes, which are too many. They aren't read.
+    Length(u64),
+}
+
+impl PlanRefusal {
+    pub fn number(&self) -> u8
+        ensures { result ≡ refusal_number self.now }
+    {
+        match self {
+            PlanRefusal::Syntax => 1,
+            PlanRefusal::Field(_) => 2,
+            PlanRefusal::Name(_) => 3,
+            PlanRefusal::Number(_) => 4,
+            PlanRefusal::Graph(_) => 5,
+            PlanRefusal::Version => 6,
+            PlanRefusal::Length(_) => 7,
+        }
+    }
+}
+
+/// Why no plan was read.
+#[derive(Clone, Copy, Debug, PartialEq, Eq)]
+pub enum PlanReadRefusal {
+    /// The document is no plan.
+    Bad(PlanRefusal),
+    NoMemory,
+}
+
+impl From<PlanRefusal> for PlanReadRefusal {
+    ghost use Rattle.plan_reader.specs.declared.refusal.PlanReadRefusal.TheVariants as read;
+
+    ghost from_gives = { λ refusal e. e ≡ read.Bad refusal };
+
+    fn from(refusal: PlanRefusal) -> PlanReadRefusal {
+        PlanReadRefusal::Bad(refusal)
+    }
+}
+
+impl From<NoMemory> for PlanReadRefusal {
+    ghost use Rattle.plan_reader.specs.declared.refusal.PlanReadRefusal.TheVariants as read;
+
+    ghost from_gives = { λ _ e. e ≡ read.NoMemory };
+
+    fn from(_e: NoMemory) -> PlanReadRefusal {
+        PlanReadRefusal::NoMemory
+    }
+}
+
+impl From<AllocError> for PlanReadRefusal {
+    ghost use Rattle.plan_reader.specs.declared.refusal.PlanReadRefusal.TheVariants as read;
+
+    ghost from_gives = { λ _ e. e ≡ read.NoMemory };
+
+    fn from(_e: AllocError) -> PlanReadRefusal {
+        PlanReadRefusal::NoMemory
+    }
+}
+
+impl<T: Drop> From<AllocFailed<T>> for PlanReadRefusal {
+    ghost use Rattle.plan_reader.specs.declared.refusal.PlanReadRefusal.TheVariants as read;
+
+    ghost from_gives = { λ _ e. e ≡ read.NoMemory };
+
+    fn from(_e: AllocFailed<T>) -> PlanReadRefusal {
+        PlanReadRefusal::NoMemory
+    }
+}
+
+impl From<CheckRefusal> for PlanReadRefusal {
+    ghost use Rattle.plan_reader.specs.Refusals.{graph_refused};
+
+    ghost from_gives = { λ refusal e. e ≡ graph_refused refusal };
+
+    fn from(refusal: CheckRefusal) -> PlanReadRefusal {
+        match refusal {
+            CheckRefusal::Bad(refusal) => PlanReadRefusal::Bad(PlanRefusal::Graph(refusal)),
+            CheckRefusal::NoMemory => PlanReadRefusal::NoMemory,
+        }
+    }
+}
