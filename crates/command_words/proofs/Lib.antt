@@ -1,0 +1,3 @@
+pub mod Gatherings
+pub mod Numerals
+pub mod PanesByDefault

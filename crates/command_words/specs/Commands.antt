@@ -1,0 +1,116 @@
+-- What the words of a command line ask for.
+use Rattle.std.specs.Prelude.{◌≡◌, ◌⊎◌, ℕ, ◌≤◌, ℤ, pos, Bool, ◌&&◌, ◌||◌, nat_le, if◌then◌else◌, List, [], ◌∷◌, map, length, codes, Option, Some, None}
+use Rattle.std.specs.List.{slice_index_or}
+use Rattle.std.specs.Option.{option_map, option_and_then}
+use Rattle.std.specs.Str.{bytes_eq}
+use Rattle.std.specs.String.{string_bytes}
+use Rattle.std.specs.declared.alloc.Global.{Global}
+use Rattle.std.specs.declared.string.String.{String}
+use Rattle.beam_values.specs.Strategies.{IsLength, greatest_length}
+use Rattle.beam_values.specs.Windows.{or_zero}
+use Rattle.beam_values.specs.declared.options.Options.{Options}
+use Rattle.command_words.specs.Numbers.{number_within}
+use Rattle.command_words.specs.Parts.{Part, parts_of, texts_of, positional_words}
+use Rattle.command_words.specs.declared.setting.Setting.{Setting}
+use Rattle.command_words.specs.declared.setting.Setting.TheVariants.{Workers, Bundle, Chunk, Attempts}
+
+-- the words of a command line as bytes, the program's name first
+abbrev pub words_of : List (String Global) → List (List ℕ)
+words_of words = map string_bytes words
+
+-- what a command line asks for
+pub data Asked : Type 0 where
+  Help : Asked
+  -- the panes of a file, in windows of this size
+  Panes : List ℕ → ℤ → Options → Asked
+  -- the run of a plan
+  Run : List ℕ → Options → Asked
+
+-- an option's value is a number from 1 to this one
+abbrev pub greatest_of : Setting → ℕ
+greatest_of Workers = 16
+greatest_of Bundle = 1000000
+greatest_of Chunk = 1099511627776
+greatest_of Attempts = 1000
+
+abbrev pub default_of : Setting → ℕ
+default_of Workers = 4
+default_of Bundle = 64
+default_of Chunk = 65536
+default_of Attempts = 3
+
+-- each option lies in its bounds
+pub record AreOptions (options : Options) : Type 0 where
+  pub some_workers : 1 ≤ options.workers
+  pub few_workers : options.workers ≤ 16
+  pub some_bundle : 1 ≤ options.bundle
+  pub small_bundle : options.bundle ≤ 1000000
+  pub some_chunk : 1 ≤ options.chunk
+  pub small_chunk : options.chunk ≤ 1099511627776
+  pub some_attempts : 1 ≤ options.attempts
+  pub few_attempts : options.attempts ≤ 1000
+
+-- what is asked lies in its bounds
+abbrev pub IsAllowed : Asked → Type 0
+IsAllowed Help = Unit {0}
+IsAllowed (Panes file size options) = (1 ≤ length file) × (length file ≤ 4096) × IsLength size × AreOptions options
+IsAllowed (Run plan options) = AreOptions options
+
+-- the value of an option that is given with these texts: at most one
+abbrev pub value_of_texts : Setting → List (List ℕ) → Option ℕ
+value_of_texts setting [] = Some (default_of setting)
+value_of_texts setting (text ∷ []) = number_within 1 (greatest_of setting) text
+value_of_texts setting (text ∷ (another ∷ texts)) = None
+
+abbrev pub value_of : Setting → List Part → Option ℕ
+value_of setting parts = value_of_texts setting (texts_of setting parts)
+
+abbrev pub options_of : List Part → Option Options
+options_of parts =
+    option_and_then (λ workers. option_and_then (λ bundle. option_and_then (λ chunk.
+    option_map (λ attempts. record { workers = workers; bundle = bundle; chunk = chunk; attempts = attempts })
+    (value_of Attempts parts)) (value_of Chunk parts)) (value_of Bundle parts)) (value_of Workers parts)
+
+-- the name of a file has 1 to 4096 bytes
+abbrev pub is_file_name : List ℕ → Bool
+is_file_name word = nat_le 1 (length word) && nat_le (length word) 4096
+
+-- the size of a window is 1 to 31536000000000 milliseconds
+abbrev pub size_of : List ℕ → Option ℤ
+size_of word = option_map pos (number_within 1 (or_zero greatest_length) word)
+
+-- FILE SIZE
+abbrev pub panes_of : List (List ℕ) → Option Options → Option Asked
+panes_of (file ∷ (size ∷ [])) options =
+    if is_file_name file then option_and_then (λ size. option_map (λ options. Panes file size options) options) (size_of size) else None
+panes_of words options = None
+
+-- PLAN
+abbrev pub run_of : List (List ℕ) → Option Options → Option Asked
+run_of (plan ∷ []) options = option_map (λ options. Run plan options) options
+run_of words options = None
+
+abbrev pub asks_help : List ℕ → Bool
+asks_help word = bytes_eq word (codes "help") || (bytes_eq word (codes "--help") || bytes_eq word (codes "-h"))
+
+-- what a command asks for with the words after its name
+abbrev pub command_named : List ℕ → List (List ℕ) → Option Asked
+command_named name words =
+    if asks_help name then Some Help
+    else (if bytes_eq name (codes "panes") then option_and_then (λ parts. panes_of (positional_words parts) (options_of parts)) (parts_of words)
+    else (if bytes_eq name (codes "run") then option_and_then (λ parts. run_of (positional_words parts) (options_of parts)) (parts_of words)
+    else None))
+
+-- What these words ask for, the name of the program first, or none where the rules refuse them.
+abbrev pub command_of : List (List ℕ) → Option Asked
+command_of (program ∷ (name ∷ words)) = command_named name words
+command_of words = None
+
+-- help is asked for: the word after the program's name is one of these
+abbrev pub AsksHelp : List (List ℕ) → Type 0
+AsksHelp words =
+    (slice_index_or words 1 [] ≡ codes "help") ⊎ (slice_index_or words 1 [] ≡ codes "--help") ⊎ (slice_index_or words 1 [] ≡ codes "-h")
+
+-- the rules refuse these words
+abbrev pub IsRefused : List (List ℕ) → Type 0
+IsRefused words = command_of words ≡ None

@@ -1,0 +1,9 @@
+pub mod Commands
+pub mod Few
+pub mod Gathering
+pub mod HelpText
+pub mod Numbers
+pub mod PanesAlone
+pub mod Parts
+pub mod Shown
+pub mod Vectors

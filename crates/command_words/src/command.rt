@@ -1,0 +1,131 @@
+ghost use Rattle.std.specs.Prelude.{◌≡◌, ◌≢◌, ◌↔◌, Ok, IfOk, IfSome, IsErr, IsTrue};
+ghost use Rattle.beam_values.specs.Strategies.{IsLength};
+ghost use Rattle.command_words.specs.Commands.{AsksHelp, IsAllowed, IsRefused, asks_help, command_named, command_of, is_file_name, size_of, words_of};
+ghost use Rattle.command_words.specs.Gathering.{panes_gathered, run_gathered, shown_gathered};
+ghost use Rattle.command_words.specs.Shown.{shown_answer, shown_command};
+
+use crate::few::Few;
+use crate::gathered::{Gathered, gather};
+use crate::number::number_within;
+use crate::setting::Setting;
+use crate::usage::Usage;
+use beam_values::Options;
+
+/// The greatest size of a window, in milliseconds.
+const GREATEST_SIZE: u64 = 31_536_000_000_000;
+
+/// The greatest length of a file's name, in bytes.
+const LONGEST_NAME: usize = 4096;
+
+/// What a command line asks for.
+#[derive(Clone, Copy, Debug, PartialEq, Eq)]
+pub enum Command<'a> {
+    /// `help`, `--help` or `-h`, whatever words follow.
+    Help,
+    /// `panes FILE SIZE`, with options.
+    Panes {
+        /// The name of a file.
+        file: &'a [u8],
+        /// The size of a window, in milliseconds.
+        size: i64,
+        options: Options,
+    },
+    /// `run PLAN`, with options.
+    Run {
+        /// The name of the plan's file, of any length.
+        plan: &'a [u8],
+        options: Options,
+    },
+}
+
+/// Reads the words of a command line, the name of the program first. It takes no memory.
+pub fn read_words(words: &[String]) -> Result<Command<'_>, Usage>
+    // What the rules make of the words.
+    ensures exact { shown_answer result ≡ command_of (words_of words.now) }
+
+    // Help only where it is asked for, and a refusal only where the rules refuse.
+    ensures help { (result ≡ Ok Command.Help) ↔ AsksHelp (words_of words.now) }
+    ensures usage { IsErr result ↔ IsRefused (words_of words.now) }
+
+    // What is asked lies in its bounds.
+    ensures bounds { IfOk result (λ command. IsAllowed (shown_command command)) }
+{
+    let [_program, name, words @ ..] = words else {
+        return Err(Usage);
+    };
+    read_command(name.as_str(), words)
+}
+
+// Reads the words after the name of a command.
+fn read_command<'a>(name: &str, words: &'a [String]) -> Result<Command<'a>, Usage>
+    ensures exact { shown_answer result ≡ command_named name.now (words_of words.now) }
+    ensures help { (result ≡ Ok Command.Help) ↔ IsTrue (asks_help name.now) }
+    ensures bounds { IfOk result (λ command. IsAllowed (shown_command command)) }
+{
+    if asks_help(name) {
+        Ok(Command::Help)
+    } else if name == "panes" {
+        panes(&gather(words)?)
+    } else if name == "run" {
+        run(&gather(words)?)
+    } else {
+        Err(Usage)
+    }
+}
+
+fn asks_help(name: &str) -> bool
+    ensures { result ≡ asks_help name.now }
+{
+    name == "help" || name == "--help" || name == "-h"
+}
+
+// `panes FILE SIZE`
+fn panes<'a>(gathered: &Gathered<'a>) -> Result<Command<'a>, Usage>
+    ensures exact { shown_answer result ≡ panes_gathered (shown_gathered gathered.now) }
+    ensures no_help { result ≢ Ok Command.Help }
+    ensures bounds { IfOk result (λ command. IsAllowed (shown_command command)) }
+{
+    let Few::Two(file, size) = gathered.positional else {
+        return Err(Usage);
+    };
+    if !is_file_name(file) {
+        return Err(Usage);
+    }
+    let size = size_of(size).ok_or(Usage)?;
+    let options = gathered.options().ok_or(Usage)?;
+    Ok(Command::Panes {
+        file: file.as_bytes(),
+        size,
+        options,
+    })
+}
+
+// `run PLAN`
+fn run<'a>(gathered: &Gathered<'a>) -> Result<Command<'a>, Usage>
+    ensures exact { shown_answer result ≡ run_gathered (shown_gathered gathered.now) }
+    ensures no_help { result ≢ Ok Command.Help }
+    ensures bounds { IfOk result (λ command. IsAllowed (shown_command command)) }
+{
+    let Few::One(plan) = gathered.positional else {
+        return Err(Usage);
+    };
+    let options = gathered.options().ok_or(Usage)?;
+    Ok(Command::Run {
+        plan: plan.as_bytes(),
+        options,
+    })
+}
+
+fn is_file_name(word: &str) -> bool
+    ensures { result ≡ is_file_name word.now }
+{
+    !word.is_empty() && word.len() <= LONGEST_NAME
+}
+
+fn size_of(word: &str) -> Option<i64>
+    ensures exact { result ≡ size_of word.now }
+    ensures within { IfSome result IsLength }
+{
+    let size = number_within(word, 1, GREATEST_SIZE)?;
+    Some(size as i64)
+}

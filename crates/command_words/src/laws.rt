@@ -1,0 +1,18 @@
+//! What a command line without options means. Each function does nothing: its contract is the law.
+
+ghost use Rattle.std.specs.Prelude.{◌≡◌, ℕ, pos, false, List, [], length, codes, Some, None};
+ghost use Rattle.std.specs.List.{slice_index_or};
+ghost use Rattle.command_words.specs.Commands.{command_of, Panes};
+ghost use Rattle.command_words.specs.Numbers.{number_of_text};
+ghost use Rattle.command_words.specs.PanesAlone.{IsPanesAlone, default_options, file_word, size_word};
+ghost use Rattle.command_words.specs.Parts.{is_dashed};
+
+/// `panes FILE SIZE` means what it means without options, whatever options there are: it asks for the
+/// panes of the file by the options' defaults, and where neither word looks like an option, four words
+/// of `panes` are refused for nothing else.
+pub fn panes_alone_is_panes_by_default()
+    ensures taken { (words : List (List ℕ)) → IsPanesAlone words
+        → command_of words ≡ Some (Panes (file_word words) (pos (number_of_text (size_word words))) default_options) }
+    ensures refused { (words : List (List ℕ)) → length words ≡ 4 → slice_index_or words 1 [] ≡ codes "panes"
+        → is_dashed (file_word words) ≡ false → is_dashed (size_word words) ≡ false → (IsPanesAlone words → ⊥) → command_of words ≡ None }
+{}

@@ -1,0 +1,3 @@
+/// The words are no command.
+#[derive(Clone, Copy, Debug, PartialEq, Eq)]
+pub struct Usage;
