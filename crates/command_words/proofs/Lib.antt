@@ -1,3 +1,4 @@
 pub mod Gatherings
+pub mod Grammar
 pub mod Numerals
 pub mod PanesByDefault

@@ -22,7 +22,7 @@ no_end_by word false e undashed = refl
 no_end : (word : List ℕ) → is_dashed word ≡ false → ends_options word ≡ false
 no_end word undashed = no_end_by word (ends_options word) refl undashed
 
-then_positional : (word : List ℕ) (words : List (List ℕ)) → is_dashed word ≡ false → parts_of (word ∷ words) ≡ then_part (Positional word) (parts_of words)
+pub then_positional : (word : List ℕ) (words : List (List ℕ)) → is_dashed word ≡ false → parts_of (word ∷ words) ≡ then_part (Positional word) (parts_of words)
 then_positional word words undashed = let end = no_end word undashed in rw (end, undashed) refl
 
 -- what two undashed words after `panes` ask for

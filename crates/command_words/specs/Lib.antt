@@ -1,6 +1,7 @@
 pub mod Commands
 pub mod Few
 pub mod Gathering
+pub mod Grammar
 pub mod HelpText
 pub mod Numbers
 pub mod PanesAlone
