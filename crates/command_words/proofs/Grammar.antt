@@ -1,5 +1,5 @@
 -- The parts of words are those of the grammar.
-use Rattle.std.proofs.Common.{◌≡◌, ℕ, ◌<◌, Bool, true, false, if◌then◌else◌, nat_lt, ◌==◌, List, [], ◌∷◌, ◌++◌, length, get_or, map, codes, Option, Some, None, refl, sym, ap, ◌∙◌, subst, arith}
+use Rattle.std.proofs.Common.{◌≡◌, ℕ, ◌<◌, Bool, true, false, if◌then◌else◌, nat_lt, List, [], ◌∷◌, ◌++◌, length, get_or, map, codes, Option, Some, None, refl, sym, ap, ◌∙◌, subst, arith}
 use Rattle.std.specs.List.{after_first, before_first, position_or_len}
 use Rattle.std.specs.Str.{bytes_eq}
 use Rattle.std.proofs.lemmas.Bool.Decides.{Decides-eqb, Decides-ltb}
@@ -97,7 +97,7 @@ value_by setting word words parts false (Some rest) dashed is h deeper =
 word_by : (word : List ℕ) (words : List (List ℕ)) (parts : List Part) (end dashed : Bool) (kind : Dashed) (left : Option (List Part))
     → ends_options word ≡ end → is_dashed word ≡ dashed → DashedAs word kind → parts_of words ≡ left
     → (if end then Some (map Positional words)
-      else (if dashed then after_dashed kind left (λ setting. parts_from_value setting words) else then_part (Positional word) left)) ≡ Some parts
+    else (if dashed then after_dashed kind left (λ setting. parts_from_value setting words) else then_part (Positional word) left)) ≡ Some parts
     → ((rest : List Part) → parts_of words ≡ Some rest → AreParts words rest)
     → ((setting : Setting) → parts_from_value setting words ≡ Some parts → AreParts (name_of setting ∷ words) parts)
     → AreParts (word ∷ words) parts

@@ -6,8 +6,8 @@ use Rattle.std.specs.Str.Parse.{IsNumeral, without_leading_plus}
 use Rattle.std.proofs.lemmas.Bool.Decides.{Decides-eqb, eqb_tells, nat_tests}
 use Rattle.std.proofs.lemmas.Slice.Eq.{bytes_eq-Decides}
 use Rattle.command_words.specs.Commands.{Asked, Panes, command_of, is_file_name, size_of}
-use Rattle.command_words.specs.Numbers.{number_of_text, number_within}
-use Rattle.command_words.specs.PanesAlone.{IsNumberWithin, IsPanesAlone, IsPlainFileName, default_options}
+use Rattle.command_words.specs.Numbers.{IsNumberWithin, number_of_text, number_within}
+use Rattle.command_words.specs.PanesAlone.{IsPanesAlone, IsPlainFileName, default_options}
 use Rattle.command_words.specs.Parts.{Positional, ends_options, is_dashed, parts_of, then_part}
 use Rattle.command_words.proofs.Numerals.{number_within-none, number_within-some}
 

@@ -110,7 +110,3 @@ command_of words = None
 abbrev pub AsksHelp : List (List ℕ) → Type 0
 AsksHelp words =
     (slice_index_or words 1 [] ≡ codes "help") ⊎ (slice_index_or words 1 [] ≡ codes "--help") ⊎ (slice_index_or words 1 [] ≡ codes "-h")
-
--- the rules refuse these words
-abbrev pub IsRefused : List (List ℕ) → Type 0
-IsRefused words = command_of words ≡ None

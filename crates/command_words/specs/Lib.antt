@@ -6,5 +6,6 @@ pub mod HelpText
 pub mod Numbers
 pub mod PanesAlone
 pub mod Parts
+pub mod Rules
 pub mod Shown
 pub mod Vectors

@@ -1,18 +1,12 @@
 -- `panes FILE SIZE` in four words, as it is written without options.
 use Rattle.std.specs.Prelude.{◌≡◌, ◌≢◌, ◌⊎◌, ℕ, ◌<◌, ◌≤◌, List, [], length, slice_index, codes}
 use Rattle.std.specs.List.{slice_index_or}
-use Rattle.std.specs.Str.Parse.{IsNumeral, without_leading_plus}
 use Rattle.beam_values.specs.Strategies.{greatest_length}
 use Rattle.beam_values.specs.Windows.{or_zero}
 use Rattle.beam_values.specs.declared.options.Options.{Options}
 use Rattle.command_words.specs.Commands.{default_of}
-use Rattle.command_words.specs.Numbers.{number_of_text}
+use Rattle.command_words.specs.Numbers.{IsNumberWithin}
 use Rattle.command_words.specs.declared.setting.Setting.TheVariants.{Workers, Bundle, Chunk, Attempts}
-
-pub record IsNumberWithin (low high : ℕ) (text : List ℕ) : Type 0 where
-  pub numeral : IsNumeral 10 (without_leading_plus text)
-  pub least : low ≤ number_of_text text
-  pub greatest : number_of_text text ≤ high
 
 -- 1 to 4096 bytes, of which the first is no `-` where there are more
 pub record IsPlainFileName (text : List ℕ) : Type 0 where

@@ -1,7 +1,8 @@
 ghost use Rattle.std.specs.Prelude.{◌≡◌, ◌≢◌, ◌↔◌, Ok, IfOk, IfSome, IsErr, IsTrue};
 ghost use Rattle.beam_values.specs.Strategies.{IsLength};
-ghost use Rattle.command_words.specs.Commands.{AsksHelp, IsAllowed, IsRefused, asks_help, command_named, command_of, is_file_name, size_of, words_of};
+ghost use Rattle.command_words.specs.Commands.{AsksHelp, IsAllowed, asks_help, command_named, command_of, is_file_name, size_of, words_of};
 ghost use Rattle.command_words.specs.Gathering.{panes_gathered, run_gathered, shown_gathered};
+ghost use Rattle.command_words.specs.Rules.{Asks, IsRefused};
 ghost use Rattle.command_words.specs.Shown.{shown_answer, shown_command};
 
 use crate::few::Few;
@@ -40,10 +41,11 @@ pub enum Command<'a> {
 
 /// Reads the words of a command line, the name of the program first. It takes no memory.
 pub fn read_words(words: &[String]) -> Result<Command<'_>, Usage>
-    // What the rules make of the words.
+    // The definition's answer.
     ensures exact { shown_answer result ≡ command_of (words_of words.now) }
 
-    // Help only where it is asked for, and a refusal only where the rules refuse.
+    // Rule by rule: what is asked, help exactly where it is asked for, and a refusal exactly where nothing is.
+    ensures asked { IfOk result (λ command. Asks (words_of words.now) (shown_command command)) }
     ensures help { (result ≡ Ok Command.Help) ↔ AsksHelp (words_of words.now) }
     ensures usage { IsErr result ↔ IsRefused (words_of words.now) }
 

@@ -2,11 +2,12 @@
 
 ghost use Rattle.std.specs.Prelude.{◌≡◌, ◌↔◌, ℕ, pos, false, List, [], length, codes, Some, None};
 ghost use Rattle.std.specs.List.{slice_index_or};
-ghost use Rattle.command_words.specs.Commands.{command_of, Panes};
+ghost use Rattle.command_words.specs.Commands.{Asked, Panes, command_of};
 ghost use Rattle.command_words.specs.Grammar.{AreParts};
 ghost use Rattle.command_words.specs.Numbers.{number_of_text};
 ghost use Rattle.command_words.specs.PanesAlone.{IsPanesAlone, default_options, file_word, size_word};
 ghost use Rattle.command_words.specs.Parts.{Part, is_dashed, parts_of};
+ghost use Rattle.command_words.specs.Rules.{Asks};
 
 /// `panes FILE SIZE` means what it means without options, whatever options there are: it asks for the
 /// panes of the file by the options' defaults, and where neither word looks like an option, four words
@@ -22,4 +23,9 @@ pub fn panes_alone_is_panes_by_default()
 /// to one part, an option in one word or in two, and a `--` ends the options.
 pub fn parts_are_those_of_the_grammar()
     ensures { (words : List (List ℕ)) (parts : List Part) → (parts_of words ≡ Some parts) ↔ AreParts words parts }
+{}
+
+/// Words ask for something exactly by the rules, and so for one thing at most.
+pub fn words_ask_by_the_rules()
+    ensures { (words : List (List ℕ)) (asked : Asked) → (command_of words ≡ Some asked) ↔ Asks words asked }
 {}

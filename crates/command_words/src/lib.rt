@@ -6,10 +6,10 @@
 //! at most once, the positional words are as many as the command asks for, and a number is an optional
 //! `+` and digits, within its bounds.
 //!
-//! The layer above may rely on [`read_words`], whose answer is that of the definitions, which say it as
-//! one recursion over the words and a meaning of the parts that they are: read `specs/Parts.antt` and
-//! `specs/Commands.antt` first, and `specs/Vectors.antt`, which has command lines computed. [`laws`] has
-//! what they mean to a reader. No call takes memory.
+//! The layer above may rely on [`read_words`]: its answer is that of `command_of` (`specs/Commands.antt`),
+//! one recursion over the words that cuts them into parts (`specs/Parts.antt`) and a meaning of the parts.
+//! `specs/Grammar.antt` and `specs/Rules.antt` say the same rule by rule, as which [`laws`] prove it.
+//! Read these four first, and `specs/Vectors.antt`, which has command lines computed. No call takes memory.
 #![tactic(auto)]
 
 mod command;
