@@ -11,17 +11,20 @@ use Rattle.command_words.specs.declared.setting.Setting.{Setting}
 use Rattle.command_words.specs.declared.setting.Setting.TheVariants.{Workers, Bundle, Chunk, Attempts}
 use Rattle.command_words.proofs.PanesByDefault.{then_positional}
 
+is_longer : (n : ℕ) (word : List ℕ) → n < length word → nat_lt n (length word) ≡ true
+is_longer n word h = (Decides-ltb n (length word)).1 h
+
 whole_is_dashed : (setting : Setting) (text : List ℕ) → is_dashed (whole_word setting text) ≡ true
-whole_is_dashed Workers text = let long : nat_lt 1 (length (whole_word Workers text)) ≡ true = (Decides-ltb 1 (length (whole_word Workers text))).1 (omega arith) in rw long refl
-whole_is_dashed Bundle text = let long : nat_lt 1 (length (whole_word Bundle text)) ≡ true = (Decides-ltb 1 (length (whole_word Bundle text))).1 (omega arith) in rw long refl
-whole_is_dashed Chunk text = let long : nat_lt 1 (length (whole_word Chunk text)) ≡ true = (Decides-ltb 1 (length (whole_word Chunk text))).1 (omega arith) in rw long refl
-whole_is_dashed Attempts text = let long : nat_lt 1 (length (whole_word Attempts text)) ≡ true = (Decides-ltb 1 (length (whole_word Attempts text))).1 (omega arith) in rw long refl
+whole_is_dashed Workers text = let longer = is_longer 1 (whole_word Workers text) (omega arith) in rw longer refl
+whole_is_dashed Bundle text = let longer = is_longer 1 (whole_word Bundle text) (omega arith) in rw longer refl
+whole_is_dashed Chunk text = let longer = is_longer 1 (whole_word Chunk text) (omega arith) in rw longer refl
+whole_is_dashed Attempts text = let longer = is_longer 1 (whole_word Attempts text) (omega arith) in rw longer refl
 
 whole_is_whole : (setting : Setting) (text : List ℕ) → dashed_word (whole_word setting text) ≡ Whole setting text
-whole_is_whole Workers text = let inside : nat_lt 9 (length (whole_word Workers text)) ≡ true = (Decides-ltb 9 (length (whole_word Workers text))).1 (omega arith) in rw inside refl
-whole_is_whole Bundle text = let inside : nat_lt 8 (length (whole_word Bundle text)) ≡ true = (Decides-ltb 8 (length (whole_word Bundle text))).1 (omega arith) in rw inside refl
-whole_is_whole Chunk text = let inside : nat_lt 7 (length (whole_word Chunk text)) ≡ true = (Decides-ltb 7 (length (whole_word Chunk text))).1 (omega arith) in rw inside refl
-whole_is_whole Attempts text = let inside : nat_lt 10 (length (whole_word Attempts text)) ≡ true = (Decides-ltb 10 (length (whole_word Attempts text))).1 (omega arith) in rw inside refl
+whole_is_whole Workers text = let longer = is_longer 9 (whole_word Workers text) (omega arith) in rw longer refl
+whole_is_whole Bundle text = let longer = is_longer 8 (whole_word Bundle text) (omega arith) in rw longer refl
+whole_is_whole Chunk text = let longer = is_longer 7 (whole_word Chunk text) (omega arith) in rw longer refl
+whole_is_whole Attempts text = let longer = is_longer 10 (whole_word Attempts text) (omega arith) in rw longer refl
 
 whole_goes_on : (setting : Setting) (text : List ℕ) → ends_options (whole_word setting text) ≡ false
 whole_goes_on Workers text = refl

@@ -97,8 +97,10 @@ asks_help word = bytes_eq word (codes "help") || (bytes_eq word (codes "--help")
 abbrev pub command_named : List ℕ → List (List ℕ) → Option Asked
 command_named name words =
     if asks_help name then Some Help
-    else (if bytes_eq name (codes "panes") then option_and_then (λ parts. panes_of (positional_words parts) (options_of parts)) (parts_of words)
-    else (if bytes_eq name (codes "run") then option_and_then (λ parts. run_of (positional_words parts) (options_of parts)) (parts_of words)
+    else (if bytes_eq name (codes "panes")
+    then option_and_then (λ parts. panes_of (positional_words parts) (options_of parts)) (parts_of words)
+    else (if bytes_eq name (codes "run")
+    then option_and_then (λ parts. run_of (positional_words parts) (options_of parts)) (parts_of words)
     else None))
 
 -- What these words ask for, the name of the program first, or none where the rules refuse them.

@@ -14,13 +14,16 @@ name_of Attempts = codes "--attempts"
 abbrev pub whole_word : Setting → List ℕ → List ℕ
 whole_word setting text = name_of setting ++ 61 ∷ text
 
+-- The parts of words. `--workers 2 f -- -x` is an option in two words, then a word, then the end: workers with `2`, and `f` and `-x`
+-- as positional words.
 pub data AreParts : List (List ℕ) → List Part → Type 0 where
   -- no words
   NoWords : AreParts [] []
   -- `--`, and any words
   AfterEnd : (words : List (List ℕ)) → AreParts (codes "--" ∷ words) (map Positional words)
   -- a word that isn't dashed
-  Word : (word : List ℕ) (words : List (List ℕ)) (parts : List Part) → is_dashed word ≡ false → AreParts words parts → AreParts (word ∷ words) (Positional word ∷ parts)
+  Word : (word : List ℕ) (words : List (List ℕ)) (parts : List Part)
+      → is_dashed word ≡ false → AreParts words parts → AreParts (word ∷ words) (Positional word ∷ parts)
   -- `--name=value`
   InOneWord : (setting : Setting) (text : List ℕ) (words : List (List ℕ)) (parts : List Part)
       → AreParts words parts → AreParts (whole_word setting text ∷ words) (Chosen setting text ∷ parts)

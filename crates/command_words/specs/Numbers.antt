@@ -13,7 +13,8 @@ number_of_text text = digits_value 10 (without_leading_plus text)
 abbrev pub is_number_within : ℕ → ℕ → List ℕ → Bool
 is_number_within low high text = is_number text && (nat_le low (number_of_text text) && nat_le (number_of_text text) high)
 
--- The number that a word is, if it lies in these bounds. Within 1 to 16 `+3` is 3, and none of `17`, `0`, `-1`, `3.0` and the empty word is one.
+-- The number that a word is, if it lies in these bounds. Within 1 to 16 `+3` is 3, and none of `17`, `0`, `-1`, `3.0`
+-- and the empty word is one.
 abbrev pub number_within : ℕ → ℕ → List ℕ → Option ℕ
 number_within low high text = if is_number_within low high text then Some (number_of_text text) else None
 

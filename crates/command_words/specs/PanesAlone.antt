@@ -28,4 +28,9 @@ pub record IsPanesAlone (words : List (List ℕ)) : Type 0 where
   pub size : IsNumberWithin 1 (or_zero greatest_length) (size_word words)
 
 abbrev pub default_options : Options
-default_options = record { workers = default_of Workers; bundle = default_of Bundle; chunk = default_of Chunk; attempts = default_of Attempts }
+default_options = record {
+  workers = default_of Workers;
+  bundle = default_of Bundle;
+  chunk = default_of Chunk;
+  attempts = default_of Attempts;
+}

@@ -55,7 +55,8 @@ option_name (Some setting) = Name setting
 -- `--name=value`, cut at its first `=`, or `--name`
 abbrev pub dashed_word : List ℕ → Dashed
 dashed_word word =
-    if nat_lt (position_or_len is_equals word) (length word) then whole_option (after_first is_equals word) (setting_named (before_first is_equals word))
+    if nat_lt (position_or_len is_equals word) (length word)
+    then whole_option (after_first is_equals word) (setting_named (before_first is_equals word))
     else option_name (setting_named word)
 
 abbrev pub then_part : Part → Option (List Part) → Option (List Part)
@@ -68,8 +69,8 @@ after_dashed (Name setting) parts valued = valued setting
 after_dashed Unknown parts valued = None
 
 abbrev mutual
-  -- The parts that these words are, or none where a word is refused. `--workers 2 f -- -x` is workers with `2`, then `f` and `-x` as positional words;
-  -- `--workers` alone, `-x` and `--workers -- 2` are refused.
+  -- The parts that these words are, or none where a word is refused. `--workers 2 f -- -x` is workers with `2`, then `f` and
+  -- `-x` as positional words; `--workers` alone, `-x` and `--workers -- 2` are refused.
   pub parts_of : List (List ℕ) → Option (List Part)
   parts_of [] = Some []
   parts_of (word ∷ words) =
@@ -85,7 +86,8 @@ abbrev mutual
 -- the texts that an option is given, in their order
 abbrev pub texts_of : Setting → List Part → List (List ℕ)
 texts_of setting [] = []
-texts_of setting (Chosen chosen text ∷ parts) = if is_same_setting setting chosen then text ∷ texts_of setting parts else texts_of setting parts
+texts_of setting (Chosen chosen text ∷ parts) =
+    if is_same_setting setting chosen then text ∷ texts_of setting parts else texts_of setting parts
 texts_of setting (Positional word ∷ parts) = texts_of setting parts
 
 -- the positional words, in their order

@@ -23,7 +23,8 @@ pub record AreGiven (parts : List Part) (options : Options) : Type 0 where
   pub chunk : IsValue Chunk parts options.chunk
   pub attempts : IsValue Attempts parts options.attempts
 
--- what these words ask for, the name of the program first
+-- What these words ask for, the name of the program first. `beam_run run p --workers=2` asks for the run of `p` with two workers:
+-- after the command there are `p` as a positional word and workers with `2`.
 pub data Asks : List (List ℕ) → Asked → Type 0 where
   ForHelp : (words : List (List ℕ)) → AsksHelp words → Asks words Help
   ForPanes : (program : List ℕ) (words : List (List ℕ)) (parts : List Part) (file size : List ℕ) (options : Options)

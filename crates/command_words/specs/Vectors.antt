@@ -18,14 +18,16 @@ two_workers = record { workers = 2; bundle = 64; chunk = 65536; attempts = 3 }
 panes_without_options : asked (codes "panes" ∷ codes "f" ∷ codes "60000" ∷ []) ≡ Some (Panes (codes "f") (pos 60000) defaults)
 panes_without_options = refl
 
-option_in_one_word : asked (codes "panes" ∷ codes "--workers=2" ∷ codes "f" ∷ codes "60000" ∷ []) ≡ Some (Panes (codes "f") (pos 60000) two_workers)
+option_in_one_word :
+    asked (codes "panes" ∷ codes "--workers=2" ∷ codes "f" ∷ codes "60000" ∷ []) ≡ Some (Panes (codes "f") (pos 60000) two_workers)
 option_in_one_word = refl
 
 option_in_two_words_before_the_end :
     asked (codes "panes" ∷ codes "f" ∷ codes "60000" ∷ codes "--workers" ∷ codes "2" ∷ codes "--" ∷ []) ≡ Some (Panes (codes "f") (pos 60000) two_workers)
 option_in_two_words_before_the_end = refl
 
-dashed_file_after_the_end : asked (codes "panes" ∷ codes "--" ∷ codes "-f" ∷ codes "60000" ∷ []) ≡ Some (Panes (codes "-f") (pos 60000) defaults)
+dashed_file_after_the_end :
+    asked (codes "panes" ∷ codes "--" ∷ codes "-f" ∷ codes "60000" ∷ []) ≡ Some (Panes (codes "-f") (pos 60000) defaults)
 dashed_file_after_the_end = refl
 
 third_positional_word : asked (codes "panes" ∷ codes "f" ∷ codes "60000" ∷ codes "--" ∷ codes "x" ∷ []) ≡ None
