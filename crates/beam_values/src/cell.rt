@@ -39,6 +39,16 @@ pub struct Entry {
     pub shown: bool,
 }
 
+impl Duplicate for Entry {
+    fn duplicate(&self, alloc: Global) -> Result<Entry, NoMemory> {
+        Ok(Entry {
+            element: self.element.copy(alloc)?,
+            commit: self.commit,
+            shown: self.shown,
+        })
+    }
+}
+
 /// What a Group has of one key and window.
 #[derive(Debug, Drop)]
 pub struct Cell {
@@ -54,10 +64,34 @@ pub struct Cell {
     pub merged_into: Option<Span>,
 }
 
+impl Duplicate for Cell {
+    fn duplicate(&self, alloc: Global) -> Result<Cell, NoMemory> {
+        Ok(Cell {
+            node: self.node,
+            key: self.key.copy(alloc)?,
+            span: self.span,
+            entries: self.entries.duplicate(alloc)?,
+            next_index: self.next_index,
+            on_time: self.on_time,
+            merged_into: self.merged_into,
+        })
+    }
+}
+
 /// An element that came too late for its window, and the commit that brought it.
 #[derive(Debug, Drop)]
 pub struct Dropped {
     pub node: u32,
     pub element: Element,
     pub commit: u32,
+}
+
+impl Duplicate for Dropped {
+    fn duplicate(&self, alloc: Global) -> Result<Dropped, NoMemory> {
+        Ok(Dropped {
+            node: self.node,
+            element: self.element.copy(alloc)?,
+            commit: self.commit,
+        })
+    }
 }

@@ -28,7 +28,7 @@ use Rattle.beam_model.specs.Panes.{Taken, GroupRules, rules_of, is_sessions, tak
 use Rattle.beam_model.specs.Sessions.{is_keyed}
 use Rattle.session_merge.proofs.Lists.{all_first, contains_filter}
 use Rattle.group_cells.specs.Rounds.{is_in_time, entry_of, IsRound}
-use Rattle.group_cells.specs.Commits.{SeenGroups, is_at_group, arrives_in_time, is_dropped, dropped_arrival, elements_keyed, cells_keyed, HasLength, HasGap, HaveGaps, NoneFalls, NeverFalls, as_commit, KeepsLegal, AreRounds}
+use Rattle.group_cells.specs.Commits.{SeenGroups, is_at_group, arrives_in_time, is_dropped, dropped_arrival, elements_keyed, cells_keyed, HasLength, HasGap, HaveGaps, NeverFalls, as_commit, KeepsLegal, AreRounds}
 use Rattle.group_cells.proofs.KeyCells.{taken_keyed}
 use Rattle.group_cells.proofs.LegalRounds.{round_history, round_cells}
 use Rattle.group_cells.proofs.LongerMarks.{marks_stay, mark_before, mark_then, marks_rise, size_until, size_longer, panes_ordered}

@@ -18,3 +18,15 @@ pub mod PositiveGaps
 pub mod AllKeys
 pub mod KeptGaps
 pub mod FirstCommit
+mod PlacedKeys
+mod PlacedCells
+mod PlacedInTurn
+mod FiredGroups
+mod FiredNodes
+mod FiredInTurn
+mod RisenMarks
+mod PlainRounds
+mod PlainPlacing
+mod WindowSessions
+mod FiredPanes
+mod Writes

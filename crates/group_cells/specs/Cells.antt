@@ -1,5 +1,5 @@
 -- What the cells of one Group and key fire after a commit (The Dataflow Model, triggers; Beam Programming Guide, Window accumulation modes).
-use Rattle.std.specs.Prelude.{◌≡◌, ℕ, ◌+◌, ℤ, Bool, true, not, ◌&&◌, ◌||◌, if◌then◌else◌, List, [], map, count_by, Option, Some, None, IsSome}
+use Rattle.std.specs.Prelude.{◌≡◌, ℕ, ◌+◌, ℤ, Bool, true, not, ◌&&◌, ◌||◌, if◌then◌else◌, List, map, count_by, Option, Some, None}
 use Rattle.std.specs.List.{All, filter, list_any}
 use Rattle.std.specs.Option.{is_some}
 use Rattle.beam_values.specs.Firing.{firing}

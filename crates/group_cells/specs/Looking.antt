@@ -1,5 +1,5 @@
 -- What is found in the cells: the place of a cell, and the least moment at which a cell of a node is due.
-use Rattle.std.specs.Prelude.{◌≡◌, ℕ, ℤ, ◌≤ℤ◌, Bool, true, ◌&&◌, ◌==◌, List, if◌then◌else◌, position, Option, Some, None, IsSome, MatchOption}
+use Rattle.std.specs.Prelude.{◌≡◌, ℕ, ℤ, ◌≤ℤ◌, Bool, ◌&&◌, List, if◌then◌else◌, position, Option, Some, None, MatchOption}
 use Rattle.std.specs.List.{All, Any}
 use Rattle.beam_values.specs.Intervals.{Interval}
 use Rattle.beam_values.specs.Spans.{same_span}

@@ -1,6 +1,6 @@
 -- Where the entries of a commit go among the cells of one Group and key (The Dataflow Model, window merging; Beam Programming Guide, Session windows,
 -- Handling late data). Only windows that stand take entries; where windows merge, those that aren't expired give way to the session in which they lie.
-use Rattle.std.specs.Prelude.{◌≡◌, ℕ, ℤ, Bool, true, false, not, ◌&&◌, if◌then◌else◌, bytes_eq, List, [], ◌∷◌, ◌++◌, map, Option, Some, None, fold}
+use Rattle.std.specs.Prelude.{ℕ, ℤ, Bool, true, false, not, ◌&&◌, if◌then◌else◌, bytes_eq, List, [], ◌∷◌, ◌++◌, map, Option, Some, None, fold}
 use Rattle.std.specs.List.{list_any, flat_map}
 use Rattle.beam_values.specs.Firing.{is_expired}
 use Rattle.beam_values.specs.Intervals.{Interval}
@@ -8,7 +8,6 @@ use Rattle.beam_values.specs.Spans.{same_span, lies_in}
 use Rattle.beam_values.specs.Spelling.{spelling}
 use Rattle.beam_values.specs.declared.cell.Cell.{Cell}
 use Rattle.beam_values.specs.declared.cell.Entry.{Entry}
-use Rattle.beam_values.specs.declared.element.Element.{Element}
 use Rattle.beam_values.specs.declared.value.Value.{Value}
 use Rattle.beam_model.specs.Panes.{GroupRules, belongs, taken_entry}
 

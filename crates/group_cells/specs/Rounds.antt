@@ -1,5 +1,5 @@
 -- One commit of one Group and key: which arrivals are dropped, where the others go, and what fires.
-use Rattle.std.specs.Prelude.{◌≡◌, ℕ, ℤ, Bool, true, false, not, ◌&&◌, List, [], ◌++◌, map, Contains, ◌↔◌}
+use Rattle.std.specs.Prelude.{◌≡◌, ℕ, ℤ, Bool, true, false, not, ◌&&◌, List, ◌++◌, map, Contains, ◌↔◌}
 use Rattle.std.specs.List.{All, Any, filter}
 use Rattle.beam_values.specs.Firing.{is_expired}
 use Rattle.beam_values.specs.Intervals.{Interval}

@@ -1,8 +1,17 @@
 //! The cells of Groups: which entries each window of a key has, which windows merge, and which panes fire,
 //! commit by commit (The Dataflow Model, windowing and triggers; Beam Programming Guide, Triggers).
 //!
-//! [`laws`] says that commits that go by `specs/Rounds.antt`, Group by Group and key by key, keep panes,
-//! cells and dropped elements legal by `beam_model::specs::Panes`.
+//! What a commit does to one Group and key is `IsRound` of `specs/Rounds.antt`, and what it promises is
+//! `KeepsLegal` and `IsCommitted` of `specs/Commits.antt`. [`PlainGroups`] does it with the cells in a plain
+//! list, searched from the front and copied at each commit: only comparisons use it. [`laws`] says that
+//! commits that go by rounds, Group by Group and key by key, keep panes, cells and dropped elements legal
+//! by `beam_model::specs::Panes`. Read `firing.rt` and `plain.rt` first.
 #![tactic(auto)]
 
+mod firing;
 pub mod laws;
+mod plain;
+mod rules;
+mod windows;
+
+pub use plain::PlainGroups;

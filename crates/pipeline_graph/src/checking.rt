@@ -1,7 +1,7 @@
 ghost use Rattle.std.specs.Prelude.{◌≡◌, ◌≤◌, [], length, nat_lt, None, IfOk, IfErr, OnOk, OnErr};
 ghost use Rattle.std.specs.List.{list_all, list_any};
 ghost use Rattle.beam_values.specs.Checked.{IsChecked, file_count, files_of_kind, graph_refusal, has_input, is_write_in, node_refusal, nodes_refusal};
-ghost use Rattle.beam_values.specs.Nodes.{facts_of, is_write_kind, with_facts};
+ghost use Rattle.beam_values.specs.Nodes.{facts_of, is_write_kind};
 ghost use Rattle.pipeline_graph.specs.Settings.{is_set_after};
 ghost use Rattle.pipeline_graph.specs.Refusals.{IsFirst};
 
@@ -11,9 +11,10 @@ use crate::settings::{
     is_estimator_allowed, is_function_allowed, is_source_allowed, is_strategy_allowed,
     is_trigger_allowed,
 };
-use crate::strategies::{NodeFacts, agrees, facts_after, first_strategy, is_kept};
+use crate::strategies::{agrees, is_kept};
 use beam_values::{GraphRefusal, List, NoMemory, Node, NodeKind, Plan};
 use std::alloc::Global;
+use windowing::{NodeFacts, add_facts};
 
 /// The greatest number of nodes of a plan.
 pub const MOST_NODES: usize = 64;
@@ -62,13 +63,6 @@ fn check_nodes(alloc: Global, nodes: &[Node]) -> Result<List<NodeFacts>, CheckRe
         files += file_count(&node.kind);
     }
     Ok(facts)
-}
-
-fn add_facts(facts: &mut List<NodeFacts>, node: &Node) -> Result<(), NoMemory>
-    ensures { OnOk result (facts.new ≡ with_facts facts.old node.now) }
-{
-    let above = first_strategy(facts.as_slice(), node.inputs.as_slice());
-    facts.push(facts_after(&node.kind, above))
 }
 
 // The first rule that a node breaks after those before it, of which these facts are known and which read

@@ -7,10 +7,10 @@ ghost use Rattle.pipeline_graph.specs.Refusals.{IsFirst};
 use crate::checking::check_plan;
 use crate::followers::index_followers;
 use crate::refusal::CheckRefusal;
-use crate::strategies::NodeFacts;
 use beam_values::{Duplicate, List, NoMemory, Plan, Strategy};
 use std::alloc::Global;
 use std::marker::Model;
+use windowing::NodeFacts;
 
 /// A plan that breaks no rule of a pipeline. Contracts see the plan.
 #[derive(Debug, Drop)]

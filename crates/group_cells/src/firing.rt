@@ -1,0 +1,207 @@
+//! What one cell fires. A pane is built before anything is changed, so want of memory leaves a cell
+//! as it was.
+
+ghost use Rattle.std.specs.Prelude.{◌≡◌, ℕ, ◌+◌, ◌<◌, ◌^◌, map, option_to_list, IsSome, IfOk, OnOk, OnErr};
+ghost use Rattle.std.specs.List.Sorted.{IsSorted};
+ghost use Rattle.beam_values.specs.Bags.{IsSameBag};
+ghost use Rattle.beam_values.specs.Grouping.{part_of, pane_as};
+ghost use Rattle.beam_values.specs.Orders.{value_cmp};
+ghost use Rattle.beam_model.specs.Panes.{is_on_time, taken_entry, IsFiredAs, IsPaneOf};
+ghost use Rattle.group_cells.specs.Cells.{after_firing, entries_held, firing_of, shown, unseen_in};
+ghost use Rattle.group_cells.specs.Firings.{is_held};
+ghost use Rattle.pane_triggers.specs.Fires.{timing_of};
+
+use crate::rules::Rules;
+use beam_values::{
+    Boxed, Cell, Element, Entry, List, Mark, Mode, NoMemory, Pane, PaneTag, Span, Timing, Value,
+    cmp_values, last_time, part_of,
+};
+use pane_triggers::{Fire, fire};
+use std::alloc::Global;
+use std::mem;
+
+/// How many entries no pane has shown.
+pub fn unseen(entries: &[Entry]) -> u64
+    ensures { result ≡ unseen_in entries.now }
+{
+    let mut count = 0;
+    for entry in entries {
+        if !entry.shown {
+            count += 1;
+        }
+    }
+    count
+}
+
+/// The timing of the pane that a cell fires at a mark, if it fires one. Takes no memory.
+pub fn firing_of(rules: &Rules, mark: Mark, cell: &Cell) -> Option<Timing>
+    ensures { result ≡ firing_of rules.now mark cell.now }
+{
+    match cell.merged_into {
+        Some(_) => None,
+        None => timing_of(fire(
+            &rules.trigger,
+            cell.span.end(),
+            mark,
+            cell.on_time,
+            unseen(cell.entries.as_slice()),
+        )),
+    }
+}
+
+fn timing_of(answer: Fire) -> Option<Timing>
+    ensures { result ≡ timing_of answer }
+{
+    match answer {
+        Fire::Nothing => None,
+        Fire::Early => Some(Timing::Early),
+        Fire::OnTime => Some(Timing::OnTime),
+        Fire::Late => Some(Timing::Late),
+    }
+}
+
+/// The pane that a cell fires at a mark, if it fires one. The cell isn't changed: `set_fired` does that.
+pub fn pane_of(
+    alloc: Global,
+    rules: &Rules,
+    commit: u32,
+    mark: Mark,
+    cell: &Cell,
+) -> Result<Option<Pane>, NoMemory>
+    ensures pane { IfOk result (λ pane. IsFiredAs cell.now.node cell.now.key commit cell.now.span cell.now.next_index
+        (map (taken_entry cell.now.node) (entries_held rules.now.trigger.mode cell.now.entries)) (firing_of rules.now mark cell.now) (option_to_list pane)) }
+    // A count of panes at its end is answered as want of memory.
+    ensures counted { IfOk result (λ pane. IsSome (firing_of rules.now mark cell.now) → cell.now.next_index + 1 < 2 ^ 32) }
+{
+    match firing_of(rules, mark, cell) {
+        None => Ok(None),
+        Some(timing) => Ok(Some(pane_with(alloc, rules.trigger.mode, commit, timing, cell)?)),
+    }
+}
+
+/// What a cell keeps of a pane that it fires at this mark: all its entries are shown. Takes no memory.
+pub fn set_fired(alloc: Global, rules: &Rules, mark: Mark, cell: &mut Cell)
+    requires { IsSome (firing_of rules.now mark cell.old) → cell.old.next_index + 1 < 2 ^ 32 }
+    ensures { cell.new ≡ after_firing rules.now mark cell.old }
+{
+    if let Some(timing) = firing_of(rules, mark, cell) {
+        show_all(alloc, &mut cell.entries);
+        cell.next_index += 1;
+        cell.on_time = cell.on_time || is_on_time(timing);
+    }
+}
+
+/// A cell fires at a mark, or doesn't.
+pub fn fire_cell(
+    alloc: Global,
+    rules: &Rules,
+    commit: u32,
+    mark: Mark,
+    cell: &mut Cell,
+) -> Result<Option<Pane>, NoMemory>
+    ensures cell { OnOk result (cell.new ≡ after_firing rules.now mark cell.old) }
+    ensures pane { IfOk result (λ pane. IsFiredAs cell.old.node cell.old.key commit cell.old.span cell.old.next_index
+        (map (taken_entry cell.old.node) (entries_held rules.now.trigger.mode cell.old.entries)) (firing_of rules.now mark cell.old) (option_to_list pane)) }
+    ensures err { OnErr result (cell.new ≡ cell.old) }
+{
+    let pane = pane_of(alloc, rules, commit, mark, cell)?;
+    set_fired(alloc, rules, mark, cell);
+    Ok(pane)
+}
+
+// The next pane of a cell.
+fn pane_with(
+    alloc: Global,
+    mode: Mode,
+    commit: u32,
+    timing: Timing,
+    cell: &Cell,
+) -> Result<Pane, NoMemory>
+    ensures pane { IfOk result (λ pane. IsPaneOf cell.now.node cell.now.key commit cell.now.span timing cell.now.next_index
+        (map (taken_entry cell.now.node) (entries_held mode cell.now.entries)) pane) }
+    ensures counted { OnOk result (cell.now.next_index + 1 < 2 ^ 32) }
+{
+    if cell.next_index == u32::MAX {
+        return Err(NoMemory);
+    }
+    let parts = parts_of(alloc, mode, cell.entries.as_slice())?;
+    let tag = PaneTag {
+        timing,
+        index: cell.next_index,
+    };
+    Ok(Pane {
+        node: cell.node,
+        element: pane_as(alloc, tag, &cell.key, cell.span, parts)?,
+        commit,
+    })
+}
+
+fn pane_as(
+    alloc: Global,
+    tag: PaneTag,
+    key: &Value,
+    span: Span,
+    parts: List<Value>,
+) -> Result<Element, NoMemory>
+    ensures { IfOk result (λ element. element ≡ pane_as tag key.now span parts) }
+{
+    let key = Boxed::new(alloc, key.copy(alloc)?)?;
+    let parts = Boxed::new(alloc, Value::Seq(parts))?;
+    Ok(Element {
+        value: Value::Pair(key, parts),
+        time: last_time(span),
+        span,
+        pane: tag,
+    })
+}
+
+// The parts of the entries that a pane holds, ascending by their spellings.
+fn parts_of(alloc: Global, mode: Mode, entries: &[Entry]) -> Result<List<Value>, NoMemory>
+    ensures ascending { IfOk result (IsSorted value_cmp) }
+    ensures those { IfOk result (λ parts. IsSameBag parts (map (λ entry. part_of entry.element) (entries_held mode entries.now))) }
+{
+    let mut parts = copy_parts(alloc, mode, entries)?;
+    parts.sort_by(|a, b| cmp_values(a, b))?;
+    Ok(List::from_vec(parts))
+}
+
+fn copy_parts(alloc: Global, mode: Mode, entries: &[Entry]) -> Result<Vec<Value>, NoMemory>
+    ensures { IfOk result (λ parts. parts.items ≡ map (λ entry. part_of entry.element) (entries_held mode entries.now)) }
+{
+    let mut parts = Vec::new(alloc);
+    for entry in entries {
+        if is_held(mode, entry) {
+            parts.push(part_of(&entry.element).copy(alloc)?)?;
+        }
+    }
+    Ok(parts)
+}
+
+fn is_held(mode: Mode, entry: &Entry) -> bool
+    ensures { result ≡ is_held mode entry.now }
+{
+    match mode {
+        Mode::Discarding => !entry.shown,
+        Mode::Accumulating => true,
+    }
+}
+
+fn is_on_time(timing: Timing) -> bool
+    ensures { result ≡ is_on_time timing }
+{
+    match timing {
+        Timing::OnTime => true,
+        Timing::Early | Timing::Late | Timing::Unknown => false,
+    }
+}
+
+// The entries are marked where they lie: a list gives its own place away and takes it back.
+fn show_all(alloc: Global, entries: &mut List<Entry>)
+    ensures { entries.new ≡ map shown entries.old }
+{
+    let mut items = mem::replace(entries, List::new(alloc)).into_vec();
+    for entry in items.iter_mut() {
+        entry.shown = true;
+    }
+    *entries = List::from_vec(items);
+}

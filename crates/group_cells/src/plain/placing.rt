@@ -1,0 +1,256 @@
+//! Where the entries of one Group and key go.
+
+ghost use Rattle.std.specs.Prelude.{◌≡◌, ◌++◌, ◌<◌, length, map, if◌then◌else◌, slice_index_or, slice_set, IfOk, OnOk, MatchOption};
+ghost use Rattle.std.specs.List.{flat_map, list_any};
+ghost use Rattle.beam_values.specs.Spans.{lies_in, same_span};
+ghost use Rattle.beam_values.specs.declared.cell.Cell.{Cell as CellOf};
+ghost use Rattle.group_cells.specs.Placing.{gives_way, is_absorbed, with_entry};
+ghost use Rattle.group_cells.specs.Plain.{ArePlacedAt, handed_over_at, once_opened_at, opened_all_at, opened_at, opening_of, put_all_at, put_at, stands_at, takes_at};
+ghost use Rattle.group_cells.specs.Rounds.{entry_of};
+
+use crate::rules::Rules;
+use crate::windows::{is_cell_at_key, windows_for};
+use beam_values::{Cell, Element, Entry, List, Mark, NoMemory, Span, Value};
+use pane_triggers::is_dropped;
+use std::alloc::Global;
+use std::mem;
+
+/// Places the entries of one Group and key: there are cells for their windows first.
+pub fn place_key(
+    alloc: Global,
+    rules: &Rules,
+    before: Mark,
+    node: u32,
+    key: &Value,
+    commit: u32,
+    own: List<Element>,
+    cells: &mut Vec<Cell>,
+) -> Result<(), NoMemory>
+    ensures { OnOk result (ArePlacedAt rules.now before node key.now commit own cells.old.items cells.new.items) }
+{
+    let spans = own_spans(alloc, own.as_slice())?;
+    let windows = windows_for(
+        alloc,
+        rules,
+        before,
+        node,
+        key,
+        spans.as_slice(),
+        cells.as_slice(),
+    )?;
+    open_all(alloc, rules, before, node, key, windows.as_slice(), cells)?;
+    put_all(rules, node, key, commit, own, cells)
+}
+
+fn own_spans(alloc: Global, own: &[Element]) -> Result<List<Span>, NoMemory>
+    ensures { IfOk result (λ spans. spans ≡ map (λ e. e.span) own.now) }
+{
+    let mut spans = List::new(alloc);
+    for element in own {
+        spans.push(element.span)?;
+    }
+    Ok(spans)
+}
+
+fn open_all(
+    alloc: Global,
+    rules: &Rules,
+    before: Mark,
+    node: u32,
+    key: &Value,
+    windows: &[Span],
+    cells: &mut Vec<Cell>,
+) -> Result<(), NoMemory>
+    ensures { OnOk result (cells.new.items ≡ opened_all_at rules.now before node (map (opening_of key.now) windows.now) cells.old.items) }
+{
+    for span in windows {
+        open(alloc, rules, before, node, key, *span, cells)?;
+    }
+    Ok(())
+}
+
+// A cell for a window, where none stands: it takes the entries of those that give way to it.
+fn open(
+    alloc: Global,
+    rules: &Rules,
+    before: Mark,
+    node: u32,
+    key: &Value,
+    span: Span,
+    cells: &mut Vec<Cell>,
+) -> Result<(), NoMemory>
+    ensures { OnOk result (cells.new.items ≡ opened_at rules.now before node cells.old.items (opening_of key.now span)) }
+{
+    if has_standing(node, key, span, cells.as_slice()) {
+        return Ok(());
+    }
+    let entries = hand_all_over(alloc, rules, before, node, key, span, cells)?;
+    cells.push(Cell {
+        node,
+        key: key.copy(alloc)?,
+        span,
+        entries,
+        next_index: 0,
+        on_time: false,
+        merged_into: None,
+    })?;
+    Ok(())
+}
+
+fn has_standing(node: u32, key: &Value, span: Span, cells: &[Cell]) -> bool
+    ensures { result ≡ list_any (stands_at node key.now span) cells.now }
+{
+    cells.iter().any(|cell| stands_at(node, key, span, cell))
+}
+
+fn stands_at(node: u32, key: &Value, span: Span, cell: &Cell) -> bool
+    ensures { result ≡ stands_at node key.now span cell.now }
+{
+    is_cell_at_key(node, key, cell) && cell.merged_into.is_none() && is_same_span(cell.span, span)
+}
+
+fn hand_all_over(
+    alloc: Global,
+    rules: &Rules,
+    before: Mark,
+    node: u32,
+    key: &Value,
+    span: Span,
+    cells: &mut Vec<Cell>,
+) -> Result<List<Entry>, NoMemory>
+    ensures cells { OnOk result (cells.new.items ≡ map (once_opened_at rules.now before node (opening_of key.now span)) cells.old.items) }
+    ensures entries { IfOk result (λ entries. entries ≡ flat_map (handed_over_at rules.now before node (opening_of key.now span)) cells.old.items) }
+{
+    let mut entries = List::new(alloc);
+    for cell in cells.iter_mut() {
+        hand_over(alloc, rules, before, node, key, span, cell, &mut entries)?;
+    }
+    Ok(entries)
+}
+
+fn hand_over(
+    alloc: Global,
+    rules: &Rules,
+    before: Mark,
+    node: u32,
+    key: &Value,
+    span: Span,
+    cell: &mut Cell,
+    entries: &mut List<Entry>,
+) -> Result<(), NoMemory>
+    ensures cell { OnOk result (cell.new ≡ once_opened_at rules.now before node (opening_of key.now span) cell.old) }
+    ensures entries { OnOk result (entries.new ≡ entries.old ++ handed_over_at rules.now before node (opening_of key.now span) cell.old) }
+{
+    if !is_cell_at_key(node, key, cell) {
+        return Ok(());
+    }
+    if !gives_way(rules, before, span, cell) {
+        return Ok(());
+    }
+    entries.append(mem::replace(&mut cell.entries, List::new(alloc)))?;
+    cell.merged_into = Some(span);
+    Ok(())
+}
+
+fn gives_way(rules: &Rules, before: Mark, session: Span, cell: &Cell) -> bool
+    ensures { result ≡ gives_way rules.now before session cell.now }
+{
+    cell.merged_into.is_none() && is_absorbed(rules, before, session, cell.span)
+}
+
+fn is_absorbed(rules: &Rules, before: Mark, session: Span, span: Span) -> bool
+    ensures { result ≡ is_absorbed rules.now before session span }
+{
+    if !rules.merges {
+        return false;
+    }
+    if is_dropped(&rules.trigger, span.end(), before) {
+        return false;
+    }
+    lies_in(span, session) && !is_same_span(span, session)
+}
+
+fn put_all(
+    rules: &Rules,
+    node: u32,
+    key: &Value,
+    commit: u32,
+    own: List<Element>,
+    cells: &mut Vec<Cell>,
+) -> Result<(), NoMemory>
+    ensures { OnOk result (cells.new.items ≡ put_all_at rules.now node key.now (map (entry_of commit) own) cells.old.items) }
+{
+    for element in own.into_vec() {
+        let entry = Entry {
+            element,
+            commit,
+            shown: false,
+        };
+        put(rules, node, key, entry, cells)?;
+    }
+    Ok(())
+}
+
+// An entry goes to the first cell that takes it.
+fn put(
+    rules: &Rules,
+    node: u32,
+    key: &Value,
+    entry: Entry,
+    cells: &mut Vec<Cell>,
+) -> Result<(), NoMemory>
+    ensures { OnOk result (cells.new.items ≡ put_at rules.now node key.now entry cells.old.items) }
+{
+    match taker(rules, node, key, &entry, cells.as_slice()) {
+        None => Ok(()),
+        Some(at) => {
+            let cell = &mut cells[at];
+            cell.entries.push(entry)
+        }
+    }
+}
+
+// Where the first cell stands that takes an entry.
+fn taker(rules: &Rules, node: u32, key: &Value, entry: &Entry, cells: &[Cell]) -> Option<usize>
+    ensures { MatchOption result (put_at rules.now node key.now entry.now cells.now ≡ cells.now)
+        (λ at. (at < length cells.now) × ((d : CellOf) → put_at rules.now node key.now entry.now cells.now
+        ≡ slice_set cells.now at (with_entry entry.now (slice_index_or cells.now at d)))) }
+{
+    for (at, cell) in cells.iter().enumerate() {
+        if takes_at(rules, node, key, entry, cell) {
+            return Some(at);
+        }
+    }
+    None
+}
+
+fn takes_at(rules: &Rules, node: u32, key: &Value, entry: &Entry, cell: &Cell) -> bool
+    ensures { result ≡ takes_at rules.now node key.now entry.now cell.now }
+{
+    is_cell_at_key(node, key, cell)
+        && cell.merged_into.is_none()
+        && belongs(rules, cell.span, entry.element.span)
+}
+
+// An element belongs to the window that is its own; where windows merge, to each in which its own lies.
+fn belongs(rules: &Rules, span: Span, own: Span) -> bool
+    ensures { result ≡ (if rules.now.merges then lies_in own span else same_span own span) }
+{
+    if rules.merges {
+        lies_in(own, span)
+    } else {
+        is_same_span(own, span)
+    }
+}
+
+fn is_same_span(a: Span, b: Span) -> bool
+    ensures { result ≡ same_span a b }
+{
+    a.start() == b.start() && a.end() == b.end()
+}
+
+fn lies_in(inner: Span, outer: Span) -> bool
+    ensures { result ≡ lies_in inner outer }
+{
+    outer.start() <= inner.start() && inner.end() <= outer.end()
+}

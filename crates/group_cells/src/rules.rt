@@ -1,0 +1,93 @@
+ghost use Rattle.std.specs.Prelude.{◌≡◌};
+ghost use Rattle.beam_values.specs.Nodes.{facts_of, is_group, is_group_kind};
+ghost use Rattle.beam_model.specs.Panes.{is_sessions, rules_of, trigger_in, trigger_of};
+ghost use Rattle.beam_model.specs.Plans.{default_trigger};
+
+use beam_values::{Mode, Node, NodeKind, Plan, Strategy, Trigger};
+use std::marker::Model;
+use windowing::{NodeFacts, facts_at};
+
+/// The rules of a Group: whether its windows merge, and its trigger.
+#[derive(Debug, Drop)]
+pub struct Rules {
+    pub merges: bool,
+    pub trigger: Trigger,
+}
+
+impl Model for Rules {
+    ghost use Rattle.beam_model.specs.Panes.{GroupRules};
+
+    ghost Value = { GroupRules };
+
+    ghost view = { λ r. record { merges = r.merges; trigger = r.trigger } };
+
+    ghost inverse = { λ r. record { merges = r.merges; trigger = r.trigger } };
+}
+
+/// The rules of a node, where `facts` is known of all nodes. Takes no memory.
+pub fn rules_of(plan: &Plan, facts: &[NodeFacts], node: u32) -> Rules
+    requires { facts.now ≡ facts_of plan.now.nodes }
+    ensures { result ≡ rules_of plan.now node }
+{
+    Rules {
+        merges: is_sessions(facts_at(facts, node).strategy),
+        trigger: trigger_of(plan, node),
+    }
+}
+
+/// Whether a node is a Group.
+pub fn is_group(plan: &Plan, node: u32) -> bool
+    ensures { result ≡ is_group plan.now node }
+{
+    match plan.nodes.get(node as usize) {
+        None => false,
+        Some(found) => is_group_kind(found),
+    }
+}
+
+fn is_group_kind(node: &Node) -> bool
+    ensures { result ≡ is_group_kind node.now.kind }
+{
+    matches!(node.kind, NodeKind::Group { .. })
+}
+
+fn is_sessions(strategy: Strategy) -> bool
+    ensures { result ≡ is_sessions strategy }
+{
+    matches!(strategy, Strategy::Sessions { .. })
+}
+
+// A node that isn't a Group counts as one with the default trigger.
+fn trigger_of(plan: &Plan, node: u32) -> Trigger
+    ensures { result ≡ trigger_of plan.now node }
+{
+    match plan.nodes.get(node as usize) {
+        None => default_trigger(),
+        Some(found) => trigger_in(&found.kind),
+    }
+}
+
+fn trigger_in(kind: &NodeKind) -> Trigger
+    ensures { result ≡ trigger_in kind.now }
+{
+    match kind {
+        NodeKind::Group { trigger } => Trigger {
+            early: trigger.early,
+            late: trigger.late,
+            lateness: trigger.lateness,
+            mode: trigger.mode,
+        },
+        _ => default_trigger(),
+    }
+}
+
+fn default_trigger() -> Trigger
+    ensures { result ≡ default_trigger }
+{
+    Trigger {
+        early: None,
+        late: 1,
+        lateness: 0,
+        mode: Mode::Discarding,
+    }
+}
