@@ -1,3 +1,5 @@
+mod Alike
+mod Arriving
 pub mod Counting
 pub mod WindowTests
 pub mod StandingWindows
@@ -29,4 +31,14 @@ mod PlainRounds
 mod PlainPlacing
 mod WindowSessions
 mod FiredPanes
+mod FireSteps
+mod Advancing
+mod AllArrived
+mod Indexing
+mod Looking
+mod LoopSteps
+mod Projecting
+mod Taking
+mod Undoing
+mod Unmerged
 mod Writes

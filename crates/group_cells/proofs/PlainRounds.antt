@@ -100,7 +100,7 @@ timely plan before node e = is_in_time (rules_of plan node) (marks_at before nod
 abbrev elem : Arrival → Element
 elem arrival = arrival.element
 
-in_time_keyed : (plan : Plan) (before : List StageMarks) (node : ℕ) (key : Value) (arrivals : List Arrival) → is_group plan node ≡ true
+pub in_time_keyed : (plan : Plan) (before : List StageMarks) (node : ℕ) (key : Value) (arrivals : List Arrival) → is_group plan node ≡ true
     → elements_keyed node key (filter (is_taken plan before) arrivals) ≡ filter (is_in_time (rules_of plan node) (marks_at before node).mark_in) (elements_keyed node key arrivals)
 in_time_keyed plan before node key [] group = refl
 in_time_keyed plan before node key (a ∷ arrivals) group =

@@ -4,4 +4,10 @@ pub mod Firings
 pub mod Rounds
 pub mod Commits
 pub mod Looking
+pub mod Indexes
+pub mod Arrivals
+pub mod Undoing
 pub mod Plain
+pub mod FiredCopies
+pub mod Drafts
+pub mod NextDue

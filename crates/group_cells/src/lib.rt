@@ -2,16 +2,21 @@
 //! commit by commit (The Dataflow Model, windowing and triggers; Beam Programming Guide, Triggers).
 //!
 //! What a commit does to one Group and key is `IsRound` of `specs/Rounds.antt`, and what it promises is
-//! `KeepsLegal` and `IsCommitted` of `specs/Commits.antt`. [`PlainGroups`] does it with the cells in a plain
-//! list, searched from the front and copied at each commit: only comparisons use it. [`laws`] says that
-//! commits that go by rounds, Group by Group and key by key, keep panes, cells and dropped elements legal
-//! by `beam_model::specs::Panes`. Read `firing.rt` and `plain.rt` first.
+//! `KeepsLegal` and `IsCommitted` of `specs/Commits.antt`. [`Groups`] keeps the cells in the order of their
+//! making and finds them by an index; one that finds no memory undoes what it did. [`PlainGroups`] keeps
+//! them in a plain list, searched from the front and copied at each commit: only comparisons use it. The
+//! layer above may rely on these contracts alone.
+//!
+//! [`laws`] says that commits that go by rounds, Group by Group and key by key, keep panes, cells and
+//! dropped elements legal by `beam_model::specs::Panes`. Read `firing.rt`, `plain.rt` and `groups.rt` first.
 #![tactic(auto)]
 
 mod firing;
+mod groups;
 pub mod laws;
 mod plain;
 mod rules;
 mod windows;
 
+pub use groups::Groups;
 pub use plain::PlainGroups;

@@ -10,10 +10,10 @@ ghost use Rattle.group_cells.specs.Commits.{HasGap, IsCommitted, KeepsLegal, Non
 ghost use Rattle.group_cells.specs.Plain.{AreCellsNext};
 ghost use Rattle.watermarks.specs.Holds.{hold_at};
 
-mod arrivals;
-mod keys;
-mod nodes;
-mod placing;
+pub mod arrivals;
+pub mod keys;
+pub mod nodes;
+pub mod placing;
 #[cfg(test)]
 mod tests;
 

@@ -58,7 +58,7 @@ fn is_sessions(strategy: Strategy) -> bool
 }
 
 // A node that isn't a Group counts as one with the default trigger.
-fn trigger_of(plan: &Plan, node: u32) -> Trigger
+pub fn trigger_of(plan: &Plan, node: u32) -> Trigger
     ensures { result ≡ trigger_of plan.now node }
 {
     match plan.nodes.get(node as usize) {

@@ -74,7 +74,7 @@ pub fn others_of(
     Ok(others)
 }
 
-fn is_taken(plan: &Plan, facts: &[NodeFacts], before: &[StageMarks], arrival: &Arrival) -> bool
+pub fn is_taken(plan: &Plan, facts: &[NodeFacts], before: &[StageMarks], arrival: &Arrival) -> bool
     requires { facts.now ≡ facts_of plan.now.nodes }
     ensures { result ≡ is_taken plan.now before.now arrival.now }
 {

@@ -97,7 +97,7 @@ fn fire_if_group(
 }
 
 // The lesser of a hold and those of some panes.
-fn least_with(before: &[StageMarks], hold: Mark, fired: &[Pane]) -> Mark
+pub fn least_with(before: &[StageMarks], hold: Mark, fired: &[Pane]) -> Mark
     ensures { result ≡ int_min hold (least_mark (map (λ pane. (pane_hold before.now pane).mark) fired.now)) }
 {
     let mut least = Mark::FINAL;
@@ -167,7 +167,7 @@ fn fire_cells(
 }
 
 // A cell of the node fires, or doesn't; one of another node doesn't.
-fn fire_at(
+pub fn fire_at(
     alloc: Global,
     rules: &Rules,
     node: u32,
@@ -185,7 +185,7 @@ fn fire_at(
     }
 }
 
-fn push_if(panes: &mut Vec<Pane>, pane: Option<Pane>) -> Result<(), NoMemory>
+pub fn push_if(panes: &mut Vec<Pane>, pane: Option<Pane>) -> Result<(), NoMemory>
     ensures { OnOk result (panes.new.items ≡ panes.old.items ++ option_to_list pane) }
 {
     if let Some(pane) = pane {
@@ -195,7 +195,7 @@ fn push_if(panes: &mut Vec<Pane>, pane: Option<Pane>) -> Result<(), NoMemory>
 }
 
 // By commit, node, key and window.
-fn cmp_panes(a: &Pane, b: &Pane) -> Ordering
+pub fn cmp_panes(a: &Pane, b: &Pane) -> Ordering
     ensures { result ≡ pane_cmp a.now b.now }
 {
     match a.commit.cmp(&b.commit) {

@@ -42,7 +42,7 @@ pub fn place_key(
     put_all(rules, node, key, commit, own, cells)
 }
 
-fn own_spans(alloc: Global, own: &[Element]) -> Result<List<Span>, NoMemory>
+pub fn own_spans(alloc: Global, own: &[Element]) -> Result<List<Span>, NoMemory>
     ensures { IfOk result (λ spans. spans ≡ map (λ e. e.span) own.now) }
 {
     let mut spans = List::new(alloc);
@@ -97,7 +97,7 @@ fn open(
     Ok(())
 }
 
-fn has_standing(node: u32, key: &Value, span: Span, cells: &[Cell]) -> bool
+pub fn has_standing(node: u32, key: &Value, span: Span, cells: &[Cell]) -> bool
     ensures { result ≡ list_any (stands_at node key.now span) cells.now }
 {
     cells.iter().any(|cell| stands_at(node, key, span, cell))
@@ -152,7 +152,7 @@ fn hand_over(
     Ok(())
 }
 
-fn gives_way(rules: &Rules, before: Mark, session: Span, cell: &Cell) -> bool
+pub fn gives_way(rules: &Rules, before: Mark, session: Span, cell: &Cell) -> bool
     ensures { result ≡ gives_way rules.now before session cell.now }
 {
     cell.merged_into.is_none() && is_absorbed(rules, before, session, cell.span)
@@ -211,7 +211,7 @@ fn put(
 }
 
 // Where the first cell stands that takes an entry.
-fn taker(rules: &Rules, node: u32, key: &Value, entry: &Entry, cells: &[Cell]) -> Option<usize>
+pub fn taker(rules: &Rules, node: u32, key: &Value, entry: &Entry, cells: &[Cell]) -> Option<usize>
     ensures { MatchOption result (put_at rules.now node key.now entry.now cells.now ≡ cells.now)
         (λ at. (at < length cells.now) × ((d : CellOf) → put_at rules.now node key.now entry.now cells.now
         ≡ slice_set cells.now at (with_entry entry.now (slice_index_or cells.now at d)))) }
@@ -243,7 +243,7 @@ fn belongs(rules: &Rules, span: Span, own: Span) -> bool
     }
 }
 
-fn is_same_span(a: Span, b: Span) -> bool
+pub fn is_same_span(a: Span, b: Span) -> bool
     ensures { result ≡ same_span a b }
 {
     a.start() == b.start() && a.end() == b.end()

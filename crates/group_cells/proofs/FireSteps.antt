@@ -1,0 +1,41 @@
+-- One cell after another fires where it lies.
+use Rattle.std.proofs.Common.{◌≡◌, ℕ, ◌+◌, ◌<◌, ℤ, List, [], ◌∷◌, ◌++◌, length, get_or, take, drop, map, Option, Some, refl, sym, ap, ◌∙◌, arith, subst, length-append, length-take, length-drop}
+use Rattle.std.proofs.Math.ListN.{set}
+use Rattle.std.proofs.lemmas.List.{length-map}
+use Rattle.std.specs.Prelude.{option_to_list, slice_get, slice_set}
+use Rattle.std.proofs.lemmas.Option.{get_or_from_slice_get}
+use Rattle.beam_values.specs.declared.cell.Cell.{Cell}
+use Rattle.beam_values.specs.declared.cell.Pane.{Pane}
+use Rattle.beam_model.specs.Panes.{GroupRules}
+use Rattle.group_cells.specs.Plain.{after_node, AreFired, FiresAs}
+use Rattle.group_cells.proofs.FiredGroups.{fired_more}
+use Rattle.group_cells.proofs.Taking.{with_cell}
+use Rattle.group_cells.proofs.Undoing.{set_back}
+use Rattle.group_cells.proofs.Writes.{written, written_more, take_written}
+
+pub read_is : (cells : List Cell) (place : ℕ) (r cell : Cell) → r ≡ get_or cells place r → slice_get cells place ≡ Some cell → r ≡ cell
+read_is cells place r cell is found = is ∙ get_or_from_slice_get cells place cell r found
+
+pub unfired_cells : (f : Cell → Cell) (cells : List Cell) (place : ℕ) (r cell : Cell) → r ≡ get_or cells place r → slice_get cells place ≡ Some cell → f r ≡ r → cells ≡ slice_set cells place (f cell)
+unfired_cells f cells place r cell is found same =
+    let here = read_is cells place r cell is found in
+    sym (ap (set cells place) (ap f (sym here) ∙ same ∙ here) ∙ set_back cells place cell found)
+
+pub fired_step : (rules : GroupRules) (node c : ℕ) (mark : ℤ) (xs items new : List Cell) (i : ℕ) (panes after : List Pane) (pane : Option Pane) → i < length items
+    → items ≡ written (after_node rules node mark) xs i → AreFired rules node c mark (take i xs) panes
+    → ((cell : Cell) → slice_get items i ≡ Some cell → new ≡ slice_set items i (after_node rules node mark cell))
+    → ((cell : Cell) → slice_get items i ≡ Some cell → FiresAs rules node c mark cell (option_to_list pane))
+    → after ≡ panes ++ option_to_list pane
+    → (new ≡ written (after_node rules node mark) xs (i + 1)) × AreFired rules node c mark (take (i + 1) xs) after
+fired_step rules node c mark xs items new i panes after pane within inv fired made fires pushed = with_cell items i within (λ cell found.
+    let f = after_node rules node mark in
+    let is : cell ≡ get_or items i cell = sym (get_or_from_slice_get items i cell cell found) in (
+      made cell found ∙ written_more f xs items i cell (f cell) within inv is refl,
+      subst (λ (l : List Cell). AreFired rules node c mark l after) (take_written f xs items i cell within inv is)
+          (subst (λ (l : List Pane). AreFired rules node c mark (take i xs ++ cell ∷ []) l) (sym pushed)
+          (fired_more rules node c mark (take i xs) panes cell (option_to_list pane) fired (fires cell found))),
+    ))
+
+pub still_within : (f : Cell → Cell) (xs items : List Cell) (i : ℕ) → i < length xs → items ≡ written f xs i → i < length items
+still_within f xs items i within is =
+    omega (arith, ap length is, length-append (map f (take i xs)) (drop i xs), length-map (take i xs) f, length-take i xs, length-drop i xs)

@@ -1,0 +1,8 @@
+use Rattle.std.proofs.Common.{ap, ◌∙◌}
+use Rattle.group_cells.specs.Commits.{SeenGroups}
+use Rattle.group_cells.specs.Looking.{place_of}
+use Rattle.group_cells.proofs.groups.Groups.place.Goals as goal
+
+pub returns : goal.returns
+returns c =
+    c.place_among.ensures ∙ ap (place_of c.args.node c.args.key.now c.args.span) (c.as_slice.ensures.value ∙ ap (λ (g : SeenGroups). g.cells) c.self.view_is)

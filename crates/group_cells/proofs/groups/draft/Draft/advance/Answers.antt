@@ -1,0 +1,52 @@
+use Rattle.std.proofs.Common.{◌≡◌, List, Vec, Global, ap, subst, sym, true, ◌∙◌}
+use Rattle.std.specs.List.{All}
+use Rattle.beam_values.specs.Nodes.{is_group}
+use Rattle.beam_values.specs.declared.arrival.Arrival.{Arrival}
+use Rattle.beam_values.specs.declared.cell.Cell.{Cell}
+use Rattle.beam_values.specs.declared.marks.StageMarks.{StageMarks}
+use Rattle.watermarks.specs.Holds.{hold_at}
+use Rattle.group_cells.specs.Arrivals.{with_arrivals}
+use Rattle.group_cells.specs.Plain.{AreCellsNext}
+use Rattle.group_cells.proofs.AllArrived.{all_placed, all_stand, joined}
+use Rattle.group_cells.proofs.Advancing.{index_moved, later_at_groups, stand_fired}
+use Rattle.group_cells.proofs.groups.draft.Draft.advance.Goals as goal
+
+pub place_later-requires-clause-groups : goal.place_later-requires-clause-groups
+place_later-requires-clause-groups c =
+    subst (λ (l : List Arrival). All (λ arrival. is_group c.args.plan.now arrival.node ≡ true) l) (sym c.in_ok-later.ensures)
+    (later_at_groups c.args.plan.now c.args.before.now c.args.arrivals.now)
+
+pub returns-clause-cells : goal.returns-clause-cells
+returns-clause-cells c =
+    let plan = c.args.plan.now in
+    let before = c.args.before.now in
+    let arrivals = c.args.arrivals.now in
+    let old = c.args.self.now.cells.items in
+    let placed = c.place_later.new.self.cells.items in
+    let from : c.place_all.new.self.cells.items ≡ with_arrivals plan before c.args.commit old arrivals =
+    c.in_ok-place_all.ensures.ok ∙ ap (λ (v : Vec Cell Global). with_arrivals plan before c.args.commit v.items arrivals) c.prepare.ensures.others.0 in
+    let all = joined plan before c.args.commit arrivals c.in_ok-later.later old c.place_all.new.self.cells.items placed c.in_ok-later.ensures from c.in_ok-place_later.ensures.ok in
+    subst (λ (m : List StageMarks). AreCellsNext plan before (hold_at c.args.holds.now) c.args.commit arrivals old c.fire_all.new.self.cells.items m c.in_ok-fired.fired) (sym c.from_vec.ensures)
+    (record {
+      placed = placed;
+      places = all_placed plan before c.args.commit arrivals old placed c.requires.stand all;
+      fires = c.in_ok-fired.ensures.fired;
+    })
+
+pub returns-clause-stand : goal.returns-clause-stand
+returns-clause-stand c =
+    let plan = c.args.plan.now in
+    let before = c.args.before.now in
+    let arrivals = c.args.arrivals.now in
+    let old = c.args.self.now.cells.items in
+    let placed = c.place_later.new.self.cells.items in
+    let from : c.place_all.new.self.cells.items ≡ with_arrivals plan before c.args.commit old arrivals =
+    c.in_ok-place_all.ensures.ok ∙ ap (λ (v : Vec Cell Global). with_arrivals plan before c.args.commit v.items arrivals) c.prepare.ensures.others.0 in
+    let all = joined plan before c.args.commit arrivals c.in_ok-later.later old c.place_all.new.self.cells.items placed c.in_ok-later.ensures from c.in_ok-place_later.ensures.ok in
+    stand_fired plan before (hold_at c.args.holds.now) c.args.commit placed c.fire_all.new.self.cells.items c.fire_all.new.marks.items c.in_ok-fired.fired
+    (all_stand plan before c.args.commit arrivals old placed c.requires.stand all) c.in_ok-fired.ensures.fired
+
+pub returns-clause-indexed : goal.returns-clause-indexed
+returns-clause-indexed c =
+    index_moved c.place_later.new.self.index c.fire_all.new.self.index c.place_later.new.self.cells.items c.fire_all.new.self.cells.items c.fire_all.ensures.others.0
+    c.in_ok-fired.ensures.fired.places c.in_ok-place_later.ensures.indexed

@@ -1,0 +1,12 @@
+use Rattle.std.proofs.Common.{◌≡◌, vec_len}
+use Rattle.group_cells.specs.Undoing.{undone_all}
+use Rattle.group_cells.proofs.groups.draft.Draft.undo_all.Given as goal
+
+abbrev pub invariant-loop-change : goal.invariant-loop-change
+invariant-loop-change l = record {
+  cells : undone_all l.self.changes.items l.self.cells.items ≡ undone_all l.fn.self.changes.items l.fn.self.cells.items;
+  dropped : l.self.dropped.items ≡ l.fn.self.dropped.items;
+}
+
+abbrev pub decreases-loop-change : goal.decreases-loop-change
+decreases-loop-change l = vec_len l.self.changes

@@ -1,0 +1,6 @@
+use Rattle.std.proofs.Common.{◌≡◌, None, take}
+use Rattle.group_cells.specs.Looking.{place_of}
+use Rattle.group_cells.proofs.groups.looking.place_among.Given as goal
+
+abbrev pub invariant-loop-at : goal.invariant-loop-at
+invariant-loop-at l = place_of l.node l.key l.span (take l.at l.cells) ≡ None

@@ -1,0 +1,17 @@
+-- What holds of the cells of Groups between commits.
+use Rattle.std.specs.Prelude.{◌≡◌, ◌<◌, ◌^◌, Bool, true, [], length}
+use Rattle.beam_values.specs.declared.plan.Plan.{Plan}
+use Rattle.group_cells.specs.Arrivals.{UnmergedStand}
+use Rattle.group_cells.specs.Indexes.{IsIndexOf}
+use Rattle.group_cells.specs.Plain.{AreCells}
+use Rattle.group_cells.specs.declared.groups.draft.Draft.{Draft}
+
+pub record IsSettled (plan : Plan) (draft : Draft) (indexed : Bool) : Type 0 where
+  pub cells : AreCells plan draft.cells.items
+  pub stand : UnmergedStand plan draft.cells.items
+  -- the index is whole, unless a commit was refused
+  pub index : indexed ≡ true → IsIndexOf draft.index draft.cells.items
+  -- a place is a number of 32 bits
+  pub small : length draft.cells.items < 2 ^ 32
+  -- nothing is left to undo
+  pub changes : draft.changes.items ≡ []

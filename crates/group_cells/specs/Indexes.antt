@@ -1,0 +1,25 @@
+-- How cells are found: an ordered map from node, window and key to a place among the cells.
+use Rattle.std.specs.Prelude.{◌≡◌, ℕ, ◌≤◌, List, count_by}
+use Rattle.std.specs.BTreeMap as tree
+use Rattle.std.specs.Ordering.{on, then_cmp, nat_cmp}
+use Rattle.std.specs.declared.cmp.Ordering.{Ordering}
+use Rattle.beam_values.specs.Cells.{span_cmp}
+use Rattle.beam_values.specs.Intervals.{Interval}
+use Rattle.beam_values.specs.Orders.{value_cmp}
+use Rattle.beam_values.specs.declared.cell.Cell.{Cell}
+use Rattle.beam_values.specs.declared.value.Value.{Value}
+use Rattle.group_cells.specs.Looking.{is_cell_of, place_of}
+use Rattle.group_cells.specs.declared.groups.index.CellIndex.{CellIndex}
+use Rattle.group_cells.specs.declared.groups.index.CellKey.{CellKey}
+
+-- by node, window and the bytes that spell the key: most cells of a node differ by their windows or in the first bytes of their keys
+abbrev pub cell_key_cmp : CellKey → CellKey → Ordering
+cell_key_cmp = then_cmp (on (λ k. k.node) nat_cmp) (then_cmp (on (λ k. k.span) span_cmp) (on (λ k. k.key) value_cmp))
+
+-- the map has the place of each cell that there is, and nothing else
+pub record IsIndexOf (index : CellIndex) (cells : List Cell) : Type 0 where
+  pub finds : (q : CellKey) → tree.get cell_key_cmp index.places q ≡ place_of q.node q.key q.span cells
+
+-- no two cells are of one node, key and window
+pub record AreOnce (cells : List Cell) : Type 0 where
+  pub each : (node : ℕ) (key : Value) (span : Interval) → count_by (is_cell_of node key span) cells ≤ 1

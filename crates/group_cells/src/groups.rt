@@ -1,0 +1,168 @@
+//! The cells of all Groups in the order in which they were made, found by index.
+
+ghost use Rattle.std.specs.Prelude.{◌≡◌, ℕ, ℤ, [], length, All, IfOk, OnOk, OnErr};
+ghost use Rattle.beam_values.specs.Checked.{IsChecked};
+ghost use Rattle.beam_values.specs.Marks.{AreMarks};
+ghost use Rattle.group_cells.specs.Commits.{HasGap, IsCommitted, KeepsLegal, NoneFalls, RisesFrom};
+ghost use Rattle.group_cells.specs.Looking.{IsNextDue, place_of};
+ghost use Rattle.watermarks.specs.Holds.{hold_at};
+
+mod advance;
+mod draft;
+mod firing;
+mod index;
+mod looking;
+mod placing;
+mod sessions;
+
+use crate::groups::advance::Next;
+use crate::groups::draft::Draft;
+use crate::groups::index::{CellIndex, CellKey};
+use crate::groups::looking::{next_due, place_among};
+use beam_values::{
+    Arrival, Cell, Dropped, List, Mark, NoMemory, Pane, Plan, Span, StageMarks, Value,
+};
+use std::alloc::Global;
+use std::marker::Model;
+
+/// The cells of all Groups of a plan, and the elements that they dropped.
+#[derive(Debug, Drop)]
+pub struct Groups {
+    plan: Plan,
+    draft: Draft,
+    /// Whether the index is whole: a commit that is refused leaves it for the next one to make anew.
+    indexed: bool,
+    alloc: Global,
+}
+
+impl Model for Groups {
+    ghost use Rattle.std.specs.Coded.{codes};
+    ghost use Rattle.beam_values.specs.contracts.value.Value as values;
+    ghost use Rattle.group_cells.specs.Commits.{SeenGroups};
+    ghost use Rattle.group_cells.specs.Drafts.{IsSettled};
+
+    ghost Value = { SeenGroups };
+
+    ghost coded = { Prim.hlevel (codes, values.the_row.coded) };
+
+    ghost view = { λ g. record { plan = g.plan; cells = g.draft.cells.items; dropped = g.draft.dropped.items } };
+
+    ghost invariant = { λ g. IsSettled g.plan g.draft g.indexed };
+}
+
+impl Groups {
+    /// No cell, and nothing dropped.
+    pub fn new(alloc: Global, plan: &Plan) -> Result<Groups, NoMemory>
+        requires { IsChecked plan.now }
+        ensures { IfOk result (λ groups. groups ≡ record { plan = plan.now; cells = []; dropped = [] }) }
+    {
+        Ok(Groups {
+            plan: plan.copy(alloc)?,
+            draft: Draft {
+                cells: Vec::new(alloc),
+                dropped: Vec::new(alloc),
+                index: CellIndex::new(alloc),
+                changes: Vec::new(alloc),
+            },
+            indexed: true,
+            alloc,
+        })
+    }
+
+    /// One commit of all Groups, in the order of the nodes: arrivals are tested against the marks before
+    /// it; then the marks of each node are computed from its inputs and `holds`, the least hold of each
+    /// node without the panes that fire now, and the cells of each Group fire at the mark into it. The
+    /// panes answered wait, and hold their Groups back. Takes the arrivals at Groups out of the list,
+    /// and leaves the others. After a refusal nothing is changed.
+    pub fn commit(
+        &mut self,
+        plan: &Plan,
+        arrivals: &mut List<Arrival>,
+        holds: &[Mark],
+        marks: &mut [StageMarks],
+        commit: u32,
+    ) -> Result<List<Pane>, NoMemory>
+        requires plan { self.old.plan ≡ plan.now }
+        requires checked { IsChecked plan.now }
+        requires holds { length holds.now ≡ length plan.now.nodes }
+        requires marks { length marks.old ≡ length plan.now.nodes }
+        requires gaps { All (HasGap plan.now) arrivals.old }
+        requires rises { RisesFrom plan.now (hold_at holds.now) marks.old }
+        ensures legal { IfOk result (KeepsLegal plan.now commit marks.old marks.new self.old self.new) }
+        ensures committed { IfOk result (IsCommitted plan.now commit marks.old marks.new (hold_at holds.now) arrivals.old arrivals.new self.old self.new) }
+        ensures rises { OnOk result ((held : ℕ → ℤ) → AreMarks plan.now held marks.old → NoneFalls marks.old marks.new) }
+        ensures err { OnErr result ((self.new ≡ self.old) × (marks.new ≡ marks.old) × (arrivals.new ≡ arrivals.old)) }
+    {
+        let indexed = self.indexed;
+        self.indexed = false;
+        let next = self.draft.commit(
+            self.alloc,
+            plan,
+            arrivals.as_slice(),
+            holds,
+            marks,
+            commit,
+            indexed,
+        )?;
+        self.indexed = true;
+        let Next {
+            others,
+            marks: after,
+            fired,
+        } = next;
+        *arrivals = others;
+        marks.copy_from_slice(after.as_slice());
+        Ok(fired)
+    }
+
+    pub fn cells(&self) -> &[Cell]
+        ensures { result.now ≡ self.now.cells }
+    {
+        self.draft.cells.as_slice()
+    }
+
+    pub fn dropped(&self) -> &[Dropped]
+        ensures { result.now ≡ self.now.dropped }
+    {
+        self.draft.dropped.as_slice()
+    }
+
+    /// The place of the cell of a node, key and window, found by index.
+    pub fn place(&self, node: u32, key: &Value, span: Span) -> Option<u32>
+        ensures { result ≡ place_of node key.now span self.now.cells }
+    {
+        if self.indexed {
+            if let Ok(key) = key.copy(self.alloc) {
+                return self.draft.index.find(&CellKey { node, span, key });
+            }
+        }
+        place_among(node, key, span, self.draft.cells.as_slice())
+    }
+
+    /// The least mark at which a cell of the node is due.
+    pub fn next_due(&self, node: u32) -> Option<i64>
+        ensures { IsNextDue self.now.plan node self.now.cells result }
+    {
+        next_due(&self.plan, node, self.draft.cells.as_slice())
+    }
+
+    /// Gives both lists away. Takes no memory.
+    pub fn into_lists(self) -> (List<Cell>, List<Dropped>)
+        ensures cells { result.0 ≡ self.cells }
+        ensures dropped { result.1 ≡ self.dropped }
+    {
+        let Groups {
+            plan: _,
+            draft,
+            indexed: _,
+            alloc: _,
+        } = self;
+        let Draft {
+            cells,
+            dropped,
+            index: _,
+            changes: _,
+        } = draft;
+        (List::from_vec(cells), List::from_vec(dropped))
+    }
+}

@@ -1,0 +1,157 @@
+ghost use Rattle.std.specs.Prelude.{◌≡◌, [], ◌++◌, ◌<◌, ◌^◌, true, false, length, map, not, take, IfOk, OnOk, OnErr};
+ghost use Rattle.std.specs.List.{filter};
+ghost use Rattle.beam_values.specs.Checked.{IsChecked};
+ghost use Rattle.beam_values.specs.Nodes.{facts_of};
+ghost use Rattle.group_cells.specs.Arrivals.{merging, UnmergedStand};
+ghost use Rattle.group_cells.specs.Commits.{dropped_arrival, is_at_group, is_dropped};
+ghost use Rattle.group_cells.specs.Indexes.{IsIndexOf};
+ghost use Rattle.group_cells.specs.Plain.{AreAllPlaced, AreCellsNext};
+ghost use Rattle.group_cells.specs.Undoing.{undone_all};
+ghost use Rattle.watermarks.specs.Holds.{hold_at};
+
+use crate::groups::draft::Draft;
+use crate::groups::index::CellIndex;
+use crate::groups::placing::Commit;
+use crate::plain::arrivals::{is_taken, others_of};
+use crate::rules::rules_of;
+use beam_values::{Arrival, Duplicate, List, Mark, NoMemory, Pane, Plan, StageMarks};
+use std::alloc::Global;
+use windowing::{NodeFacts, facts_of};
+
+/// What a commit answers beside the cells.
+#[derive(Debug, Drop)]
+pub struct Next {
+    /// The arrivals at other nodes.
+    pub others: List<Arrival>,
+    pub marks: List<StageMarks>,
+    pub fired: List<Pane>,
+}
+
+impl Draft {
+    /// One commit. `indexed` says whether the index is whole; after a refusal it isn't.
+    pub fn commit(
+        &mut self,
+        alloc: Global,
+        plan: &Plan,
+        arrivals: &[Arrival],
+        holds: &[Mark],
+        before: &[StageMarks],
+        commit: u32,
+        indexed: bool,
+    ) -> Result<Next, NoMemory>
+        requires checked { IsChecked plan.now }
+        requires holds { length holds.now ≡ length plan.now.nodes }
+        requires marks { length before.now ≡ length plan.now.nodes }
+        requires indexed { indexed ≡ true → IsIndexOf self.old.index self.old.cells.items }
+        requires stand { UnmergedStand plan.now self.old.cells.items }
+        requires changes { self.old.changes.items ≡ [] }
+        ensures cells { IfOk result (λ next. AreCellsNext plan.now before.now (hold_at holds.now) commit arrivals.now self.old.cells.items self.new.cells.items next.marks next.fired) }
+        ensures stand { OnOk result (UnmergedStand plan.now self.new.cells.items) }
+        ensures indexed { OnOk result (IsIndexOf self.new.index self.new.cells.items) }
+        ensures small { OnOk result (length self.new.cells.items < 2 ^ 32) }
+        ensures dropped { OnOk result (self.new.dropped.items ≡ self.old.dropped.items ++ map (dropped_arrival commit) (filter (is_dropped plan.now before.now) arrivals.now)) }
+        ensures others { IfOk result (λ next. next.others ≡ filter (λ arrival. not (is_at_group plan.now arrival)) arrivals.now) }
+        ensures changes { self.new.changes.items ≡ [] }
+        ensures err { OnErr result ((self.new.cells.items ≡ self.old.cells.items) × (self.new.dropped.items ≡ self.old.dropped.items)) }
+    {
+        let kept = self.dropped.len();
+        match self.advance(alloc, plan, arrivals, holds, before, commit, indexed) {
+            Ok(next) => {
+                self.changes.clear();
+                Ok(next)
+            }
+            Err(refusal) => {
+                self.undo_all(kept);
+                Err(refusal)
+            }
+        }
+    }
+
+    fn advance(
+        &mut self,
+        alloc: Global,
+        plan: &Plan,
+        arrivals: &[Arrival],
+        holds: &[Mark],
+        before: &[StageMarks],
+        commit: u32,
+        indexed: bool,
+    ) -> Result<Next, NoMemory>
+        requires checked { IsChecked plan.now }
+        requires holds { length holds.now ≡ length plan.now.nodes }
+        requires marks { length before.now ≡ length plan.now.nodes }
+        requires indexed { indexed ≡ true → IsIndexOf self.old.index self.old.cells.items }
+        requires stand { UnmergedStand plan.now self.old.cells.items }
+        ensures cells { IfOk result (λ next. AreCellsNext plan.now before.now (hold_at holds.now) commit arrivals.now self.old.cells.items self.new.cells.items next.marks next.fired) }
+        ensures stand { OnOk result (UnmergedStand plan.now self.new.cells.items) }
+        ensures indexed { OnOk result (IsIndexOf self.new.index self.new.cells.items) }
+        ensures small { OnOk result (length self.new.cells.items < 2 ^ 32) }
+        ensures dropped { OnOk result (self.new.dropped.items ≡ self.old.dropped.items ++ map (dropped_arrival commit) (filter (is_dropped plan.now before.now) arrivals.now)) }
+        ensures others { IfOk result (λ next. next.others ≡ filter (λ arrival. not (is_at_group plan.now arrival)) arrivals.now) }
+        ensures kept { take (length self.old.dropped.items) self.new.dropped.items ≡ self.old.dropped.items }
+        ensures undo { undone_all self.new.changes.items self.new.cells.items ≡ undone_all self.old.changes.items self.old.cells.items }
+    {
+        self.prepare(alloc, indexed)?;
+        let facts = facts_of(alloc, plan.nodes.as_slice())?;
+        let facts = facts.as_slice();
+        let others = others_of(alloc, plan, arrivals)?;
+        let later = merging_of(alloc, plan, facts, before, arrivals)?;
+        let mut marks = Vec::from_slice(alloc, before)?;
+        let known = Commit {
+            plan,
+            facts,
+            before,
+            number: commit,
+        };
+        self.place_all(alloc, known, arrivals)?;
+        self.place_later(alloc, known, later)?;
+        let fired = self.fire_all(alloc, plan, facts, before, holds, commit, &mut marks)?;
+        if self.cells.len() > u32::MAX as usize {
+            return Err(NoMemory);
+        }
+        Ok(Next {
+            others,
+            marks: List::from_vec(marks),
+            fired,
+        })
+    }
+
+    /// Makes the index anew where it isn't whole.
+    fn prepare(&mut self, alloc: Global, indexed: bool) -> Result<(), NoMemory>
+        requires { indexed ≡ true → IsIndexOf self.old.index self.old.cells.items }
+        ensures indexed { OnOk result (IsIndexOf self.new.index self.new.cells.items) }
+        ensures others { (self.new.cells ≡ self.old.cells) × (self.new.dropped ≡ self.old.dropped) × (self.new.changes ≡ self.old.changes) }
+    {
+        if !indexed {
+            self.index = CellIndex::of(alloc, self.cells.as_slice())?;
+        }
+        Ok(())
+    }
+}
+
+/// Copies of the arrivals in time at Groups whose windows merge.
+fn merging_of(
+    alloc: Global,
+    plan: &Plan,
+    facts: &[NodeFacts],
+    before: &[StageMarks],
+    arrivals: &[Arrival],
+) -> Result<List<Arrival>, NoMemory>
+    requires { facts.now ≡ facts_of plan.now.nodes }
+    ensures { IfOk result (λ later. later ≡ filter (merging plan.now before.now) arrivals.now) }
+{
+    let mut later = List::new(alloc);
+    for arrival in arrivals {
+        if is_merging(plan, facts, before, arrival) {
+            later.push(arrival.duplicate(alloc)?)?;
+        }
+    }
+    Ok(later)
+}
+
+fn is_merging(plan: &Plan, facts: &[NodeFacts], before: &[StageMarks], arrival: &Arrival) -> bool
+    requires { facts.now ≡ facts_of plan.now.nodes }
+    ensures { result ≡ merging plan.now before.now arrival.now }
+{
+    is_taken(plan, facts, before, arrival) && rules_of(plan, facts, arrival.node).merges
+}

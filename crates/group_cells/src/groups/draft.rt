@@ -1,0 +1,169 @@
+ghost use Rattle.std.specs.Prelude.{◌≡◌, ◌<◌, ◌∷◌, [], ◌++◌, List as ListOf, Some, length, slice_get, slice_set, OnOk, OnErr, IfOk, None, take};
+ghost use Rattle.beam_values.specs.Grouping.{key_of};
+ghost use Rattle.beam_values.specs.declared.cell.Cell.{Cell as CellOf};
+ghost use Rattle.group_cells.specs.Arrivals.{arrived};
+ghost use Rattle.group_cells.specs.Indexes.{IsIndexOf};
+ghost use Rattle.group_cells.specs.Looking.{place_of};
+ghost use Rattle.group_cells.specs.Placing.{fresh_cell, with_entry};
+ghost use Rattle.group_cells.specs.Undoing.{undone, undone_all, without_last};
+
+use crate::groups::index::{CellIndex, CellKey};
+use beam_values::{Cell, Dropped, Entry, List, NoMemory, copy_key};
+use std::alloc::Global;
+
+/// A change of the cells.
+#[derive(Debug, Drop)]
+pub enum Change {
+    /// A cell was put behind the others.
+    Opened,
+    /// The cell at this place took an entry.
+    Put(u32),
+    /// The cell at this place was this one.
+    Replaced(u32, Cell),
+    /// All cells were these.
+    Whole(Vec<Cell>),
+}
+
+/// The cells as they are changed by a commit.
+#[derive(Debug, Drop)]
+pub struct Draft {
+    /// In the order in which they were made.
+    pub cells: Vec<Cell>,
+    pub dropped: Vec<Dropped>,
+    pub index: CellIndex,
+    /// What this commit did so far, by which it is undone where memory is refused.
+    pub changes: Vec<Change>,
+}
+
+/// Where a cell has its place, an entry goes to it.
+fn put_at(cells: &mut Vec<Cell>, place: u32, entry: Entry) -> Result<(), NoMemory>
+    requires { place < length cells.old.items }
+    ensures ok { OnOk result ((cell : CellOf) → slice_get cells.old.items place ≡ Some cell → cells.new.items ≡ slice_set cells.old.items place (with_entry entry cell)) }
+    ensures err { OnErr result (cells.new.items ≡ cells.old.items) }
+{
+    let cell = &mut cells[place as usize];
+    cell.entries.push(entry)?;
+    Ok(())
+}
+
+/// Takes the last entry of the cell away.
+fn take_last(cells: &mut Vec<Cell>, place: u32)
+    requires { place < length cells.old.items }
+    ensures { (cell : CellOf) → slice_get cells.old.items place ≡ Some cell → cells.new.items ≡ slice_set cells.old.items place (without_last cell) }
+{
+    let cell = &mut cells[place as usize];
+    let kept = cell.entries.len().saturating_sub(1);
+    cell.entries.truncate(kept);
+}
+
+fn undo(cells: &mut Vec<Cell>, change: Change)
+    ensures { cells.new.items ≡ undone change cells.old.items }
+{
+    match change {
+        Change::Opened => {
+            let _ = cells.pop();
+        }
+        Change::Put(place) => {
+            if (place as usize) < cells.len() {
+                take_last(cells, place);
+            }
+        }
+        Change::Replaced(place, cell) => {
+            if (place as usize) < cells.len() {
+                cells[place as usize] = cell;
+            }
+        }
+        Change::Whole(was) => {
+            *cells = was;
+        }
+    }
+}
+
+impl Draft {
+    /// Undoes all changes, the last one first.
+    pub fn undo_all(&mut self, dropped: usize)
+        ensures cells { self.new.cells.items ≡ undone_all self.old.changes.items self.old.cells.items }
+        ensures dropped { self.new.dropped.items ≡ take dropped self.old.dropped.items }
+        ensures changes { self.new.changes.items ≡ [] }
+    {
+        while let Some(change) = self.changes.pop() {
+            undo(&mut self.cells, change);
+        }
+        self.dropped.truncate(dropped);
+    }
+
+    /// The cell at a place takes an entry.
+    pub fn put(&mut self, place: u32, entry: Entry) -> Result<(), NoMemory>
+        requires { place < length self.old.cells.items }
+        ensures ok { OnOk result ((cell : CellOf) → slice_get self.old.cells.items place ≡ Some cell → self.new.cells.items ≡ slice_set self.old.cells.items place (with_entry entry cell)) }
+        ensures others { (self.new.index ≡ self.old.index) × (self.new.dropped ≡ self.old.dropped) }
+        ensures undo { undone_all self.new.changes.items self.new.cells.items ≡ undone_all self.old.changes.items self.old.cells.items }
+    {
+        self.changes.reserve(1)?;
+        put_at(&mut self.cells, place, entry)?;
+        self.changes.push_reserved(Change::Put(place));
+        Ok(())
+    }
+
+    /// Puts a cell behind the others.
+    fn open(&mut self, key: CellKey, cell: Cell) -> Result<(), NoMemory>
+        requires { (cell.node ≡ key.node) × (cell.key ≡ key.key) × (cell.span ≡ key.span) }
+        ensures ok { OnOk result (self.new.cells.items ≡ self.old.cells.items ++ cell ∷ []) }
+        ensures indexed { OnOk result (IsIndexOf self.old.index self.old.cells.items → place_of key.node key.key key.span self.old.cells.items ≡ None
+            → IsIndexOf self.new.index self.new.cells.items) }
+        ensures dropped { self.new.dropped ≡ self.old.dropped }
+        ensures undo { undone_all self.new.changes.items self.new.cells.items ≡ undone_all self.old.changes.items self.old.cells.items }
+    {
+        let place = u32::try_from(self.cells.len()).map_err(|_| NoMemory)?;
+        self.changes.reserve(1)?;
+        self.index.add(key, place)?;
+        self.cells.push(cell)?;
+        self.changes.push_reserved(Change::Opened);
+        Ok(())
+    }
+
+    /// The cell of the entry's window takes it; where there is none, a new one does.
+    pub fn take(&mut self, alloc: Global, node: u32, entry: Entry) -> Result<(), NoMemory>
+        requires { IsIndexOf self.old.index self.old.cells.items }
+        ensures ok { OnOk result (self.new.cells.items ≡ arrived node (key_of entry.element) entry.element.span entry self.old.cells.items) }
+        ensures indexed { OnOk result (IsIndexOf self.new.index self.new.cells.items) }
+        ensures dropped { self.new.dropped ≡ self.old.dropped }
+        ensures undo { undone_all self.new.changes.items self.new.cells.items ≡ undone_all self.old.changes.items self.old.cells.items }
+    {
+        let key = cell_key(alloc, node, &entry)?;
+        match self.index.find(&key) {
+            Some(place) => self.put(place, entry),
+            None => {
+                let cell = first_cell(alloc, &key, entry)?;
+                self.open(key, cell)
+            }
+        }
+    }
+}
+
+fn cell_key(alloc: Global, node: u32, entry: &Entry) -> Result<CellKey, NoMemory>
+    ensures { IfOk result (λ key. key ≡ record { node = node; span = entry.now.element.span; key = key_of entry.now.element }) }
+{
+    Ok(CellKey {
+        node,
+        span: entry.element.span,
+        key: copy_key(alloc, &entry.element)?,
+    })
+}
+
+/// A new cell with its first entry.
+fn first_cell(alloc: Global, key: &CellKey, entry: Entry) -> Result<Cell, NoMemory>
+    ensures { IfOk result (λ cell. cell ≡ fresh_cell key.now.node key.now.key key.now.span (entry ∷ [])) }
+{
+    let mut entries = List::new(alloc);
+    entries.push(entry)?;
+    Ok(Cell {
+        node: key.node,
+        key: key.key.copy(alloc)?,
+        span: key.span,
+        entries,
+        next_index: 0,
+        on_time: false,
+        merged_into: None,
+    })
+}

@@ -1,0 +1,214 @@
+ghost use Rattle.std.specs.Prelude.{◌≡◌, ◌++◌, ◌<◌, Some, None, [], true, false, length, map, option_to_list, slice_get, slice_set, IfOk, OnOk};
+ghost use Rattle.std.specs.Option.{is_some};
+ghost use Rattle.beam_values.specs.Checked.{IsChecked};
+ghost use Rattle.beam_values.specs.Nodes.{facts_of, is_group};
+ghost use Rattle.beam_values.specs.declared.cell.Cell.{Cell as CellOf};
+ghost use Rattle.beam_model.specs.Panes.{rules_of};
+ghost use Rattle.group_cells.specs.Plain.{after_node, AreFired, AreGroupFired, AreNodesFired, FiresAs, firing_at, IsNodeDone};
+ghost use Rattle.group_cells.specs.FiredCopies.{IsFiredCopy};
+ghost use Rattle.group_cells.specs.Undoing.{undone_all};
+ghost use Rattle.watermarks.specs.Holds.{hold_at};
+
+use crate::firing::firing_of;
+use crate::groups::draft::{Change, Draft};
+use crate::plain::nodes::{cmp_panes, fire_at, least_with, push_if};
+use crate::rules::{Rules, is_group, rules_of};
+use beam_values::{Cell, Duplicate, List, Mark, NoMemory, Pane, Plan, StageMarks};
+use std::alloc::Global;
+use std::mem;
+use watermarks::marks_of_node;
+use windowing::NodeFacts;
+
+impl Draft {
+    /// Writes the marks of all nodes, and fires the cells of each Group at the mark into it.
+    pub fn fire_all(
+        &mut self,
+        alloc: Global,
+        plan: &Plan,
+        facts: &[NodeFacts],
+        before: &[StageMarks],
+        holds: &[Mark],
+        commit: u32,
+        marks: &mut Vec<StageMarks>,
+    ) -> Result<List<Pane>, NoMemory>
+        requires checked { IsChecked plan.now }
+        requires facts { facts.now ≡ facts_of plan.now.nodes }
+        requires holds { length holds.now ≡ length plan.now.nodes }
+        requires marks { length marks.old.items ≡ length plan.now.nodes }
+        ensures fired { IfOk result (AreNodesFired plan.now before.now (hold_at holds.now) commit self.old.cells.items self.new.cells.items marks.new.items) }
+        ensures others { (self.new.index ≡ self.old.index) × (self.new.dropped ≡ self.old.dropped) }
+        ensures undo { undone_all self.new.changes.items self.new.cells.items ≡ undone_all self.old.changes.items self.old.cells.items }
+    {
+        let mut fired = List::new(alloc);
+        for (n, hold) in holds.iter().enumerate() {
+            let panes = self.fire_node(alloc, plan, facts, before, commit, n as u32, *hold, marks)?;
+            fired.append(panes)?;
+        }
+        Ok(fired)
+    }
+
+    // The marks of one node, where those of lower ones are written, and what it fires.
+    fn fire_node(
+        &mut self,
+        alloc: Global,
+        plan: &Plan,
+        facts: &[NodeFacts],
+        before: &[StageMarks],
+        commit: u32,
+        n: u32,
+        hold: Mark,
+        marks: &mut Vec<StageMarks>,
+    ) -> Result<List<Pane>, NoMemory>
+        requires checked { IsChecked plan.now }
+        requires facts { facts.now ≡ facts_of plan.now.nodes }
+        requires within { n < length plan.now.nodes }
+        requires marks { length marks.old.items ≡ length plan.now.nodes }
+        ensures fired { IfOk result (IsNodeDone plan.now before.now hold commit n self.old.cells.items self.new.cells.items marks.old.items marks.new.items) }
+        ensures others { (self.new.index ≡ self.old.index) × (self.new.dropped ≡ self.old.dropped) }
+        ensures undo { undone_all self.new.changes.items self.new.cells.items ≡ undone_all self.old.changes.items self.old.cells.items }
+    {
+        let node = &plan.nodes.as_slice()[n as usize];
+        let mark_in = marks_of_node(node, hold, marks.as_slice()).mark_in;
+        let fired = self.fire_if_group(alloc, plan, facts, n, commit, mark_in)?;
+        let least = least_with(before, hold, fired.as_slice());
+        let stage = marks_of_node(node, least, marks.as_slice());
+        marks[n as usize] = stage;
+        Ok(fired)
+    }
+
+    fn fire_if_group(
+        &mut self,
+        alloc: Global,
+        plan: &Plan,
+        facts: &[NodeFacts],
+        n: u32,
+        commit: u32,
+        mark: Mark,
+    ) -> Result<List<Pane>, NoMemory>
+        requires { facts.now ≡ facts_of plan.now.nodes }
+        ensures fires { IfOk result (λ fired. is_group plan.now n ≡ true
+            → AreGroupFired (rules_of plan.now n) n commit mark self.old.cells.items self.new.cells.items fired) }
+        ensures rests { IfOk result (λ fired. is_group plan.now n ≡ false → (self.new.cells.items ≡ self.old.cells.items) × (fired ≡ [])) }
+        ensures others { (self.new.index ≡ self.old.index) × (self.new.dropped ≡ self.old.dropped) }
+        ensures undo { undone_all self.new.changes.items self.new.cells.items ≡ undone_all self.old.changes.items self.old.cells.items }
+    {
+        if !is_group(plan, n) {
+            return Ok(List::new(alloc));
+        }
+        let rules = rules_of(plan, facts, n);
+        self.fire_group(alloc, &rules, n, commit, mark)
+    }
+
+    // Each cell of a Group fires, or doesn't; the panes stand by key and window.
+    fn fire_group(
+        &mut self,
+        alloc: Global,
+        rules: &Rules,
+        node: u32,
+        commit: u32,
+        mark: Mark,
+    ) -> Result<List<Pane>, NoMemory>
+        ensures fired { IfOk result (AreGroupFired rules.now node commit mark self.old.cells.items self.new.cells.items) }
+        ensures others { (self.new.index ≡ self.old.index) × (self.new.dropped ≡ self.old.dropped) }
+        ensures undo { undone_all self.new.changes.items self.new.cells.items ≡ undone_all self.old.changes.items self.old.cells.items }
+    {
+        let mut panes = self.fire_cells(alloc, rules, node, commit, mark)?;
+        panes.sort_by(|a, b| cmp_panes(a, b))?;
+        Ok(List::from_vec(panes))
+    }
+
+    fn fire_cells(
+        &mut self,
+        alloc: Global,
+        rules: &Rules,
+        node: u32,
+        commit: u32,
+        mark: Mark,
+    ) -> Result<Vec<Pane>, NoMemory>
+        ensures cells { OnOk result (self.new.cells.items ≡ map (after_node rules.now node mark) self.old.cells.items) }
+        ensures panes { IfOk result (λ panes. AreFired rules.now node commit mark self.old.cells.items panes.items) }
+        ensures others { (self.new.index ≡ self.old.index) × (self.new.dropped ≡ self.old.dropped) }
+        ensures undo { undone_all self.new.changes.items self.new.cells.items ≡ undone_all self.old.changes.items self.old.cells.items }
+    {
+        let mut panes = Vec::new(alloc);
+        let count = self.cells.len();
+        for place in 0..count {
+            let pane = self.fire(alloc, rules, node, commit, mark, place)?;
+            push_if(&mut panes, pane)?;
+        }
+        Ok(panes)
+    }
+
+    /// The cell at a place fires, or doesn't.
+    fn fire(
+        &mut self,
+        alloc: Global,
+        rules: &Rules,
+        node: u32,
+        commit: u32,
+        mark: Mark,
+        place: usize,
+    ) -> Result<Option<Pane>, NoMemory>
+        requires { place < length self.old.cells.items }
+        ensures cells { OnOk result ((cell : CellOf) → slice_get self.old.cells.items place ≡ Some cell
+            → self.new.cells.items ≡ slice_set self.old.cells.items place (after_node rules.now node mark cell)) }
+        ensures pane { IfOk result (λ pane. (cell : CellOf) → slice_get self.old.cells.items place ≡ Some cell
+            → FiresAs rules.now node commit mark cell (option_to_list pane)) }
+        ensures others { (self.new.index ≡ self.old.index) × (self.new.dropped ≡ self.old.dropped) }
+        ensures undo { undone_all self.new.changes.items self.new.cells.items ≡ undone_all self.old.changes.items self.old.cells.items }
+    {
+        let cell = &self.cells[place];
+        match fired_copy(alloc, rules, node, commit, mark, cell)? {
+            None => Ok(None),
+            Some(fired) => {
+                let Fired { cell, pane } = fired;
+                self.replace(place, cell)?;
+                Ok(pane)
+            }
+        }
+    }
+
+    fn replace(&mut self, place: usize, cell: Cell) -> Result<(), NoMemory>
+        requires { place < length self.old.cells.items }
+        ensures ok { OnOk result (self.new.cells.items ≡ slice_set self.old.cells.items place cell) }
+        ensures others { (self.new.index ≡ self.old.index) × (self.new.dropped ≡ self.old.dropped) }
+        ensures undo { undone_all self.new.changes.items self.new.cells.items ≡ undone_all self.old.changes.items self.old.cells.items }
+    {
+        let at = u32::try_from(place).map_err(|_| NoMemory)?;
+        self.changes.reserve(1)?;
+        let was = mem::replace(&mut self.cells[place], cell);
+        self.changes.push_reserved(Change::Replaced(at, was));
+        Ok(())
+    }
+}
+
+fn is_due(rules: &Rules, node: u32, mark: Mark, cell: &Cell) -> bool
+    ensures { result ≡ is_some (firing_at rules.now node mark cell.now) }
+{
+    cell.node == node && firing_of(rules, mark, cell).is_some()
+}
+
+/// A cell once it fired, and its pane.
+#[derive(Debug, Drop)]
+struct Fired {
+    cell: Cell,
+    pane: Option<Pane>,
+}
+
+fn fired_copy(
+    alloc: Global,
+    rules: &Rules,
+    node: u32,
+    commit: u32,
+    mark: Mark,
+    cell: &Cell,
+) -> Result<Option<Fired>, NoMemory>
+    ensures { IfOk result (λ fired. IsFiredCopy rules.now node commit mark cell.now fired) }
+{
+    if !is_due(rules, node, mark, cell) {
+        return Ok(None);
+    }
+    let mut copy = cell.duplicate(alloc)?;
+    let pane = fire_at(alloc, rules, node, commit, mark, &mut copy)?;
+    Ok(Some(Fired { cell: copy, pane }))
+}

@@ -1,0 +1,140 @@
+ghost use Rattle.std.specs.Prelude.{◌≡◌, List as ListOf, [], ◌∷◌, ◌++◌, length, None, IfOk, OnOk};
+ghost use Rattle.std.specs.Ordering.{as_partial_cmp, eq_by_cmp, on, then_cmp};
+ghost use Rattle.std.specs.Cmp.{partial_order_from_own_ties};
+ghost use Rattle.std.specs.Cmp.Rules.{comparing};
+ghost use Rattle.std.proofs.Common.{rules};
+ghost use Rattle.beam_values.specs.Cells.{span_cmp};
+ghost use Rattle.beam_values.specs.Orders.{value_cmp};
+ghost use Rattle.beam_values.specs.declared.cell.Cell.{Cell as CellOf};
+ghost use Rattle.group_cells.specs.Looking.{place_of};
+ghost use Rattle.group_cells.specs.Indexes.{cell_key_cmp, IsIndexOf};
+
+use beam_values::{Cell, NoMemory, Span, Value, cmp_spans, cmp_values};
+use std::alloc::Global;
+use std::cmp::Ordering;
+use std::collections::BTreeMap;
+
+/// What a cell is found by.
+#[derive(Debug, Drop)]
+pub struct CellKey {
+    pub node: u32,
+    pub span: Span,
+    pub key: Value,
+}
+
+fn cmp_windows(a: &CellKey, b: &CellKey) -> Ordering
+    ensures { result ≡ then_cmp (on (λ k. k.span) span_cmp) (on (λ k. k.key) value_cmp) a.now b.now }
+{
+    match cmp_spans(a.span, b.span) {
+        Ordering::Equal => cmp_values(&a.key, &b.key),
+        decided => decided,
+    }
+}
+
+impl PartialEq for CellKey {
+    ghost eq = { eq_by_cmp cell_key_cmp };
+
+    ghost laws = { Prim.search (comparing, rules) depth 12 };
+
+    fn eq(&self, other: &CellKey) -> bool {
+        self.cmp(other).is_eq()
+    }
+}
+
+impl Eq for CellKey {
+    ghost laws = { Prim.search (comparing, rules) depth 12 };
+}
+
+impl PartialOrd for CellKey {
+    ghost partial_cmp = { as_partial_cmp cell_key_cmp };
+
+    ghost laws = { partial_order_from_own_ties (Prim.search (comparing, rules) depth 12) (Prim.search (comparing, rules) depth 12) };
+
+    fn partial_cmp(&self, other: &CellKey) -> Option<Ordering> {
+        Some(self.cmp(other))
+    }
+}
+
+impl Ord for CellKey {
+    ghost cmp = { cell_key_cmp };
+
+    ghost total = { Prim.search (comparing, rules) depth 12 };
+
+    ghost matches_partial_cmp = { Prim.search (comparing, rules) depth 12 };
+
+    ghost matches_eq = { Prim.search (comparing, rules) depth 12 };
+
+    fn cmp(&self, other: &CellKey) -> Ordering {
+        match self.node.cmp(&other.node) {
+            Ordering::Equal => cmp_windows(self, other),
+            decided => decided,
+        }
+    }
+}
+
+/// The places of cells by node, window and key.
+#[derive(Debug, Drop)]
+pub struct CellIndex {
+    pub places: BTreeMap<CellKey, u32>,
+}
+
+impl CellIndex {
+    /// Takes no memory.
+    pub fn new(alloc: Global) -> CellIndex
+        ensures { IsIndexOf result [] }
+    {
+        CellIndex {
+            places: BTreeMap::new(alloc),
+        }
+    }
+
+    /// The places of all cells there are.
+    pub fn of(alloc: Global, cells: &[Cell]) -> Result<CellIndex, NoMemory>
+        ensures { IfOk result (λ index. IsIndexOf index cells.now) }
+    {
+        let mut index = CellIndex::new(alloc);
+        for (place, cell) in cells.iter().enumerate() {
+            index.add_cell(alloc, cell, place)?;
+        }
+        Ok(index)
+    }
+
+    fn add_cell(&mut self, alloc: Global, cell: &Cell, place: usize) -> Result<(), NoMemory>
+        ensures { OnOk result ((cells : ListOf CellOf) → IsIndexOf self.old cells → place ≡ length cells → IsIndexOf self.new (cells ++ cell.now ∷ [])) }
+    {
+        let key = key_of_cell(alloc, cell)?;
+        match self.find(&key) {
+            Some(_) => Ok(()),
+            None => {
+                let place = u32::try_from(place).map_err(|_| NoMemory)?;
+                self.add(key, place)
+            }
+        }
+    }
+
+    pub fn find(&self, key: &CellKey) -> Option<u32>
+        ensures { (cells : ListOf CellOf) → IsIndexOf self.now cells → result ≡ place_of key.now.node key.now.key key.now.span cells }
+    {
+        self.places.get(key).copied()
+    }
+
+    /// The place of one more cell, behind the others.
+    pub fn add(&mut self, key: CellKey, place: u32) -> Result<(), NoMemory>
+        ensures { OnOk result ((cells : ListOf CellOf) (cell : CellOf) → IsIndexOf self.old cells → place ≡ length cells
+            → cell.node ≡ key.node → cell.key ≡ key.key → cell.span ≡ key.span
+            → place_of key.node key.key key.span cells ≡ None → IsIndexOf self.new (cells ++ cell ∷ [])) }
+    {
+        self.places.insert(key, place)?;
+        Ok(())
+    }
+}
+
+fn key_of_cell(alloc: Global, cell: &Cell) -> Result<CellKey, NoMemory>
+    ensures { IfOk result (λ key. key ≡ record { node = cell.now.node; span = cell.now.span; key = cell.now.key }) }
+{
+    Ok(CellKey {
+        node: cell.node,
+        span: cell.span,
+        key: cell.key.copy(alloc)?,
+    })
+}

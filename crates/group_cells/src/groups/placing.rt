@@ -1,0 +1,122 @@
+ghost use Rattle.std.specs.Prelude.{◌≡◌, ◌<◌, ◌++◌, ◌∷◌, [], length, map, take, OnOk, if◌then◌else◌};
+ghost use Rattle.std.specs.List.{filter};
+ghost use Rattle.beam_values.specs.Grouping.{key_of};
+ghost use Rattle.beam_values.specs.Marks.{marks_at};
+ghost use Rattle.beam_values.specs.Nodes.{facts_of};
+ghost use Rattle.group_cells.specs.Arrivals.{arrived, with_arrival, with_arrivals};
+ghost use Rattle.group_cells.specs.Commits.{dropped_arrival, is_dropped};
+ghost use Rattle.group_cells.specs.Indexes.{IsIndexOf};
+ghost use Rattle.group_cells.specs.Rounds.{entry_of};
+ghost use Rattle.group_cells.specs.Undoing.{undone_all};
+
+use crate::groups::draft::Draft;
+use crate::rules::{Rules, is_group, rules_of};
+use beam_values::{Arrival, Dropped, Entry, Mark, NoMemory, Plan, StageMarks};
+use pane_triggers::is_dropped;
+use std::alloc::Global;
+use windowing::NodeFacts;
+
+/// What is known of a commit while its arrivals are placed.
+#[derive(Clone, Copy)]
+pub struct Commit<'a> {
+    pub plan: &'a Plan,
+    pub facts: &'a [NodeFacts],
+    /// The marks before it.
+    pub before: &'a [StageMarks],
+    pub number: u32,
+}
+
+fn mark_into(marks: &[StageMarks], node: u32) -> Mark
+    requires { node < length marks.now }
+    ensures { result ≡ (marks_at marks.now node).mark_in }
+{
+    marks[node as usize].mark_in
+}
+
+impl Draft {
+    /// Places the arrivals of a commit, and drops those that are too late.
+    pub fn place_all(
+        &mut self,
+        alloc: Global,
+        commit: Commit,
+        arrivals: &[Arrival],
+    ) -> Result<(), NoMemory>
+        requires indexed { IsIndexOf self.old.index self.old.cells.items }
+        requires facts { commit.facts.now ≡ facts_of commit.plan.now.nodes }
+        requires marks { length commit.before.now ≡ length commit.plan.now.nodes }
+        ensures ok { OnOk result (self.new.cells.items ≡ with_arrivals commit.entry.plan.now commit.entry.before.now commit.entry.number self.old.cells.items arrivals.now) }
+        ensures dropped { OnOk result (self.new.dropped.items
+            ≡ self.old.dropped.items ++ map (dropped_arrival commit.entry.number) (filter (is_dropped commit.entry.plan.now commit.entry.before.now) arrivals.now)) }
+        ensures indexed { OnOk result (IsIndexOf self.new.index self.new.cells.items) }
+        ensures kept { take (length self.old.dropped.items) self.new.dropped.items ≡ self.old.dropped.items }
+        ensures undo { undone_all self.new.changes.items self.new.cells.items ≡ undone_all self.old.changes.items self.old.cells.items }
+    {
+        for arrival in arrivals {
+            self.place(alloc, commit, arrival)?;
+        }
+        Ok(())
+    }
+
+    fn place(&mut self, alloc: Global, commit: Commit, arrival: &Arrival) -> Result<(), NoMemory>
+        requires indexed { IsIndexOf self.old.index self.old.cells.items }
+        requires facts { commit.facts.now ≡ facts_of commit.plan.now.nodes }
+        requires marks { length commit.before.now ≡ length commit.plan.now.nodes }
+        ensures ok { OnOk result (self.new.cells.items ≡ with_arrival commit.entry.plan.now commit.entry.before.now commit.entry.number self.old.cells.items arrival.now) }
+        ensures dropped { OnOk result (self.new.dropped.items
+            ≡ self.old.dropped.items ++ map (dropped_arrival commit.entry.number) (if is_dropped commit.entry.plan.now commit.entry.before.now arrival.now then arrival.now ∷ [] else [])) }
+        ensures indexed { OnOk result (IsIndexOf self.new.index self.new.cells.items) }
+        ensures kept { take (length self.old.dropped.items) self.new.dropped.items ≡ self.old.dropped.items }
+        ensures undo { undone_all self.new.changes.items self.new.cells.items ≡ undone_all self.old.changes.items self.old.cells.items }
+    {
+        if !is_group(commit.plan, arrival.node) {
+            return Ok(());
+        }
+        let rules = rules_of(commit.plan, commit.facts, arrival.node);
+        let mark = mark_into(commit.before, arrival.node);
+        if is_dropped(&rules.trigger, arrival.element.span.end(), mark) {
+            self.drop_late(alloc, commit.number, arrival)
+        } else {
+            self.take_in(alloc, &rules, commit.number, arrival)
+        }
+    }
+
+    /// Takes an arrival that is in time; where windows merge, that comes later.
+    fn take_in(
+        &mut self,
+        alloc: Global,
+        rules: &Rules,
+        commit: u32,
+        arrival: &Arrival,
+    ) -> Result<(), NoMemory>
+        requires { IsIndexOf self.old.index self.old.cells.items }
+        ensures ok { OnOk result (self.new.cells.items ≡ (if rules.now.merges then self.old.cells.items
+            else arrived arrival.now.node (key_of arrival.now.element) arrival.now.element.span (entry_of commit arrival.now.element) self.old.cells.items)) }
+        ensures indexed { OnOk result (IsIndexOf self.new.index self.new.cells.items) }
+        ensures dropped { self.new.dropped ≡ self.old.dropped }
+        ensures undo { undone_all self.new.changes.items self.new.cells.items ≡ undone_all self.old.changes.items self.old.cells.items }
+    {
+        if rules.merges {
+            return Ok(());
+        }
+        let entry = Entry {
+            element: arrival.element.copy(alloc)?,
+            commit,
+            shown: false,
+        };
+        self.take(alloc, arrival.node, entry)
+    }
+
+    fn drop_late(&mut self, alloc: Global, commit: u32, arrival: &Arrival) -> Result<(), NoMemory>
+        ensures ok { OnOk result (self.new.dropped.items ≡ self.old.dropped.items ++ dropped_arrival commit arrival.now ∷ []) }
+        ensures kept { take (length self.old.dropped.items) self.new.dropped.items ≡ self.old.dropped.items }
+        ensures others { (self.new.cells ≡ self.old.cells) × (self.new.index ≡ self.old.index) × (self.new.changes ≡ self.old.changes) }
+    {
+        let element = arrival.element.copy(alloc)?;
+        self.dropped.push(Dropped {
+            node: arrival.node,
+            element,
+            commit,
+        })?;
+        Ok(())
+    }
+}
