@@ -1,0 +1,278 @@
+-- No job fails more often than it may, and none more often than jobs failed at all: every step keeps it.
+use Rattle.std.proofs.Common.{◌≡◌, ℕ, ◌+◌, ◌<◌, ◌≤◌, Bool, true, false, cond, List, [], ◌∷◌, ◌++◌, refl, sym, subst, ◌∙◌, arith}
+use Rattle.std.specs.Prelude.{Option, Some, None, nat_le, nat_lt, slice_set}
+use Rattle.std.specs.List.{All}
+use Rattle.std.proofs.lemmas.Bool.Decides.{nat_tests}
+use Rattle.std.proofs.lemmas.List.Elements.{All-nil, All-cons, All-head, All-weaker}
+use Rattle.beam_values.specs.declared.fault.Cause.{Cause}
+use Rattle.beam_values.specs.declared.fault.Cause.TheVariants.{Call, Read}
+use Rattle.beam_values.specs.declared.fault.FaultNote.{FaultNote}
+use Rattle.beam_values.specs.declared.file_text.FileText.{FileText}
+use Rattle.beam_values.specs.declared.outcome.StopCause.{StopCause}
+use Rattle.beam_values.specs.declared.outcome.StopCause.TheVariants as stop
+use Rattle.beam_values.specs.declared.piece.Piece.{Piece}
+use Rattle.beam_ports.specs.Counts.{raised, greatest_count}
+use Rattle.bundle_commit.specs.declared.job.Receipt.{Receipt}
+use Rattle.split_core.specs.Order.{with_piece}
+use Rattle.book_core.specs.Book.{BookData, piece_of, batch_of}
+use Rattle.book_core.specs.Changes.{with_slot, cut_to, rest_of, given_back, tried_piece, tried_batch, counted, stopped_where, ends_run, is_at_limit, note_of, or_stopped, pending_after, residual_of}
+use Rattle.book_core.specs.Facts.{AreAttemptsCounted, IsStopNoted, IsWellFormed}
+use Rattle.book_core.specs.Jobs.{Next}
+use Rattle.book_core.specs.Runs.{Reached, IsOpening, pieces_of}
+use Rattle.book_core.specs.Steps.{IsWorking, IsRunning}
+use Rattle.book_core.specs.Work.{worked_to}
+use Rattle.book_core.specs.declared.live.Batch.{Batch}
+use Rattle.book_core.specs.declared.live.Live.{Live}
+use Rattle.book_core.specs.declared.live.Live.TheVariants as live
+use Rattle.book_core.proofs.Cases.{Keeps, AreAlways, Both, kept_with, always_reached}
+use Rattle.book_core.proofs.Formed.{formed_always}
+use Rattle.book_core.proofs.OpenedPieces.{all_pieces, enrolled_of}
+use Rattle.book_core.proofs.Slotted.{All-flat_at}
+use Rattle.book_core.proofs.Taking.{take_cases}
+use Rattle.book_core.proofs.Attempts.{AreCounted, IsCounted, MayBeWorked, IsPiece, IsBatch, attempts_counted, set_counted, fresh_counted, residual_counted, more_counted, piece_back, batch_back, given_counted, waits_counted, pending_counted}
+
+-- ---- a fail
+
+rises_call : (calls reads : ℕ) → calls ≤ greatest_count → calls + reads ≤ raised calls + reads
+rises_call calls reads h = omega arith
+
+rises_read : (calls reads : ℕ) → reads ≤ greatest_count → calls + reads ≤ calls + raised reads
+rises_read calls reads h = omega arith
+
+tried_call : (attempts calls reads : ℕ) → attempts ≤ calls + reads → attempts < 1000 → attempts + 1 ≤ raised calls + reads
+tried_call attempts calls reads h few = omega arith
+
+tried_read : (attempts calls reads : ℕ) → attempts ≤ calls + reads → attempts < 1000 → attempts + 1 ≤ calls + raised reads
+tried_read attempts calls reads h few = omega arith
+
+-- with the note that stops the run where the job is given up
+record IsFailedTo (spent : Bool) (y : BookData) (note : FaultNote) : Type 0 where
+  counts : AreCounted y.options.attempts (y.calls + y.reads) ((spent ≡ false) × IsRunning y) y.pending y.returned y.slots
+  stop : IsStopNoted y y.stopped
+  noted : spent ≡ true → note.attempt ≡ y.options.attempts
+  calls : y.calls ≤ greatest_count
+  reads : y.reads ≤ greatest_count
+
+stop_is_noted : (y : BookData) (old : Option StopCause) (note : FaultNote) → IsStopNoted y old → note.attempt ≡ y.options.attempts → IsStopNoted y (or_stopped old (stop.Spent note))
+stop_is_noted y (Some cause) note h e = h
+stop_is_noted y None note h e = e
+
+never_none : (old : Option StopCause) (cause : StopCause) → or_stopped old cause ≡ None → ⊥
+never_none (Some kept) cause e = absurd (cc)
+never_none None cause e = absurd (cc)
+
+finish_counted : (spent : Bool) (y : BookData) (note : FaultNote) → IsFailedTo spent y note → IsCounted (stopped_where spent y note)
+finish_counted true y note h = record {
+  counts = more_counted y.options.attempts (y.calls + y.reads) ((true ≡ false) × IsRunning y) y.pending y.returned y.slots h.counts (y.calls + y.reads) (or_stopped y.stopped (stop.Spent note) ≡ None)
+      (omega arith) (λ none. absurd (never_none y.stopped (stop.Spent note) none));
+  stop = stop_is_noted y y.stopped note h.stop (h.noted refl);
+  calls = h.calls;
+  reads = h.reads;
+}
+finish_counted false y note h = record {
+  counts = more_counted y.options.attempts (y.calls + y.reads) ((false ≡ false) × IsRunning y) y.pending y.returned y.slots h.counts (y.calls + y.reads) (IsRunning y)
+      (omega arith) (λ runs. (refl, runs));
+  stop = h.stop;
+  calls = h.calls;
+  reads = h.reads;
+}
+
+-- of attempts and their limit
+below_again : (limit attempts : ℕ) → nat_le limit (attempts + 1) ≡ false → attempts + 1 < limit
+below_again limit attempts e = grind (arith, nat_tests)
+
+just_spent : (limit attempts : ℕ) → attempts < limit → nat_le limit (attempts + 1) ≡ true → attempts + 1 ≡ limit
+just_spent limit attempts less e = grind (arith, nat_tests)
+
+module _ (b : BookData) (slot at : ℕ) (formed : IsWellFormed b) (h : IsCounted b) where
+  abbrev most_tried : ℕ
+  most_tried = b.options.attempts
+
+  abbrev so_far : ℕ
+  so_far = b.calls + b.reads
+
+  -- the slot is free again, and more failed
+  freed : (more : ℕ) (runs : Type 0) → so_far ≤ more → (runs → IsRunning b) → AreCounted most_tried more runs b.pending b.returned (slice_set b.slots slot None)
+  freed more runs rise still =
+      set_counted most_tried more runs b.pending b.returned b.slots
+      (more_counted most_tried so_far (IsRunning b) b.pending b.returned b.slots h.counts more runs rise still) slot None
+      (All-nil (IsPiece most_tried more runs)) (All-nil (IsBatch most_tried more runs))
+
+  span_back : (piece : Piece) (attempted : Option ℕ) → IsWorking b slot (live.Span piece attempted) → (spent : Bool) → is_at_limit b (live.Span piece attempted) ≡ spent
+      → (more : ℕ) → so_far ≤ more → piece.attempts + 1 ≤ more
+      → AreCounted most_tried more ((spent ≡ false) × IsRunning b) (with_piece (tried_piece piece) b.pending) b.returned (slice_set b.slots slot None)
+  span_back piece attempted works spent ends more rise tried =
+      piece_back most_tried more ((spent ≡ false) × IsRunning b) b.pending b.returned (slice_set b.slots slot None)
+      (freed more ((spent ≡ false) × IsRunning b) rise (λ r. r.1)) (tried_piece piece)
+      (λ r. below_again most_tried piece.attempts (ends ∙ r.0)) tried
+
+  batch_given : (batch : Batch) → IsWorking b slot (live.Batch batch) → (spent : Bool) → is_at_limit b (live.Batch batch) ≡ spent
+      → (more : ℕ) → so_far ≤ more → batch.attempts + 1 ≤ more
+      → AreCounted most_tried more ((spent ≡ false) × IsRunning b) b.pending (b.returned ++ tried_batch batch ∷ []) (slice_set b.slots slot None)
+  batch_given batch works spent ends more rise tried =
+      batch_back most_tried more ((spent ≡ false) × IsRunning b) b.pending b.returned (slice_set b.slots slot None)
+      (freed more ((spent ≡ false) × IsRunning b) rise (λ r. r.1)) (tried_batch batch)
+      (λ r. below_again most_tried batch.attempts (ends ∙ r.0)) tried
+
+  worked_piece : (piece : Piece) (attempted : Option ℕ) → IsWorking b slot (live.Span piece attempted) → MayBeWorked most_tried so_far piece.attempts
+  worked_piece piece attempted works =
+      All-head (IsPiece most_tried so_far (IsRunning b)) piece []
+      (All-flat_at piece_of b.slots slot (IsPiece most_tried so_far (IsRunning b)) (Some (live.Span piece attempted)) works h.counts.worked_pieces)
+
+  worked_batch : (batch : Batch) → IsWorking b slot (live.Batch batch) → MayBeWorked most_tried so_far batch.attempts
+  worked_batch batch works =
+      All-head (IsBatch most_tried so_far (IsRunning b)) batch []
+      (All-flat_at batch_of b.slots slot (IsBatch most_tried so_far (IsRunning b)) (Some (live.Batch batch)) works h.counts.worked_batches)
+
+  few_tries : (attempts : ℕ) → MayBeWorked most_tried so_far attempts → attempts < 1000
+  few_tries attempts may = let limits = formed.allowed.attempts.1 in omega (arith, may.0, limits)
+
+  failed_to : (job : Live) (cause : Cause) → IsWorking b slot job → (spent : Bool) → is_at_limit b job ≡ spent
+      → IsFailedTo spent (counted (given_back (with_slot b slot None) job) cause) (note_of job at cause)
+  failed_to (live.Span piece attempted) Call works spent ends =
+      let may = worked_piece piece attempted works in
+      record {
+        counts = span_back piece attempted works spent ends (raised b.calls + b.reads) (rises_call b.calls b.reads h.calls) (tried_call piece.attempts b.calls b.reads may.1 (few_tries piece.attempts may));
+        stop = h.stop;
+        noted = λ e. just_spent most_tried piece.attempts may.0 (ends ∙ e);
+        calls = omega arith;
+        reads = h.reads;
+      }
+  failed_to (live.Span piece attempted) Read works spent ends =
+      let may = worked_piece piece attempted works in
+      record {
+        counts = span_back piece attempted works spent ends (b.calls + raised b.reads) (rises_read b.calls b.reads h.reads) (tried_read piece.attempts b.calls b.reads may.1 (few_tries piece.attempts may));
+        stop = h.stop;
+        noted = λ e. just_spent most_tried piece.attempts may.0 (ends ∙ e);
+        calls = h.calls;
+        reads = omega arith;
+      }
+  failed_to (live.Batch batch) Call works spent ends =
+      let may = worked_batch batch works in
+      record {
+        counts = batch_given batch works spent ends (raised b.calls + b.reads) (rises_call b.calls b.reads h.calls) (tried_call batch.attempts b.calls b.reads may.1 (few_tries batch.attempts may));
+        stop = h.stop;
+        noted = λ e. just_spent most_tried batch.attempts may.0 (ends ∙ e);
+        calls = omega arith;
+        reads = h.reads;
+      }
+  failed_to (live.Batch batch) Read works spent ends =
+      let may = worked_batch batch works in
+      record {
+        counts = batch_given batch works spent ends (b.calls + raised b.reads) (rises_read b.calls b.reads h.reads) (tried_read batch.attempts b.calls b.reads may.1 (few_tries batch.attempts may));
+        stop = h.stop;
+        noted = λ e. just_spent most_tried batch.attempts may.0 (ends ∙ e);
+        calls = h.calls;
+        reads = omega arith;
+      }
+
+-- ---- each step
+
+residual_untried : (piece : Piece) (attempted : Option ℕ) (receipt : Receipt)
+    → All (λ (p : Piece). p.attempts ≡ 0) (elim (residual_of piece attempted receipt) [ None ↦ [] | Some piece ↦ piece ∷ [] ])
+residual_untried piece attempted receipt = by (nat_lt (worked_to piece attempted) piece.range.to)
+  where
+    by : (t : Bool) → All (λ (p : Piece). p.attempts ≡ 0) (elim (cond t (Some (record piece { range = record { from = worked_to piece attempted; to = piece.range.to }; seen = receipt.seen; attempts = 0 })) None) [ None ↦ [] | Some piece ↦ piece ∷ [] ])
+    by true = All-cons (λ (p : Piece). p.attempts ≡ 0) _ [] refl (All-nil (λ (p : Piece). p.attempts ≡ 0))
+    by false = All-nil (λ (p : Piece). p.attempts ≡ 0)
+
+commit_counted : (limit total : ℕ) (running : Type 0) (pending : List Piece) (returned : List Batch) (slots : List (Option Live)) (slot : ℕ) (job : Live) (receipt : Receipt)
+    → 1 ≤ limit → AreCounted limit total running pending returned slots → AreCounted limit total running (pending_after pending job receipt) returned (slice_set slots slot None)
+commit_counted limit total running pending returned slots slot (live.Span piece attempted) receipt some h =
+    residual_counted limit total running pending returned (slice_set slots slot None)
+    (set_counted limit total running pending returned slots h slot None (All-nil (IsPiece limit total running)) (All-nil (IsBatch limit total running)))
+    (residual_of piece attempted receipt) (residual_untried piece attempted receipt) some
+commit_counted limit total running pending returned slots slot (live.Batch batch) receipt some h =
+    set_counted limit total running pending returned slots h slot None (All-nil (IsPiece limit total running)) (All-nil (IsBatch limit total running))
+
+-- first pieces were never tried
+abbrev IsUntried : Piece → Type 0
+IsUntried piece = piece.attempts ≡ 0
+
+opening_counted : (b first : BookData) → IsOpening b.plan b.files b.options first → IsCounted first
+opening_counted b first opening =
+    let some = opening.allowed.attempts.0 in
+    let untried = all_pieces IsUntried (λ node item chunk len i. refl) b.options.chunk b.files [] (All-nil IsUntried) in
+    subst IsCounted (sym opening.is) (record {
+      counts = record {
+        worked_pieces = All-nil (λ piece. MayBeWorked b.options.attempts (0 + 0) piece.attempts);
+        worked_batches = All-nil (λ batch. MayBeWorked b.options.attempts (0 + 0) batch.attempts);
+        pending_below = λ runs. All-weaker IsUntried (λ piece. piece.attempts < b.options.attempts) (λ piece e. omega (arith, e, some)) (pieces_of b.options.chunk b.files) untried;
+        returned_below = λ runs. All-nil (λ batch. batch.attempts < b.options.attempts);
+        pending_most = All-weaker IsUntried (λ piece. piece.attempts ≤ 0 + 0) (λ piece e. omega (arith, e)) (pieces_of b.options.chunk b.files) untried;
+        returned_most = All-nil (λ batch. batch.attempts ≤ 0 + 0);
+      };
+      stop = tt;
+      calls = omega arith;
+      reads = omega arith;
+    })
+
+stop_no_memory : (y : BookData) (old : Option StopCause) → IsStopNoted y old → IsStopNoted y (or_stopped old stop.NoMemory)
+stop_no_memory y (Some cause) h = h
+stop_no_memory y None h = tt
+
+keeps_counted : (told : Option (List FileText)) → Keeps told IsWellFormed IsCounted
+keeps_counted told = record {
+  opens = opening_counted;
+  enrolls = λ b formed h within. record {
+    counts = record {
+      worked_pieces = subst (All (λ piece. MayBeWorked b.options.attempts (b.calls + b.reads) piece.attempts)) (sym (enrolled_of piece_of b.slots refl)) h.counts.worked_pieces;
+      worked_batches = subst (All (λ batch. MayBeWorked b.options.attempts (b.calls + b.reads) batch.attempts)) (sym (enrolled_of batch_of b.slots refl)) h.counts.worked_batches;
+      pending_below = h.counts.pending_below;
+      returned_below = h.counts.returned_below;
+      pending_most = h.counts.pending_most;
+      returned_most = h.counts.returned_most;
+    };
+    stop = h.stop;
+    calls = h.calls;
+    reads = h.reads;
+  };
+  takes = λ b slot next formed h running free is.
+      take_cases b (λ (n : Next). IsCounted (with_slot n.rest slot (Some n.job)))
+      (given_counted b slot formed h running) (waits_counted b slot formed h running) (pending_counted b slot formed h running) next is;
+  claims = λ b slot p piece attempted formed h works may. record {
+    counts = set_counted b.options.attempts (b.calls + b.reads) (IsRunning b) b.pending b.returned b.slots h.counts slot (Some (live.Span piece (Some p)))
+        (All-cons (IsPiece b.options.attempts (b.calls + b.reads) (IsRunning b)) piece [] (worked_piece b slot 0 formed h piece attempted works) (All-nil (IsPiece b.options.attempts (b.calls + b.reads) (IsRunning b))))
+        (All-nil (IsBatch b.options.attempts (b.calls + b.reads) (IsRunning b)));
+    stop = h.stop;
+    calls = h.calls;
+    reads = h.reads;
+  };
+  splits = λ b slot at piece attempted formed h works inside behind within. record {
+    counts =
+        let front = cut_to piece (record { from = piece.range.from; to = at }) in
+        fresh_counted b.options.attempts (b.calls + b.reads) (IsRunning b) b.pending b.returned (slice_set b.slots slot (Some (live.Span front attempted)))
+        (set_counted b.options.attempts (b.calls + b.reads) (IsRunning b) b.pending b.returned b.slots h.counts slot (Some (live.Span front attempted))
+        (All-cons (IsPiece b.options.attempts (b.calls + b.reads) (IsRunning b)) front [] (worked_piece b slot 0 formed h piece attempted works) (All-nil (IsPiece b.options.attempts (b.calls + b.reads) (IsRunning b))))
+        (All-nil (IsBatch b.options.attempts (b.calls + b.reads) (IsRunning b))))
+        (rest_of piece (record { from = at; to = piece.range.to })) refl formed.allowed.attempts.0;
+    stop = h.stop;
+    calls = h.calls;
+    reads = h.reads;
+  };
+  commits = λ b slot job receipt cells fired marks formed h made. record {
+    counts = commit_counted b.options.attempts (b.calls + b.reads) (IsRunning b) b.pending b.returned b.slots slot job receipt formed.allowed.attempts.0 h.counts;
+    stop = h.stop;
+    calls = h.calls;
+    reads = h.reads;
+  };
+  fails = λ b slot at job cause formed h works.
+      finish_counted (ends_run b job cause) (counted (given_back (with_slot b slot None) job) cause) (note_of job at cause)
+      (failed_to b slot at formed h job cause works (ends_run b job cause) refl);
+  stops = λ b formed h. record {
+    counts = more_counted b.options.attempts (b.calls + b.reads) (IsRunning b) b.pending b.returned b.slots h.counts (b.calls + b.reads) (or_stopped b.stopped stop.NoMemory ≡ None)
+        (omega arith) (λ none. absurd (never_none b.stopped stop.NoMemory none));
+    stop = stop_no_memory b b.stopped h.stop;
+    calls = h.calls;
+    reads = h.reads;
+  };
+}
+
+pub counted_always : (told : Option (List FileText)) → AreAlways told (Both IsWellFormed IsCounted)
+counted_always told = kept_with told IsWellFormed IsCounted (formed_always told) (keeps_counted told)
+
+pub reached_counted : (told : Option (List FileText)) (b : BookData) → Reached told b → AreAttemptsCounted b
+reached_counted told b reached = attempts_counted b (always_reached told (Both IsWellFormed IsCounted) (counted_always told) b reached).1.counts
+
+pub reached_noted : (told : Option (List FileText)) (b : BookData) → Reached told b → IsStopNoted b b.stopped
+reached_noted told b reached = (always_reached told (Both IsWellFormed IsCounted) (counted_always told) b reached).1.stop

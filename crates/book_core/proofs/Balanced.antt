@@ -1,0 +1,243 @@
+-- Where the files are told, what arrived and what flows from panes that aren't through is what flows from the done ranges and the panes: a commit keeps it.
+use Rattle.std.proofs.Common.{◌≡◌, ℕ, ◌+◌, ◌-◌, Bool, true, false, cond, List, [], ◌∷◌, ◌++◌, length, map, refl, sym, ap, subst, ◌∙◌, append_assoc, length-append, arith}
+use Rattle.std.specs.Prelude.{Option, Some, None, slice_get}
+use Rattle.std.specs.List.{All, flat_map, sum_by, enumerate_from}
+use Rattle.std.specs.Ordering.{is_lt}
+use Rattle.std.proofs.lemmas.List.Concat.{flat_map-append}
+use Rattle.std.proofs.lemmas.List.Elements.{All-nil, All-head, All-tail, All-append}
+use Rattle.std.proofs.lemmas.List.Sums.{sum_by-cons, sum_by-append}
+use Rattle.beam_values.specs.Lines.{offsets}
+use Rattle.beam_values.specs.Nodes.{is_stateful}
+use Rattle.beam_values.proofs.Bags.{sum_by-map, sum_by-flat_map}
+use Rattle.beam_values.specs.declared.arrival.Arrival.{Arrival}
+use Rattle.beam_values.specs.declared.cell.Cell.{Cell}
+use Rattle.beam_values.specs.declared.cell.Pane.{Pane}
+use Rattle.beam_values.specs.declared.file_text.FileText.{FileText}
+use Rattle.beam_values.specs.declared.marks.StageMarks.{StageMarks}
+use Rattle.beam_values.specs.declared.piece.Done.{Done}
+use Rattle.beam_values.specs.declared.piece.Piece.{Piece}
+use Rattle.beam_values.specs.declared.plan.Plan.{Plan}
+use Rattle.beam_model.specs.Account.{arrivals_of}
+use Rattle.beam_model.specs.Chains.{Output, Arrives, chain}
+use Rattle.beam_model.specs.Coverings.{item_at, spread_done, spread_dones, spread_of}
+use Rattle.beam_model.specs.Flow.{pane_chains}
+use Rattle.beam_model.specs.Positions.{SourceItem, items}
+use Rattle.beam_model.specs.Spread.{spread_range}
+use Rattle.bundle_commit.specs.declared.job.Receipt.{Receipt}
+use Rattle.group_cells.proofs.Counting.{All-unmap}
+use Rattle.book_core.specs.Book.{BookData, HeldPane, batch_of, held, held_in, panes_of, queued, live_batches, last_marks}
+use Rattle.book_core.specs.Changes.{committed, done_after, done_cmp, done_of, with_done}
+use Rattle.book_core.specs.Facts.{AreHeldOnce, IsBalanced, IsHeldPane, IsWellFormed, held_chains}
+use Rattle.book_core.specs.Jobs.{attempted_of, job_of}
+use Rattle.book_core.specs.Steps.{IsWorking}
+use Rattle.book_core.specs.Work.{IsGiven, IsWorkOnItem, batch_outputs, worked_to}
+use Rattle.book_core.specs.declared.live.Batch.{Batch}
+use Rattle.book_core.specs.declared.live.Live.{Live}
+use Rattle.book_core.specs.declared.live.Live.TheVariants as live
+use Rattle.book_core.specs.declared.live.WaitingPane.{WaitingPane}
+use Rattle.book_core.proofs.Cases.{Commits}
+use Rattle.book_core.proofs.Ends.{IsEnd, IsEnded, arrivals_added, panes_ended, spread_ended}
+use Rattle.book_core.proofs.HeldMoves.{fired_held}
+use Rattle.book_core.proofs.HeldOnce.{commit_bag, get_at_end, get_front}
+use Rattle.book_core.proofs.Queues.{held_fired}
+use Rattle.book_core.proofs.Slotted.{All-append_right, All-of_flat_map, All-flat_at}
+
+-- ---- a done range is one more
+
+module _ (f : Done → ℕ) where
+  with_done_step : (new d : Done) (done : List Done) (t : Bool) → sum_by f (with_done new done) ≡ f new + sum_by f done
+      → sum_by f (cond t (d ∷ with_done new done) (new ∷ d ∷ done)) ≡ f new + sum_by f (d ∷ done)
+  with_done_step new d done true h = omega (arith, h, sum_by-cons f d (with_done new done), sum_by-cons f d done)
+  with_done_step new d done false h = sum_by-cons f new (d ∷ done)
+
+  one_more_done : (new : Done) (done : List Done) → sum_by f (with_done new done) ≡ f new + sum_by f done
+  one_more_done new [] = sum_by-cons f new []
+  one_more_done new (d ∷ done) = with_done_step new d done (is_lt (done_cmp d new)) (one_more_done new done)
+
+-- ---- what flows from panes
+
+module _ (plan : Plan) (w : Output → ℕ) where
+  -- of a pane that isn't through, read off these panes
+  abbrev held_weight : List Pane → HeldPane → ℕ
+  held_weight panes h = sum_by w (pane_chains plan (panes_of panes (h.waiting ∷ [])))
+
+  abbrev pane_weight : Pane → ℕ
+  pane_weight pane = sum_by w (chain plan pane.node pane.element)
+
+  abbrev read_weight : Option Pane → ℕ
+  read_weight found = sum_by w (pane_chains plan ((elim found [ Some pane ↦ pane ∷ [] | None ↦ [] ]) ++ []))
+
+  held_reads : (panes : List Pane) (h : HeldPane) (pane : Pane) → slice_get panes h.waiting.pane ≡ Some pane → held_weight panes h ≡ pane_weight pane
+  held_reads panes h pane at =
+      ap read_weight at ∙ omega (arith, sum_by-append w (chain plan pane.node pane.element) [])
+
+  pub chains_weigh : (b : BookData) → b.plan ≡ plan → sum_by w (held_chains b) ≡ sum_by (held_weight b.panes) (held b)
+  chains_weigh b same =
+      subst (λ (p : Plan). sum_by w (flat_map (λ h. pane_chains p (panes_of b.panes (h.waiting ∷ []))) (held b)) ≡ sum_by (held_weight b.panes) (held b)) (sym same)
+      (sum_by-flat_map w (λ (h : HeldPane). pane_chains plan (panes_of b.panes (h.waiting ∷ []))) (held b))
+
+  -- those that are panes already stay what they are
+  same_later : (b : BookData) (more : List Pane) (hs : List HeldPane) → All (IsHeldPane b) hs → sum_by (held_weight (b.panes ++ more)) hs ≡ sum_by (held_weight b.panes) hs
+  same_later b more [] all = refl
+  same_later b more (h ∷ hs) all =
+      let first = All-head (IsHeldPane b) h hs all in
+      omega (
+        arith,
+        held_reads (b.panes ++ more) h first.0 (get_front b.panes more h.waiting.pane first.0 first.1),
+        held_reads b.panes h first.0 first.1,
+        same_later b more hs (All-tail (IsHeldPane b) h hs all),
+        sum_by-cons (held_weight (b.panes ++ more)) h hs,
+        sum_by-cons (held_weight b.panes) h hs,
+      )
+
+  fired_flow : (before : List StageMarks) (panes fired : List Pane) (n : ℕ) → n ≡ length panes
+      → sum_by (held_weight (panes ++ fired)) (map (held_fired before) (enumerate_from n fired)) ≡ sum_by w (pane_chains plan fired)
+  fired_flow before panes [] n at = refl
+  fired_flow before panes (p ∷ ps) n at =
+      let here : slice_get (panes ++ p ∷ ps) n ≡ Some p = ap (slice_get (panes ++ p ∷ ps)) at ∙ get_at_end panes p ps in
+      let joined : (panes ++ p ∷ []) ++ ps ≡ panes ++ p ∷ ps = append_assoc panes (p ∷ []) ps in
+      let rest = map (held_fired before) (enumerate_from (n + 1) ps) in
+      let later : sum_by (held_weight ((panes ++ p ∷ []) ++ ps)) rest ≡ sum_by w (pane_chains plan ps) =
+      fired_flow before (panes ++ p ∷ []) ps (n + 1) (omega (arith, at, length-append panes (p ∷ []))) in
+      omega (
+        arith,
+        held_reads (panes ++ p ∷ ps) (held_fired before (n, p)) p here,
+        later,
+        ap (λ (l : List Pane). sum_by (held_weight l) rest) joined,
+        sum_by-cons (held_weight (panes ++ p ∷ ps)) (held_fired before (n, p)) rest,
+        sum_by-append w (chain plan p.node p.element) (pane_chains plan ps),
+      )
+
+  -- what a batch brings is what flows from its panes
+  batch_flow : (b : BookData) (node : ℕ) (panes : List WaitingPane) → All (IsHeldPane b) (map (λ waiting. record { node = node; waiting = waiting }) panes)
+      → sum_by (held_weight b.panes) (map (λ waiting. record { node = node; waiting = waiting }) panes) ≡ sum_by w (batch_outputs plan node (panes_of b.panes panes))
+  batch_flow b node [] all = refl
+  batch_flow b node (p ∷ ps) all =
+      let as_held : WaitingPane → HeldPane = λ waiting. record { node = node; waiting = waiting } in
+      let first = All-head (IsHeldPane b) (record { node = node; waiting = p }) (map as_held ps) all in
+      let read : batch_outputs plan node (panes_of b.panes (p ∷ ps)) ≡ chain plan node first.0.element ++ batch_outputs plan node (panes_of b.panes ps) =
+      ap (λ (found : Option Pane). batch_outputs plan node ((elim found [ Some pane ↦ pane ∷ [] | None ↦ [] ]) ++ panes_of b.panes ps)) first.1 in
+      omega (
+        arith,
+        held_reads b.panes (record { node = node; waiting = p }) first.0 first.1,
+        ap (λ (n : ℕ). sum_by w (chain plan n first.0.element)) first.2,
+        ap (sum_by w) read,
+        batch_flow b node ps (All-tail (IsHeldPane b) (record { node = node; waiting = p }) (map as_held ps) all),
+        sum_by-cons (held_weight b.panes) (record { node = node; waiting = p }) (map as_held ps),
+        sum_by-append w (chain plan node first.0.element) (batch_outputs plan node (panes_of b.panes ps)),
+      )
+
+-- ---- a commit
+
+-- all panes of a batch that is worked are held
+batch_held : (b : BookData) (slot : ℕ) → AreHeldOnce b → (batch : Batch) → IsWorking b slot (live.Batch batch) → All (IsHeldPane b) (held_in batch)
+batch_held b slot once batch works =
+    let live_held = All-append_right (IsHeldPane b) (flat_map held_in b.returned) (flat_map held_in (live_batches b))
+    (All-append_right (IsHeldPane b) (queued b) (flat_map held_in b.returned ++ flat_map held_in (live_batches b)) once.panes) in
+    let each = All-of_flat_map (IsHeldPane b) held_in (live_batches b) live_held in
+    All-head (λ (x : Batch). All (IsHeldPane b) (held_in x)) batch [] (All-flat_at batch_of b.slots slot (λ (x : Batch). All (IsHeldPane b) (held_in x)) (Some (live.Batch batch)) works each)
+
+-- what a receipt brought: what its range, which is done now, or its batch brings
+pub record Brought (told : List FileText) (b : BookData) (job : Live) (receipt : Receipt) : Type 0 where
+  pub ends : All (IsEnd b.plan) receipt.arrivals
+  pub weighs : (w : Output → ℕ)
+      → sum_by w (spread_dones b.plan (items told b.plan) (done_after b.done job)) + sum_by (held_weight b.plan w b.panes) (flat_map held_in (batch_of (Some job)))
+      ≡ sum_by w (spread_dones b.plan (items told b.plan) b.done) + sum_by w (map Arrives receipt.arrivals)
+
+module _ (told : List FileText) (b : BookData) (slot : ℕ) (receipt : Receipt) (no_stateful : (n : ℕ) → is_stateful b.plan n ≡ false) (once : AreHeldOnce b) where
+  ended : (outputs : List Output) → map Arrives receipt.arrivals ≡ outputs → All (IsEnded b.plan) outputs → All (IsEnd b.plan) receipt.arrivals
+  ended outputs same all = All-unmap (IsEnded b.plan) Arrives receipt.arrivals (subst (All (IsEnded b.plan)) (sym same) all)
+
+  span_brought : (piece : Piece) (attempted : Option ℕ) (found : Option SourceItem) → item_at (items told b.plan) piece.node piece.item ≡ found
+      → IsWorkOnItem b.plan piece (worked_to piece attempted) found receipt → Brought told b (live.Span piece attempted) receipt
+  span_brought piece attempted found at given = record { ends = by_ends found given; weighs = λ w. by_weight w found at given }
+    where
+      by_ends : (found : Option SourceItem) → IsWorkOnItem b.plan piece (worked_to piece attempted) found receipt → All (IsEnd b.plan) receipt.arrivals
+      by_ends None given = subst (All (IsEnd b.plan)) (sym given.0) (All-nil (IsEnd b.plan))
+      by_ends (Some item) given =
+          ended (spread_range b.plan item piece.range.from (worked_to piece attempted)) given.arrivals
+          (spread_ended b.plan no_stateful item (offsets piece.range.from (worked_to piece attempted - piece.range.from)))
+
+      brings : (found : Option SourceItem) → IsWorkOnItem b.plan piece (worked_to piece attempted) found receipt
+          → map Arrives receipt.arrivals ≡ spread_of b.plan (done_of piece attempted).range found
+      brings None given = ap (map Arrives) given.0
+      brings (Some item) given = given.arrivals
+
+      by_weight : (w : Output → ℕ) (found : Option SourceItem) → item_at (items told b.plan) piece.node piece.item ≡ found
+          → IsWorkOnItem b.plan piece (worked_to piece attempted) found receipt
+          → sum_by w (spread_dones b.plan (items told b.plan) (with_done (done_of piece attempted) b.done)) + sum_by (held_weight b.plan w b.panes) []
+          ≡ sum_by w (spread_dones b.plan (items told b.plan) b.done) + sum_by w (map Arrives receipt.arrivals)
+      by_weight w found at given =
+          let f : Done → ℕ = λ d. sum_by w (spread_done b.plan (items told b.plan) d) in
+          let one : f (done_of piece attempted) ≡ sum_by w (map Arrives receipt.arrivals) =
+          ap (sum_by w) (ap (spread_of b.plan (done_of piece attempted).range) at ∙ sym (brings found given)) in
+          omega (
+            arith,
+            one,
+            one_more_done f (done_of piece attempted) b.done,
+            sum_by-flat_map w (spread_done b.plan (items told b.plan)) (with_done (done_of piece attempted) b.done),
+            sum_by-flat_map w (spread_done b.plan (items told b.plan)) b.done,
+          )
+
+  batch_brought : (batch : Batch) → All (IsHeldPane b) (held_in batch) → map Arrives receipt.arrivals ≡ batch_outputs b.plan batch.node (panes_of b.panes batch.panes)
+      → Brought told b (live.Batch batch) receipt
+  batch_brought batch all given = record {
+    ends = ended (batch_outputs b.plan batch.node (panes_of b.panes batch.panes)) given (panes_ended b.plan no_stateful batch.node (panes_of b.panes batch.panes));
+    weighs = λ w. omega (
+      arith,
+      ap (sum_by w) given,
+      batch_flow b.plan w b batch.node batch.panes all,
+      sum_by-append (held_weight b.plan w b.panes) (held_in batch) [],
+    );
+  }
+
+  pub job_brought : (job : Live) → IsWorking b slot job → IsGiven (Some told) b.plan (job_of b.panes job) (attempted_of job) receipt → Brought told b job receipt
+  job_brought (live.Span piece attempted) works given = span_brought piece attempted (item_at (items told b.plan) piece.node piece.item) refl given.0
+  job_brought (live.Batch batch) works given =
+      batch_brought batch (batch_held b slot once batch works) given.0
+
+module _ (told : List FileText) (b : BookData) (slot : ℕ) (job : Live) (receipt : Receipt) (cells : List Cell) (fired : List Pane) (marks : List StageMarks)
+    (no_stateful : (n : ℕ) → is_stateful b.plan n ≡ false)
+    (formed : IsWellFormed b) (once : AreHeldOnce b) (made : Commits (Some told) b slot job receipt cells fired marks) (was : IsBalanced told b) where
+  abbrev after : BookData
+  after = committed b slot job receipt cells fired marks
+
+  abbrev brought : Brought told b job receipt
+  brought = job_brought told b slot receipt no_stateful once job made.works made.given
+
+  job_held : All (IsHeldPane b) (flat_map held_in (batch_of (Some job)))
+  job_held = by job made.works
+    where
+      by : (j : Live) → IsWorking b slot j → All (IsHeldPane b) (flat_map held_in (batch_of (Some j)))
+      by (live.Span piece attempted) works = All-nil (IsHeldPane b)
+      by (live.Batch batch) works = All-append (IsHeldPane b) (held_in batch) [] (batch_held b slot once batch works) (All-nil (IsHeldPane b))
+
+  pub commit_balanced : IsBalanced told after
+  commit_balanced = record {
+    weighs = λ w.
+        let v : Arrival → ℕ = λ a. w (Arrives a) in
+        let hw = held_weight b.plan w (b.panes ++ fired) in
+        omega (
+          arith,
+          was.weighs w,
+          brought.weighs w,
+          sum_by-append w (spread_dones b.plan (items told b.plan) b.done) (pane_chains b.plan b.panes),
+          sum_by-append w (spread_dones b.plan (items told b.plan) after.done) (pane_chains b.plan (b.panes ++ fired)),
+          ap (sum_by w) (flat_map-append (λ (pane : Pane). chain b.plan pane.node pane.element) b.panes fired),
+          sum_by-append w (pane_chains b.plan b.panes) (pane_chains b.plan fired),
+          sum_by-append w (map Arrives (arrivals_of b.cells b.dropped [] b.written)) (held_chains b),
+          sum_by-append w (map Arrives (arrivals_of after.cells after.dropped [] after.written)) (held_chains after),
+          sum_by-map w Arrives (arrivals_of b.cells b.dropped [] b.written),
+          sum_by-map w Arrives (arrivals_of after.cells after.dropped [] after.written),
+          sum_by-map w Arrives receipt.arrivals,
+          arrivals_added v b.plan (last_marks b) (length b.commits) receipt.arrivals b.cells cells b.dropped b.written made.entries brought.ends,
+          chains_weigh b.plan w b refl,
+          chains_weigh b.plan w after refl,
+          (commit_bag (Some told) b slot job receipt cells fired marks formed once made).weighs hw,
+          sum_by-append hw (held after) (flat_map held_in (batch_of (Some job))),
+          sum_by-append hw (held b) (fired_held b fired),
+          same_later b.plan w b fired (held b) once.panes,
+          same_later b.plan w b fired (flat_map held_in (batch_of (Some job))) job_held,
+          fired_flow b.plan w (last_marks b) b.panes fired (length b.panes) refl,
+        );
+  }

@@ -1,0 +1,138 @@
+-- From the opening on, where the files are told, what arrived and what flows balance.
+use Rattle.std.proofs.Common.{◌≡◌, ℕ, Bool, true, false, List, [], ◌∷◌, ◌++◌, map, refl, sym, ap, subst, ◌∙◌}
+use Rattle.std.specs.Prelude.{Some, None}
+use Rattle.std.specs.List.{flat_map}
+use Rattle.beam_values.specs.Bags.{IsSameBag}
+use Rattle.beam_values.specs.Checked.{IsChecked}
+use Rattle.beam_values.specs.Nodes.{is_stateful}
+use Rattle.beam_values.proofs.Bags.{bag_append, bag_flat_map, bag_from_same, bag_refl, bag_sym, bag_trans}
+use Rattle.beam_values.specs.declared.arrival.Arrival.{Arrival}
+use Rattle.beam_values.specs.declared.cell.Cell.{Cell}
+use Rattle.beam_values.specs.declared.cell.Dropped.{Dropped}
+use Rattle.beam_values.specs.declared.cell.Pane.{Pane}
+use Rattle.beam_values.specs.declared.fault.Cause.{Cause}
+use Rattle.beam_values.specs.declared.fault.Cause.TheVariants.{Call, Read}
+use Rattle.beam_values.specs.declared.fault.FaultNote.{FaultNote}
+use Rattle.beam_values.specs.declared.file_text.FileText.{FileText}
+use Rattle.beam_values.specs.declared.piece.Done.{Done}
+use Rattle.beam_values.specs.declared.plan.Plan.{Plan}
+use Rattle.beam_model.specs.Account.{arrivals_of}
+use Rattle.beam_model.specs.Chains.{Output, Arrives}
+use Rattle.beam_model.specs.Coverings.{spread_dones}
+use Rattle.beam_model.specs.Flow.{pane_chains}
+use Rattle.beam_model.specs.Positions.{items}
+use Rattle.book_core.specs.Book.{BookData, HeldPane, held, panes_of}
+use Rattle.book_core.specs.Changes.{with_slot, cut_to, split_off, failed, given_back, counted, stopped_where, ends_run, note_of}
+use Rattle.book_core.specs.Facts.{AreHeldOnce, IsBalanced, IsWellFormed, held_chains}
+use Rattle.book_core.specs.Jobs.{Next, next_job}
+use Rattle.book_core.specs.Runs.{Reached, IsOpening, opened}
+use Rattle.book_core.specs.Steps.{IsWorking}
+use Rattle.book_core.specs.declared.live.Live.{Live}
+use Rattle.book_core.specs.declared.live.Live.TheVariants as live
+use Rattle.book_core.proofs.Balanced.{commit_balanced}
+use Rattle.book_core.proofs.Cases.{Keeps, Both, kept_with, always_reached, enrolled}
+use Rattle.book_core.proofs.CellsAlways.{StaysCelled, take_stays, fail_stays}
+use Rattle.book_core.proofs.HeldMoves.{take_moves, set_moves, enroll_moves, back_moves}
+use Rattle.book_core.proofs.HeldOnce.{held_always, none_held}
+use Rattle.book_core.proofs.Taking.{take_cases}
+
+-- what a step leaves that is no commit
+record StaysBalanced (old new : BookData) : Type 0 where
+  same : StaysCelled old new
+  done : new.done ≡ old.done
+  held : IsSameBag (held new) (held old)
+
+abbrev flows_held : Plan → List Pane → HeldPane → List Output
+flows_held plan panes h = pane_chains plan (panes_of panes (h.waiting ∷ []))
+
+-- both sides over the parts of a book
+abbrev Balances : List FileText → Plan → List Done → List Pane → List Cell → List Dropped → List Arrival → List HeldPane → Type 0
+Balances told plan done panes cells dropped written held =
+    IsSameBag (spread_dones plan (items told plan) done ++ pane_chains plan panes) (map Arrives (arrivals_of cells dropped [] written) ++ flat_map (flows_held plan panes) held)
+
+balanced_onward : (told : List FileText) (old new : BookData) → StaysBalanced old new → IsBalanced told old → IsBalanced told new
+balanced_onward told old new s h =
+    let moved : Balances told old.plan old.done old.panes old.cells old.dropped old.written (held new) =
+    bag_trans (spread_dones old.plan (items told old.plan) old.done ++ pane_chains old.plan old.panes)
+    (map Arrives (arrivals_of old.cells old.dropped [] old.written) ++ held_chains old)
+    (map Arrives (arrivals_of old.cells old.dropped [] old.written) ++ flat_map (flows_held old.plan old.panes) (held new)) h
+    (bag_append (map Arrives (arrivals_of old.cells old.dropped [] old.written)) (map Arrives (arrivals_of old.cells old.dropped [] old.written)) (held_chains old) (flat_map (flows_held old.plan old.panes) (held new))
+    (bag_refl (map Arrives (arrivals_of old.cells old.dropped [] old.written)))
+    (bag_flat_map (flows_held old.plan old.panes) (held old) (held new) (bag_sym (held new) (held old) s.held))) in
+    subst (λ (p : Plan). Balances told p new.done new.panes new.cells new.dropped new.written (held new)) (sym s.same.plan)
+    (subst (λ (l : List Done). Balances told old.plan l new.panes new.cells new.dropped new.written (held new)) (sym s.done)
+    (subst (λ (l : List Pane). Balances told old.plan old.done l new.cells new.dropped new.written (held new)) (sym s.same.panes)
+    (subst (λ (l : List Cell). Balances told old.plan old.done old.panes l new.dropped new.written (held new)) (sym s.same.cells)
+    (subst (λ (l : List Dropped). Balances told old.plan old.done old.panes old.cells l new.written (held new)) (sym s.same.dropped)
+    (subst (λ (l : List Arrival). Balances told old.plan old.done old.panes old.cells old.dropped l (held new)) (sym s.same.written) moved)))))
+
+take_done : (b : BookData) (slot : ℕ) (next : Next) → next_job b ≡ Some next → (with_slot next.rest slot (Some next.job)).done ≡ b.done
+take_done b slot next is = take_cases b (λ (n : Next). n.rest.done ≡ b.done) (λ batch among. refl) (λ batch oldest. refl) (λ piece later e. refl) next is
+
+-- ---- a fail
+
+stop_same : (spent : Bool) (x : BookData) (note : FaultNote) → (held (stopped_where spent x note) ≡ held x) × ((stopped_where spent x note).done ≡ x.done)
+stop_same true x note = (refl, refl)
+stop_same false x note = (refl, refl)
+
+counted_same : (x : BookData) (cause : Cause) → (held (counted x cause) ≡ held x) × ((counted x cause).done ≡ x.done)
+counted_same x Call = (refl, refl)
+counted_same x Read = (refl, refl)
+
+back_done : (b : BookData) (slot : ℕ) (job : Live) → (given_back (with_slot b slot None) job).done ≡ b.done
+back_done b slot (live.Span piece attempted) = refl
+back_done b slot (live.Batch batch) = refl
+
+fail_balanced : (b : BookData) (slot at : ℕ) (job : Live) (cause : Cause) → IsWorking b slot job → StaysBalanced b (failed b slot job at cause)
+fail_balanced b slot at job cause works =
+    let back = given_back (with_slot b slot None) job in
+    let more = counted back cause in
+    let stopped = stop_same (ends_run b job cause) more (note_of job at cause) in
+    record {
+      same = fail_stays b slot at job cause;
+      done = stopped.1 ∙ (counted_same back cause).1 ∙ back_done b slot job;
+      held = bag_trans (held (failed b slot job at cause)) (held back) (held b)
+          (bag_from_same (held (failed b slot job at cause)) (held back) (stopped.0 ∙ (counted_same back cause).0)) (back_moves b slot job works);
+    }
+
+-- ---- each step
+
+-- what of a checked plan no node is
+abbrev pub NoStateful : Type 0
+NoStateful = (plan : Plan) (n : ℕ) → IsChecked plan → is_stateful plan n ≡ false
+
+opening_balanced : (told : List FileText) (b first : BookData) → IsOpening b.plan b.files b.options first → IsBalanced told first
+opening_balanced told b first opening =
+    subst (IsBalanced told) (sym opening.is)
+    (bag_from_same [] (held_chains (opened b.plan b.files b.options opening.marks))
+    (sym (ap (flat_map (flows_held b.plan [])) (none_held b opening.marks))))
+
+keeps_balanced : NoStateful → (told : List FileText) → Keeps (Some told) (Both IsWellFormed AreHeldOnce) (IsBalanced told)
+keeps_balanced no_stateful told = record {
+  opens = opening_balanced told;
+  enrolls = λ b known h within.
+      balanced_onward told b (enrolled b) (record { same = record { plan = refl; commits = refl; cells = refl; dropped = refl; panes = refl; written = refl }; done = refl; held = enroll_moves b }) h;
+  takes = λ b slot next known h running free is.
+      balanced_onward told b (with_slot next.rest slot (Some next.job)) (record { same = take_stays b slot next is; done = take_done b slot next is; held = take_moves b slot free known.1 next is }) h;
+  claims = λ b slot p piece attempted known h works may.
+      balanced_onward told b (with_slot b slot (Some (live.Span piece (Some p)))) (record {
+        same = record { plan = refl; commits = refl; cells = refl; dropped = refl; panes = refl; written = refl };
+        done = refl;
+        held = set_moves b slot (Some (live.Span piece attempted)) (Some (live.Span piece (Some p))) works refl refl;
+      }) h;
+  splits = λ b slot at piece attempted known h works inside behind within.
+      balanced_onward told b (split_off b slot piece attempted at) (record {
+        same = record { plan = refl; commits = refl; cells = refl; dropped = refl; panes = refl; written = refl };
+        done = refl;
+        held = set_moves b slot (Some (live.Span piece attempted)) (Some (live.Span (cut_to piece (record { from = piece.range.from; to = at })) attempted)) works refl refl;
+      }) h;
+  commits = λ b slot job receipt cells fired marks known h made.
+      commit_balanced told b slot job receipt cells fired marks (λ n. no_stateful b.plan n known.0.checked) known.0 known.1 made h;
+  fails = λ b slot at job cause known h works. balanced_onward told b (failed b slot job at cause) (fail_balanced b slot at job cause works) h;
+  stops = λ b known h. h;
+}
+
+pub reached_balanced : NoStateful → (told : List FileText) (b : BookData) → Reached (Some told) b → IsBalanced told b
+reached_balanced no_stateful told b reached =
+    (always_reached (Some told) (Both (Both IsWellFormed AreHeldOnce) (IsBalanced told))
+    (kept_with (Some told) (Both IsWellFormed AreHeldOnce) (IsBalanced told) (held_always (Some told)) (keeps_balanced no_stateful told)) b reached).1

@@ -1,0 +1,216 @@
+-- From the opening on, what Groups took and put out ends early.
+use Rattle.std.proofs.Common.{◌≡◌, ℕ, ◌-◌, ◌<◌, ℤ, pos, Bool, true, false, cond, List, [], ◌∷◌, ◌++◌, length, map, get_or, refl, sym, ap, subst, arith}
+use Rattle.std.specs.Prelude.{Option, Some, None, ◌==◌, ◌&&◌, ◌≤ℤ◌, ◌-ℤ◌, bytes_eq, int_le, int_lt, slice_get, unwrap_or}
+use Rattle.std.specs.List.{All, filter}
+use Rattle.std.proofs.lemmas.Bool.{and_from}
+use Rattle.std.proofs.lemmas.Bool.Decides.{nat_tests}
+use Rattle.std.proofs.lemmas.Int.{ints}
+use Rattle.std.proofs.lemmas.Slice.Eq.{bytes_eq-Decides}
+use Rattle.std.proofs.lemmas.List.Elements.{All-nil, All-cons, All-append, All-weaker, All-map, All-filter}
+use Rattle.beam_values.specs.Bags.{IsSameBag}
+use Rattle.beam_values.specs.Grouping.{key_of, last_time}
+use Rattle.beam_values.specs.Intervals.{Interval}
+use Rattle.beam_values.specs.Lines.{offsets}
+use Rattle.beam_values.specs.Nodes.{is_group}
+use Rattle.beam_values.specs.Spelling.{spelling}
+use Rattle.beam_values.specs.Times.{greatest_time, least_time}
+use Rattle.beam_values.proofs.Bags.{bag_sym}
+use Rattle.beam_values.specs.declared.arrival.Arrival.{Arrival}
+use Rattle.beam_values.specs.declared.cell.Cell.{Cell}
+use Rattle.beam_values.specs.declared.cell.Pane.{Pane}
+use Rattle.beam_values.specs.declared.element.Timing.{Timing}
+use Rattle.beam_values.specs.declared.file_text.FileText.{FileText}
+use Rattle.beam_values.specs.declared.marks.StageMarks.{StageMarks}
+use Rattle.beam_values.specs.Checked.{IsChecked, is_source_argument}
+use Rattle.beam_values.specs.declared.piece.Piece.{Piece}
+use Rattle.beam_values.specs.declared.plan.Node.{Node}
+use Rattle.beam_values.specs.declared.plan.Plan.{Plan}
+use Rattle.beam_values.specs.declared.value.Value.{Value}
+use Rattle.beam_model.specs.Chains.{Output, Arrives}
+use Rattle.beam_model.specs.Coverings.{is_item, item_at}
+use Rattle.beam_model.specs.Panes.{GroupRules, IsFiredAs, IsLegalHistory, Taken, is_at_key, is_of_window, is_pane_at_key, mark_after, panes_at, panes_in, rules_of, taken_at, taken_by, taken_drop}
+use Rattle.beam_model.specs.Positions.{SourceItem}
+use Rattle.beam_model.specs.Spread.{spread_range}
+use Rattle.bundle_commit.specs.declared.job.Receipt.{Receipt}
+use Rattle.group_cells.specs.Commits.{is_taken, taken_arrival}
+use Rattle.group_cells.proofs.Counting.{All-unmap}
+use Rattle.group_cells.proofs.WindowTests.{span_itself}
+use Rattle.book_core.specs.Book.{BookData, last_marks, pane_at, panes_of}
+use Rattle.book_core.specs.Changes.{with_slot, committed, failed}
+use Rattle.book_core.specs.Facts.{IsWellFormed}
+use Rattle.book_core.specs.Jobs.{attempted_of, job_of}
+use Rattle.book_core.specs.Runs.{Reached}
+use Rattle.book_core.specs.Work.{IsGiven, IsWorkOnItem, IsWorkOnRange, batch_outputs, is_known, items_told, worked_to}
+use Rattle.book_core.specs.declared.live.Live.{Live}
+use Rattle.book_core.specs.declared.live.Live.TheVariants as live
+use Rattle.book_core.specs.declared.live.WaitingPane.{WaitingPane}
+use Rattle.book_core.proofs.Cases.{Keeps, Commits, LegalIn, Both, kept_with, always_reached}
+use Rattle.book_core.proofs.CellsAlways.{StaysCelled, fail_stays, take_stays}
+use Rattle.book_core.proofs.CellsKept.{found_has}
+use Rattle.book_core.proofs.EarlyEnds.{IsEarly, IsEarlyOutput, WindowsOfKind, batch_early, items_set, spread_early}
+use Rattle.book_core.proofs.Ended.{SettingsOfPlans}
+use Rattle.book_core.proofs.Formed.{formed_always}
+use Rattle.book_core.proofs.HeldOnce.{All-of_bag}
+use Rattle.book_core.proofs.Shown.{stands_early}
+use Rattle.book_core.proofs.Slots.{All-slice_get}
+use Rattle.book_core.proofs.Through.{EndsEarly, greatest_end, passes_have}
+
+abbrev pub IsEarlyPane : Pane → Type 0
+IsEarlyPane pane = IsEarly pane.element
+
+last_early : (w : Interval) → last_time w ≤ℤ greatest_time
+last_early w = by (int_lt greatest_time (w.end -ℤ pos 1)) (int_lt (w.end -ℤ pos 1) least_time) refl
+  where
+    low : (z : ℤ) → int_lt greatest_time z ≡ false → z ≤ℤ greatest_time
+    low z e = grind (arith, ints)
+
+    by : (t u : Bool) → int_lt greatest_time (w.end -ℤ pos 1) ≡ t → cond t greatest_time (cond u least_time (w.end -ℤ pos 1)) ≤ℤ greatest_time
+    by true u e = omega (arith, ints)
+    by false true e = omega (arith, ints)
+    by false false e = low (w.end -ℤ pos 1) e
+
+-- ---- the panes of one key
+
+module _ (rules : GroupRules) (node : ℕ) (key : Value) (mark : ℕ → ℤ) (last : ℕ) (taken dropped : List Taken) (panes : List Pane)
+    (early : All EndsEarly taken) (history : IsLegalHistory rules node key mark last taken dropped panes) where
+  fired_early : (c : ℕ) (w : Interval) (index : ℕ) (entries : List Taken) (o : Option Timing) (fired : List Pane) → IsFiredAs node key c w index entries o fired
+      → All (λ pane. pane.element.time ≤ℤ greatest_time) fired
+  fired_early c w index entries None fired is = subst (All (λ (pane : Pane). pane.element.time ≤ℤ greatest_time)) (sym is) (All-nil (λ (pane : Pane). pane.element.time ≤ℤ greatest_time))
+  fired_early c w index entries (Some timing) fired is =
+      let time : is.0.element.time ≡ last_time w = ap (λ e. e.time) is.2.holds in
+      subst (All (λ (pane : Pane). pane.element.time ≤ℤ greatest_time)) (sym is.1)
+      (All-cons (λ (pane : Pane). pane.element.time ≤ℤ greatest_time) is.0 [] (subst (λ (z : ℤ). z ≤ℤ greatest_time) (sym time) (last_early w)) (All-nil (λ (pane : Pane). pane.element.time ≤ℤ greatest_time)))
+
+  one_early : (k : ℕ) (d : Pane) → k < length panes → IsEarlyPane (get_or panes k d)
+  one_early k d inside =
+      let pane = get_or panes k d in
+      let c = pane.commit in
+      let w = pane.element.span in
+      let bounds = history.pane_commits k d inside in
+      let stands = history.only k d inside in
+      let fired = history.fired c w bounds.0 bounds.1 stands in
+      let times = passes_have (λ (p : Pane). p.commit == c && is_of_window w p) (λ (p : Pane). p.element.time ≤ℤ greatest_time) panes
+      (fired_early c w _ _ _ (panes_in c w panes) fired) k d inside in
+      (times (own pane), stands_early rules mark taken greatest_end early c w stands)
+    where
+      own : (p : Pane) → (p.commit == p.commit && is_of_window p.element.span p) ≡ true
+      own p = let same : (p.commit == p.commit) ≡ true = grind (arith, nat_tests) in and_from (p.commit == p.commit) (is_of_window p.element.span p) same (span_itself p.element.span)
+
+  key_early : All IsEarlyPane panes
+  key_early = one_early
+
+-- ---- all panes of a book
+
+pub legal_early : (b : BookData) → LegalIn b → All EndsEarly (taken_by b.cells) → All IsEarlyPane b.panes
+legal_early b legal early k d inside =
+    at (get_or b.panes k d) (legal.panes_at k d inside) (λ node key group. passes_have (is_pane_at_key node key) IsEarlyPane b.panes (of_key node key group) k d inside)
+  where
+    of_key : (node : ℕ) (key : Value) → is_group b.plan node ≡ true → All IsEarlyPane (panes_at node key b.panes)
+    of_key node key group =
+        key_early (rules_of b.plan node) node key (mark_after b.commits node) (length b.commits - 1) (taken_at node key (taken_by b.cells)) (taken_at node key (map taken_drop b.dropped))
+        (panes_at node key b.panes) (All-filter (is_at_key node key) EndsEarly (taken_by b.cells) early) (legal.each node key group).history
+
+    at : (pane : Pane) → is_group b.plan pane.node ≡ true
+        → ((node : ℕ) (key : Value) → is_group b.plan node ≡ true → is_pane_at_key node key pane ≡ true → IsEarlyPane pane) → IsEarlyPane pane
+    at pane group each =
+        let same : (pane.node == pane.node) ≡ true = grind (arith, nat_tests) in
+        each pane.node (key_of pane.element) group
+        (and_from (pane.node == pane.node) (bytes_eq (spelling (key_of pane.element)) (spelling (key_of pane.element))) same
+        ((bytes_eq-Decides (spelling (key_of pane.element)) (spelling (key_of pane.element))).1 refl))
+
+-- ---- what a receipt brings
+
+panes_of_early : (panes : List Pane) → All IsEarlyPane panes → (waiting : List WaitingPane) → All IsEarlyPane (panes_of panes waiting)
+panes_of_early panes all [] = All-nil IsEarlyPane
+panes_of_early panes all (w ∷ ws) = All-append IsEarlyPane (pane_at panes w) (panes_of panes ws) (by (slice_get panes w.pane) refl) (panes_of_early panes all ws)
+  where
+    by : (found : Option Pane) → slice_get panes w.pane ≡ found → All IsEarlyPane (elim found [ Some pane ↦ pane ∷ [] | None ↦ [] ])
+    by None at = All-nil IsEarlyPane
+    by (Some pane) at = All-cons IsEarlyPane pane [] (All-slice_get IsEarlyPane panes w.pane pane at all) (All-nil IsEarlyPane)
+
+-- the own window of an arrival ends early
+abbrev pub HasEarlyEnd : Arrival → Type 0
+HasEarlyEnd arrival = arrival.element.span.end ≤ℤ greatest_end
+
+module _ (windows : WindowsOfKind) (settings : SettingsOfPlans) (told : Option (List FileText)) where
+  arrivals_early : (arrivals : List Arrival) (outputs : List Output) → map Arrives arrivals ≡ outputs → All IsEarlyOutput outputs → All HasEarlyEnd arrivals
+  arrivals_early arrivals outputs same all =
+      All-weaker (λ (a : Arrival). IsEarly a.element) HasEarlyEnd (λ a early. early.1) arrivals (All-unmap IsEarlyOutput Arrives arrivals (subst (All IsEarlyOutput) (sym same) all))
+
+  item_early : (plan : Plan) (piece : Piece) (upto : ℕ) (receipt : Receipt) → IsChecked plan → (found : Option SourceItem) → item_at (items_told told plan) piece.node piece.item ≡ found
+      → IsWorkOnItem plan piece upto found receipt → All HasEarlyEnd receipt.arrivals
+  item_early plan piece upto receipt checked None at work = subst (All HasEarlyEnd) (sym work.0) (All-nil HasEarlyEnd)
+  item_early plan piece upto receipt checked (Some item) at work =
+      let set = λ (n : ℕ) (node : Node) (here : slice_get plan.nodes n ≡ Some node). settings plan n node checked here in
+      let allowed = found_has (is_item piece.node piece.item) (λ (i : SourceItem). is_source_argument i.work i.args ≡ true) (items_told told plan) item (items_set windows plan set (unwrap_or told [])) at in
+      arrivals_early receipt.arrivals (spread_range plan item piece.range.from upto) work.arrivals
+      (spread_early windows plan set item allowed (offsets piece.range.from (upto - piece.range.from)))
+
+  range_early : (plan : Plan) (piece : Piece) (upto : ℕ) (receipt : Receipt) → IsChecked plan → (t : Bool) → IsWorkOnRange t told plan piece upto receipt
+      → All HasEarlyEnd receipt.arrivals
+  range_early plan piece upto receipt checked true work = item_early plan piece upto receipt checked (item_at (items_told told plan) piece.node piece.item) refl work
+  range_early plan piece upto receipt checked false work = work.ends
+
+  given_early : (b : BookData) (job : Live) (receipt : Receipt) → IsWellFormed b → All IsEarlyPane b.panes → IsGiven told b.plan (job_of b.panes job) (attempted_of job) receipt
+      → All HasEarlyEnd receipt.arrivals
+  given_early b (live.Span piece attempted) receipt formed panes given =
+      range_early b.plan piece (worked_to piece attempted) receipt formed.checked (is_known told b.plan piece.node) given.0
+  given_early b (live.Batch batch) receipt formed panes given =
+      arrivals_early receipt.arrivals (batch_outputs b.plan batch.node (panes_of b.panes batch.panes)) given.0
+      (batch_early windows b.plan (λ n node here. settings b.plan n node formed.checked here) batch.node (panes_of b.panes batch.panes) (panes_of_early b.panes panes batch.panes))
+
+  -- ---- each step
+
+  pub record IsEarlyBook (b : BookData) : Type 0 where
+    pub taken : All EndsEarly (taken_by b.cells)
+    pub panes : All IsEarlyPane b.panes
+
+  early_onward : (old new : BookData) → StaysCelled old new → IsEarlyBook old → IsEarlyBook new
+  early_onward old new s h = record {
+    taken = subst (λ (l : List Cell). All EndsEarly (taken_by l)) (sym s.cells) h.taken;
+    panes = subst (All IsEarlyPane) (sym s.panes) h.panes;
+  }
+
+  is_early : Taken → Bool
+  is_early t = int_le t.element.span.end greatest_end
+
+  early_test : (z : ℤ) → z ≤ℤ greatest_end → int_le z greatest_end ≡ true
+  early_test z h = grind (arith, ints)
+
+  test_early : (z : ℤ) → int_le z greatest_end ≡ true → z ≤ℤ greatest_end
+  test_early z e = grind (arith, ints)
+
+  commit_taken : (c : ℕ) (arrivals : List Arrival) (test : Arrival → Bool) (old new : List Cell) → IsSameBag (taken_by new) (taken_by old ++ map (taken_arrival c) (filter test arrivals))
+      → All EndsEarly (taken_by old) → All HasEarlyEnd arrivals → All EndsEarly (taken_by new)
+  unfolding is_early
+  commit_taken c arrivals test old new entries was all =
+      let both = taken_by old ++ map (taken_arrival c) (filter test arrivals) in
+      let joined : All EndsEarly both =
+      All-append EndsEarly (taken_by old) (map (taken_arrival c) (filter test arrivals)) was
+      (All-map EndsEarly (taken_arrival c) (filter test arrivals)
+      (All-weaker HasEarlyEnd (λ a. EndsEarly (taken_arrival c a)) (λ a e. e) (filter test arrivals) (All-filter test HasEarlyEnd arrivals all))) in
+      All-weaker (λ t. is_early t ≡ true) EndsEarly (λ t e. test_early t.element.span.end e) (taken_by new)
+      (All-of_bag is_early both (taken_by new) (bag_sym (taken_by new) both entries)
+      (All-weaker EndsEarly (λ t. is_early t ≡ true) (λ t h. early_test t.element.span.end h) both joined))
+
+  commit_early : (b : BookData) (slot : ℕ) (job : Live) (receipt : Receipt) (cells : List Cell) (fired : List Pane) (marks : List StageMarks) → IsWellFormed b → IsEarlyBook b
+      → Commits told b slot job receipt cells fired marks → IsEarlyBook (committed b slot job receipt cells fired marks)
+  commit_early b slot job receipt cells fired marks formed h made =
+      let taken = commit_taken (length b.commits) receipt.arrivals (is_taken b.plan (last_marks b)) b.cells cells made.entries h.taken (given_early b job receipt formed h.panes made.given) in
+      record { taken = taken; panes = legal_early (committed b slot job receipt cells fired marks) made.legal taken }
+
+  keeps_early : Keeps told IsWellFormed IsEarlyBook
+  keeps_early = record {
+    opens = λ b first opening. subst IsEarlyBook (sym opening.is) (record { taken = All-nil EndsEarly; panes = All-nil IsEarlyPane });
+    enrolls = λ b formed h within. record { taken = h.taken; panes = h.panes };
+    takes = λ b slot next formed h running free is. early_onward b (with_slot next.rest slot (Some next.job)) (take_stays b slot next is) h;
+    claims = λ b slot p piece attempted formed h works may. record { taken = h.taken; panes = h.panes };
+    splits = λ b slot at piece attempted formed h works inside behind within. record { taken = h.taken; panes = h.panes };
+    commits = λ b slot job receipt cells fired marks formed h made. commit_early b slot job receipt cells fired marks formed h made;
+    fails = λ b slot at job cause formed h works. early_onward b (failed b slot job at cause) (fail_stays b slot at job cause) h;
+    stops = λ b formed h. record { taken = h.taken; panes = h.panes };
+  }
+
+  pub reached_early : (b : BookData) → Reached told b → IsEarlyBook b
+  reached_early b reached =
+      (always_reached told (Both IsWellFormed IsEarlyBook) (kept_with told IsWellFormed IsEarlyBook (formed_always told) keeps_early) b reached).1

@@ -1,0 +1,320 @@
+-- Every reached book is well formed.
+use Rattle.std.proofs.Common.{◌≡◌, ℕ, zero, suc, get_or, ◌+◌, ◌≤◌, Bool, true, false, cond, List, [], ◌∷◌, length, refl, sym, ap, subst, ◌∙◌, length-append, arith}
+use Rattle.std.specs.Prelude.{Option, Some, None, slice_get, fold}
+use Rattle.std.specs.List.{enumerate_from}
+use Rattle.std.specs.List.Sorted.{IsSorted}
+use Rattle.std.specs.Ordering.{is_lt}
+use Rattle.std.specs.Cmp.{IsTotalOrder}
+use Rattle.std.proofs.lemmas.Cmp.{nat_cmp_total, on_total, then_total}
+use Rattle.std.proofs.lemmas.List.{length-map, length-set}
+use Rattle.std.proofs.lemmas.List.FromFn.{length-enumerate_from}
+use Rattle.std.proofs.lemmas.List.Sorted.{ranks_by}
+use Rattle.beam_values.specs.Checked.{IsChecked}
+use Rattle.beam_values.specs.declared.fault.Cause.{Cause}
+use Rattle.beam_values.specs.declared.fault.Cause.TheVariants.{Call, Read}
+use Rattle.beam_values.specs.declared.fault.FaultNote.{FaultNote}
+use Rattle.beam_values.specs.declared.file_text.FileText.{FileText}
+use Rattle.beam_values.specs.declared.outcome.StopCause.{StopCause}
+use Rattle.beam_values.specs.declared.outcome.StopCause.TheVariants as stop
+use Rattle.beam_values.specs.declared.piece.Done.{Done}
+use Rattle.beam_values.specs.declared.piece.FileLen.{FileLen}
+use Rattle.beam_values.specs.declared.piece.Piece.{Piece}
+use Rattle.beam_values.specs.declared.plan.Plan.{Plan}
+use Rattle.beam_model.specs.Positions.{items}
+use Rattle.bundle_commit.specs.declared.job.Receipt.{Receipt}
+use Rattle.split_core.specs.Order.{IsAscending, with_pieces, first_pieces}
+use Rattle.split_core.proofs.Ordered.{ascending_with_piece, ascending_with_pieces, length-with_piece}
+use Rattle.book_core.specs.Book.{BookData, piece_of, live_pieces}
+use Rattle.book_core.specs.Changes.{with_slot, split_off, committed, or_stopped, with_done, done_cmp, done_of, done_after, residual_of, with_residual, pending_after, given_back, tried_piece, counted, stopped_where, ends_run, note_of}
+use Rattle.book_core.specs.Facts.{IsWellFormed}
+use Rattle.book_core.specs.Jobs.{GivenBack, Oldest, Next, next_job, without_due}
+use Rattle.book_core.specs.Runs.{Reached, IsOpening, AreOptions, AreLengthsOf}
+use Rattle.book_core.specs.Steps.{IsWorking, IsFree, IsWithinLimits}
+use Rattle.book_core.specs.declared.live.Batch.{Batch}
+use Rattle.book_core.specs.declared.live.Live.{Live}
+use Rattle.book_core.specs.declared.live.Live.TheVariants as live
+use Rattle.book_core.proofs.Cases.{Keeps, Anything, AreAlways, kept_alone, always_reached, enrolled}
+use Rattle.book_core.proofs.Slotted.{flat_set_weighs, sum_ones}
+use Rattle.book_core.proofs.Taking.{IsAmong, IsOldest, take_cases}
+
+-- ---- done ranges stay in order
+
+done_total : IsTotalOrder done_cmp
+done_total =
+    then_total (on_total (λ (d : Done). d.node) nat_cmp_total)
+    (then_total (on_total (λ (d : Done). d.item) nat_cmp_total)
+    (then_total (on_total (λ (d : Done). d.range.from) nat_cmp_total) (on_total (λ (d : Done). d.range.to) nat_cmp_total)))
+
+done_lt : Done → Done → Bool
+done_lt a b = is_lt (done_cmp a b)
+
+abbrev NoneBelow : Done → List Done → Type 0
+NoneBelow d [] = Unit {0}
+NoneBelow d (x ∷ xs) = is_lt (done_cmp x d) ≡ false
+
+sorted_more : (x : Done) (xs : List Done) → NoneBelow x xs → IsSorted done_cmp xs → IsSorted done_cmp (x ∷ xs)
+sorted_more x [] low up k d from within = absurd (omega arith)
+sorted_more x (y ∷ ys) low up zero d from within = low
+sorted_more x (y ∷ ys) low up (suc k) d from within =
+    let e : suc (k + 1) ≡ suc k + 1 = omega arith in
+    subst (λ (n : ℕ). is_lt (done_cmp (get_or (x ∷ y ∷ ys) n d) (get_or (y ∷ ys) k d)) ≡ false) e (up k d (omega arith) (omega arith))
+
+sorted_first : (x : Done) (xs : List Done) → IsSorted done_cmp (x ∷ xs) → NoneBelow x xs
+sorted_first x [] up = tt
+sorted_first x (y ∷ ys) up = up 0 x (omega arith) (omega arith)
+
+sorted_rest : (x : Done) (xs : List Done) → IsSorted done_cmp (x ∷ xs) → IsSorted done_cmp xs
+sorted_rest x xs up k d from within =
+    let e : suc k + 1 ≡ suc (k + 1) = omega arith in
+    subst (λ (n : ℕ). is_lt (done_cmp (get_or (x ∷ xs) n d) (get_or xs k d)) ≡ false) e (up (suc k) d (omega arith) (omega arith))
+
+none_below_with : (d new : Done) (done : List Done) → is_lt (done_cmp new d) ≡ false → NoneBelow d done → NoneBelow d (with_done new done)
+none_below_with d new [] e low = e
+none_below_with d new (x ∷ xs) e low = by (is_lt (done_cmp x new))
+  where
+    by : (t : Bool) → NoneBelow d (cond t (x ∷ with_done new xs) (new ∷ x ∷ xs))
+    by true = low
+    by false = e
+
+sorted_with_done : (new : Done) (done : List Done) → IsSorted done_cmp done → IsSorted done_cmp (with_done new done)
+sorted_with_done new [] up = sorted_more new [] tt up
+sorted_with_done new (x ∷ xs) up = by (is_lt (done_cmp x new)) refl (sorted_with_done new xs (sorted_rest x xs up))
+  where
+    by : (t : Bool) → is_lt (done_cmp x new) ≡ t → IsSorted done_cmp (with_done new xs) → IsSorted done_cmp (cond t (x ∷ with_done new xs) (new ∷ x ∷ xs))
+    by true e behind =
+        sorted_more x (with_done new xs)
+        (none_below_with x new xs ((ranks_by done_total (λ (d : Done). d)).one_way x new e) (sorted_first x xs up)) behind
+    by false e behind = sorted_more new (x ∷ xs) e up
+
+-- ---- lists that don't grow
+
+-- a slot is set
+pieces_set : (b : BookData) (slot : ℕ) (old new : Option Live) → slice_get b.slots slot ≡ Some old
+    → length (live_pieces (with_slot b slot new)) + length (piece_of old) ≡ length (live_pieces b) + length (piece_of new)
+pieces_set b slot old new at =
+    omega (
+      arith,
+      flat_set_weighs piece_of b.slots slot (λ (p : Piece). 1) old new at,
+      sum_ones (live_pieces b),
+      sum_ones (live_pieces (with_slot b slot new)),
+      sum_ones (piece_of old),
+      sum_ones (piece_of new),
+    )
+
+-- the lists of one book are no longer than those of the other
+record AreWithin (old new : BookData) : Type 0 where
+  commits : length new.commits ≤ length old.commits
+  panes : length new.panes ≤ length old.panes
+  dropped : length new.dropped ≤ length old.dropped
+  slots : length new.slots ≤ length old.slots
+  pieces : length new.pending + length (live_pieces new) ≤ length old.pending + length (live_pieces old)
+
+limits_onward : (old new : BookData) → AreWithin old new → IsWithinLimits old → IsWithinLimits new
+limits_onward old new a h = record {
+  commits = omega (arith, a.commits, h.commits);
+  panes = omega (arith, a.panes, h.panes);
+  dropped = omega (arith, a.dropped, h.dropped);
+  slots = omega (arith, a.slots, h.slots);
+  pieces = omega (arith, a.pieces, h.pieces, length-append old.pending (live_pieces old), length-append new.pending (live_pieces new));
+}
+
+-- ---- what doesn't change, and lists in order
+
+-- the same but for what is given
+record StaysFormed (old new : BookData) : Type 0 where
+  plan : new.plan ≡ old.plan
+  options : new.options ≡ old.options
+  files : new.files ≡ old.files
+  queues : length new.queues ≡ length old.queues
+  ascending : IsAscending old.pending → IsAscending new.pending
+  done : IsSorted done_cmp old.done → IsSorted done_cmp new.done
+
+formed_onward : (old new : BookData) → StaysFormed old new → IsWellFormed old → IsWithinLimits new → IsWellFormed new
+formed_onward old new stays h within = record {
+  checked = subst IsChecked (sym stays.plan) h.checked;
+  allowed = subst AreOptions (sym stays.options) h.allowed;
+  lengths = subst (AreLengthsOf (items [] new.plan)) (sym stays.files) (subst (λ (p : Plan). AreLengthsOf (items [] p) old.files) (sym stays.plan) h.lengths);
+  queues = stays.queues ∙ h.queues ∙ ap (λ (p : Plan). length p.nodes) (sym stays.plan);
+  ascending = stays.ascending h.ascending;
+  done = stays.done h.done;
+  within = within;
+}
+
+-- ---- take
+
+take_formed : (b : BookData) (slot : ℕ) (next : Next) → IsWellFormed b → IsFree b slot → next_job b ≡ Some next
+    → IsWellFormed (with_slot next.rest slot (Some next.job))
+take_formed b slot next h free is = take_cases b (λ (n : Next). IsWellFormed (with_slot n.rest slot (Some n.job))) given waits pending next is
+  where
+    given : (batch : Batch) → IsAmong b.returned batch → IsWellFormed (with_slot (without_due b (GivenBack batch)).rest slot (Some (live.Batch batch)))
+    given batch among =
+        let new = with_slot (without_due b (GivenBack batch)).rest slot (Some (live.Batch batch)) in
+        formed_onward b new (record { plan = refl; options = refl; files = refl; queues = refl; ascending = λ up. up; done = λ up. up }) h
+        (limits_onward b new (record {
+          commits = omega arith;
+          panes = omega arith;
+          dropped = omega arith;
+          slots = omega (arith, length-set b.slots slot (Some (live.Batch batch)));
+          pieces = omega (arith, pieces_set b slot None (Some (live.Batch batch)) free);
+        }) h.within)
+
+    waits : (batch : Batch) → IsOldest b batch → IsWellFormed (with_slot (without_due b (Oldest batch)).rest slot (Some (live.Batch batch)))
+    waits batch oldest =
+        let new = with_slot (without_due b (Oldest batch)).rest slot (Some (live.Batch batch)) in
+        formed_onward b new (record {
+          plan = refl;
+          options = refl;
+          files = refl;
+          queues = length-set b.queues batch.node _;
+          ascending = λ up. up;
+          done = λ up. up;
+        }) h
+        (limits_onward b new (record {
+          commits = omega arith;
+          panes = omega arith;
+          dropped = omega arith;
+          slots = omega (arith, length-set b.slots slot (Some (live.Batch batch)));
+          pieces = omega (arith, pieces_set b slot None (Some (live.Batch batch)) free);
+        }) h.within)
+
+    pending : (piece : Piece) (later : List Piece) → b.pending ≡ piece ∷ later
+        → IsWellFormed (with_slot (record b { pending = later }) slot (Some (live.Span piece None)))
+    pending piece later e =
+        let new = with_slot (record b { pending = later }) slot (Some (live.Span piece None)) in
+        formed_onward b new (record {
+          plan = refl;
+          options = refl;
+          files = refl;
+          queues = refl;
+          ascending = λ up. (subst IsAscending e up).1;
+          done = λ up. up;
+        }) h
+        (limits_onward b new (record {
+          commits = omega arith;
+          panes = omega arith;
+          dropped = omega arith;
+          slots = omega (arith, length-set b.slots slot (Some (live.Span piece None)));
+          pieces = omega (arith, pieces_set b slot None (Some (live.Span piece None)) free, ap length e);
+        }) h.within)
+
+-- ---- a commit
+
+pending_up : (pending : List Piece) (job : Live) (receipt : Receipt) → IsAscending pending → IsAscending (pending_after pending job receipt)
+pending_up pending (live.Span piece attempted) receipt up = by (residual_of piece attempted receipt)
+  where
+    by : (left : Option Piece) → IsAscending (with_residual left pending)
+    by None = up
+    by (Some piece) = ascending_with_piece piece pending up
+pending_up pending (live.Batch batch) receipt up = up
+
+done_up : (done : List Done) (job : Live) → IsSorted done_cmp done → IsSorted done_cmp (done_after done job)
+done_up done (live.Span piece attempted) up = sorted_with_done (done_of piece attempted) done up
+done_up done (live.Batch batch) up = up
+
+-- ---- a fail
+
+back_formed : (b : BookData) (slot : ℕ) (job : Live) → IsWellFormed b → IsWorking b slot job → IsWellFormed (given_back (with_slot b slot None) job)
+back_formed b slot (live.Span piece attempted) h works =
+    let new = given_back (with_slot b slot None) (live.Span piece attempted) in
+    formed_onward b new (record {
+      plan = refl;
+      options = refl;
+      files = refl;
+      queues = refl;
+      ascending = ascending_with_piece (tried_piece piece) b.pending;
+      done = λ up. up;
+    }) h
+    (limits_onward b new (record {
+      commits = omega arith;
+      panes = omega arith;
+      dropped = omega arith;
+      slots = omega (arith, length-set b.slots slot None);
+      pieces = omega (arith, pieces_set b slot (Some (live.Span piece attempted)) None works, length-with_piece (tried_piece piece) b.pending);
+    }) h.within)
+back_formed b slot (live.Batch batch) h works =
+    let new = given_back (with_slot b slot None) (live.Batch batch) in
+    formed_onward b new (record { plan = refl; options = refl; files = refl; queues = refl; ascending = λ up. up; done = λ up. up }) h
+    (limits_onward b new (record {
+      commits = omega arith;
+      panes = omega arith;
+      dropped = omega arith;
+      slots = omega (arith, length-set b.slots slot None);
+      pieces = omega (arith, pieces_set b slot (Some (live.Batch batch)) None works);
+    }) h.within)
+
+counted_formed : (b : BookData) (cause : Cause) → IsWellFormed b → IsWellFormed (counted b cause)
+counted_formed b Call h = record { checked = h.checked; allowed = h.allowed; lengths = h.lengths; queues = h.queues; ascending = h.ascending; done = h.done; within = limits_onward b (counted b Call) (record { commits = omega arith; panes = omega arith; dropped = omega arith; slots = omega arith; pieces = omega arith }) h.within }
+counted_formed b Read h = record { checked = h.checked; allowed = h.allowed; lengths = h.lengths; queues = h.queues; ascending = h.ascending; done = h.done; within = limits_onward b (counted b Read) (record { commits = omega arith; panes = omega arith; dropped = omega arith; slots = omega arith; pieces = omega arith }) h.within }
+
+stop_formed : (b : BookData) (stopped : Option StopCause) → IsWellFormed b → IsWellFormed (record b { stopped = stopped })
+stop_formed b stopped h = record { checked = h.checked; allowed = h.allowed; lengths = h.lengths; queues = h.queues; ascending = h.ascending; done = h.done; within = limits_onward b (record b { stopped = stopped }) (record { commits = omega arith; panes = omega arith; dropped = omega arith; slots = omega arith; pieces = omega arith }) h.within }
+
+stop_where_formed : (spent : Bool) (b : BookData) (note : FaultNote) → IsWellFormed b → IsWellFormed (stopped_where spent b note)
+stop_where_formed true b note h = stop_formed b (or_stopped b.stopped (stop.Spent note)) h
+stop_where_formed false b note h = h
+
+-- ---- each step
+
+pieces_up : (chunk : ℕ) (files : List FileLen) (pending : List Piece) → IsAscending pending
+    → IsAscending (fold (λ pieces file. with_pieces (first_pieces file.node file.item file.len chunk) pieces) pending files)
+pieces_up chunk [] pending up = up
+pieces_up chunk (file ∷ files) pending up =
+    pieces_up chunk files (with_pieces (first_pieces file.node file.item file.len chunk) pending)
+    (ascending_with_pieces (first_pieces file.node file.item file.len chunk) pending up)
+
+opening_formed : (b first : BookData) → IsOpening b.plan b.files b.options first → IsWellFormed first
+opening_formed b first opening = subst IsWellFormed (sym opening.is) (record {
+  checked = opening.checked;
+  allowed = opening.allowed;
+  lengths = opening.lengths;
+  queues = length-map b.plan.nodes _;
+  ascending = pieces_up b.options.chunk b.files [] tt;
+  done = λ k d from within. absurd (omega arith);
+  within = subst IsWithinLimits opening.is opening.within;
+})
+
+keeps_formed : (told : Option (List FileText)) → Keeps told Anything IsWellFormed
+keeps_formed told = record {
+  opens = opening_formed;
+  enrolls = λ b known h within.
+      formed_onward b (enrolled b) (record { plan = refl; options = refl; files = refl; queues = refl; ascending = λ up. up; done = λ up. up }) h within;
+  takes = λ b slot next known h running free is. take_formed b slot next h free is;
+  claims = λ b slot p piece attempted known h works may.
+      let new = with_slot b slot (Some (live.Span piece (Some p))) in
+      formed_onward b new (record { plan = refl; options = refl; files = refl; queues = refl; ascending = λ up. up; done = λ up. up }) h
+      (limits_onward b new (record {
+        commits = omega arith;
+        panes = omega arith;
+        dropped = omega arith;
+        slots = omega (arith, length-set b.slots slot (Some (live.Span piece (Some p))));
+        pieces = omega (arith, pieces_set b slot (Some (live.Span piece attempted)) (Some (live.Span piece (Some p))) works);
+      }) h.within);
+  splits = λ b slot at piece attempted known h works inside behind within.
+      formed_onward b (split_off b slot piece attempted at) (record {
+        plan = refl;
+        options = refl;
+        files = refl;
+        queues = refl;
+        ascending = ascending_with_piece _ b.pending;
+        done = λ up. up;
+      }) h within;
+  commits = λ b slot job receipt cells fired marks known h made.
+      formed_onward b (committed b slot job receipt cells fired marks) (record {
+        plan = refl;
+        options = refl;
+        files = refl;
+        queues = length-map (enumerate_from 0 b.queues) _ ∙ length-enumerate_from 0 b.queues;
+        ascending = pending_up b.pending job receipt;
+        done = done_up b.done job;
+      }) h made.within;
+  fails = λ b slot at job cause known h works.
+      stop_where_formed (ends_run b job cause) (counted (given_back (with_slot b slot None) job) cause) (note_of job at cause)
+      (counted_formed (given_back (with_slot b slot None) job) cause (back_formed b slot job h works));
+  stops = λ b known h. stop_formed b (or_stopped b.stopped stop.NoMemory) h;
+}
+
+pub formed_always : (told : Option (List FileText)) → AreAlways told IsWellFormed
+formed_always told = kept_alone told IsWellFormed (keeps_formed told)
+
+pub reached_formed : (told : Option (List FileText)) (b : BookData) → Reached told b → IsWellFormed b
+reached_formed told = always_reached told IsWellFormed (formed_always told)

@@ -1,0 +1,216 @@
+-- The holds of a book as one bag: which steps leave each node's least hold.
+use Rattle.std.proofs.Common.{◌≡◌, ℕ, ◌+◌, ℤ, Bool, true, false, cond, List, [], ◌∷◌, ◌++◌, map, refl, sym, ap, ◌∙◌, arith}
+use Rattle.std.specs.Prelude.{Option, Some, None, ◌==◌, slice_get, fold}
+use Rattle.std.specs.Int.{int_min}
+use Rattle.std.specs.List.{filter, sum_by}
+use Rattle.std.proofs.lemmas.Int.{ints, clamps}
+use Rattle.std.proofs.lemmas.List.Concat.{flat_map-append}
+use Rattle.std.proofs.lemmas.List.Sums.{sum_by-cons, sum_by-append}
+use Rattle.beam_values.specs.Bags.{IsSameBag}
+use Rattle.beam_values.specs.Marks.{least_mark, node_marks, AreMarks}
+use Rattle.beam_values.specs.Times.{final_mark}
+use Rattle.beam_values.proofs.Bags.{bag_filter, bag_map, sum_by-map}
+use Rattle.beam_values.specs.declared.marks.StageMarks.{StageMarks}
+use Rattle.beam_values.specs.declared.piece.Piece.{Piece}
+use Rattle.beam_values.specs.declared.plan.Plan.{Plan}
+use Rattle.beam_model.specs.Holds.{Hold, piece_hold, marks_held, least_hold}
+use Rattle.split_core.specs.Order.{with_piece}
+use Rattle.split_core.proofs.Ordered.{bag_with_piece}
+use Rattle.watermarks.proofs.BagMembers.{bag_least}
+use Rattle.book_core.specs.Book.{BookData, piece_of, live_pieces, held, hold_of, holds}
+use Rattle.book_core.specs.Changes.{with_slot, cut_to, rest_of, split_off, given_back, tried_piece}
+use Rattle.book_core.specs.Facts.{AreHeldOnce}
+use Rattle.book_core.specs.Jobs.{GivenBack, Oldest, Next, next_job, without_due}
+use Rattle.book_core.specs.Steps.{IsWorking, IsFree}
+use Rattle.book_core.specs.declared.live.Live.{Live}
+use Rattle.book_core.specs.declared.live.Live.TheVariants as live
+use Rattle.book_core.proofs.HeldMoves.{take_moves, set_moves, enroll_moves, back_moves}
+use Rattle.book_core.proofs.Slotted.{flat_set_weighs, one_weighs}
+use Rattle.book_core.proofs.Taking.{take_cases}
+
+-- ---- the least of a bag
+
+pub least_of_bag : (hs ks : List Hold) → IsSameBag hs ks → (n : ℕ) → least_hold hs n ≡ least_hold ks n
+least_of_bag hs ks same n =
+    bag_least (marks_held hs n) (marks_held ks n)
+    (bag_map (λ (hold : Hold). hold.mark) (filter (λ hold. hold.node == n) hs) (filter (λ hold. hold.node == n) ks) (bag_filter (λ (hold : Hold). hold.node == n) hs ks same))
+
+min_twice : (a x : ℤ) → int_min (int_min a x) x ≡ int_min a x
+min_twice a x = omega (arith, ints, clamps)
+
+-- a hold that is there already is no matter
+pub least_twice : (h : Hold) (hs : List Hold) (n : ℕ) → least_hold (h ∷ h ∷ hs) n ≡ least_hold (h ∷ hs) n
+least_twice h hs n = by (h.node == n)
+  where
+    by : (t : Bool)
+        → least_mark (map (λ (hold : Hold). hold.mark) (cond t (h ∷ cond t (h ∷ filter (λ hold. hold.node == n) hs) (filter (λ hold. hold.node == n) hs)) (cond t (h ∷ filter (λ hold. hold.node == n) hs) (filter (λ hold. hold.node == n) hs))))
+        ≡ least_mark (map (λ (hold : Hold). hold.mark) (cond t (h ∷ filter (λ hold. hold.node == n) hs) (filter (λ hold. hold.node == n) hs)))
+    by true = ap (λ (m : ℤ). fold int_min m (map (λ (hold : Hold). hold.mark) (filter (λ hold. hold.node == n) hs))) (min_twice final_mark h.mark)
+    by false = refl
+
+pub marks_of_least : (plan : Plan) (hs ks : List Hold) (marks : List StageMarks) → ((n : ℕ) → least_hold hs n ≡ least_hold ks n)
+    → AreMarks plan (least_hold hs) marks → AreMarks plan (least_hold ks) marks
+marks_of_least plan hs ks marks same h = record {
+  sized = h.sized;
+  each = λ n node at. h.each n node at ∙ ap (node_marks marks node.inputs) (same n);
+}
+
+-- ---- all holds of a book
+
+abbrev pub all_holds : BookData → List Hold
+all_holds b = map (piece_hold b.plan) (b.pending ++ live_pieces b) ++ holds b
+
+abbrev piece_weight : Plan → (Hold → ℕ) → Piece → ℕ
+piece_weight plan w piece = w (piece_hold plan piece)
+
+pub holds_weigh : (w : Hold → ℕ) (b : BookData)
+    → sum_by w (all_holds b) ≡ sum_by (piece_weight b.plan w) b.pending + sum_by (piece_weight b.plan w) (live_pieces b) + sum_by (λ h. w (hold_of h)) (held b)
+holds_weigh w b =
+    omega (
+      arith,
+      sum_by-append w (map (piece_hold b.plan) (b.pending ++ live_pieces b)) (holds b),
+      sum_by-map w (piece_hold b.plan) (b.pending ++ live_pieces b),
+      sum_by-append (piece_weight b.plan w) b.pending (live_pieces b),
+      sum_by-map w hold_of (held b),
+    )
+
+pub piece_set_weighs : (w : Piece → ℕ) (b : BookData) (slot : ℕ) (old new : Option Live) → slice_get b.slots slot ≡ Some old
+    → sum_by w (live_pieces (with_slot b slot new)) + sum_by w (piece_of old) ≡ sum_by w (live_pieces b) + sum_by w (piece_of new)
+piece_set_weighs w b slot old new at = flat_set_weighs piece_of b.slots slot w old new at
+
+pub with_piece_weight : (w : Piece → ℕ) (piece : Piece) (pending : List Piece) → sum_by w (with_piece piece pending) ≡ w piece + sum_by w pending
+with_piece_weight w piece pending = (bag_with_piece piece pending).weighs w ∙ sum_by-cons w piece pending
+
+-- ---- which steps leave the bag
+
+pub enroll_holds : (b : BookData) → IsSameBag (all_holds (record b { slots = b.slots ++ None ∷ [] })) (all_holds b)
+enroll_holds b = record {
+  weighs = λ w. omega (
+    arith,
+    holds_weigh w b,
+    holds_weigh w (record b { slots = b.slots ++ None ∷ [] }),
+    (enroll_moves b).weighs (λ h. w (hold_of h)),
+    ap (sum_by (piece_weight b.plan w)) (flat_map-append piece_of b.slots (None ∷ [])),
+    sum_by-append (piece_weight b.plan w) (live_pieces b) [],
+  );
+}
+
+pub take_holds : (b : BookData) (slot : ℕ) (next : Next) → AreHeldOnce b → IsFree b slot → next_job b ≡ Some next
+    → IsSameBag (all_holds (with_slot next.rest slot (Some next.job))) (all_holds b)
+take_holds b slot next once free is =
+    take_cases b (λ (n : Next). IsSameBag (held (with_slot n.rest slot (Some n.job))) (held b) → IsSameBag (all_holds (with_slot n.rest slot (Some n.job))) (all_holds b))
+    (λ batch among moves. record {
+      weighs = λ w. omega (
+        arith,
+        holds_weigh w b,
+        holds_weigh w (with_slot (without_due b (GivenBack batch)).rest slot (Some (live.Batch batch))),
+        moves.weighs (λ h. w (hold_of h)),
+        piece_set_weighs (piece_weight b.plan w) b slot None (Some (live.Batch batch)) free,
+      );
+    })
+    (λ batch oldest moves. record {
+      weighs = λ w. omega (
+        arith,
+        holds_weigh w b,
+        holds_weigh w (with_slot (without_due b (Oldest batch)).rest slot (Some (live.Batch batch))),
+        moves.weighs (λ h. w (hold_of h)),
+        piece_set_weighs (piece_weight b.plan w) b slot None (Some (live.Batch batch)) free,
+      );
+    })
+    (λ piece later e moves. record {
+      weighs = λ w. omega (
+        arith,
+        holds_weigh w b,
+        holds_weigh w (with_slot (record b { pending = later }) slot (Some (live.Span piece None))),
+        moves.weighs (λ h. w (hold_of h)),
+        piece_set_weighs (piece_weight b.plan w) b slot None (Some (live.Span piece None)) free,
+        one_weighs (piece_weight b.plan w) piece,
+        ap (sum_by (piece_weight b.plan w)) e,
+        sum_by-cons (piece_weight b.plan w) piece later,
+      );
+    })
+    next is (take_moves b slot free once next is)
+
+pub claim_holds : (b : BookData) (slot p : ℕ) (piece : Piece) (attempted : Option ℕ) → IsWorking b slot (live.Span piece attempted)
+    → IsSameBag (all_holds (with_slot b slot (Some (live.Span piece (Some p))))) (all_holds b)
+claim_holds b slot p piece attempted works = record {
+  weighs = λ w. omega (
+    arith,
+    holds_weigh w b,
+    holds_weigh w (with_slot b slot (Some (live.Span piece (Some p)))),
+    (set_moves b slot (Some (live.Span piece attempted)) (Some (live.Span piece (Some p))) works refl refl).weighs (λ h. w (hold_of h)),
+    piece_set_weighs (piece_weight b.plan w) b slot (Some (live.Span piece attempted)) (Some (live.Span piece (Some p))) works,
+  );
+}
+
+pub back_holds : (b : BookData) (slot : ℕ) (job : Live) → IsWorking b slot job → IsSameBag (all_holds (given_back (with_slot b slot None) job)) (all_holds b)
+back_holds b slot (live.Span piece attempted) works = record {
+  weighs = λ w. omega (
+    arith,
+    holds_weigh w b,
+    holds_weigh w (given_back (with_slot b slot None) (live.Span piece attempted)),
+    (back_moves b slot (live.Span piece attempted) works).weighs (λ h. w (hold_of h)),
+    piece_set_weighs (piece_weight b.plan w) b slot (Some (live.Span piece attempted)) None works,
+    with_piece_weight (piece_weight b.plan w) (tried_piece piece) b.pending,
+    one_weighs (piece_weight b.plan w) piece,
+  );
+}
+back_holds b slot (live.Batch batch) works = record {
+  weighs = λ w. omega (
+    arith,
+    holds_weigh w b,
+    holds_weigh w (given_back (with_slot b slot None) (live.Batch batch)),
+    (back_moves b slot (live.Batch batch) works).weighs (λ h. w (hold_of h)),
+    piece_set_weighs (piece_weight b.plan w) b slot (Some (live.Batch batch)) None works,
+  );
+}
+
+-- ---- a split doubles the hold of its piece
+
+module _ (b : BookData) (slot at : ℕ) (piece : Piece) (attempted : Option ℕ) (works : IsWorking b slot (live.Span piece attempted)) where
+  abbrev front : Piece
+  front = cut_to piece (record { from = piece.range.from; to = at })
+
+  abbrev rest : Piece
+  rest = rest_of piece (record { from = at; to = piece.range.to })
+
+  abbrev others : BookData
+  others = with_slot b slot None
+
+  old_bag : IsSameBag (all_holds b) (piece_hold b.plan piece ∷ all_holds others)
+  old_bag = record {
+    weighs = λ w. omega (
+      arith,
+      holds_weigh w b,
+      holds_weigh w others,
+      (set_moves b slot (Some (live.Span piece attempted)) None works refl refl).weighs (λ h. w (hold_of h)),
+      piece_set_weighs (piece_weight b.plan w) b slot (Some (live.Span piece attempted)) None works,
+      one_weighs (piece_weight b.plan w) piece,
+      sum_by-cons w (piece_hold b.plan piece) (all_holds others),
+    );
+  }
+
+  new_bag : IsSameBag (all_holds (split_off b slot piece attempted at)) (piece_hold b.plan piece ∷ piece_hold b.plan piece ∷ all_holds others)
+  new_bag = record {
+    weighs = λ w. omega (
+      arith,
+      holds_weigh w b,
+      holds_weigh w others,
+      holds_weigh w (split_off b slot piece attempted at),
+      (set_moves b slot (Some (live.Span piece attempted)) None works refl refl).weighs (λ h. w (hold_of h)),
+      (set_moves b slot (Some (live.Span piece attempted)) (Some (live.Span front attempted)) works refl refl).weighs (λ h. w (hold_of h)),
+      piece_set_weighs (piece_weight b.plan w) b slot (Some (live.Span piece attempted)) None works,
+      piece_set_weighs (piece_weight b.plan w) b slot (Some (live.Span piece attempted)) (Some (live.Span front attempted)) works,
+      with_piece_weight (piece_weight b.plan w) rest b.pending,
+      one_weighs (piece_weight b.plan w) piece,
+      one_weighs (piece_weight b.plan w) front,
+      sum_by-cons w (piece_hold b.plan piece) (piece_hold b.plan piece ∷ all_holds others),
+      sum_by-cons w (piece_hold b.plan piece) (all_holds others),
+    );
+  }
+
+  pub split_least : (n : ℕ) → least_hold (all_holds (split_off b slot piece attempted at)) n ≡ least_hold (all_holds b) n
+  split_least n =
+      least_of_bag (all_holds (split_off b slot piece attempted at)) (piece_hold b.plan piece ∷ piece_hold b.plan piece ∷ all_holds others) new_bag n
+      ∙ least_twice (piece_hold b.plan piece) (all_holds others) n
+      ∙ sym (least_of_bag (all_holds b) (piece_hold b.plan piece ∷ all_holds others) old_bag n)

@@ -1,0 +1,156 @@
+-- A fail lowers what is left of a run, and a take doesn't raise it.
+use Rattle.std.proofs.Common.{◌≡◌, inl, inr, ℕ, ◌+◌, ◌-◌, ◌*◌, ◌<◌, Bool, true, false, cond, List, [], ◌∷◌, ◌++◌, length, map, refl, sym, ap, subst, ◌∙◌, arith}
+use Rattle.std.specs.Prelude.{Some, None, ◌==◌}
+use Rattle.std.specs.List.{count_by, sum_by}
+use Rattle.std.proofs.lemmas.List.Elements.{All-head}
+use Rattle.std.proofs.lemmas.List.Sums.{length-filter, sum_by-append}
+use Rattle.beam_values.specs.Lines.{offsets}
+use Rattle.beam_values.proofs.Bags.{bag_count, sum_by-filter}
+use Rattle.beam_values.specs.declared.fault.Cause.{Cause}
+use Rattle.beam_values.specs.declared.fault.Cause.TheVariants.{Call, Read}
+use Rattle.beam_values.specs.declared.fault.FaultNote.{FaultNote}
+use Rattle.beam_values.specs.declared.piece.Piece.{Piece}
+use Rattle.book_core.specs.Book.{BookData, HeldPane, piece_of, batch_of, live_pieces, live_batches, held, queued}
+use Rattle.book_core.specs.Changes.{with_slot, failed, given_back, counted, stopped_where, tried_piece, tried_batch, ends_run, note_of}
+use Rattle.book_core.specs.Facts.{AreAttemptsCounted}
+use Rattle.book_core.specs.Left.{IsBelow, attempts_left, left, left_at, left_of_batch, left_of_piece, offsets_and_one}
+use Rattle.book_core.specs.Steps.{IsWorking}
+use Rattle.book_core.specs.declared.live.Batch.{Batch}
+use Rattle.book_core.specs.declared.live.Live.{Live}
+use Rattle.book_core.specs.declared.live.Live.TheVariants as live
+use Rattle.book_core.proofs.HeldMoves.{back_moves}
+use Rattle.book_core.proofs.HoldBags.{piece_set_weighs, with_piece_weight}
+use Rattle.book_core.proofs.Slotted.{All-flat_at, flat_set_weighs, one_weighs}
+
+-- ---- one number lower at the end
+
+pub below_last : (xs : List ℕ) (m n : ℕ) → m < n → IsBelow (xs ++ m ∷ []) (xs ++ n ∷ [])
+below_last [] m n less = inl less
+below_last (x ∷ xs) m n less = inr (refl, below_last xs m n less)
+
+pub lower_last : (b new : BookData) → new.plan ≡ b.plan → ((node : ℕ) → left_at new node ≡ left_at b node) → attempts_left new < attempts_left b → IsBelow (left new) (left b)
+lower_last b new plan same less =
+    subst (λ (xs : List ℕ). IsBelow (xs ++ attempts_left new ∷ []) (left b)) (sym nodes)
+    (below_last (map (left_at b) (offsets 0 (length b.plan.nodes))) (attempts_left new) (attempts_left b) less)
+  where
+    nodes : map (left_at new) (offsets 0 (length new.plan.nodes)) ≡ map (left_at b) (offsets 0 (length b.plan.nodes))
+    nodes =
+        ap (λ p. map (left_at new) (offsets 0 (length p.nodes))) plan
+        ∙ (λ i. map (λ node. same node i) (offsets 0 (length b.plan.nodes)))
+
+-- ---- what is left weighs
+
+pub at_node : ℕ → Piece → ℕ
+at_node node piece = cond (piece.node == node) (offsets_and_one piece) 0
+
+pub left_at_weighs : (b : BookData) (node : ℕ)
+    → left_at b node ≡ sum_by (at_node node) b.pending + sum_by (at_node node) (live_pieces b) + count_by (λ (pane : HeldPane). pane.node == node) (held b)
+unfolding at_node
+left_at_weighs b node =
+    omega (
+      arith,
+      sum_by-filter offsets_and_one (λ (piece : Piece). piece.node == node) (b.pending ++ live_pieces b),
+      sum_by-append (at_node node) b.pending (live_pieces b),
+      length-filter (λ (pane : HeldPane). pane.node == node) (held b),
+    )
+
+pub attempts_weigh : (b : BookData)
+    → attempts_left b
+    ≡ sum_by (left_of_piece b.options.attempts) b.pending + sum_by (left_of_piece b.options.attempts) (live_pieces b)
+    + (sum_by (left_of_batch b.options.attempts) b.returned + sum_by (left_of_batch b.options.attempts) (live_batches b)) + b.options.attempts * length (queued b)
+attempts_weigh b =
+    omega (
+      arith,
+      sum_by-append (left_of_piece b.options.attempts) b.pending (live_pieces b),
+      sum_by-append (left_of_batch b.options.attempts) b.returned (live_batches b),
+    )
+
+-- ---- a job is given back
+
+module _ (b : BookData) (slot : ℕ) (counts : AreAttemptsCounted b) where
+  abbrev back : Live → BookData
+  back job = given_back (with_slot b slot None) job
+
+  abbrev most : ℕ
+  most = b.options.attempts
+
+  back_nodes : (job : Live) → IsWorking b slot job → (node : ℕ) → left_at (back job) node ≡ left_at b node
+  unfolding at_node
+  back_nodes (live.Span piece attempted) works node =
+      omega (
+        arith,
+        left_at_weighs b node,
+        left_at_weighs (back (live.Span piece attempted)) node,
+        bag_count (λ (pane : HeldPane). pane.node == node) (held (back (live.Span piece attempted))) (held b) (back_moves b slot (live.Span piece attempted) works),
+        piece_set_weighs (at_node node) b slot (Some (live.Span piece attempted)) None works,
+        with_piece_weight (at_node node) (tried_piece piece) b.pending,
+        one_weighs (at_node node) piece,
+      )
+  back_nodes (live.Batch batch) works node =
+      omega (
+        arith,
+        left_at_weighs b node,
+        left_at_weighs (back (live.Batch batch)) node,
+        bag_count (λ (pane : HeldPane). pane.node == node) (held (back (live.Batch batch))) (held b) (back_moves b slot (live.Batch batch) works),
+        piece_set_weighs (at_node node) b slot (Some (live.Batch batch)) None works,
+      )
+
+  one_less : (attempts : ℕ) → attempts < most → most - (attempts + 1) + 1 ≡ most - attempts
+  one_less attempts less = omega arith
+
+  back_lower : (job : Live) → IsWorking b slot job → attempts_left (back job) + 1 ≡ attempts_left b
+  back_lower (live.Span piece attempted) works =
+      let below = All-head (λ (p : Piece). p.attempts < most) piece []
+      (All-flat_at piece_of b.slots slot (λ (p : Piece). p.attempts < most) (Some (live.Span piece attempted)) works counts.worked_pieces) in
+      omega (
+        arith,
+        attempts_weigh b,
+        attempts_weigh (back (live.Span piece attempted)),
+        piece_set_weighs (left_of_piece most) b slot (Some (live.Span piece attempted)) None works,
+        with_piece_weight (left_of_piece most) (tried_piece piece) b.pending,
+        one_weighs (left_of_piece most) piece,
+        flat_set_weighs batch_of b.slots slot (left_of_batch most) (Some (live.Span piece attempted)) None works,
+        one_less piece.attempts below,
+      )
+  back_lower (live.Batch batch) works =
+      let below = All-head (λ (x : Batch). x.attempts < most) batch []
+      (All-flat_at batch_of b.slots slot (λ (x : Batch). x.attempts < most) (Some (live.Batch batch)) works counts.worked_batches) in
+      omega (
+        arith,
+        attempts_weigh b,
+        attempts_weigh (back (live.Batch batch)),
+        piece_set_weighs (left_of_piece most) b slot (Some (live.Batch batch)) None works,
+        flat_set_weighs batch_of b.slots slot (left_of_batch most) (Some (live.Batch batch)) None works,
+        sum_by-append (left_of_batch most) b.returned (tried_batch batch ∷ []),
+        one_weighs (left_of_batch most) (tried_batch batch),
+        one_weighs (left_of_batch most) batch,
+        one_less batch.attempts below,
+      )
+
+-- ---- counts and stops are no matter
+
+record IsAsLeft (x y : BookData) : Type 0 where
+  plan : y.plan ≡ x.plan
+  nodes : (node : ℕ) → left_at y node ≡ left_at x node
+  attempts : attempts_left y ≡ attempts_left x
+
+counted_left : (x : BookData) (cause : Cause) → IsAsLeft x (counted x cause)
+counted_left x Call = record { plan = refl; nodes = λ node. refl; attempts = refl }
+counted_left x Read = record { plan = refl; nodes = λ node. refl; attempts = refl }
+
+stop_left : (spent : Bool) (x : BookData) (note : FaultNote) → IsAsLeft x (stopped_where spent x note)
+stop_left true x note = record { plan = refl; nodes = λ node. refl; attempts = refl }
+stop_left false x note = record { plan = refl; nodes = λ node. refl; attempts = refl }
+
+back_plan : (b : BookData) (slot : ℕ) (job : Live) → (given_back (with_slot b slot None) job).plan ≡ b.plan
+back_plan b slot (live.Span piece attempted) = refl
+back_plan b slot (live.Batch batch) = refl
+
+pub fail_lowers : (b : BookData) (slot at : ℕ) (job : Live) (cause : Cause) → AreAttemptsCounted b → IsWorking b slot job → IsBelow (left (failed b slot job at cause)) (left b)
+fail_lowers b slot at job cause counts works =
+    let back = given_back (with_slot b slot None) job in
+    let first = counted_left back cause in
+    let then = stop_left (ends_run b job cause) (counted back cause) (note_of job at cause) in
+    lower_last b (failed b slot job at cause) (then.plan ∙ first.plan ∙ back_plan b slot job)
+    (λ node. then.nodes node ∙ first.nodes node ∙ back_nodes b slot counts job works node)
+    (omega (arith, then.attempts, first.attempts, back_lower b slot counts job works))

@@ -1,0 +1,181 @@
+-- What each step changes in the book. What a definition doesn't name stays.
+use Rattle.std.specs.Prelude.{◌≡◌, ℕ, ◌+◌, ◌==◌, Bool, true, false, nat_le, nat_lt, if◌then◌else◌, List, [], ◌∷◌, ◌++◌, length, map, slice_set, Option, Some, None}
+use Rattle.std.specs.List.{filter, enumerate_from}
+use Rattle.std.specs.declared.cmp.Ordering.{Ordering}
+use Rattle.std.specs.Ordering.{on, then_cmp, nat_cmp, is_lt}
+use Rattle.beam_values.specs.Bags.{IsSameBag}
+use Rattle.beam_values.specs.Nodes.{is_write}
+use Rattle.beam_values.specs.Intervals.{Offsets}
+use Rattle.beam_values.specs.declared.arrival.Arrival.{Arrival}
+use Rattle.beam_values.specs.declared.cell.Cell.{Cell}
+use Rattle.beam_values.specs.declared.cell.Pane.{Pane}
+use Rattle.beam_values.specs.declared.fault.Cause.{Cause}
+use Rattle.beam_values.specs.declared.fault.Cause.TheVariants.{Call, Read}
+use Rattle.beam_values.specs.declared.fault.FaultNote.{FaultNote}
+use Rattle.beam_values.specs.declared.marks.StageMarks.{StageMarks}
+use Rattle.beam_values.specs.declared.outcome.StopCause.{StopCause}
+use Rattle.beam_values.specs.declared.outcome.StopCause.TheVariants as stop
+use Rattle.beam_values.specs.declared.piece.Done.{Done}
+use Rattle.beam_values.specs.declared.piece.Piece.{Piece}
+use Rattle.beam_model.specs.Holds.{pane_hold}
+use Rattle.beam_model.specs.Panes.{taken_by, ArePanesLegal}
+use Rattle.beam_ports.specs.Counts.{raised}
+use Rattle.bundle_commit.specs.declared.job.Receipt.{Receipt}
+use Rattle.group_cells.specs.Commits.{as_commit, dropped_arrival, is_dropped, is_taken, taken_arrival}
+use Rattle.split_core.specs.Order.{with_piece}
+use Rattle.book_core.specs.Book.{BookData, last_marks, AreMarksOfBook}
+use Rattle.book_core.specs.Jobs.{first_pane}
+use Rattle.book_core.specs.Work.{worked_to}
+use Rattle.book_core.specs.declared.live.Batch.{Batch}
+use Rattle.book_core.specs.declared.live.Live.{Live}
+use Rattle.book_core.specs.declared.live.Live.TheVariants as live
+use Rattle.book_core.specs.declared.live.WaitingPane.{WaitingPane}
+
+-- a slot works this, or nothing
+abbrev pub with_slot : BookData → ℕ → Option Live → BookData
+with_slot b slot job = record b { slots = slice_set b.slots slot job }
+
+-- ---- parts of a range
+
+-- a piece with another range
+abbrev pub cut_to : Piece → Offsets → Piece
+cut_to piece range = record piece { range = range }
+
+-- what is left behind a split: never tried, with what was seen when its piece was taken
+abbrev pub rest_of : Piece → Offsets → Piece
+rest_of piece range = record piece { range = range; attempts = 0 }
+
+-- a live range is split: it goes on up to there, and the rest is pending
+abbrev pub split_off : BookData → ℕ → Piece → Option ℕ → ℕ → BookData
+split_off b slot piece attempted at =
+    record (with_slot b slot (Some (live.Span (cut_to piece (record { from = piece.range.from; to = at })) attempted))) {
+      pending = with_piece (rest_of piece (record { from = at; to = piece.range.to })) b.pending;
+    }
+
+-- ---- fails
+
+-- a job as it is given back, with one more attempt, a range with its present end
+abbrev pub tried_piece : Piece → Piece
+tried_piece piece = record piece { attempts = piece.attempts + 1 }
+
+abbrev pub tried_batch : Batch → Batch
+tried_batch batch = record batch { attempts = batch.attempts + 1 }
+
+abbrev pub given_back : BookData → Live → BookData
+given_back b (live.Span piece attempted) = record b { pending = with_piece (tried_piece piece) b.pending }
+given_back b (live.Batch batch) = record b { returned = b.returned ++ tried_batch batch ∷ [] }
+
+abbrev pub attempts_of : Live → ℕ
+attempts_of (live.Span piece attempted) = piece.attempts
+attempts_of (live.Batch batch) = batch.attempts
+
+abbrev pub note_of : Live → ℕ → Cause → FaultNote
+note_of (live.Span piece attempted) at cause =
+    record { node = piece.node; item = piece.item; at = at; attempt = piece.attempts + 1; cause = cause }
+note_of (live.Batch batch) at cause =
+    record { node = batch.node; item = first_pane batch; at = at; attempt = batch.attempts + 1; cause = cause }
+
+-- one more fail brings a job to the limit of its attempts
+abbrev pub is_at_limit : BookData → Live → Bool
+is_at_limit b job = nat_le b.options.attempts (attempts_of job + 1)
+
+-- the first cause of a stop is kept
+abbrev pub or_stopped : Option StopCause → StopCause → Option StopCause
+or_stopped (Some kept) new = Some kept
+or_stopped None new = Some new
+
+abbrev pub counted : BookData → Cause → BookData
+counted b Call = record b { calls = raised b.calls }
+counted b Read = record b { reads = raised b.reads }
+
+abbrev pub stopped_where : Bool → BookData → FaultNote → BookData
+stopped_where true b note = record b { stopped = or_stopped b.stopped (stop.Spent note) }
+stopped_where false b note = b
+
+-- a fail ends the run: the job is given up
+abbrev pub ends_run : BookData → Live → Cause → Bool
+ends_run b job cause = is_at_limit b job
+
+abbrev pub failed : BookData → ℕ → Live → ℕ → Cause → BookData
+failed b slot job at cause = stopped_where (ends_run b job cause) (counted (given_back (with_slot b slot None) job) cause) (note_of job at cause)
+
+-- ---- commits
+
+-- the order of the ranges of an outcome
+abbrev pub done_cmp : Done → Done → Ordering
+done_cmp =
+    then_cmp (on (λ d. d.node) nat_cmp)
+    (then_cmp (on (λ d. d.item) nat_cmp)
+    (then_cmp (on (λ d. d.range.from) nat_cmp) (on (λ d. d.range.to) nat_cmp)))
+
+-- a range is put behind those that are lower
+abbrev pub with_done : Done → List Done → List Done
+with_done new [] = new ∷ []
+with_done new (d ∷ done) = if is_lt (done_cmp d new) then d ∷ with_done new done else new ∷ d ∷ done
+
+-- the range that a commit does: the whole, or up to the checkpoint right behind the last attempted position
+abbrev pub done_of : Piece → Option ℕ → Done
+done_of piece attempted =
+    record { node = piece.node; item = piece.item; range = record { from = piece.range.from; to = worked_to piece attempted } }
+
+-- what is left of it, never tried, with what the bundle has seen
+abbrev pub residual_of : Piece → Option ℕ → Receipt → Option Piece
+residual_of piece attempted receipt =
+    if nat_lt (worked_to piece attempted) piece.range.to
+    then Some (record piece { range = record { from = worked_to piece attempted; to = piece.range.to }; seen = receipt.seen; attempts = 0 })
+    else None
+
+abbrev pub with_residual : Option Piece → List Piece → List Piece
+with_residual None pending = pending
+with_residual (Some piece) pending = with_piece piece pending
+
+-- the source side of a commit
+abbrev pub done_after : List Done → Live → List Done
+done_after done (live.Span piece attempted) = with_done (done_of piece attempted) done
+done_after done (live.Batch batch) = done
+
+abbrev pub pending_after : List Piece → Live → Receipt → List Piece
+pending_after pending (live.Span piece attempted) receipt = with_residual (residual_of piece attempted receipt) pending
+pending_after pending (live.Batch batch) receipt = pending
+
+-- the panes that a commit fired wait, each with its hold: the greater of its time and the mark after its Group before the commit
+abbrev pub as_waiting : List StageMarks → (ℕ × Pane) → WaitingPane
+as_waiting before (place, pane) = record { pane = place; hold = (pane_hold before pane).mark }
+
+abbrev pub fired_at : ℕ → List (ℕ × Pane) → List (ℕ × Pane)
+fired_at node fired = filter (λ numbered. numbered.1.node == node) fired
+
+-- each queue with the panes of its node behind it
+abbrev pub with_fired : List StageMarks → List (ℕ × Pane) → (ℕ × List WaitingPane) → List WaitingPane
+with_fired before fired (node, queue) = queue ++ map (as_waiting before) (fired_at node fired)
+
+abbrev pub queues_after : BookData → List Pane → List (List WaitingPane)
+queues_after b fired = map (with_fired (last_marks b) (enumerate_from (length b.panes) fired)) (enumerate_from 0 b.queues)
+
+-- arrivals at Writes are written
+abbrev pub written_by : BookData → Receipt → List Arrival
+written_by b receipt = filter (λ arrival. is_write b.plan arrival.node) receipt.arrivals
+
+-- the book after a commit that left these cells, fired these panes and has these marks
+abbrev pub committed : BookData → ℕ → Live → Receipt → List Cell → List Pane → List StageMarks → BookData
+committed b slot job receipt cells fired marks = record (with_slot b slot None) {
+  pending = pending_after b.pending job receipt;
+  queues = queues_after b fired;
+  cells = cells;
+  dropped = b.dropped ++ map (dropped_arrival (length b.commits)) (filter (is_dropped b.plan (last_marks b)) receipt.arrivals);
+  panes = b.panes ++ fired;
+  done = done_after b.done job;
+  written = b.written ++ written_by b receipt;
+  commits = b.commits ++ as_commit marks ∷ [];
+}
+
+-- A commit places a receipt: each arrival in time is an entry, and none is lost; the marks are those of the book after it; and the panes are legal with it.
+pub record IsCommit (b : BookData) (slot : ℕ) (job : Live) (receipt : Receipt) (new : BookData) : Type 0 where
+  pub cells : List Cell
+  pub fired : List Pane
+  pub marks : List StageMarks
+  pub is : new ≡ committed b slot job receipt cells fired marks
+  pub entries : IsSameBag (taken_by cells)
+      (taken_by b.cells ++ map (taken_arrival (length b.commits)) (filter (is_taken b.plan (last_marks b)) receipt.arrivals))
+  pub marked : AreMarksOfBook new marks
+  pub legal : ArePanesLegal new.plan new.commits new.cells new.dropped new.panes

@@ -1,0 +1,134 @@
+-- What holds of every reached book: of each part of it one record.
+use Rattle.std.specs.Prelude.{◌≡◌, ◌⊎◌, ℕ, ◌+◌, ◌<◌, ◌≤◌, ◌==◌, Bool, true, List, [], ◌∷◌, ◌++◌, length, map, slice_get, count_by, Contains, Option, Some, None}
+use Rattle.std.specs.List.{All, flat_map}
+use Rattle.std.specs.List.Sorted.{IsSorted}
+use Rattle.beam_values.specs.Bags.{IsSameBag}
+use Rattle.beam_values.specs.Cover.{Place, times_done, times_listed, times_pending}
+use Rattle.beam_values.specs.Checked.{IsChecked}
+use Rattle.beam_values.specs.Nodes.{is_write}
+use Rattle.beam_values.specs.Times.{least_time}
+use Rattle.beam_values.specs.declared.cell.Pane.{Pane}
+use Rattle.beam_values.specs.declared.file_text.FileText.{FileText}
+use Rattle.beam_values.specs.declared.outcome.StopCause.{StopCause}
+use Rattle.beam_values.specs.declared.outcome.StopCause.TheVariants as cause
+use Rattle.beam_values.specs.declared.piece.Piece.{Piece}
+use Rattle.beam_model.specs.Account.{arrivals_of}
+use Rattle.beam_model.specs.Chains.{Output, Arrives, chain}
+use Rattle.beam_model.specs.Coverings.{item_at, spread_dones}
+use Rattle.beam_model.specs.Flow.{pane_chains}
+use Rattle.beam_model.specs.Estimators.{emission_at, observed_times}
+use Rattle.beam_model.specs.Holds.{estimator_of}
+use Rattle.beam_model.specs.Panes.{taken_by, ArePanesLegal}
+use Rattle.beam_model.specs.Positions.{SourceItem, items}
+use Rattle.group_cells.specs.Commits.{HaveGaps, NeverFalls}
+use Rattle.book_core.specs.Book.{BookData, HeldPane, held, panes_of, live_pieces, live_batches, last_marks, AreMarksOfBook}
+use Rattle.book_core.specs.Changes.{done_cmp}
+use Rattle.book_core.specs.Runs.{AreOptions, AreLengthsOf}
+use Rattle.book_core.specs.Steps.{IsRunning, IsWithinLimits}
+use Rattle.book_core.specs.Work.{items_told}
+use Rattle.split_core.specs.Order.{IsAscending}
+use Rattle.book_core.specs.declared.live.Live.{Live}
+use Rattle.book_core.specs.declared.live.Live.TheVariants as live
+
+-- each offset of each item lies in exactly one pending, live or done range, and no other offset does
+pub record ArePartitioned (b : BookData) : Type 0 where
+  pub times : (place : Place) → times_pending (b.pending ++ live_pieces b) place + times_done b.done place ≡ times_listed b.files place
+
+-- a live range was attempted at its start or behind it, or not at all
+abbrev pub IsAttemptedWithin : Option Live → Type 0
+IsAttemptedWithin (Some (live.Span piece (Some p))) = piece.range.from ≤ p
+IsAttemptedWithin _ = Unit {0}
+
+-- The last marks are those of the book, and no mark falls from commit to commit.
+pub record AreMarksKept (b : BookData) : Type 0 where
+  pub last : AreMarksOfBook b (last_marks b)
+  pub never_fall : NeverFalls b.commits
+
+-- what came to the Groups is legal, and own windows of sessions are as long as the gap
+pub record AreCellsKept (b : BookData) : Type 0 where
+  pub legal : ArePanesLegal b.plan b.commits b.cells b.dropped b.panes
+  pub gaps : HaveGaps b.plan (taken_by b.cells)
+
+-- the panes that aren't through are panes of the run, each held at one place at most and at its own Group
+abbrev pub is_held_at : ℕ → HeldPane → Bool
+is_held_at place held = held.waiting.pane == place
+
+abbrev pub IsHeldPane : BookData → HeldPane → Type 0
+IsHeldPane b held = (pane : Pane) × (slice_get b.panes held.waiting.pane ≡ Some pane) × (pane.node ≡ held.node)
+
+pub record AreHeldOnce (b : BookData) : Type 0 where
+  pub panes : All (IsHeldPane b) (held b)
+  pub once : (place : ℕ) → count_by (is_held_at place) (held b) ≤ 1
+  pub batches : All (λ batch. 1 ≤ length batch.panes) (b.returned ++ live_batches b)
+
+-- what flows from the panes that aren't through
+abbrev pub held_chains : BookData → List Output
+held_chains b = flat_map (λ held. pane_chains b.plan (panes_of b.panes (held.waiting ∷ []))) (held b)
+
+-- where the files are told: what arrived is what flows from the done ranges and from the panes that are through, and nothing of that is poison
+abbrev pub IsBalanced : List FileText → BookData → Type 0
+IsBalanced told b =
+    IsSameBag (spread_dones b.plan (items_told (Some told) b.plan) b.done ++ pane_chains b.plan b.panes)
+    (map Arrives (arrivals_of b.cells b.dropped [] b.written) ++ held_chains b)
+
+-- what was written is at Writes
+pub record AreAtWrites (b : BookData) : Type 0 where
+  pub written : All (λ arrival. is_write b.plan arrival.node ≡ true) b.written
+
+-- Where the files are told: what was seen before a piece is the least time, or what its estimator looked at in a position below its start.
+abbrev pub IsSeenBefore : BookData → SourceItem → Piece → Type 0
+IsSeenBefore b item piece =
+    (piece.seen ≡ least_time)
+    ⊎ ((p : ℕ) × (p < piece.range.from) × Contains (observed_times (estimator_of b.plan piece.node) (emission_at item p)) piece.seen)
+
+abbrev pub IsSeenOf : BookData → Option SourceItem → Piece → Type 0
+IsSeenOf b None piece = Unit {0}
+IsSeenOf b (Some item) piece = IsSeenBefore b item piece
+
+abbrev pub AreSeenBefore : List FileText → BookData → Type 0
+AreSeenBefore told b =
+    All (λ piece. IsSeenOf b (item_at (items_told (Some told) b.plan) piece.node piece.item) piece) (b.pending ++ live_pieces b)
+
+-- A job that is worked has failed less often than it may, and so has one that isn't worked, unless the book is stopped. No job has failed more often than jobs
+-- failed at all.
+abbrev pub IsBelowLimit : BookData → ℕ → Type 0
+IsBelowLimit b attempts = attempts < b.options.attempts
+
+pub record AreAttemptsCounted (b : BookData) : Type 0 where
+  pub worked_pieces : All (λ piece. IsBelowLimit b piece.attempts) (live_pieces b)
+  pub worked_batches : All (λ batch. IsBelowLimit b batch.attempts) (live_batches b)
+  pub pending : IsRunning b → All (λ piece. IsBelowLimit b piece.attempts) b.pending
+  pub returned : IsRunning b → All (λ batch. IsBelowLimit b batch.attempts) b.returned
+  pub pieces : All (λ piece. piece.attempts ≤ b.calls + b.reads) (b.pending ++ live_pieces b)
+  pub batches : All (λ batch. batch.attempts ≤ b.calls + b.reads) (b.returned ++ live_batches b)
+
+abbrev pub IsStopNoted : BookData → Option StopCause → Type 0
+IsStopNoted b (Some (cause.Spent note)) = note.attempt ≡ b.options.attempts
+IsStopNoted b _ = Unit {0}
+
+-- what doesn't change while a run goes on, and the lists that are kept in order
+pub record IsWellFormed (b : BookData) : Type 0 where
+  pub checked : IsChecked b.plan
+  pub allowed : AreOptions b.options
+  pub lengths : AreLengthsOf (items [] b.plan) b.files
+  pub queues : length b.queues ≡ length b.plan.nodes
+  pub ascending : IsAscending b.pending
+  pub done : IsSorted done_cmp b.done
+  pub within : IsWithinLimits b
+
+-- of every reached book
+pub record AreKept (b : BookData) : Type 0 where
+  pub partitioned : ArePartitioned b
+  pub attempted : All IsAttemptedWithin b.slots
+  pub marks : AreMarksKept b
+  pub cells : AreCellsKept b
+  pub held : AreHeldOnce b
+  pub writes : AreAtWrites b
+  pub attempts : AreAttemptsCounted b
+  pub formed : IsWellFormed b
+  pub stop : IsStopNoted b b.stopped
+
+-- and where the files are told
+pub record AreKeptOf (told : List FileText) (b : BookData) : Type 0 where
+  pub balanced : IsBalanced told b
+  pub seen : AreSeenBefore told b

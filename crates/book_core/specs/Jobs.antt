@@ -1,0 +1,92 @@
+-- Which job a slot is given: the panes of the lowest Group first, and then the lowest piece. So what fired goes on before more is read.
+use Rattle.std.specs.Prelude.{ℕ, ◌==◌, not, if◌then◌else◌, nat_lt, List, [], ◌∷◌, length, fold, take, drop, slice_set, Option, Some, None}
+use Rattle.std.specs.List.{filter}
+use Rattle.beam_values.specs.Lines.{offsets}
+use Rattle.beam_values.specs.declared.cell.Pane.{Pane}
+use Rattle.beam_values.specs.declared.piece.Piece.{Piece}
+use Rattle.bundle_commit.specs.declared.job.Job.{Job}
+use Rattle.bundle_commit.specs.declared.job.Job.TheVariants as job
+use Rattle.book_core.specs.Book.{BookData, queue_at, panes_of}
+use Rattle.book_core.specs.declared.live.Batch.{Batch}
+use Rattle.book_core.specs.declared.live.Live.{Live}
+use Rattle.book_core.specs.declared.live.Live.TheVariants as live
+use Rattle.book_core.specs.declared.live.WaitingPane.{WaitingPane}
+
+-- the place of the first pane of a batch in the run's list of panes
+abbrev pub first_in : List WaitingPane → ℕ
+first_in [] = 0
+first_in (waiting ∷ later) = waiting.pane
+
+abbrev pub first_pane : Batch → ℕ
+first_pane batch = first_in batch.panes
+
+-- the batch with the lower first pane
+abbrev pub lower_batch : Option Batch → Batch → Option Batch
+lower_batch None batch = Some batch
+lower_batch (Some lowest) batch = if nat_lt (first_pane batch) (first_pane lowest) then Some batch else Some lowest
+
+abbrev pub lowest_of : List Batch → Option Batch
+lowest_of batches = fold lower_batch None batches
+
+-- What is due at a node: a batch that was given back, with its own panes, or the oldest panes of its queue.
+pub data Due : Type 0 where
+  GivenBack : Batch → Due
+  Oldest : Batch → Due
+
+-- the oldest panes of a queue, at most so many, as a batch that was never tried
+abbrev pub oldest : ℕ → ℕ → List WaitingPane → Option Due
+oldest most node [] = None
+oldest most node (waiting ∷ later) = Some (Oldest (record { node = node; panes = take most (waiting ∷ later); attempts = 0 }))
+
+abbrev pub given_back_or : Option Batch → Option Due → Option Due
+given_back_or (Some batch) other = Some (GivenBack batch)
+given_back_or None other = other
+
+abbrev pub due_at : BookData → ℕ → Option Due
+due_at b node =
+    given_back_or (lowest_of (filter (λ batch. batch.node == node) b.returned)) (oldest b.options.bundle node (queue_at b node))
+
+abbrev pub or_due : BookData → Option Due → ℕ → Option Due
+or_due b (Some due) node = Some due
+or_due b None node = due_at b node
+
+-- the first that is due, in the order of the nodes
+abbrev pub first_due : BookData → Option Due
+first_due b = fold (or_due b) None (offsets 0 (length b.plan.nodes))
+
+-- a job that can be taken, as it is worked from the start, and the book without it
+pub record Next : Type 0 where
+  pub job : Live
+  pub rest : BookData
+
+abbrev pub without_due : BookData → Due → Next
+without_due b (GivenBack batch) = record {
+  job = live.Batch batch;
+  rest = record b { returned = filter (λ other. not (first_pane other == first_pane batch)) b.returned };
+}
+without_due b (Oldest batch) = record {
+  job = live.Batch batch;
+  rest = record b { queues = slice_set b.queues batch.node (drop b.options.bundle (queue_at b batch.node)) };
+}
+
+abbrev pub without_first : BookData → List Piece → Option Next
+without_first b [] = None
+without_first b (piece ∷ later) = Some (record { job = live.Span piece None; rest = record b { pending = later } })
+
+abbrev pub due_or_piece : BookData → Option Due → Option Next
+due_or_piece b (Some due) = Some (without_due b due)
+due_or_piece b None = without_first b b.pending
+
+-- The next job. Of panes 0 and 3 waiting at node 3, panes 1 and 2 given back there, and panes waiting at node 6, it is the batch of 1 and 2.
+abbrev pub next_job : BookData → Option Next
+next_job b = due_or_piece b (first_due b)
+
+-- the last position of it that was attempted, of a range
+abbrev pub attempted_of : Live → Option ℕ
+attempted_of (live.Span piece attempted) = attempted
+attempted_of (live.Batch batch) = None
+
+-- a job as it is handed out
+abbrev pub job_of : List Pane → Live → Job
+job_of panes (live.Span piece attempted) = job.Span piece
+job_of panes (live.Batch batch) = job.Batch batch.node (first_pane batch) (panes_of panes batch.panes) batch.attempts

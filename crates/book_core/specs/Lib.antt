@@ -1,0 +1,9 @@
+pub mod Book
+pub mod Jobs
+pub mod Work
+pub mod Changes
+pub mod Steps
+pub mod Runs
+pub mod Left
+pub mod Calls
+pub mod Facts

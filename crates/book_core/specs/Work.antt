@@ -1,0 +1,181 @@
+-- What work on a job brings, whether it is poison, and when it may be said to have failed.
+use Rattle.std.specs.Prelude.{◌≡◌, ◌⊎◌, ℕ, ◌+◌, ◌<◌, ◌≤◌, min, ℤ, ◌≤ℤ◌, ◌+ℤ◌, ◌-◌, Bool, true, false, not, ◌&&◌, ◌||◌, List, [], ◌∷◌, ◌++◌, map, fold, slice_get, unwrap_or, Option, Some, None}
+use Rattle.std.specs.Int.{int_max}
+use Rattle.std.specs.List.{All, flat_map, list_any}
+use Rattle.std.specs.Option.{option_map}
+use Rattle.beam_values.specs.Checked.{reads_file}
+use Rattle.beam_values.specs.Intervals.{Offsets}
+use Rattle.beam_values.specs.Lines.{offsets}
+use Rattle.beam_values.specs.Marks.{seen_after}
+use Rattle.beam_values.specs.Nodes.{has_kind, is_barrier_kind, takes_from}
+use Rattle.beam_values.specs.Strategies.{greatest_length}
+use Rattle.beam_values.specs.Times.{greatest_time}
+use Rattle.beam_values.specs.Tracking.{first_unattempted}
+use Rattle.beam_values.specs.declared.cell.Pane.{Pane}
+use Rattle.beam_values.specs.declared.fault.Cause.{Cause}
+use Rattle.beam_values.specs.declared.fault.Cause.TheVariants.{Call, Read}
+use Rattle.beam_values.specs.declared.file_text.FileText.{FileText}
+use Rattle.beam_values.specs.declared.piece.Piece.{Piece}
+use Rattle.beam_values.specs.declared.plan.Node.{Node}
+use Rattle.beam_values.specs.declared.plan.Estimator.{Estimator}
+use Rattle.beam_values.specs.declared.plan.NodeKind.{NodeKind}
+use Rattle.beam_values.specs.declared.plan.NodeKind.TheVariants.{Source}
+use Rattle.beam_values.specs.declared.plan.Plan.{Plan}
+use Rattle.beam_model.specs.Chains.{Output, Arrives, PoisonAt, chain}
+use Rattle.beam_model.specs.Coverings.{item_at}
+use Rattle.beam_model.specs.Estimators.{emission_at}
+use Rattle.beam_model.specs.Holds.{estimator_of}
+use Rattle.beam_model.specs.Positions.{Emission, Emits, Poison, SourceItem, TimedValue, items}
+use Rattle.beam_model.specs.Spread.{spread_range, is_poison}
+use Rattle.bundle_commit.specs.declared.job.Job.{Job}
+use Rattle.bundle_commit.specs.declared.job.Job.TheVariants as job
+use Rattle.bundle_commit.specs.declared.job.Receipt.{Receipt}
+use Rattle.group_cells.specs.Commits.{HasGap}
+
+-- What is known outside the book: the files, where the stores tell them, and whether every shelf fails on poison alone.
+pub record Known : Type 0 where
+  pub told : Option (List FileText)
+  pub strict : Bool
+
+-- ---- what a source item emits
+
+abbrev pub reads_file_in : NodeKind → Bool
+reads_file_in (Source work args files estimator) = reads_file work
+reads_file_in _ = false
+
+-- the node is a source of files
+abbrev pub is_file_source : Plan → ℕ → Bool
+is_file_source = has_kind reads_file_in
+
+abbrev pub is_told : Option (List FileText) → Bool
+is_told None = false
+is_told (Some files) = true
+
+-- the item is known whole: it is of told files, or is counted or made
+abbrev pub is_known : Option (List FileText) → Plan → ℕ → Bool
+is_known told plan node = is_told told || not (is_file_source plan node)
+
+abbrev pub items_told : Option (List FileText) → Plan → List SourceItem
+items_told told plan = items (unwrap_or told []) plan
+
+-- ---- where outputs can get to
+
+-- of each node before this one whether an output of `from` can come to it, so far as no barrier stands between; and now of this one
+abbrev pub with_carried : ℕ → List Bool → Node → List Bool
+with_carried from carried node = carried ++ (list_any (takes_from from carried) node.inputs && not (is_barrier_kind node.kind)) ∷ []
+
+-- the nodes through which an output of `from` passes
+abbrev pub carriers : Plan → ℕ → List Bool
+carriers plan from = fold (with_carried from) [] plan.nodes
+
+abbrev pub takes_carried : Plan → ℕ → Node → Bool
+takes_carried plan from node = is_barrier_kind node.kind && list_any (takes_from from (carriers plan from)) node.inputs
+
+-- A chain from `from` can end at this barrier. Of a source 0, a ParDo 1 of it, a Group 2 of that and a Write 3 of the Group, that is 2 for the source and 3 for
+-- the Group.
+abbrev pub is_brought : Plan → ℕ → ℕ → Bool
+is_brought plan from node = unwrap_or (option_map (takes_carried plan from) (slice_get plan.nodes node)) false
+
+-- ---- what was seen
+
+abbrev pub later_time : Option ℤ → TimedValue → Option ℤ
+later_time None value = Some value.time
+later_time (Some time) value = Some (int_max time value.time)
+
+-- the greatest time of some values, if there is one
+abbrev pub latest_time : List TimedValue → Option ℤ
+latest_time values = fold later_time None values
+
+-- what an estimator has seen after a position with this emission
+abbrev pub seen_with : Estimator → ℤ → Emission → ℤ
+seen_with estimator seen (Emits values declared) = seen_after estimator seen (latest_time values) declared
+seen_with estimator seen Poison = seen
+
+-- and after the positions of `[from, to)`
+abbrev pub seen_over : Estimator → SourceItem → ℕ → ℕ → ℤ → ℤ
+seen_over estimator item from to seen = fold (λ before p. seen_with estimator before (emission_at item p)) seen (offsets from (to - from))
+
+-- ---- what a finished job brings
+
+-- Of a range, all positions from its start up to the last attempted one that lies in it; where none was attempted, none. Of `[0, 27)` with 9 attempted it
+-- is worked up to 10, with 27 attempted up to 27.
+abbrev pub worked_to : Piece → Option ℕ → ℕ
+worked_to piece attempted = min (first_unattempted piece.range.from attempted) piece.range.to
+
+-- what comes of the positions of an item from the piece's start up to there is what the receipt has, and nothing of it is poison
+pub record IsWorkOn (plan : Plan) (piece : Piece) (upto : ℕ) (item : SourceItem) (receipt : Receipt) : Type 0 where
+  pub arrivals : map Arrives receipt.arrivals ≡ spread_range plan item piece.range.from upto
+  pub seen : receipt.seen ≡ seen_over (estimator_of plan piece.node) item piece.range.from upto piece.seen
+
+-- What is asked where the bytes aren't known: arrivals are at barriers to which the source's outputs get, own windows at Groups of sessions are as long as the
+-- gap, and what was seen doesn't fall. No window ends later than a window of the greatest time, and no time is above the greatest.
+pub record IsPlausible (plan : Plan) (piece : Piece) (receipt : Receipt) : Type 0 where
+  pub brought : All (λ arrival. is_brought plan piece.node arrival.node ≡ true) receipt.arrivals
+  pub gaps : All (HasGap plan) receipt.arrivals
+  pub ends : All (λ arrival. arrival.element.span.end ≤ℤ (greatest_time +ℤ greatest_length)) receipt.arrivals
+  pub seen : piece.seen ≤ℤ receipt.seen
+  pub seen_time : receipt.seen ≤ℤ greatest_time
+
+abbrev pub IsWorkOnItem : Plan → Piece → ℕ → Option SourceItem → Receipt → Type 0
+IsWorkOnItem plan piece upto (Some item) receipt = IsWorkOn plan piece upto item receipt
+IsWorkOnItem plan piece upto None receipt = (receipt.arrivals ≡ []) × (receipt.seen ≡ piece.seen)
+
+abbrev pub IsWorkOnRange : Bool → Option (List FileText) → Plan → Piece → ℕ → Receipt → Type 0
+IsWorkOnRange true told plan piece upto receipt = IsWorkOnItem plan piece upto (item_at (items_told told plan) piece.node piece.item) receipt
+IsWorkOnRange false told plan piece upto receipt = IsPlausible plan piece receipt
+
+abbrev pub batch_outputs : Plan → ℕ → List Pane → List Output
+batch_outputs plan node panes = flat_map (λ pane. chain plan node pane.element) panes
+
+-- A receipt is what the plan gives for a job, of a range up to its last attempted position. It has no log.
+abbrev pub IsGiven : Option (List FileText) → Plan → Job → Option ℕ → Receipt → Type 0
+IsGiven told plan (job.Span piece) attempted receipt =
+    IsWorkOnRange (is_known told plan piece.node) told plan piece (worked_to piece attempted) receipt × (receipt.logged ≡ None)
+IsGiven told plan (job.Batch node first panes attempts) attempted receipt =
+    (map Arrives receipt.arrivals ≡ batch_outputs plan node panes) × (receipt.logged ≡ None)
+IsGiven told plan (job.Key node cell key span inputs state timers attempts) attempted receipt = ⊥
+
+-- ---- poison and faults
+
+abbrev pub outputs_of_item : Plan → Offsets → Option SourceItem → List Output
+outputs_of_item plan range None = []
+outputs_of_item plan range (Some item) = spread_range plan item range.from range.to
+
+-- all that a job would bring, of a range all its positions
+abbrev pub job_outputs : Option (List FileText) → Plan → Job → List Output
+job_outputs told plan (job.Span piece) = outputs_of_item plan piece.range (item_at (items_told told plan) piece.node piece.item)
+job_outputs told plan (job.Batch node first panes attempts) = batch_outputs plan node panes
+job_outputs told plan (job.Key node cell key span inputs state timers attempts) = []
+
+-- the node of the first poison among outputs, in the order of the work
+abbrev pub first_poison : List Output → Option ℕ
+first_poison [] = None
+first_poison (Arrives arrival ∷ later) = first_poison later
+first_poison (PoisonAt node ∷ later) = Some node
+
+-- where the files are told, a job that is poison
+abbrev pub IsPoisonJob : Option (List FileText) → Plan → Job → Type 0
+IsPoisonJob told plan job = list_any is_poison (job_outputs told plan job) ≡ true
+
+-- the last attempted position lies in the range, and it alone is poison at this node
+abbrev pub IsPoisonAttempt : Option (List FileText) → Plan → Piece → Option ℕ → ℕ → Type 0
+IsPoisonAttempt told plan piece None at = ⊥
+IsPoisonAttempt told plan piece (Some p) at =
+    (piece.range.from ≤ p) × (p < piece.range.to)
+    × (first_poison (outputs_of_item plan (record { from = p; to = p + 1 }) (item_at (items_told told plan) piece.node piece.item)) ≡ Some at)
+
+-- A fail is honest: a read failed of a source of files; or a call did, where some shelf may fail at anything, or the files aren't known, or what was called
+-- on is poison.
+abbrev pub IsHonestCall : Known → Plan → Job → Option ℕ → ℕ → Type 0
+IsHonestCall known plan (job.Span piece) attempted at =
+    (is_known known.told plan piece.node ≡ false) ⊎ IsPoisonAttempt known.told plan piece attempted at
+IsHonestCall known plan (job.Batch node first panes attempts) attempted at = first_poison (batch_outputs plan node panes) ≡ Some at
+IsHonestCall known plan (job.Key node cell key span inputs state timers attempts) attempted at = ⊥
+
+abbrev pub IsHonestRead : Plan → Job → ℕ → Type 0
+IsHonestRead plan (job.Span piece) at = (is_file_source plan piece.node ≡ true) × (at ≡ piece.node)
+IsHonestRead plan _ at = ⊥
+
+abbrev pub IsHonest : Known → Plan → Job → Option ℕ → ℕ → Cause → Type 0
+IsHonest known plan job attempted at Call = (known.strict ≡ false) ⊎ IsHonestCall known plan job attempted at
+IsHonest known plan job attempted at Read = IsHonestRead plan job at

@@ -1,0 +1,99 @@
+//! What every list of steps keeps. Each function does nothing, but for calling the laws that its own
+//! rests on: its contract is the law.
+
+ghost use Rattle.std.specs.Prelude.{◌≡◌, ◌⊎◌, ℕ, List, Option, Some, None};
+ghost use Rattle.beam_values.specs.declared.fault.Cause.{Cause};
+ghost use Rattle.beam_values.specs.declared.file_text.FileText.{FileText};
+ghost use Rattle.bundle_commit.specs.declared.job.Job.{Job};
+ghost use Rattle.book_core.specs.Book.{BookData};
+ghost use Rattle.book_core.specs.Facts.{AreAtWrites, AreAttemptsCounted, AreCellsKept, AreHeldOnce, AreKept, AreKeptOf, AreMarksKept, ArePartitioned, IsStopNoted, IsWellFormed};
+ghost use Rattle.book_core.specs.Jobs.{next_job};
+ghost use Rattle.book_core.specs.Left.{IsBelow, left};
+ghost use Rattle.book_core.specs.Runs.{HonestlyReached, IsThrough, Reached};
+ghost use Rattle.book_core.specs.Steps.{Answer, IsFailing, IsIdle, IsTaking};
+ghost use Rattle.book_core.specs.Work.{Known};
+
+use pipeline_graph::laws::{
+    no_node_is_stateful, nodes_have_inputs_and_settings_of_their_kind,
+    nodes_take_elements_of_their_strategy, strategies_follow_kinds,
+};
+use windowing::laws::windows_hold_their_time;
+
+/// Each offset of each item lies in exactly one pending, live or done range, whatever is split or fails.
+pub fn reached_books_are_partitioned()
+    ensures { (told : Option (List FileText)) (b : BookData) → Reached told b → ArePartitioned b }
+{}
+
+/// A book stands on one checked plan, with options within their limits and a length for each item; its
+/// lists are in order, and none is longer than 32 bits can number.
+pub fn reached_books_are_well_formed()
+    ensures { (told : Option (List FileText)) (b : BookData) → Reached told b → IsWellFormed b }
+{}
+
+/// The panes that aren't through are panes of the run, each at one place and at its own Group, and no
+/// batch is empty.
+pub fn panes_are_held_once()
+    ensures { (told : Option (List FileText)) (b : BookData) → Reached told b → AreHeldOnce b }
+{}
+
+/// No job has failed more often than it may, nor more often than jobs failed at all; and what stopped a
+/// book by a fault failed as often as it may.
+pub fn attempts_are_counted()
+    ensures counted { (told : Option (List FileText)) (b : BookData) → Reached told b → AreAttemptsCounted b }
+    ensures noted { (told : Option (List FileText)) (b : BookData) → Reached told b → IsStopNoted b b.stopped }
+{}
+
+/// The last marks of a book follow from all that isn't committed, and no mark has fallen from one commit
+/// to the next.
+pub fn marks_are_kept()
+    ensures { (told : Option (List FileText)) (b : BookData) → Reached told b → AreMarksKept b }
+{}
+
+/// What came to the Groups is legal, own windows of sessions are as long as the gap, and what was written
+/// is at Writes.
+pub fn cells_are_kept()
+    ensures cells { (told : Option (List FileText)) (b : BookData) → Reached told b → AreCellsKept b }
+    ensures writes { (told : Option (List FileText)) (b : BookData) → Reached told b → AreAtWrites b }
+{
+    nodes_take_elements_of_their_strategy();
+    strategies_follow_kinds();
+}
+
+/// All that holds of every reached book.
+pub fn reached_books_are_kept()
+    ensures { (told : Option (List FileText)) (b : BookData) → Reached told b → AreKept b }
+{
+    nodes_take_elements_of_their_strategy();
+    strategies_follow_kinds();
+}
+
+/// Where the files are told: what arrived, and what flows from panes that aren't through, is what flows
+/// from the done ranges and from all panes; and what was seen before each piece was seen below it.
+pub fn told_books_are_kept()
+    ensures { (told : List FileText) (b : BookData) → Reached (Some told) b → AreKeptOf told b }
+{
+    no_node_is_stateful();
+}
+
+/// A book that has no job left, and works none, is through.
+pub fn books_with_no_job_left_are_through()
+    ensures { (told : Option (List FileText)) (b : BookData) → Reached told b → next_job b ≡ None → IsIdle b → IsThrough b }
+{
+    nodes_take_elements_of_their_strategy();
+    strategies_follow_kinds();
+    nodes_have_inputs_and_settings_of_their_kind();
+    windows_hold_their_time();
+}
+
+/// Each fail lowers what is left of a run, and no take raises it.
+pub fn fails_lower_what_is_left()
+    ensures fail { (told : Option (List FileText)) (b new : BookData) (slot at : ℕ) (cause : Cause) (answer : Answer)
+        → Reached told b → IsFailing b slot at cause answer new → IsBelow (left new) (left b) }
+    ensures take { (told : Option (List FileText)) (b new : BookData) (slot : ℕ) (job : Job)
+        → Reached told b → IsTaking b slot job new → IsBelow (left new) (left b) ⊎ (left new ≡ left b) }
+{}
+
+/// A book that is reached by honest fails is reached, so all that holds of reached books holds of it.
+pub fn honest_runs_are_runs()
+    ensures { (known : Known) (b : BookData) → HonestlyReached known b → Reached known.told b }
+{}
