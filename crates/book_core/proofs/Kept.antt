@@ -1,6 +1,6 @@
 -- What each step keeps holds of every reached book.
-use Rattle.std.proofs.Common.{◌≡◌, ℕ, List, [], ◌∷◌, refl, sym, subst}
-use Rattle.std.specs.Prelude.{Option, Some, None}
+use Rattle.std.proofs.Common.{ℕ, List, [], ◌∷◌, sym, subst}
+use Rattle.std.specs.Prelude.{Option}
 use Rattle.beam_values.specs.declared.file_text.FileText.{FileText}
 use Rattle.book_core.specs.Book.{BookData}
 use Rattle.book_core.specs.Runs.{MadeStep, Run, Reached, IsOpening}

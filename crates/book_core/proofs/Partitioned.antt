@@ -1,12 +1,12 @@
 -- Each offset lies in one pending, live or done range: every step keeps it.
-use Rattle.std.proofs.Common.{◌≡◌, ◌⊎◌, inl, inr, ℕ, ◌+◌, ◌-◌, ◌≤◌, ◌<◌, Bool, true, false, cond, ℤ, List, [], ◌∷◌, ◌++◌, refl, sym, ap, subst, ◌∙◌, add-zero, arith}
+use Rattle.std.proofs.Common.{◌≡◌, inl, inr, ℕ, ◌+◌, ◌≤◌, Bool, true, false, cond, ℤ, List, [], ◌∷◌, ◌++◌, refl, sym, ap, subst, ◌∙◌, add-zero, arith}
 use Rattle.std.proofs.lemmas.Bool.{cases_lt, ltb-false}
-use Rattle.std.specs.Prelude.{min, max, nat_lt, slice_get, slice_set, fold, Option, Some, None}
-use Rattle.std.specs.List.{All, sum_by, flat_map}
+use Rattle.std.specs.Prelude.{nat_lt, slice_get, slice_set, fold, Option, Some, None}
+use Rattle.std.specs.List.{All, sum_by}
 use Rattle.std.proofs.lemmas.List.Sums.{sum_by-cons, sum_by-append}
 use Rattle.std.proofs.lemmas.List.Elements.{All-nil, All-set, All-append, All-cons}
 use Rattle.beam_values.specs.Cover.{Place, times_at, times_done, times_listed, times_pending, whole}
-use Rattle.beam_values.specs.Tracking.{first_unattempted, split_point}
+use Rattle.beam_values.specs.Tracking.{first_unattempted}
 use Rattle.beam_values.specs.declared.fault.Cause.{Cause}
 use Rattle.beam_values.specs.declared.fault.Cause.TheVariants.{Call, Read}
 use Rattle.beam_values.specs.declared.fault.FaultNote.{FaultNote}
@@ -16,14 +16,14 @@ use Rattle.beam_values.specs.declared.outcome.StopCause.{StopCause}
 use Rattle.beam_values.specs.declared.outcome.StopCause.TheVariants as stop
 use Rattle.beam_values.specs.declared.piece.FileLen.{FileLen}
 use Rattle.beam_values.specs.declared.piece.Piece.{Piece}
-use Rattle.split_core.specs.Order.{with_piece, with_pieces, first_pieces}
+use Rattle.split_core.specs.Order.{with_pieces, first_pieces}
 use Rattle.split_core.proofs.Chunks.{first_times}
 use Rattle.bundle_commit.specs.declared.job.Receipt.{Receipt}
-use Rattle.book_core.specs.Book.{BookData, piece_of, live_pieces}
-use Rattle.book_core.specs.Changes.{with_slot, split_off, done_of, residual_of, with_residual, done_after, pending_after, given_back, counted, stopped_where, failed, ends_run, note_of, or_stopped, tried_piece}
+use Rattle.book_core.specs.Book.{BookData, live_pieces}
+use Rattle.book_core.specs.Changes.{with_slot, split_off, done_of, with_residual, done_after, pending_after, given_back, counted, stopped_where, ends_run, note_of, or_stopped, tried_piece}
 use Rattle.book_core.specs.Facts.{ArePartitioned, IsAttemptedWithin}
 use Rattle.book_core.specs.Jobs.{Due, GivenBack, Oldest, Next, first_due, next_job, due_or_piece, without_due, without_first}
-use Rattle.book_core.specs.Steps.{Action, Enroll, Take, Claim, Split, Commit, Fail, Stop, Answer, Enrolled, TakenJob, Nothing, Finished, Stopped, Claimed, SplitAt, Committed, Retried, Spent, Noted, NoMemory, Step, IsTaking, IsClaiming, IsSplitting, IsCommitting, IsFailing}
+use Rattle.book_core.specs.Steps.{Action, Enroll, Take, Claim, Split, Commit, Fail, Stop, Answer, Enrolled, TakenJob, Nothing, Finished, Stopped, Claimed, SplitAt, Committed, Noted, NoMemory, Step, IsClaiming, IsSplitting, IsCommitting, IsFailing}
 use Rattle.book_core.specs.Work.{worked_to}
 use Rattle.book_core.specs.declared.live.Live.{Live}
 use Rattle.book_core.specs.declared.live.Live.TheVariants as live

@@ -1,24 +1,20 @@
 -- What the pieces of a book weigh together, pending, live and done, by any weight that looks only at where their offsets are.
-use Rattle.std.proofs.Common.{◌≡◌, ◌⊎◌, inl, inr, ℕ, ◌+◌, ◌-◌, ◌≤◌, ◌<◌, Bool, true, false, cond, List, [], ◌∷◌, ◌++◌, refl, sym, ap, subst, ◌∙◌, arith}
-use Rattle.std.specs.Prelude.{min, max, ◌==◌, ◌&&◌, nat_lt, slice_get, slice_set, Option, Some, None}
-use Rattle.std.specs.List.{All, sum_by, flat_map}
+use Rattle.std.proofs.Common.{◌≡◌, ℕ, ◌+◌, ◌≤◌, Bool, true, false, cond, List, [], ◌∷◌, refl, ◌∙◌, arith}
+use Rattle.std.specs.Prelude.{◌==◌, ◌&&◌, Option}
+use Rattle.std.specs.List.{sum_by, flat_map}
 use Rattle.std.specs.Ordering.{is_lt}
 use Rattle.std.proofs.lemmas.Bool.Decides.{nat_tests}
-use Rattle.std.proofs.lemmas.List.Sums.{sum_by-cons, sum_by-append}
+use Rattle.std.proofs.lemmas.List.Sums.{sum_by-cons}
 use Rattle.beam_values.proofs.Bags.{sum_by-flat_map}
 use Rattle.beam_values.specs.Cover.{Place, times_at, times_done, times_pending}
-use Rattle.beam_values.specs.Intervals.{Offsets, times_in}
-use Rattle.beam_values.specs.Tracking.{first_unattempted}
+use Rattle.beam_values.specs.Intervals.{times_in}
 use Rattle.beam_values.specs.declared.piece.Done.{Done}
 use Rattle.beam_values.specs.declared.piece.Piece.{Piece}
 use Rattle.split_core.specs.Order.{with_piece, with_pieces}
 use Rattle.split_core.proofs.Ordered.{bag_with_piece}
-use Rattle.book_core.specs.Book.{BookData, piece_of, live_pieces}
-use Rattle.book_core.specs.Changes.{with_done, done_of, residual_of, with_residual, done_cmp}
-use Rattle.book_core.specs.Work.{worked_to}
+use Rattle.book_core.specs.Book.{piece_of}
+use Rattle.book_core.specs.Changes.{with_done, done_cmp}
 use Rattle.book_core.specs.declared.live.Live.{Live}
-use Rattle.book_core.specs.declared.live.Live.TheVariants as live
-use Rattle.bundle_commit.specs.declared.job.Receipt.{Receipt}
 
 -- a piece at a place
 abbrev pub piece_at : Place → Piece → ℕ

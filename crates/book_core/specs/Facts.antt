@@ -13,7 +13,7 @@ use Rattle.beam_values.specs.declared.outcome.StopCause.{StopCause}
 use Rattle.beam_values.specs.declared.outcome.StopCause.TheVariants as cause
 use Rattle.beam_values.specs.declared.piece.Piece.{Piece}
 use Rattle.beam_model.specs.Account.{arrivals_of}
-use Rattle.beam_model.specs.Chains.{Output, Arrives, chain}
+use Rattle.beam_model.specs.Chains.{Output, Arrives}
 use Rattle.beam_model.specs.Coverings.{item_at, spread_dones}
 use Rattle.beam_model.specs.Flow.{pane_chains}
 use Rattle.beam_model.specs.Estimators.{emission_at, observed_times}

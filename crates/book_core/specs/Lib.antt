@@ -7,3 +7,7 @@ pub mod Runs
 pub mod Left
 pub mod Calls
 pub mod Facts
+pub mod Indexes
+pub mod Inside
+pub mod NextFor
+pub mod DueAt

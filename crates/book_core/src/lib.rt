@@ -1,7 +1,21 @@
 //! The book of a run: what is pending, worked and committed, and the steps that change it.
+//!
+//! A [`Book`] is seen as plain data, and each of its calls is one step by `specs/Steps.antt`, so every book
+//! is reached by steps from an opening ([`Book::is_reached`]), and [`laws`] says what holds of such books.
+//! Only [`Book::opening`], [`Book::enroll`], [`Book::take`], [`Book::split`] and [`Book::outcome`] take
+//! memory, and where they are refused the book stays as it was. Read `book.rt` first.
 #![tactic(auto)]
 
+mod book;
+mod due;
+mod failing;
+mod held;
 pub mod laws;
 mod live;
+mod opening;
+mod outcome;
+mod queue;
+mod working;
 
+pub use book::Book;
 pub use live::{Batch, Failure, Live, Taken, Unplaced, WaitingPane};

@@ -1,0 +1,151 @@
+-- A job fails: what is kept of the book's indexes.
+use Rattle.std.proofs.Common.{◌≡◌, ℕ, ◌+◌, ◌≤◌, ◌<◌, Bool, true, false, List, [], ◌∷◌, length, refl, sym, ap, subst, ◌∙◌, arith}
+use Rattle.std.specs.Prelude.{slice_get, slice_set, cond, Option, Some, None}
+use Rattle.std.specs.List.{flat_map}
+use Rattle.std.proofs.lemmas.List.Sums.{sum_by-cons, sum_by-append}
+use Rattle.beam_values.specs.Bags.{IsSameBag}
+use Rattle.beam_values.specs.declared.fault.Cause.{Cause}
+use Rattle.beam_values.specs.declared.fault.Cause.TheVariants.{Call, Read}
+use Rattle.beam_values.specs.declared.fault.FaultNote.{FaultNote}
+use Rattle.beam_values.specs.declared.outcome.StopCause.{StopCause}
+use Rattle.beam_values.specs.declared.piece.Piece.{Piece}
+use Rattle.retry_core.specs.Shares.{share_after}
+use Rattle.retry_core.specs.declared.share.FaultShare.{FaultShare}
+use Rattle.split_core.proofs.Ordered.{bag_with_piece}
+use Rattle.watermarks.specs.Holds.{SeenHolds}
+use Rattle.book_core.specs.Book.{BookData, piece_of, batch_of}
+use Rattle.book_core.specs.Calls.{Makes, CanFail, failure_of}
+use Rattle.book_core.specs.Changes.{with_slot, given_back, counted, stopped_where, failed, ends_run, note_of, tried_piece, tried_batch, attempts_of}
+use Rattle.book_core.specs.Indexes.{IsIndexed, all_holds, pieces_back, batches_back, stopped_after}
+use Rattle.book_core.specs.Runs.{Reached}
+use Rattle.book_core.specs.Steps.{Fail, Step, IsFailure}
+use Rattle.book_core.specs.declared.live.Batch.{Batch}
+use Rattle.book_core.specs.declared.live.Failure.TheVariants as failure
+use Rattle.book_core.specs.declared.live.Live.{Live}
+use Rattle.book_core.specs.declared.live.Live.TheVariants as live
+use Rattle.book_core.proofs.Tries.{reached_worked, reached_allowed}
+use Rattle.book_core.proofs.Holding.{bag_held, all_weigh, piece_weight, batch_weight, slot_weight}
+use Rattle.book_core.proofs.Limits.{pieces_after, batches_after}
+use Rattle.book_core.proofs.Reaching.{reached_more}
+use Rattle.book_core.proofs.Slots.{set_weighs}
+
+-- a slot that can fail works something
+pub can_job : (b : BookData) (slot : ℕ) (job : Option Live) → CanFail b slot → slice_get b.slots slot ≡ Some job → (work : Live) × (job ≡ Some work)
+can_job b slot job can at = let works = can.1 in (can.0, cc)
+
+pub few_attempts : (b : BookData) (slot : ℕ) (job : Live) → Reached None b → slice_get b.slots slot ≡ Some (Some job) → attempts_of job < 4294967295
+few_attempts b slot job reached works = omega (arith, reached_worked None b slot job reached works, reached_allowed None b reached)
+
+-- the parts of the book after a fail, as they are written
+abbrev written : BookData → ℕ → Live → Cause → Bool → FaultNote → FaultShare → BookData
+written b slot job cause spent note share = record b {
+  slots = slice_set b.slots slot None;
+  pending = pieces_back b.pending job;
+  returned = batches_back b.returned job;
+  calls = share.calls;
+  reads = share.reads;
+  stopped = stopped_after spent b.stopped note;
+}
+
+abbrev share_of : BookData → FaultShare
+share_of b = record { calls = b.calls; reads = b.reads }
+
+parts_are : (b : BookData) (slot : ℕ) (job : Live) (cause : Cause) (spent : Bool) (note : FaultNote)
+    → written b slot job cause spent note (share_after (share_of b) cause 1) ≡ stopped_where spent (counted (given_back (with_slot b slot None) job) cause) note
+parts_are b slot (live.Span piece attempted) Call true note = refl
+parts_are b slot (live.Span piece attempted) Call false note = refl
+parts_are b slot (live.Span piece attempted) Read true note = refl
+parts_are b slot (live.Span piece attempted) Read false note = refl
+parts_are b slot (live.Batch batch) Call true note = refl
+parts_are b slot (live.Batch batch) Call false note = refl
+parts_are b slot (live.Batch batch) Read true note = refl
+parts_are b slot (live.Batch batch) Read false note = refl
+
+-- all holds stay
+back_holds : (b : BookData) (slot : ℕ) (job : Live) → slice_get b.slots slot ≡ Some (Some job) → IsSameBag (all_holds b)
+    (all_holds (record b { slots = slice_set b.slots slot None; pending = pieces_back b.pending job; returned = batches_back b.returned job }))
+back_holds b slot (live.Span piece attempted) works = record {
+  weighs = λ w. omega (
+    arith,
+    all_weigh w b,
+    all_weigh w (record b { slots = slice_set b.slots slot None; pending = pieces_back b.pending (live.Span piece attempted) }),
+    set_weighs (slot_weight w b.plan) b.slots slot (Some (live.Span piece attempted)) None works,
+    (bag_with_piece (tried_piece piece) b.pending).weighs (piece_weight w b.plan),
+    sum_by-cons (piece_weight w b.plan) (tried_piece piece) b.pending,
+    sum_by-cons (piece_weight w b.plan) piece [],
+  );
+}
+back_holds b slot (live.Batch batch) works = record {
+  weighs = λ w. omega (
+    arith,
+    all_weigh w b,
+    all_weigh w (record b { slots = slice_set b.slots slot None; returned = batches_back b.returned (live.Batch batch) }),
+    set_weighs (slot_weight w b.plan) b.slots slot (Some (live.Batch batch)) None works,
+    sum_by-append (batch_weight w) b.returned (tried_batch batch ∷ []),
+    sum_by-cons (batch_weight w) (tried_batch batch) [],
+    sum_by-cons (batch_weight w) batch [],
+  );
+}
+
+answers : (b : BookData) (job : Live) (at : ℕ) (cause : Cause) (spent : Bool) → ends_run b job cause ≡ spent
+    → IsFailure b job at cause (failure_of (cond spent (failure.Spent (note_of job at cause)) failure.Retry))
+answers b job at cause true e = (e, refl)
+answers b job at cause false e = e
+
+makes_failed : (b : BookData) (slot at : ℕ) (job : Live) (cause : Cause) → slice_get b.slots slot ≡ Some (Some job)
+    → Makes b slot (Fail at cause) (failure_of (cond (ends_run b job cause) (failure.Spent (note_of job at cause)) failure.Retry)) (failed b slot job at cause)
+makes_failed b slot at job cause works = λ told. to_step told (ends_run b job cause) refl
+  where
+    to_step : (told : Option (List Rattle.beam_values.specs.declared.file_text.FileText.FileText)) (spent : Bool) → ends_run b job cause ≡ spent
+        → Step told b slot (Fail at cause) (failure_of (cond spent (failure.Spent (note_of job at cause)) failure.Retry)) (failed b slot job at cause)
+    to_step told true e = record { job = job; works = works; answers = (e, refl); is = refl }
+    to_step told false e = record { job = job; works = works; answers = e; is = refl }
+
+-- what is written after a fail
+pub record IsWritten (b : BookData) (slot at : ℕ) (job : Live) (cause : Cause) (spent : Bool) (note : FaultNote) (slots : List (Option Live)) (pending : List Piece) (returned : List Batch) (share : FaultShare) (stopped : Option StopCause) : Type 0 where
+  pub works : slice_get b.slots slot ≡ Some (Some job)
+  pub spent_is : spent ≡ ends_run b job cause
+  pub note_is : note ≡ note_of job at cause
+  pub slots_are : slots ≡ slice_set b.slots slot None
+  pub pending_is : pending ≡ pieces_back b.pending job
+  pub returned_is : returned ≡ batches_back b.returned job
+  pub share_is : share ≡ share_after (share_of b) cause 1
+  pub stopped_is : stopped ≡ stopped_after spent b.stopped note
+
+abbrev as_written : BookData → List (Option Live) → List Piece → List Batch → FaultShare → Option StopCause → BookData
+as_written b slots pending returned share stopped =
+    record b { slots = slots; pending = pending; returned = returned; calls = share.calls; reads = share.reads; stopped = stopped }
+
+module _ (b : BookData) (slot at : ℕ) (job : Live) (cause : Cause) (spent : Bool) (note : FaultNote) (slots : List (Option Live)) (pending : List Piece) (returned : List Batch)
+    (share : FaultShare) (stopped : Option StopCause) (h : IsWritten b slot at job cause spent note slots pending returned share stopped) where
+  is_failed : as_written b slots pending returned share stopped ≡ failed b slot job at cause
+  is_failed =
+      ap (λ (x : List (Option Live)). as_written b x pending returned share stopped) h.slots_are
+      ∙ ap (λ (x : List Piece). as_written b (slice_set b.slots slot None) x returned share stopped) h.pending_is
+      ∙ ap (λ (x : List Batch). as_written b (slice_set b.slots slot None) (pieces_back b.pending job) x share stopped) h.returned_is
+      ∙ ap (λ (x : FaultShare). as_written b (slice_set b.slots slot None) (pieces_back b.pending job) (batches_back b.returned job) x stopped) h.share_is
+      ∙ ap (λ (x : Option StopCause). as_written b (slice_set b.slots slot None) (pieces_back b.pending job) (batches_back b.returned job) (share_after (share_of b) cause 1) x)
+      (h.stopped_is ∙ ap (λ (t : Bool). stopped_after t b.stopped note) h.spent_is ∙ ap (λ (n : FaultNote). stopped_after (ends_run b job cause) b.stopped n) h.note_is)
+      ∙ parts_are b slot job cause (ends_run b job cause) (note_of job at cause)
+
+  pub makes_fail : Makes b slot (Fail at cause) (failure_of (cond spent (failure.Spent note) failure.Retry)) (as_written b slots pending returned share stopped)
+  makes_fail =
+      subst (Makes b slot (Fail at cause) (failure_of (cond spent (failure.Spent note) failure.Retry))) (sym is_failed)
+      (subst (λ (n : FaultNote). Makes b slot (Fail at cause) (failure_of (cond spent (failure.Spent n) failure.Retry)) (failed b slot job at cause)) (sym h.note_is)
+      (subst (λ (t : Bool). Makes b slot (Fail at cause) (failure_of (cond t (failure.Spent (note_of job at cause)) failure.Retry)) (failed b slot job at cause)) (sym h.spent_is)
+      (makes_failed b slot at job cause h.works)))
+
+  pub fail_indexed : (held : List SeenHolds) (piece_room batch_room fewer fewer_batches : ℕ) → IsIndexed b held piece_room batch_room → piece_room ≤ fewer + length (piece_of (Some job))
+      → batch_room ≤ fewer_batches + length (batch_of (Some job)) → IsIndexed (as_written b slots pending returned share stopped) held fewer fewer_batches
+  fail_indexed held piece_room batch_room fewer fewer_batches k some some_batches = record {
+    reached = reached_more None b _ slot (Fail at cause) _ (makes_fail None) k.reached;
+    sized = k.sized;
+    holds_back = bag_held held (all_holds b) (all_holds (record b { slots = slots; pending = pending; returned = returned }))
+        (subst (λ (x : List (Option Live)). IsSameBag (all_holds b) (all_holds (record b { slots = x; pending = pending; returned = returned }))) (sym h.slots_are)
+        (subst (λ (x : List Piece). IsSameBag (all_holds b) (all_holds (record b { slots = slice_set b.slots slot None; pending = x; returned = returned }))) (sym h.pending_is)
+        (subst (λ (x : List Batch). IsSameBag (all_holds b) (all_holds (record b { slots = slice_set b.slots slot None; pending = pieces_back b.pending job; returned = x }))) (sym h.returned_is)
+        (back_holds b slot job h.works)))) k.holds_back;
+    marked = k.marked;
+    pieces = omega (arith, k.pieces, some, pieces_after b.slots slot (Some job) None h.works, ap (λ (x : List (Option Live)). length (flat_map piece_of x)) h.slots_are);
+    batches = omega (arith, k.batches, some_batches, batches_after b.slots slot (Some job) None h.works, ap (λ (x : List (Option Live)). length (flat_map batch_of x)) h.slots_are);
+  }

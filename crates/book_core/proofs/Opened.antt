@@ -1,0 +1,263 @@
+-- A book is opened: its pieces, what holds its nodes back, and the marks of these.
+use Rattle.std.proofs.Common.{◌≡◌, ℕ, ◌+◌, ◌≤◌, ◌<◌, zero, suc, ℤ, List, [], ◌∷◌, ◌++◌, map, length, reverse, replicate, take, drop, get_or, refl, sym, ap, subst, ◌∙◌, arith, length-append}
+use Rattle.std.specs.Prelude.{slice_get, unwrap_or, Option, Some, None}
+use Rattle.std.specs.Option.{option_map}
+use Rattle.std.specs.List.{All, sum_by, flat_map, enumerate_from, fold}
+use Rattle.std.proofs.lemmas.List.{take_more, map-append, append-nil}
+use Rattle.std.proofs.Math.Seq.{take-append_seam}
+use Rattle.std.proofs.lemmas.List.Sums.{sum_by-cons, sum_by-append}
+use Rattle.std.proofs.lemmas.List.Elements.{All-nil, All-cons, All-head, All-tail, All-append, All-map}
+use Rattle.std.proofs.lemmas.Option.{slice_get-map}
+use Rattle.beam_values.specs.Bags.{IsSameBag}
+use Rattle.beam_values.proofs.Bags.{sum_by-map, bag_map, bag_sym, bag_middle, bag_from_same, bag_trans, bag_refl}
+use Rattle.beam_values.specs.Checked.{IsChecked}
+use Rattle.beam_values.specs.Lines.{offsets}
+use Rattle.beam_values.specs.Marks.{least_mark, AreMarks}
+use Rattle.beam_values.specs.Times.{final_mark}
+use Rattle.beam_values.specs.declared.file_text.FileText.{FileText}
+use Rattle.beam_values.specs.declared.marks.StageMarks.{StageMarks}
+use Rattle.beam_values.specs.declared.options.Options.{Options}
+use Rattle.beam_values.specs.declared.piece.FileLen.{FileLen}
+use Rattle.beam_values.specs.declared.piece.Piece.{Piece}
+use Rattle.beam_values.specs.declared.plan.Args.{Args}
+use Rattle.beam_values.specs.declared.plan.Node.{Node}
+use Rattle.beam_values.specs.declared.plan.NodeKind.{NodeKind}
+use Rattle.beam_values.specs.declared.plan.NodeKind.TheVariants.{Source, ParDo, Flatten, WindowInto, Group, Stateful, Write}
+use Rattle.beam_values.specs.declared.plan.Plan.{Plan}
+use Rattle.beam_values.specs.declared.plan.SourceKind.{SourceKind}
+use Rattle.beam_values.specs.declared.plan.SourceKind.TheVariants.{Lines, TimedLines, Count, Made}
+use Rattle.beam_model.specs.Holds.{Hold, piece_hold, least_hold}
+use Rattle.beam_model.specs.Positions.{SourceItem, items, items_of_node, items_of_kind, items_of_source, file_item, made_item}
+use Rattle.split_core.specs.Order.{with_piece, with_pieces, first_piece, first_pieces}
+use Rattle.split_core.proofs.Ordered.{All-with_piece, reverse-cons}
+use Rattle.watermarks.specs.Holds.{SeenHolds, hold_at}
+use Rattle.group_cells.specs.Commits.{as_commit}
+use Rattle.book_core.specs.Book.{BookData, HeldPane, held_at}
+use Rattle.book_core.specs.Indexes.{IsIndexed, AreHeldIn, marks_in, least_in, all_holds}
+use Rattle.book_core.specs.Runs.{AreOptions, AreLengthsOf, IsOpening, opened, pieces_of}
+use Rattle.book_core.proofs.HeldMarks.{least_held, marks_as, held_as}
+use Rattle.book_core.proofs.Holding.{bag_held, all_weigh, pane_weight}
+use Rattle.book_core.specs.declared.live.WaitingPane.{WaitingPane}
+
+-- ---- holds
+
+no_marks : (count n : ℕ) → marks_in (replicate count (record { marks = []; room = 0 })) n ≡ []
+no_marks count n = none (replicate count (record { marks = []; room = 0 })) n (same count)
+  where
+    none : (held : List SeenHolds) (n : ℕ) → All (λ (h : SeenHolds). h.marks ≡ []) held → marks_in held n ≡ []
+    none [] n all = refl
+    none (h ∷ held) zero all = All-head (λ (x : SeenHolds). x.marks ≡ []) h held all
+    none (h ∷ held) (suc n) all = none held n (All-tail (λ (x : SeenHolds). x.marks ≡ []) h held all)
+
+    same : (count : ℕ) → All (λ (h : SeenHolds). h.marks ≡ []) (replicate count (record { marks = []; room = 0 }))
+    same zero = All-nil (λ (h : SeenHolds). h.marks ≡ [])
+    same (suc count) = All-cons (λ (h : SeenHolds). h.marks ≡ []) (record { marks = []; room = 0 }) (replicate count (record { marks = []; room = 0 })) refl (same count)
+
+pub none_held : (held : List SeenHolds) (count : ℕ) → held ≡ replicate count (record { marks = []; room = 0 }) → AreHeldIn held []
+none_held held count e = record { each = λ n. bag_from_same (marks_in held n) [] (ap (λ (h : List SeenHolds). marks_in h n) e ∙ no_marks count n) }
+
+pub one_more_held : (held kept new : List SeenHolds) (plan : Plan) (pieces : List Piece) (i : ℕ) (piece : Piece) (mark : ℤ) → i < length pieces → piece ≡ get_or pieces i piece
+    → mark ≡ (piece_hold plan piece).mark → ((n : ℕ) → marks_in kept n ≡ marks_in held n)
+    → ((holds : List Hold) → AreHeldIn kept holds → AreHeldIn new (record { node = piece.node; mark = mark } ∷ holds))
+    → AreHeldIn held (map (piece_hold plan) (take i pieces)) → AreHeldIn new (map (piece_hold plan) (take (i + 1) pieces))
+one_more_held held kept new plan pieces i piece mark less is mark_is same add h =
+    let front = map (piece_hold plan) (take i pieces) in
+    let all : map (piece_hold plan) (take (i + 1) pieces) ≡ front ++ piece_hold plan piece ∷ [] =
+    ap (map (piece_hold plan)) (take_more pieces i piece less ∙ ap (λ (p : Piece). take i pieces ++ p ∷ []) (sym is)) ∙ map-append (piece_hold plan) (take i pieces) (piece ∷ []) in
+    subst (AreHeldIn new) (sym all)
+    (bag_held new (piece_hold plan piece ∷ front) (front ++ piece_hold plan piece ∷ [])
+    (bag_sym (front ++ piece_hold plan piece ∷ []) (piece_hold plan piece ∷ front)
+    (bag_trans (front ++ piece_hold plan piece ∷ []) (piece_hold plan piece ∷ (front ++ [])) (piece_hold plan piece ∷ front) (bag_middle front (piece_hold plan piece) [])
+    (bag_from_same (piece_hold plan piece ∷ (front ++ [])) (piece_hold plan piece ∷ front) (ap (λ (l : List Hold). piece_hold plan piece ∷ l) (append-nil front)))))
+    (subst (λ (m : ℤ). AreHeldIn new (record { node = piece.node; mark = m } ∷ front)) mark_is (add front (held_as held kept front same h))))
+
+pub hold_at_least : (held : List SeenHolds) (n : ℕ) → hold_at (map (λ (h : SeenHolds). least_mark h.marks) held) n ≡ least_in held n
+hold_at_least held n = ap (λ (o : Option ℤ). unwrap_or o final_mark) (slice_get-map (λ (h : SeenHolds). least_mark h.marks) held n) ∙ by (slice_get held n)
+  where
+    by : (o : Option SeenHolds) → unwrap_or (option_map (λ (h : SeenHolds). least_mark h.marks) o) final_mark ≡ least_mark (unwrap_or (option_map (λ (h : SeenHolds). h.marks) o) [])
+    by None = refl
+    by (Some h) = refl
+
+pub marks_written : (plan : Plan) (held : List SeenHolds) (least : List ℤ) (old new : List StageMarks) (count : ℕ) (marks : List StageMarks) → least ≡ map (λ (h : SeenHolds). least_mark h.marks) held
+    → AreMarks plan (hold_at least) new → length new ≡ count → marks ≡ take count (new ++ drop (length new) old) → AreMarks plan (least_in held) marks
+marks_written plan held least old new count marks e h sized is =
+    let all : marks ≡ new = is ∙ ap (λ (n : ℕ). take n (new ++ drop (length new) old)) (sym sized) ∙ take-append_seam new (drop (length new) old) in
+    subst (AreMarks plan (least_in held)) (sym all)
+    (marks_as plan (hold_at least) (least_in held) new (λ n. ap (λ (l : List ℤ). hold_at l n) e ∙ hold_at_least held n) h)
+
+-- ---- the nodes of items and pieces
+
+abbrev IsItemBelow : ℕ → SourceItem → Type 0
+IsItemBelow limit item = item.node < limit
+
+source_below : (told : List FileText) (limit node : ℕ) (work : SourceKind) (args : Args) (names : List (List ℕ)) → node < limit
+    → All (IsItemBelow limit) (items_of_source told node work args names)
+source_below told limit node Lines args names h =
+    All-map (IsItemBelow limit) (file_item told node Lines args) (enumerate_from 0 names) (λ k d less. h)
+source_below told limit node TimedLines args names h =
+    All-map (IsItemBelow limit) (file_item told node TimedLines args) (enumerate_from 0 names) (λ k d less. h)
+source_below told limit node Count args names h = All-cons (IsItemBelow limit) (made_item node Count args) [] h (All-nil (IsItemBelow limit))
+source_below told limit node Made args names h = All-cons (IsItemBelow limit) (made_item node Made args) [] h (All-nil (IsItemBelow limit))
+
+kind_below : (told : List FileText) (limit node : ℕ) (kind : NodeKind) → node < limit → All (IsItemBelow limit) (items_of_kind told node kind)
+kind_below told limit node (Source work args files e) h = source_below told limit node work args files h
+kind_below told limit node (ParDo work args) h = All-nil (IsItemBelow limit)
+kind_below told limit node Flatten h = All-nil (IsItemBelow limit)
+kind_below told limit node (WindowInto strategy) h = All-nil (IsItemBelow limit)
+kind_below told limit node (Group trigger) h = All-nil (IsItemBelow limit)
+kind_below told limit node (Stateful work args log) h = All-nil (IsItemBelow limit)
+kind_below told limit node (Write label) h = All-nil (IsItemBelow limit)
+
+nodes_below : (told : List FileText) (limit start : ℕ) (nodes : List Node) → start + length nodes ≤ limit
+    → All (IsItemBelow limit) (flat_map (items_of_node told) (enumerate_from start nodes))
+nodes_below told limit start [] h = All-nil (IsItemBelow limit)
+nodes_below told limit start (node ∷ nodes) h =
+    All-append (IsItemBelow limit) (items_of_kind told start node.kind) (flat_map (items_of_node told) (enumerate_from (start + 1) nodes))
+    (kind_below told limit start node.kind (omega (arith, h))) (nodes_below told limit (start + 1) nodes (omega (arith, h)))
+
+abbrev IsFileBelow : ℕ → FileLen → Type 0
+IsFileBelow limit file = file.node < limit
+
+files_below : (limit : ℕ) (sources : List SourceItem) (files : List FileLen) → AreLengthsOf sources files → All (IsItemBelow limit) sources → All (IsFileBelow limit) files
+files_below limit [] [] h k = All-nil (IsFileBelow limit)
+files_below limit [] (file ∷ files) h k = absurd h
+files_below limit (source ∷ sources) [] h k = absurd h
+files_below limit (source ∷ sources) (file ∷ files) h k =
+    All-cons (IsFileBelow limit) file files (omega (arith, h.0.0, All-head (IsItemBelow limit) source sources k))
+    (files_below limit sources files h.1 (All-tail (IsItemBelow limit) source sources k))
+
+abbrev pub IsPieceOf : ℕ → Piece → Type 0
+IsPieceOf limit piece = piece.node < limit
+
+first_below : (limit node item len chunk : ℕ) (places : List ℕ) → node < limit → (pending : List Piece) → All (IsPieceOf limit) pending
+    → All (IsPieceOf limit) (with_pieces (map (first_piece node item chunk len) places) pending)
+first_below limit node item len chunk [] less pending h = h
+first_below limit node item len chunk (i ∷ places) less pending h =
+    first_below limit node item len chunk places less (with_piece (first_piece node item chunk len i) pending)
+    (All-with_piece (IsPieceOf limit) (first_piece node item chunk len i) pending less h)
+
+pieces_below : (limit chunk : ℕ) (files : List FileLen) (pending : List Piece) → All (IsFileBelow limit) files → All (IsPieceOf limit) pending
+    → All (IsPieceOf limit) (fold (λ pieces file. with_pieces (first_pieces file.node file.item file.len chunk) pieces) pending files)
+pieces_below limit chunk [] pending files h = h
+pieces_below limit chunk (file ∷ files) pending all h =
+    pieces_below limit chunk files (with_pieces (first_pieces file.node file.item file.len chunk) pending) (All-tail (IsFileBelow limit) file files all)
+    (first_below limit file.node file.item file.len chunk (offsets 0 _) (All-head (IsFileBelow limit) file files all) pending h)
+
+pub all_pieces_below : (plan : Plan) (files : List FileLen) (chunk : ℕ) → AreLengthsOf (items [] plan) files → All (IsPieceOf (length plan.nodes)) (pieces_of chunk files)
+all_pieces_below plan files chunk lengths =
+    pieces_below (length plan.nodes) chunk files [] (files_below (length plan.nodes) (items [] plan) files lengths (nodes_below [] (length plan.nodes) 0 plan.nodes (omega arith)))
+    (All-nil (IsPieceOf (length plan.nodes)))
+
+-- ---- the book
+
+no_queue : (n : ℕ) (nodes : List Node) → flat_map (λ (p : ℕ × List WaitingPane). held_at p.0 p.1) (enumerate_from n (map (λ (node : Node). []) nodes)) ≡ []
+no_queue n [] = refl
+no_queue n (node ∷ nodes) = no_queue (n + 1) nodes
+
+queue_weight : (w : HeldPane → ℕ) (n : ℕ) (nodes : List Node) → sum_by w (flat_map (λ (p : ℕ × List WaitingPane). held_at p.0 p.1) (enumerate_from n (map (λ (node : Node). []) nodes))) ≡ 0
+queue_weight w n nodes = ap (sum_by w) (no_queue n nodes)
+
+opened_holds : (plan : Plan) (files : List FileLen) (options : Options) (marks : List StageMarks)
+    → IsSameBag (map (piece_hold plan) (pieces_of options.chunk files)) (all_holds (opened plan files options marks))
+opened_holds plan files options marks = record {
+  weighs = λ w. omega (
+    arith,
+    all_weigh w (opened plan files options marks),
+    sum_by-map w (piece_hold plan) (pieces_of options.chunk files),
+    queue_weight (pane_weight w) 0 plan.nodes,
+  );
+}
+
+pub reverse_bag : (xs : List Piece) → IsSameBag (reverse xs) xs
+reverse_bag [] = bag_refl []
+reverse_bag (x ∷ xs) =
+    let e : reverse (x ∷ xs) ≡ reverse xs ++ x ∷ [] = reverse-cons x xs in
+    record { weighs = λ w. omega (arith, ap (sum_by w) e, sum_by-append w (reverse xs) (x ∷ []), sum_by-cons w x [], sum_by-cons w x xs, (reverse_bag xs).weighs w) }
+
+All-reversed : (P : Piece → Type 0) (xs : List Piece) → All P xs → All P (reverse xs)
+All-reversed P [] h = h
+All-reversed P (x ∷ xs) h =
+    subst (All P) (sym (reverse-cons x xs))
+    (All-append P (reverse xs) (x ∷ []) (All-reversed P xs (All-tail P x xs h)) (All-cons P x [] (All-head P x xs h) (All-nil P)))
+
+-- the pieces as they are listed, the first one last
+pub listed_below : (plan : Plan) (files : List FileLen) (chunk : ℕ) (pending listed : List Piece) → AreLengthsOf (items [] plan) files → pending ≡ pieces_of chunk files → listed ≡ reverse pending
+    → All (IsPieceOf (length plan.nodes)) listed
+listed_below plan files chunk pending listed lengths e f =
+    subst (All (IsPieceOf (length plan.nodes))) (sym f)
+    (All-reversed (IsPieceOf (length plan.nodes)) pending (subst (All (IsPieceOf (length plan.nodes))) (sym e) (all_pieces_below plan files chunk lengths)))
+
+listed_held : (plan : Plan) (files : List FileLen) (options : Options) (held : List SeenHolds) (pending listed : List Piece) (marks : List StageMarks) → pending ≡ pieces_of options.chunk files
+    → listed ≡ reverse pending → AreHeldIn held (map (piece_hold plan) listed) → AreHeldIn held (all_holds (opened plan files options marks))
+listed_held plan files options held pending listed marks e f h =
+    let back : IsSameBag listed (pieces_of options.chunk files) =
+    subst (λ (l : List Piece). IsSameBag l (pieces_of options.chunk files)) (sym f) (subst (λ (p : List Piece). IsSameBag (reverse pending) p) e (reverse_bag pending)) in
+    bag_held held (map (piece_hold plan) (pieces_of options.chunk files)) (all_holds (opened plan files options marks)) (opened_holds plan files options marks)
+    (bag_held held (map (piece_hold plan) listed) (map (piece_hold plan) (pieces_of options.chunk files)) (bag_map (piece_hold plan) listed (pieces_of options.chunk files) back) h)
+
+-- what is found before a book is opened
+pub record IsFound (plan : Plan) (files : List FileLen) (options : Options) (held : List SeenHolds) (pending listed : List Piece) (marks : List StageMarks) : Type 0 where
+  pub checked : IsChecked plan
+  pub lengths : AreLengthsOf (items [] plan) files
+  pub allowed : AreOptions options
+  pub pending_is : pending ≡ pieces_of options.chunk files
+  pub listed_is : listed ≡ reverse pending
+  pub few : length pending < 4294967295
+  pub holds_back : AreHeldIn held (map (piece_hold plan) listed)
+  pub sized : length held ≡ length plan.nodes
+  pub marked : AreMarks plan (least_in held) marks
+
+module _ (plan : Plan) (files : List FileLen) (options : Options) (held : List SeenHolds) (pending listed : List Piece) (marks : List StageMarks)
+    (h : IsFound plan files options held pending listed marks) where
+  all_held : AreHeldIn held (all_holds (opened plan files options marks))
+  all_held = listed_held plan files options held pending listed marks h.pending_is h.listed_is h.holds_back
+
+  pub is_opening : IsOpening plan files options (opened plan files options marks)
+  is_opening = record {
+    checked = h.checked;
+    lengths = h.lengths;
+    allowed = h.allowed;
+    marks = marks;
+    is = refl;
+    marked = marks_as plan (least_in held) (least_hold (all_holds (opened plan files options marks))) marks (least_held held (all_holds (opened plan files options marks)) all_held) h.marked;
+    within = record {
+      commits = omega arith;
+      panes = omega arith;
+      dropped = omega arith;
+      slots = omega arith;
+      pieces = omega (arith, length-append (pieces_of options.chunk files) [], h.few, ap (length {A = Piece}) h.pending_is);
+    };
+  }
+
+  pub is_indexed : (piece_room batch_room : ℕ) → IsIndexed (opened plan files options marks) held piece_room batch_room
+  is_indexed piece_room batch_room = record {
+    reached = record { first = opened plan files options marks; opening = is_opening; steps = []; run = refl };
+    sized = h.sized;
+    holds_back = all_held;
+    marked = h.marked;
+    pieces = omega arith;
+    batches = omega arith;
+  }
+
+-- the book as its fields are made
+pub opened_as : (plan : Plan) (files : List FileLen) (options : Options) (marks : List StageMarks) (b : BookData) → b.plan ≡ plan → b.files ≡ files → b.options ≡ options
+    → b.pending ≡ pieces_of options.chunk files → b.slots ≡ [] → b.queues ≡ map (λ (node : Node). []) plan.nodes → b.returned ≡ [] → b.cells ≡ [] → b.dropped ≡ [] → b.panes ≡ []
+    → b.done ≡ [] → b.written ≡ [] → b.commits ≡ as_commit marks ∷ [] → b.calls ≡ 0 → b.reads ≡ 0 → b.stopped ≡ None → opened plan files options marks ≡ b
+opened_as plan files options marks b e1 e2 e3 e4 e5 e6 e7 e8 e9 e10 e11 e12 e13 e14 e15 e16 = sym (
+    ap (λ x. record b { plan = x }) e1
+    ∙ ap (λ x. record b { plan = plan; files = x }) e2
+    ∙ ap (λ x. record b { plan = plan; files = files; options = x }) e3
+    ∙ ap (λ x. record b { plan = plan; files = files; options = options; pending = x }) e4
+    ∙ ap (λ x. record b { plan = plan; files = files; options = options; pending = pieces_of options.chunk files; slots = x }) e5
+    ∙ ap (λ x. record b { plan = plan; files = files; options = options; pending = pieces_of options.chunk files; slots = []; queues = x }) e6
+    ∙ ap (λ x. record b { plan = plan; files = files; options = options; pending = pieces_of options.chunk files; slots = []; queues = map (λ (node : Node). []) plan.nodes; returned = x }) e7
+    ∙ ap (λ x. record (opened plan files options marks) { cells = x; dropped = b.dropped; panes = b.panes; done = b.done; written = b.written; commits = b.commits; calls = b.calls; reads = b.reads; stopped = b.stopped }) e8
+    ∙ ap (λ x. record (opened plan files options marks) { dropped = x; panes = b.panes; done = b.done; written = b.written; commits = b.commits; calls = b.calls; reads = b.reads; stopped = b.stopped }) e9
+    ∙ ap (λ x. record (opened plan files options marks) { panes = x; done = b.done; written = b.written; commits = b.commits; calls = b.calls; reads = b.reads; stopped = b.stopped }) e10
+    ∙ ap (λ x. record (opened plan files options marks) { done = x; written = b.written; commits = b.commits; calls = b.calls; reads = b.reads; stopped = b.stopped }) e11
+    ∙ ap (λ x. record (opened plan files options marks) { written = x; commits = b.commits; calls = b.calls; reads = b.reads; stopped = b.stopped }) e12
+    ∙ ap (λ x. record (opened plan files options marks) { commits = x; calls = b.calls; reads = b.reads; stopped = b.stopped }) e13
+    ∙ ap (λ x. record (opened plan files options marks) { calls = x; reads = b.reads; stopped = b.stopped }) e14
+    ∙ ap (λ x. record (opened plan files options marks) { reads = x; stopped = b.stopped }) e15
+    ∙ ap (λ x. record (opened plan files options marks) { stopped = x }) e16
+    )

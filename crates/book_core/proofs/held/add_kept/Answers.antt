@@ -1,0 +1,10 @@
+use Rattle.std.proofs.Common.{◌∷◌, sym, subst}
+use Rattle.beam_values.specs.Bags.{IsSameBag}
+use Rattle.watermarks.specs.Holds.{SeenHolds}
+use Rattle.book_core.proofs.HeldMarks.{added}
+use Rattle.book_core.proofs.held.add_kept.Goals as goal
+
+pub returns : goal.returns
+returns c =
+    added c.args.held.now c.args.node c.args.mark c.index-held-node.result c.add.new.self c.requires.within c.index-held-node.is
+    (subst (λ (h : SeenHolds). IsSameBag c.add.new.self.marks (c.args.mark ∷ h.marks)) (sym c.index-held-node.is) c.in-Ok.ensures.ok)

@@ -1,0 +1,10 @@
+use Rattle.std.proofs.Common.{◌≡◌, ◌≤◌, length, take}
+use Rattle.std.specs.List.{flat_map}
+use Rattle.book_core.specs.Book.{piece_of}
+use Rattle.book_core.proofs.working.count_pieces.Given as goal
+
+abbrev pub invariant-loop-slot : goal.invariant-loop-slot
+invariant-loop-slot l = record {
+  counted : l.count ≡ length (flat_map piece_of (take l.slot-index l.slots));
+  within : l.count ≤ l.slot-index;
+}

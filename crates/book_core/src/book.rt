@@ -1,0 +1,368 @@
+ghost use Rattle.std.specs.Prelude.{◌≡◌, ℕ, ◌≤◌, ◌<◌, [], reverse, length, Some, None, IfOk, OnOk, OnErr};
+ghost use Rattle.beam_model.specs.Positions.{items};
+ghost use Rattle.book_core.specs.Book.{BookData};
+ghost use Rattle.book_core.specs.Calls.{Makes, CanClaim, CanFail, answer_of, failure_of, live_piece, IsOutcomeOf};
+ghost use Rattle.book_core.specs.DueAt.{IsDueAs};
+ghost use Rattle.book_core.specs.Jobs.{first_due};
+ghost use Rattle.book_core.specs.Runs.{AreOptions, AreLengthsOf, IsOpening, Reached};
+ghost use Rattle.book_core.specs.Steps.{Enroll, Take, Claim, Split, Commit, Fail, Stop, Enrolled, Claimed, SplitAt, Committed, Noted, IsFree, IsRunning, CanCommit, IsCommitting, IsNextFor, Step};
+
+use crate::due::{DueAt, batch_job, first_due, piece_job, started};
+use crate::failing::{failure_where, give_back, is_spent, note_of, stopped_after, take_out};
+use crate::held::{NodeHolds, mark_of_piece};
+use crate::live::{Batch, Failure, Live, Taken};
+use crate::opening::{cut_files, empty_queues, first_commit, hold_pieces, mark_nodes};
+use crate::outcome::in_order;
+use crate::queue::Queue;
+use crate::working::{
+    count_batches, count_pieces, idle_answer, most_left, piece_at, span_at, tracker_of,
+};
+use beam_values::{
+    Arrival, Cause, CommitMarks, Done, FileLen, List, NoMemory, Options, Outcome, Pane, Piece,
+    RoomyList, StopCause,
+};
+use bundle_commit::Job;
+use group_cells::Groups;
+use pipeline_graph::Graph;
+use retry_core::FaultShare;
+use split_core::Pieces;
+use std::alloc::Global;
+use std::marker::Model;
+
+// Lists whose places are numbered with 32 bits are shorter than this.
+const GREATEST_COUNT: usize = 4_294_967_295;
+
+/// The book of a run. Contracts see it as plain data.
+#[derive(Debug, Drop)]
+pub struct Book {
+    graph: Graph,
+    files: List<FileLen>,
+    options: Options,
+    pieces: Pieces,
+    slots: Vec<Option<Live>>,
+    queues: Vec<Queue>,
+    returned: RoomyList<Batch>,
+    groups: Groups,
+    panes: List<Pane>,
+    done: List<Done>,
+    written: List<Arrival>,
+    commits: List<CommitMarks>,
+    faults: FaultShare,
+    stopped: Option<StopCause>,
+    // Of each node the marks that hold it back: of pieces that aren't committed, and of panes that aren't
+    // through.
+    held: NodeHolds,
+    alloc: Global,
+}
+
+impl Model for Book {
+    ghost use Rattle.beam_values.specs.contracts.value.Value as value;
+    ghost use Rattle.book_core.specs.Book.{BookData};
+    ghost use Rattle.std.specs.Coded.{codes};
+
+    ghost Value = { BookData };
+
+    ghost coded = { Prim.hlevel (codes, value.the_row.coded) };
+
+    ghost use Rattle.book_core.specs.Inside.{data_of, IsKept};
+
+    ghost view = { data_of };
+
+    ghost invariant = { IsKept };
+}
+
+impl Book {
+    /// All pieces are pending, and no slot is there yet.
+    pub fn opening(
+        alloc: Global,
+        graph: Graph,
+        files: List<FileLen>,
+        options: Options,
+    ) -> Result<Book, NoMemory>
+        requires lengths { AreLengthsOf (items [] graph) files }
+        requires allowed { AreOptions options }
+        ensures { IfOk result (IsOpening graph files options) }
+    {
+        let plan = graph.plan();
+        let pieces = cut_files(alloc, files.as_slice(), options.chunk)?;
+        if pieces.len() >= GREATEST_COUNT {
+            return Err(NoMemory);
+        }
+        let held = hold_pieces(alloc, plan, pieces.pending())?;
+        let marks = mark_nodes(alloc, plan, &held)?;
+        let queues = empty_queues(alloc, plan.nodes.as_slice())?;
+        let groups = Groups::new(alloc, plan)?;
+        let commits = first_commit(alloc, marks)?;
+        Ok(Book {
+            graph,
+            files,
+            options,
+            pieces,
+            slots: Vec::new(alloc),
+            queues,
+            returned: RoomyList::new(alloc),
+            groups,
+            panes: List::new(alloc),
+            done: List::new(alloc),
+            written: List::new(alloc),
+            commits,
+            faults: FaultShare::new(),
+            stopped: None,
+            held,
+            alloc,
+        })
+    }
+
+    /// A graph that breaks no rule.
+    pub fn graph(&self) -> &Graph
+        ensures { result.now ≡ self.now.plan }
+    {
+        &self.graph
+    }
+
+    pub fn options(&self) -> Options
+        ensures { result ≡ self.now.options }
+    {
+        self.options
+    }
+
+    /// The committed ranges.
+    pub fn done(&self) -> &[Done]
+        ensures { result.now ≡ self.now.done }
+    {
+        self.done.as_slice()
+    }
+
+    /// The pieces that no slot works, the first to be taken last.
+    pub fn pending(&self) -> &[Piece]
+        ensures { result.now ≡ reverse self.now.pending }
+    {
+        self.pieces.pending()
+    }
+
+    /// The piece that a slot works, with its present range.
+    pub fn live(&self, slot: u32) -> Option<Piece>
+        ensures { result ≡ live_piece self.now slot }
+    {
+        piece_at(self.slots.as_slice(), slot)
+    }
+
+    /// How many panes have fired.
+    pub fn fired(&self) -> u32
+        ensures { result ≡ length self.now.panes }
+    {
+        self.panes.len() as u32
+    }
+
+    /// How many elements came too late.
+    pub fn dropped(&self) -> u32
+        ensures { result ≡ length self.now.dropped }
+    {
+        self.groups.dropped().len() as u32
+    }
+
+    /// A law: what every book is.
+    pub fn is_reached(&self)
+        ensures { Reached None self.now }
+    {
+        let _ = &self.faults;
+    }
+
+    /// One more slot, which works nothing. Answers its number.
+    pub fn enroll(&mut self) -> Result<u32, NoMemory>
+        ensures ok { IfOk result (λ number. Makes self.old number Enroll (Enrolled number) self.new) }
+        ensures err { OnErr result (self.new ≡ self.old) }
+    {
+        let number = self.slots.len();
+        if number >= GREATEST_COUNT - 1 {
+            return Err(NoMemory);
+        }
+        self.slots.push(None)?;
+        Ok(number as u32)
+    }
+
+    /// The next job, which the slot works from now on. Keeps the room that a fail or a checkpoint of it
+    /// needs.
+    pub fn take(&mut self, slot: u32) -> Result<Taken, NoMemory>
+        requires { IsFree self.old slot }
+        ensures ok { IfOk result (λ taken. Makes self.old slot Take (answer_of taken) self.new) }
+        ensures err { OnErr result (self.new ≡ self.old) }
+    {
+        if self.stopped.is_some() {
+            return Ok(Taken::Stopped);
+        }
+        match first_due(self.returned.as_slice(), self.queues.as_slice()) {
+            Some(DueAt::GivenBack(at)) => self.take_returned(slot, at),
+            Some(DueAt::Oldest(node)) => self.take_oldest(slot, node),
+            None => Ok(self.take_piece(slot)),
+        }
+    }
+
+    fn take_returned(&mut self, slot: u32, at: usize) -> Result<Taken, NoMemory>
+        requires running { IsRunning self.old }
+        requires free { IsFree self.old slot }
+        requires due { IsDueAs self.old (first_due self.old) (Some (DueAt.GivenBack at)) }
+        ensures ok { IfOk result (λ taken. Makes self.old slot Take (answer_of taken) self.new) }
+        ensures err { OnErr result (self.new ≡ self.old) }
+    {
+        let batch = &self.returned.as_slice()[at];
+        let job = batch_job(self.alloc, &self.panes, batch)?;
+        let batch = self.returned.remove(at);
+        self.slots[slot as usize] = Some(Live::Batch(batch));
+        Ok(Taken::Job(job))
+    }
+
+    fn take_oldest(&mut self, slot: u32, node: u32) -> Result<Taken, NoMemory>
+        requires running { IsRunning self.old }
+        requires free { IsFree self.old slot }
+        requires due { IsDueAs self.old (first_due self.old) (Some (DueAt.Oldest node)) }
+        ensures ok { IfOk result (λ taken. Makes self.old slot Take (answer_of taken) self.new) }
+        ensures err { OnErr result (self.new ≡ self.old) }
+    {
+        let most = self.options.bundle as usize;
+        let queue = &self.queues[node as usize];
+        let panes = queue.oldest(self.alloc, most)?;
+        let batch = Batch {
+            node,
+            panes,
+            attempts: 0,
+        };
+        let job = batch_job(self.alloc, &self.panes, &batch)?;
+        self.returned
+            .reserve(count_batches(self.slots.as_slice()) + 1)?;
+        let queue = &mut self.queues[node as usize];
+        queue.remove_oldest(most);
+        self.slots[slot as usize] = Some(Live::Batch(batch));
+        Ok(Taken::Job(job))
+    }
+
+    fn take_piece(&mut self, slot: u32) -> Taken
+        requires running { IsRunning self.old }
+        requires free { IsFree self.old slot }
+        requires none { first_due self.old ≡ None }
+        ensures { Makes self.old slot Take (answer_of result) self.new }
+    {
+        match self.pieces.take() {
+            Some(piece) => {
+                self.slots[slot as usize] = Some(started(&piece));
+                Taken::Job(piece_job(&piece))
+            }
+            None => idle_answer(self.slots.as_slice()),
+        }
+    }
+
+    /// The slot's live range attempts a position. Takes no memory.
+    pub fn claim(&mut self, slot: u32, p: u64) -> bool
+        requires { CanClaim self.old slot p }
+        ensures { Makes self.old slot (Claim p) (Claimed result) self.new }
+    {
+        let Some((piece, attempted)) = span_at(self.slots.as_slice(), slot) else {
+            unreachable!()
+        };
+        let mut tracker = tracker_of(&piece, attempted);
+        let granted = tracker.try_claim(p);
+        self.slots[slot as usize] = Some(Live::Span {
+            piece,
+            attempted: Some(p),
+        });
+        granted
+    }
+
+    /// Splits the slot's live range, if it has one that can be split there. What is answered is where.
+    pub fn split(&mut self, slot: u32, num: u64, den: u64) -> Result<Option<u64>, NoMemory>
+        requires proper { num ≤ den }
+        requires positive { 1 ≤ den }
+        requires small { den ≤ 1000000 }
+        ensures ok { IfOk result (λ at. Makes self.old slot (Split num den) (SplitAt at) self.new) }
+        ensures err { OnErr result (self.new ≡ self.old) }
+    {
+        let Some((piece, attempted)) = span_at(self.slots.as_slice(), slot) else {
+            return Ok(None);
+        };
+        let mut tracker = tracker_of(&piece, attempted);
+        let Some(rest) = tracker.try_split(num, den) else {
+            return Ok(None);
+        };
+        if self.pieces.len() >= GREATEST_COUNT - 1 - count_pieces(self.slots.as_slice()) {
+            return Err(NoMemory);
+        }
+        self.held.keep_room(piece.node, 1)?;
+        self.pieces.add_residual(Piece {
+            range: rest,
+            attempts: 0,
+            ..piece
+        })?;
+        let mark = mark_of_piece(self.graph.plan(), &piece);
+        self.held.add_kept(piece.node, mark);
+        self.slots[slot as usize] = Some(Live::Span {
+            piece: Piece {
+                range: tracker.range(),
+                ..piece
+            },
+            attempted,
+        });
+        Ok(Some(rest.from()))
+    }
+
+    /// The slot whose range an idle slot splits at a half: another one with the most left, the lowest of
+    /// these. Takes no memory.
+    pub fn next_for(&self, slot: u32) -> Option<u32>
+        ensures { IsNextFor self.now slot result }
+    {
+        most_left(self.slots.as_slice(), slot)
+    }
+
+    /// The slot's job failed: it is given back, or at the limit the book is stopped. Takes no memory.
+    pub fn fail(&mut self, slot: u32, at: u32, cause: Cause) -> Failure
+        requires { CanFail self.old slot }
+        ensures { Makes self.old slot (Fail at cause) (failure_of result) self.new }
+    {
+        let Some(job) = take_out(&mut self.slots, slot) else {
+            unreachable!()
+        };
+        let note = note_of(&job, at, cause);
+        let spent = is_spent(&job, self.options.attempts);
+        give_back(&mut self.pieces, &mut self.returned, job);
+        self.faults.rise(cause, 1);
+        self.stopped = stopped_after(self.stopped, spent, note);
+        failure_where(spent, note)
+    }
+
+    /// No job is given out any more. Takes no memory.
+    pub fn stop(&mut self)
+        ensures { (slot : ℕ) → Makes self.old slot Stop Noted self.new }
+    {
+        self.stopped = self.stopped.or(Some(StopCause::NoMemory));
+    }
+
+    /// The book's own data, with its cells by node, key bytes and window.
+    pub fn outcome(self) -> Result<Outcome, NoMemory>
+        ensures { IfOk result (IsOutcomeOf self) }
+    {
+        let Book {
+            graph,
+            files,
+            groups,
+            panes,
+            done,
+            written,
+            commits,
+            stopped,
+            alloc,
+            ..
+        } = self;
+        let (cells, dropped) = groups.into_lists();
+        Ok(Outcome {
+            plan: graph.into_plan(),
+            files,
+            done,
+            cells: in_order(cells)?,
+            panes,
+            dropped,
+            logs: List::new(alloc),
+            written,
+            commits,
+            stopped,
+        })
+    }
+}

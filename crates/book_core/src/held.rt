@@ -1,0 +1,112 @@
+ghost use Rattle.std.specs.Prelude.{◌≡◌, ℕ, true, ◌<◌, ◌≤◌, ◌∷◌, List, length, map, [], OnOk, OnErr, IfOk};
+ghost use Rattle.beam_model.specs.Holds.{Hold, piece_hold, estimator_in};
+ghost use Rattle.beam_values.specs.Checked.{IsChecked, is_estimator_allowed};
+ghost use Rattle.beam_values.specs.Marks.{mark_of, least_mark};
+ghost use Rattle.book_core.specs.Indexes.{marks_in, room_in, AreHeldIn};
+
+use beam_values::{Mark, NoMemory, NodeKind, Piece, Plan, Time};
+use std::alloc::Global;
+use std::marker::Model;
+use watermarks::{Holds, mark_of};
+
+/// The mark at which a piece that isn't committed holds its source back.
+pub fn mark_of_piece(plan: &Plan, piece: &Piece) -> Mark
+    requires { IsChecked plan.now }
+    ensures { result ≡ (piece_hold plan.now piece.now).mark }
+{
+    match plan.nodes.get(piece.node as usize) {
+        Some(node) => mark_by(&node.kind, piece.seen),
+        None => Mark::at(Time::LEAST),
+    }
+}
+
+// What isn't a source has no estimator.
+fn mark_by(kind: &NodeKind, seen: Time) -> Mark
+    requires { is_estimator_allowed (estimator_in kind.now) ≡ true }
+    ensures { result ≡ mark_of (estimator_in kind.now) seen }
+{
+    match kind {
+        NodeKind::Source { estimator, .. } => mark_of(estimator, seen),
+        _ => Mark::at(Time::LEAST),
+    }
+}
+
+/// The marks that hold each node back.
+#[derive(Debug, Drop)]
+pub struct NodeHolds {
+    nodes: Vec<Holds>,
+}
+
+impl Model for NodeHolds {
+    ghost use Rattle.std.specs.Prelude.{List};
+    ghost use Rattle.watermarks.specs.Holds.{SeenHolds};
+
+    ghost Value = { List SeenHolds };
+
+    ghost view = { λ h. h.nodes.items };
+}
+
+impl NodeHolds {
+    /// So many nodes, which nothing holds back.
+    pub fn new(alloc: Global, count: usize) -> Result<NodeHolds, NoMemory>
+        ensures none { IfOk result (λ held. AreHeldIn held []) }
+        ensures sized { IfOk result (λ held. length held ≡ count) }
+    {
+        let mut nodes = Vec::new(alloc);
+        for _node in 0..count {
+            nodes.push(Holds::new(alloc))?;
+        }
+        Ok(NodeHolds { nodes })
+    }
+
+    /// The least mark of each node, or FINAL.
+    pub fn least(&self, alloc: Global) -> Result<Vec<Mark>, NoMemory>
+        ensures { IfOk result (λ least. least.items ≡ map (λ holds. least_mark holds.marks) self.now) }
+    {
+        let mut least = Vec::new(alloc);
+        for holds in &self.nodes {
+            least.push(holds.least_or_final())?;
+        }
+        Ok(least)
+    }
+
+    /// Keeps room for so many more marks at a node.
+    pub fn keep_room(&mut self, node: u32, places: usize) -> Result<(), NoMemory>
+        requires { node < length self.old }
+        ensures ok { OnOk result (places ≤ room_in self.new node) }
+        ensures marks { (n : ℕ) → marks_in self.new n ≡ marks_in self.old n }
+        ensures sized { length self.new ≡ length self.old }
+    {
+        keep_room(self.nodes.as_mut_slice(), node, places)
+    }
+
+    /// Adds a mark that holds a node back, where room is kept.
+    pub fn add_kept(&mut self, node: u32, mark: Mark)
+        requires within { node < length self.old }
+        requires room { 0 < room_in self.old node }
+        ensures added { (holds : List Hold) → AreHeldIn self.old holds → AreHeldIn self.new (record { node = node; mark = mark } ∷ holds) }
+        ensures sized { length self.new ≡ length self.old }
+    {
+        add_kept(self.nodes.as_mut_slice(), node, mark);
+    }
+}
+
+fn keep_room(held: &mut [Holds], node: u32, places: usize) -> Result<(), NoMemory>
+    requires { node < length held.old }
+    ensures ok { OnOk result (places ≤ room_in held.new node) }
+    ensures marks { (n : ℕ) → marks_in held.new n ≡ marks_in held.old n }
+{
+    let holds = &mut held[node as usize];
+    holds.keep_room(places)
+}
+
+fn add_kept(held: &mut [Holds], node: u32, mark: Mark)
+    requires within { node < length held.old }
+    requires room { 0 < room_in held.old node }
+    ensures { (holds : List Hold) → AreHeldIn held.old holds → AreHeldIn held.new (record { node = node; mark = mark } ∷ holds) }
+{
+    let holds = &mut held[node as usize];
+    let Ok(()) = holds.add(mark) else {
+        unreachable!()
+    };
+}
