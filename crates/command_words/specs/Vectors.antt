@@ -71,7 +71,8 @@ dashed_plan = refl
 dashed_value : asked (codes "run" ∷ codes "p" ∷ codes "--chunk" ∷ codes "-1" ∷ []) ≡ None
 dashed_value = refl
 
-value_with_a_plus : asked (codes "run" ∷ codes "p" ∷ codes "--attempts=+3" ∷ []) ≡ Some (Run (codes "p") defaults)
+value_with_a_plus :
+    asked (codes "run" ∷ codes "p" ∷ codes "--attempts=+5" ∷ []) ≡ Some (Run (codes "p") (record { workers = 4; bundle = 64; chunk = 65536; attempts = 5 }))
 value_with_a_plus = refl
 
 option_without_its_value : asked (codes "run" ∷ codes "--workers" ∷ []) ≡ None

@@ -98,7 +98,7 @@ pair_in place d = ok_or (option_and_then pair_of (as_array d)) (Field place)
 abbrev pub any_number_in : Place → Data → Meaning Num
 any_number_in place d = ok_or (as_number d) (Field place)
 
--- A number is whole where the JSON text gives it as an integer of 64 bits. No limit is below 0, so a negative one is outside of all.
+-- A number is whole where the JSON text gives it as an integer of 64 bits; `-0` is a float. No limit is below 0, so a negative one is outside of all.
 abbrev pub within : ℕ → ℕ → Place → Num → Meaning ℕ
 within least most place number = do
   n ← ok_or (as_u64 number) (Number place)

@@ -73,7 +73,7 @@ source_files source.TimedLines node d = files_at node d
 source_files source.Count node d = Ok []
 source_files source.Made node d = Ok []
 
--- a count, and a number of at most a million: the step of Count, or the seed of Made
+-- a count, and a number of at most a million: the step of Count, or the number of Made
 abbrev pub counts_at : ℕ → ℕ → Data → Meaning Args
 counts_at most node d = do
   count ← number_at key.Count 0 most node d

@@ -130,7 +130,7 @@ source_with_input = refl
 too_long : length_refusal 1048577 ≡ Some (Length 1048577)
 too_long = refl
 
--- a name is judged before the kind of an earlier node, and a wrong form before a wrong word at one key
+-- that a node is an object is judged before the kind of an earlier node
 earlier_rule : refused (document (node (codes "a") (codes "sort") [] ∷ null ∷ [])) ≡ codes "2 field node 1 other"
 unfolding digits
 earlier_rule = refl

@@ -32,7 +32,7 @@ pub enum PlanKey {
 }
 
 impl PlanKey {
-    /// The word of the key in a document.
+    /// The word of the key, in a document and in a refusal.
     pub fn word(&self) -> &'static str
         ensures { result.now ≡ key_word self.now }
     {
