@@ -1,11 +1,11 @@
-ghost use Rattle.std.specs.Prelude.{◌≡◌, ℕ, ◌≤◌, ◌<◌, [], reverse, length, Some, None, IfOk, OnOk, OnErr};
+ghost use Rattle.std.specs.Prelude.{◌≡◌, ℕ, ◌≤◌, ◌<◌, [], reverse, length, Some, None, IfOk, OnErr};
 ghost use Rattle.beam_model.specs.Positions.{items};
 ghost use Rattle.book_core.specs.Book.{BookData};
 ghost use Rattle.book_core.specs.Calls.{Makes, CanClaim, CanFail, answer_of, failure_of, live_piece, IsOutcomeOf};
 ghost use Rattle.book_core.specs.DueAt.{IsDueAs};
 ghost use Rattle.book_core.specs.Jobs.{first_due};
 ghost use Rattle.book_core.specs.Runs.{AreOptions, AreLengthsOf, IsOpening, Reached};
-ghost use Rattle.book_core.specs.Steps.{Enroll, Take, Claim, Split, Commit, Fail, Stop, Enrolled, Claimed, SplitAt, Committed, Noted, IsFree, IsRunning, CanCommit, IsCommitting, IsNextFor, Step};
+ghost use Rattle.book_core.specs.Steps.{Enroll, Take, Claim, Split, Fail, Stop, Enrolled, Claimed, SplitAt, Noted, IsFree, IsRunning, IsNextFor};
 
 use crate::due::{DueAt, batch_job, first_due, piece_job, started};
 use crate::failing::{failure_where, give_back, is_spent, note_of, stopped_after, take_out};

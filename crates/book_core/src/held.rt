@@ -1,4 +1,4 @@
-ghost use Rattle.std.specs.Prelude.{◌≡◌, ℕ, true, ◌<◌, ◌≤◌, ◌∷◌, List, length, map, [], OnOk, OnErr, IfOk};
+ghost use Rattle.std.specs.Prelude.{◌≡◌, ℕ, true, ◌<◌, ◌≤◌, ◌∷◌, List, length, map, [], OnOk, IfOk};
 ghost use Rattle.beam_model.specs.Holds.{Hold, piece_hold, estimator_in};
 ghost use Rattle.beam_values.specs.Checked.{IsChecked, is_estimator_allowed};
 ghost use Rattle.beam_values.specs.Marks.{mark_of, least_mark};

@@ -1,4 +1,4 @@
-ghost use Rattle.std.specs.Prelude.{◌≡◌, ◌+◌, [], ◌↔◌, take, drop, IsTrue, IfOk};
+ghost use Rattle.std.specs.Prelude.{◌≡◌, [], ◌↔◌, take, drop, IsTrue, IfOk};
 
 use crate::live::WaitingPane;
 use beam_values::{List, NoMemory};

@@ -1,7 +1,7 @@
 //! What one cell fires. A pane is built before anything is changed, so want of memory leaves a cell
 //! as it was.
 
-ghost use Rattle.std.specs.Prelude.{◌≡◌, ℕ, ◌+◌, ◌<◌, ◌^◌, map, option_to_list, IsSome, IfOk, OnOk, OnErr};
+ghost use Rattle.std.specs.Prelude.{◌≡◌, ◌+◌, ◌<◌, ◌^◌, map, option_to_list, IsSome, IfOk, OnOk, OnErr};
 ghost use Rattle.std.specs.List.Sorted.{IsSorted};
 ghost use Rattle.beam_values.specs.Bags.{IsSameBag};
 ghost use Rattle.beam_values.specs.Grouping.{part_of, pane_as};

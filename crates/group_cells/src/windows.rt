@@ -1,6 +1,6 @@
 //! For which windows there are to be cells.
 
-ghost use Rattle.std.specs.Prelude.{◌≡◌, ◌∷◌, [], ◌++◌, map, All, Contains, List as ListOf, IfOk, OnOk};
+ghost use Rattle.std.specs.Prelude.{◌≡◌, ◌∷◌, [], ◌++◌, All, Contains, List as ListOf, IfOk, OnOk};
 ghost use Rattle.std.specs.List.{filter};
 ghost use Rattle.beam_values.specs.Intervals.{Interval};
 ghost use Rattle.beam_values.specs.Sessions.{IsNonEmpty};

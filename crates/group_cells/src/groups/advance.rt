@@ -1,11 +1,11 @@
-ghost use Rattle.std.specs.Prelude.{◌≡◌, [], ◌++◌, ◌<◌, ◌^◌, true, false, length, map, not, take, IfOk, OnOk, OnErr};
+ghost use Rattle.std.specs.Prelude.{◌≡◌, [], ◌++◌, ◌<◌, ◌^◌, true, length, map, not, take, IfOk, OnOk, OnErr};
 ghost use Rattle.std.specs.List.{filter};
 ghost use Rattle.beam_values.specs.Checked.{IsChecked};
 ghost use Rattle.beam_values.specs.Nodes.{facts_of};
 ghost use Rattle.group_cells.specs.Arrivals.{merging, UnmergedStand};
 ghost use Rattle.group_cells.specs.Commits.{dropped_arrival, is_at_group, is_dropped};
 ghost use Rattle.group_cells.specs.Indexes.{IsIndexOf};
-ghost use Rattle.group_cells.specs.Plain.{AreAllPlaced, AreCellsNext};
+ghost use Rattle.group_cells.specs.Plain.{AreCellsNext};
 ghost use Rattle.group_cells.specs.Undoing.{undone_all};
 ghost use Rattle.watermarks.specs.Holds.{hold_at};
 

@@ -1,4 +1,4 @@
-ghost use Rattle.std.specs.Prelude.{◌≡◌, ◌<◌, ◌∷◌, [], ◌++◌, List as ListOf, Some, length, slice_get, slice_set, OnOk, OnErr, IfOk, None, take};
+ghost use Rattle.std.specs.Prelude.{◌≡◌, ◌<◌, ◌∷◌, [], ◌++◌, Some, length, slice_get, slice_set, OnOk, OnErr, IfOk, None, take};
 ghost use Rattle.beam_values.specs.Grouping.{key_of};
 ghost use Rattle.beam_values.specs.declared.cell.Cell.{Cell as CellOf};
 ghost use Rattle.group_cells.specs.Arrivals.{arrived};
