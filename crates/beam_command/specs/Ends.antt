@@ -1,5 +1,5 @@
 -- How a command may end, and what each end means.
-use Rattle.std.specs.Prelude.{◌≡◌, ◌⊎◌, ℕ, ◌<◌, ◌≤◌, ℤ, pos, List, Option, Some, None, length, take}
+use Rattle.std.specs.Prelude.{◌≡◌, ◌⊎◌, true, ℕ, ◌<◌, ◌≤◌, ℤ, pos, List, Option, Some, None, length, take}
 use Rattle.beam_values.specs.declared.fault.Cause.TheVariants.{Call}
 use Rattle.beam_values.specs.declared.file_text.FileText.{FileText}
 use Rattle.beam_values.specs.declared.outcome.Outcome.{Outcome}
@@ -9,6 +9,7 @@ use Rattle.beam_model.specs.Positions.{items}
 use Rattle.beam_model.specs.Spread.{HasPoison}
 use Rattle.beam_ports.specs.Counts.{Rose}
 use Rattle.beam_ports.specs.Observed.{ObservedStore, ObservedSink}
+use Rattle.chain_exec.specs.Causes.{ObservedShelf}
 use Rattle.beam_ports.specs.Sinks.{then_taken}
 use Rattle.beam_model.specs.Rendering.{IsRendering}
 use Rattle.run_engine.specs.PanesRun.{Prevents, first_fault}
@@ -18,8 +19,9 @@ use Rattle.run_engine.specs.declared.status.Status.TheVariants as status
 use Rattle.beam_command.specs.Notes.{note_line}
 use Rattle.beam_command.specs.Words.{TakesPanes, file_word, size_word, number_of_text}
 
--- what a command observed at its store and at its output
+-- what a command observed at its kit and at its output
 pub record Observed : Type 0 where
+  pub shelf : ObservedShelf
   pub store : ObservedStore
   pub out : ObservedSink
 
@@ -48,7 +50,7 @@ HasCause words observed status.SinkFault = TakesPanes words × Rose observed.out
 -- the words are no command
 HasCause words observed status.Usage = (TakesPanes words → ⊥) × IsUnwritten observed
 -- the run did not come to its end
-HasCause words observed s = TakesPanes words × IsUnwritten observed × Prevents observed.store (file_word words) (size_of words) s
+HasCause words observed s = TakesPanes words × IsUnwritten observed × Prevents observed.shelf observed.store (file_word words) (size_of words) s
 
 -- at these ends there is an outcome, of which this holds; at another one there is none
 abbrev pub HasRun : Status → Option Outcome → (Outcome → Type 0) → Type 0
@@ -101,3 +103,11 @@ IsEndOfClean s = (s ≡ status.Ok) ⊎ (s ≡ status.NoMemory)
 
 abbrev pub IsEndOfAbsent : List ℕ → Status → Type 0
 IsEndOfAbsent name s = (s ≡ status.NoSource name) ⊎ (s ≡ status.NoMemory)
+
+-- a store that did not fail
+abbrev pub HasNotFailed : ObservedStore → Type 0
+HasNotFailed store = Rose store.before store.after → ⊥
+
+-- a shelf that fails on poison alone, or that did not fail
+abbrev pub FailsOnPoison : ObservedShelf → Type 0
+FailsOnPoison shelf = (shelf.strict ≡ true) ⊎ (Rose shelf.before shelf.after → ⊥)

@@ -1,7 +1,15 @@
-//! The command over stores and sinks in memory, with texts and notes counted by hand.
+//! The command over stores and sinks in memory, with texts and notes counted by hand. Its shelf has one
+//! object of each kind, boxed.
 use crate::beam_main;
 use beam_ports::{FileText, MemorySink, MemoryStore};
 use beam_values::{Bytes, List, NoMemory};
+use dofn_library::{
+    BatchUntil, CountSeq, Dedupe, Field, FieldInt, KeepPrefix, KeyField, LatestThenEmit, MaxSeq,
+    RunningSum, Shift, SumSeq, Swap, Unseq, Values, Words,
+};
+use dofn_traits::{BoxShelf, DoFn, SplittableFn, StatefulFn};
+use run_engine::Kit;
+use sdf_library::{Count, Lines, Made, TimedLines};
 use std::alloc::Global;
 use std::test::Fail;
 
@@ -35,19 +43,33 @@ fn store(alloc: Global, text: &[u8], failing: &[u64]) -> Result<MemoryStore, NoM
     Ok(MemoryStore::new(files, List::from_slice(alloc, failing)?))
 }
 
-// Runs `panes NAME SIZE` over a store that has `f` with this text and fails at these calls.
-fn run(
+// Adds a box of each of these objects to a list.
+macro_rules! add_boxes {
+    ($alloc:expr, $boxes:ident; $($object:ident),*) => {{
+        let mut add = || -> Result<(), NoMemory> {
+            $($boxes.push(Box::new($alloc, $object::new($alloc))?)?;)*
+            Ok(())
+        };
+        add()
+    }};
+}
+
+// Runs `panes NAME SIZE` with these functions over a store that has `f` with this text and fails at these
+// calls.
+fn run<D: DoFn, P: SplittableFn, T: StatefulFn>(
     alloc: Global,
-    word: &str,
-    size: &str,
-    text: &[u8],
-    failing: &[u64],
-) -> Result<Ended, NoMemory> {
-    let mut store = store(alloc, text, failing)?;
+    fns: List<D>,
+    splits: List<P>,
+    states: List<T>,
+    row: &Row,
+) -> Result<Ended, Fail> {
+    let shelf = BoxShelf::new(fns, splits, states)?;
+    let mut kits = Vec::new(alloc);
+    kits.push(Kit::new(alloc, shelf, store(alloc, row.text, row.failing)?))?;
     let mut out = MemorySink::new(alloc, 1 << 20, List::new(alloc));
     let mut notes = MemorySink::new(alloc, 1 << 20, List::new(alloc));
-    let words = words(alloc, word, size)?;
-    let end = beam_main(alloc, words.as_slice(), &mut store, &mut out, &mut notes);
+    let words = words(alloc, row.name, row.size)?;
+    let end = beam_main(alloc, words.as_slice(), &mut kits, &mut out, &mut notes);
     Ok(Ended {
         number: end.status.number(),
         out: Bytes::from_slice(alloc, out.taken())?,
@@ -166,8 +188,17 @@ const ROWS: &[Row] = &[
 
 #[test]
 fn files_give_their_panes_or_a_note(rt: HostRuntime) -> Result<(), Fail> {
+    let alloc = rt.alloc();
     for row in ROWS {
-        let ended = run(rt.alloc(), row.name, row.size, row.text, row.failing)?;
+        let mut fns: List<Box<dyn DoFn>> = List::new(alloc);
+        let mut splits: List<Box<dyn SplittableFn>> = List::new(alloc);
+        let mut states: List<Box<dyn StatefulFn>> = List::new(alloc);
+        add_boxes!(alloc, fns; KeyField, Words, Field, KeepPrefix)?;
+        add_boxes!(alloc, fns; FieldInt, Swap, Shift, SumSeq)?;
+        add_boxes!(alloc, fns; CountSeq, MaxSeq, Unseq, Values)?;
+        add_boxes!(alloc, splits; Lines, TimedLines, Count, Made)?;
+        add_boxes!(alloc, states; Dedupe, RunningSum, BatchUntil, LatestThenEmit)?;
+        let ended = run(alloc, fns, splits, states, row)?;
         assert_eq!(rt; ended.number, row.number);
         assert_eq!(rt; ended.out.as_slice(), row.out);
         assert_eq!(rt; ended.notes.as_slice(), row.notes);

@@ -1,8 +1,14 @@
 //! The command over sinks with places of their own, so that each allocation is the command's.
+use crate::command;
 use crate::sinks::{ErrSink, OutSink};
-use beam_command::beam_main;
 use beam_ports::{FileText, MemoryStore};
 use beam_values::{Bytes, List, NoMemory};
+use dofn_library::{
+    BatchUntil, CountSeq, Dedupe, Field, FieldInt, KeepPrefix, KeyField, LatestThenEmit, MaxSeq,
+    RunningSum, Shift, SumSeq, Swap, Unseq, Values, Words,
+};
+use dofn_traits::{DoFn, SplittableFn, StatefulFn};
+use sdf_library::{Count, Lines, Made, TimedLines};
 use std::alloc::Global;
 use std::test::Fail;
 
@@ -33,7 +39,15 @@ fn store(alloc: Global) -> Result<MemoryStore, NoMemory> {
 #[test]
 fn four_lines_give_their_panes_or_no_memory(rt: HostRuntime) -> Result<(), Fail> {
     let alloc = rt.alloc();
-    let (Ok(mut store), Ok(words)) = (store(alloc), words(alloc)) else {
+    let mut fns: List<Box<dyn DoFn>> = List::new(alloc);
+    let mut splits: List<Box<dyn SplittableFn>> = List::new(alloc);
+    let mut states: List<Box<dyn StatefulFn>> = List::new(alloc);
+    let added = add_boxes!(alloc, fns; KeyField, Words, Field, KeepPrefix).is_ok()
+        && add_boxes!(alloc, fns; FieldInt, Swap, Shift, SumSeq).is_ok()
+        && add_boxes!(alloc, fns; CountSeq, MaxSeq, Unseq, Values).is_ok()
+        && add_boxes!(alloc, splits; Lines, TimedLines, Count, Made).is_ok()
+        && add_boxes!(alloc, states; Dedupe, RunningSum, BatchUntil, LatestThenEmit).is_ok();
+    let (Ok(store), Ok(words), true) = (store(alloc), words(alloc), added) else {
         // Memory was short before the command began.
         return Ok(());
     };
@@ -41,7 +55,16 @@ fn four_lines_give_their_panes_or_no_memory(rt: HostRuntime) -> Result<(), Fail>
     let mut note = [0u8; 64];
     let mut out = OutSink::new(text.as_mut_slice());
     let mut notes = ErrSink::new(note.as_mut_slice());
-    let end = beam_main(alloc, words.as_slice(), &mut store, &mut out, &mut notes);
+    let end = command(
+        alloc,
+        words.as_slice(),
+        store,
+        fns,
+        splits,
+        states,
+        &mut out,
+        &mut notes,
+    )?;
     if end.status.number() == 8 {
         assert_eq!(rt; text.split_at(1).0, b"\0".as_slice());
         assert_eq!(rt; note.split_at(11).0, b"no memory\n\0".as_slice());

@@ -1,11 +1,11 @@
 -- What a commit leaves: the rest of a piece is cut out of its range, and fewer offsets are left.
-use Rattle.std.proofs.Common.{inl, inr, ◌≡◌, ℕ, ℤ, ◌+◌, ◌-◌, ◌<◌, ◌≤◌, Bool, true, false, cond, ◌&&◌, ◌==◌, Option, Some, None, List, [], ◌∷◌, ◌++◌, map, length, take, drop, min, refl, sym, ap, subst, ◌∙◌, arith}
+use Rattle.std.proofs.Common.{inl, inr, ◌≡◌, ℕ, ℤ, ◌+◌, ◌-◌, ◌<◌, ◌≤◌, Bool, true, false, cond, ◌&&◌, ◌==◌, Option, Some, None, List, [], ◌∷◌, ◌++◌, map, length, take, min, refl, sym, ap, subst, ◌∙◌, arith}
 use Rattle.std.proofs.Math.Seq.{take-append-add}
 use Rattle.std.specs.List.{All, list_any}
-use Rattle.std.proofs.lemmas.Bool.{cases_lt, lt-ltb, le-ltb}
+use Rattle.std.proofs.lemmas.Bool.{and_parts, cases_lt, eqb-true, lt-ltb, le-ltb}
 use Rattle.std.proofs.lemmas.Bool.Decides.{nat_tests}
-use Rattle.std.proofs.lemmas.List.{append-nil}
-use Rattle.std.proofs.lemmas.List.Elements.{All-take, All-weaker}
+use Rattle.std.proofs.lemmas.List.{append-nil, map-append}
+use Rattle.std.proofs.lemmas.List.Elements.{All-append, All-head, All-map, All-tail, All-take, All-weaker}
 use Rattle.std.proofs.lemmas.List.Sums.{sum_by-cons, sum_by-append}
 use Rattle.std.proofs.lemmas.Grind.{flat_map-append}
 use Rattle.std.proofs.lemmas.Bool.{false≢true}
@@ -13,11 +13,12 @@ use Rattle.std.proofs.lemmas.List.Folds.{list_any-append}
 use Rattle.beam_values.specs.Lines.{spread}
 use Rattle.beam_values.proofs.Spreads.{spread-join, spread-empty}
 use Rattle.beam_values.specs.declared.cell.Entry.{Entry}
-use Rattle.beam_model.specs.Chains.{Output}
-use Rattle.beam_model.specs.Positions.{item_len}
+use Rattle.beam_model.specs.Chains.{Output, Arrives}
+use Rattle.beam_values.specs.declared.arrival.Arrival.{Arrival}
+use Rattle.beam_values.specs.declared.plan.Plan.{Plan}
 use Rattle.beam_model.specs.Spread.{is_poison}
 use Rattle.split_core.proofs.Partition.{both_same}
-use Rattle.run_engine.specs.Working.{panes_item, file_outputs_at, entry_output, spread_of, spread_of_done}
+use Rattle.run_engine.specs.Working.{IsPanesPlan, entry_from, file_outputs_at, entry_output, spread_of, spread_of_done}
 use Rattle.run_engine.proofs.Working.{any_or-left, any_or-right}
 use Rattle.beam_values.specs.Bags.{IsSameBag}
 use Rattle.beam_values.specs.Cover.{Place, times_at, times_done, whole}
@@ -32,8 +33,9 @@ use Rattle.split_core.specs.Partition.{IsPartition, IsCutOut, IsOut, range_of}
 use Rattle.split_core.specs.Order.{with_piece}
 use Rattle.split_core.proofs.Cutting.{middle_cut_out}
 use Rattle.split_core.proofs.Ordered.{bag_with_piece}
-use Rattle.run_engine.specs.Committing.{IsOfCommitUpTo, offsets_of, offsets_left}
-use Rattle.run_engine.proofs.Members.{longer_all}
+use Rattle.run_engine.specs.Committing.{IsOfCommitUpTo, file_len, offsets_of, offsets_left}
+use Rattle.run_engine.proofs.Pipelines.{spread_right}
+use Rattle.run_engine.proofs.Texts.{is_keyed_text, is_right}
 
 -- a checkpoint cuts right behind the last attempted position
 pub checkpoint_point : (t : Tracked) → split_point_of t 0 1 ≡ first_unattempted t.range.from t.attempted
@@ -160,23 +162,23 @@ positive_cond : (b : Bool) (n : ℕ) → 0 < cond b n 0 → 0 < n
 positive_cond true n some = some
 positive_cond false n some = absurd (omega (arith, some))
 
-pub in_file : (file : List ℕ) (piece : Piece) (pending : List Piece) (done : List Done) → IsPartition (item_len (panes_item file) ∷ []) pending (done ++ range_of piece ∷ [])
-    → piece.range.from < piece.range.to → piece.range.to ≤ length file
-in_file file piece pending done held some =
+pub in_file : (len : ℕ) (piece : Piece) (pending : List Piece) (done : List Done) → IsPartition (file_len len ∷ []) pending (done ++ range_of piece ∷ [])
+    → piece.range.from < piece.range.to → piece.range.to ≤ len
+in_file len piece pending done held some =
     let place : Place = record { node = piece.node; item = piece.item; offset = piece.range.to - 1 } in
     let w : Done → ℕ = λ d. times_at d.node d.item d.range place in
     let v : FileLen → ℕ = λ f. times_at f.node f.item (whole f.len) place in
     let here : times_at piece.node piece.item piece.range place ≡ 1 =
     ap (λ b. cond b (times_in piece.range place.offset) 0) (both_same piece.node piece.item) ∙ one_in piece.range place.offset (omega arith) (omega arith) in
     let out : 1 ≤ times_done (done ++ range_of piece ∷ []) place = omega (arith, here, sum_by-append w done (range_of piece ∷ []), sum_by-cons w (range_of piece) []) in
-    let listed : 0 < times_at 0 0 (whole (length file)) place = omega (arith, out, held.times place, sum_by-cons v (item_len (panes_item file)) []) in
-    let inside : place.offset < length file = positive_in (length file) place.offset (positive_cond (0 == piece.node && 0 == piece.item) (times_in (whole (length file)) place.offset) listed) in
+    let listed : 0 < times_at 0 0 (whole len) place = omega (arith, out, held.times place, sum_by-cons v (file_len len) []) in
+    let inside : place.offset < len = positive_in len place.offset (positive_cond (0 == piece.node && 0 == piece.item) (times_in (whole len) place.offset) listed) in
     omega arith
 
 -- poison of a part is poison of the whole
-pub poison_in_part : (size : ℤ) (file : List ℕ) (from to len : ℕ) → (from < to → to ≤ len) → list_any is_poison (spread_of size file from to) ≡ true
-    → list_any is_poison (spread_of size file 0 len) ≡ true
-poison_in_part size file from to len within poison = elim (cases_lt from to) [
+pub poison_in_part : (plan : Plan) (file : List ℕ) (from to len : ℕ) → (from < to → to ≤ len) → list_any is_poison (spread_of plan file from to) ≡ true
+    → list_any is_poison (spread_of plan file 0 len) ≡ true
+poison_in_part plan file from to len within poison = elim (cases_lt from to) [
   | inl some ↦
       ap (list_any is_poison) (spread-join at 0 from len (omega arith) (omega (arith, within some)) ∙ ap (λ t. spread at 0 from ++ t) (spread-join at from to len (omega arith) (within some)))
       ∙ list_any-append is_poison (spread at 0 from) (spread at from to ++ spread at to len)
@@ -186,27 +188,38 @@ poison_in_part size file from to len within poison = elim (cases_lt from to) [
 ]
   where
     at : ℕ → List Output
-    at = file_outputs_at size file
+    at = file_outputs_at plan file
 
--- what a commit adds is what its range brings
-pub outputs_more : (size : ℤ) (file : List ℕ) (done : List Done) (d : Done) (old new : List Entry) (from to : ℕ) → d.range ≡ record { from = from; to = to }
-    → IsSameBag (map entry_output old) (spread_of_done size file done)
-    → map entry_output new ≡ map entry_output old ++ spread_of size file from to
-    → IsSameBag (map entry_output new) (spread_of_done size file (done ++ d ∷ []))
-outputs_more size file done d old new from to is before more =
-    bag_trans _ _ _ (bag_from_same _ _ more)
-    (bag_trans _ _ _ (bag_append _ _ _ _ before (bag_refl (spread_of size file from to)))
+-- what arrived at the Group are its entries
+entries_of_arrivals : (size : ℤ) (commit : ℕ) (arrivals : List Arrival) → All (λ o. is_right size o ≡ true) (map Arrives arrivals)
+    → map entry_output (map (entry_from commit) arrivals) ≡ map Arrives arrivals
+entries_of_arrivals size commit [] right = refl
+entries_of_arrivals size commit (a ∷ more) right =
+    let head = All-head (λ o. is_right size o ≡ true) (Arrives a) (map Arrives more) right in
+    let here : 3 ≡ a.node = sym (eqb-true a.node 3 (and_parts (a.node == 3) (is_keyed_text size a.element) head).0) in
+    ap (λ (n : ℕ). Arrives (record { node = n; element = a.element }) ∷ map entry_output (map (entry_from commit) more)) here
+    ∙ ap (λ l. Arrives a ∷ l) (entries_of_arrivals size commit more (All-tail (λ o. is_right size o ≡ true) (Arrives a) (map Arrives more) right))
+
+-- the entries that a commit adds are the outputs of its range
+pub outputs_more : (plan : Plan) → IsPanesPlan plan → (file : List ℕ) (done : List Done) (d : Done) (old new : List Entry) (arrivals : List Arrival) (commit from to : ℕ)
+    → d.range ≡ record { from = from; to = to } → new ≡ old ++ map (entry_from commit) arrivals → map Arrives arrivals ≡ spread_of plan file from to
+    → IsSameBag (map entry_output old) (spread_of_done plan file done)
+    → IsSameBag (map entry_output new) (spread_of_done plan file (done ++ d ∷ []))
+outputs_more plan is file done d old new arrivals commit from to range more brought before =
+    let right = subst (All (λ o. is_right is.1 o ≡ true)) (sym brought) (spread_right plan is file from to) in
+    let entries = ap (map entry_output) more ∙ map-append entry_output old (map (entry_from commit) arrivals)
+    ∙ ap (λ l. map entry_output old ++ l) (entries_of_arrivals is.1 commit arrivals right ∙ brought) in
+    bag_trans _ _ _ (bag_from_same _ _ entries)
+    (bag_trans _ _ _ (bag_append _ _ _ _ before (bag_refl (spread_of plan file from to)))
     (bag_from_same _ _
-    (ap (λ t. spread_of_done size file done ++ t) (ap (λ (r : Offsets). spread_of size file r.from r.to) (sym is) ∙ sym (append-nil _))
-    ∙ sym (flat_map-append (λ (e : Done). spread_of size file e.range.from e.range.to) done (d ∷ [])))))
+    (ap (λ t. spread_of_done plan file done ++ t) (ap (λ (r : Offsets). spread_of plan file r.from r.to) (sym range) ∙ sym (append-nil _))
+    ∙ sym (flat_map-append (λ (e : Done). spread_of plan file e.range.from e.range.to) done (d ∷ [])))))
 
 -- entries of commits so far, and after them those of the next commit
-pub commits_more : (last commit : ℕ) (old new : List Entry) → commit ≡ last + 1 → take (length old) new ≡ old
-    → All (λ (e : Entry). e.commit ≡ commit) (drop (length old) new) → All (IsOfCommitUpTo last) old → All (IsOfCommitUpTo commit) new
-commits_more last commit old new next kept added before =
-    longer_all (IsOfCommitUpTo commit) old new
-    (record {
-      kept = kept;
-      added = All-weaker (λ (e : Entry). e.commit ≡ commit) (IsOfCommitUpTo commit) (λ e is. (omega arith, omega arith)) (drop (length old) new) added;
-    })
+pub commits_more : (last commit : ℕ) (old new : List Entry) (arrivals : List Arrival) → commit ≡ last + 1 → new ≡ old ++ map (entry_from commit) arrivals
+    → All (IsOfCommitUpTo last) old → All (IsOfCommitUpTo commit) new
+commits_more last commit old new arrivals next more before =
+    subst (All (IsOfCommitUpTo commit)) (sym more)
+    (All-append (IsOfCommitUpTo commit) old (map (entry_from commit) arrivals)
     (All-weaker (IsOfCommitUpTo last) (IsOfCommitUpTo commit) (λ e of. (of.0, omega (arith, of.1))) old before)
+    (All-map (IsOfCommitUpTo commit) (entry_from commit) arrivals (λ k d within. (omega arith, omega arith))))

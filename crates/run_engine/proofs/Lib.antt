@@ -4,6 +4,7 @@ mod Cells
 mod Members
 mod PlainPanes
 mod Texts
-pub mod Filling
+pub mod Keeping
 pub mod Outcomes
+pub mod Pipelines
 pub mod Working

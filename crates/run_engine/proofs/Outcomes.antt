@@ -1,6 +1,6 @@
 -- What a worked file comes to: the account, plain grouping, and the numbers of its commits.
 use Rattle.std.proofs.Common.{◌&&◌, cond, IsSome, unwrap_or, ◌==◌, nat_le, nat_lt, ◌≡◌, ℕ, zero, suc, ◌≤◌, ℤ, Bool, true, false, Option, Some, None, List, [], ◌∷◌, ◌++◌, length, get_or, map, min, refl, sym, ap, subst, ◌∙◌, arith, eq-eqb}
-use Rattle.std.specs.List.{All, flat_map, filter}
+use Rattle.std.specs.List.{All, flat_map, filter, list_any}
 use Rattle.std.specs.List.Sorted.{IsSorted, IsStrictlySortedBy}
 use Rattle.std.proofs.lemmas.List.{append-nil, map-append}
 use Rattle.std.proofs.lemmas.List.Elements.{filter-append, All-nil, All-head, All-tail, All-append, All-map, All-same, All-weaker}
@@ -33,20 +33,30 @@ use Rattle.beam_model.specs.Plans.{panes_plan}
 use Rattle.beam_model.specs.Spread.{spread_all}
 use Rattle.std.proofs.lemmas.Bool.Decides.{nat_tests}
 use Rattle.std.proofs.lemmas.List.Sums.{sum_by-cons}
-use Rattle.beam_values.specs.Cover.{Place, times_at, times_listed, whole}
+use Rattle.beam_values.specs.Cover.{Place, times_at, times_done, times_listed, whole}
 use Rattle.beam_values.specs.Files.{first_named}
 use Rattle.beam_values.specs.declared.file_text.FileText.{FileText}
 use Rattle.beam_values.specs.declared.piece.Done.{Done}
 use Rattle.beam_values.specs.declared.piece.FileLen.{FileLen}
 use Rattle.beam_model.specs.Positions.{SourceItem, item_len, items}
-use Rattle.beam_model.specs.Spread.{HasPoison}
+use Rattle.beam_model.specs.Spread.{HasPoison, is_poison}
+use Rattle.beam_values.specs.declared.fault.Cause.TheVariants.{Call, Read}
+use Rattle.beam_ports.specs.Files.{Opening, OpensText}
+use Rattle.sdf_library.specs.Paging.{Paged}
+use Rattle.run_engine.specs.declared.status.Status.{Status}
+use Rattle.run_engine.specs.declared.status.Status.TheVariants as status
+use Rattle.beam_ports.specs.Observed.{ObservedStore}
+use Rattle.chain_exec.specs.Causes.{ObservedShelf}
+use Rattle.chain_exec.specs.declared.refusal.ExecRefusal.{ExecRefusal}
+use Rattle.chain_exec.specs.declared.refusal.ExecRefusal.TheVariants.{Faulted, NoMemory}
+use Rattle.chain_exec.proofs.Poisons.{rose_after}
 use Rattle.beam_model.proofs.Coverings.{covering_one}
-use Rattle.split_core.specs.Partition.{IsListed}
-use Rattle.run_engine.specs.Committing.{IsOfCommitUpTo, IsCommitted}
+use Rattle.split_core.specs.Partition.{IsListed, IsPartition}
+use Rattle.run_engine.specs.Committing.{IsOfCommitUpTo, IsCommitted, file_len}
 use Rattle.run_engine.specs.Grouped.{as_shown, entries_of, IsFiredCell, pane_of_cell}
 use Rattle.run_engine.specs.declared.committing.Committed.{Committed}
-use Rattle.run_engine.specs.PanesRun.{IsPanesOutcome, IsPanesRun, FindsPoison}
-use Rattle.run_engine.specs.Working.{panes_item, entry_output}
+use Rattle.run_engine.specs.PanesRun.{IsPanesOutcome, IsPanesRun, IsRunEnd, Prevents, status_of}
+use Rattle.run_engine.specs.Working.{IsToldText, IsWorkRefused, panes_item, entry_output, spread_of, spread_of_done}
 use Rattle.run_engine.proofs.Ascents.{ascends_sorted}
 use Rattle.run_engine.proofs.Members.{all_before_map, all_in_cells}
 use Rattle.run_engine.proofs.PlainPanes.{cell_total}
@@ -118,21 +128,22 @@ arrived-at-write entries panes =
     ∙ ap (λ t. t ++ elements_at 4 (map written_of panes)) (at-other 4 3 (λ (entry : Entry). entry.element) entries refl))
 
 -- only the one item is listed
-listed_one : (file : List ℕ) (node item : ℕ) → IsListed (item_len (panes_item file) ∷ []) node item → (node ≡ 0) × (item ≡ 0)
-listed_one file node item some = by_test (0 == node && 0 == item) refl
+listed_one : (len : ℕ) (node item : ℕ) → IsListed (file_len len ∷ []) node item → (node ≡ 0) × (item ≡ 0)
+listed_one len node item some = by_test (0 == node && 0 == item) refl
   where
     by_test : (b : Bool) → (0 == node && 0 == item) ≡ b → (node ≡ 0) × (item ≡ 0)
     by_test true is = (grind (arith, nat_tests, is), grind (arith, nat_tests, is))
-    by_test false is = absurd (omega (arith, some, sum_by-cons (λ (f : FileLen). cond (f.node == node && f.item == item) 1 0) (item_len (panes_item file)) [], ap {B = ℕ} (λ b. cond b 1 0) is))
+    by_test false is = absurd (omega (arith, some, sum_by-cons (λ (f : FileLen). cond (f.node == node && f.item == item) 1 0) (file_len len) [], ap {B = ℕ} (λ b. cond b 1 0) is))
 
--- what was committed of the whole file is what the file brings
-arrived_whole : (name : List ℕ) (size : ℤ) (file : List ℕ) (c : Committed) → IsCommitted size file [] c
-    → IsSameBag (map entry_output c.entries) (spread_all (panes_plan name size) (panes_item file ∷ []))
-arrived_whole name size file c known =
-    bag_trans _ _ _ known.outputs
-    (covering_one (panes_plan name size) (panes_item file) c.done
-    (All-weaker (λ (d : Done). IsListed (item_len (panes_item file) ∷ []) d.node d.item) (λ (d : Done). (d.node ≡ 0) × (d.item ≡ 0)) (λ d listed. listed_one file d.node d.item listed) c.done known.held.out_listed)
-    (λ place. omega (arith, known.held.times place)))
+-- the ranges that were committed of the whole file bring the outputs of the file
+arrived_whole : (plan : Plan) (file : List ℕ) (c : Committed) → IsPartition (file_len (length file) ∷ []) [] c.done
+    → IsSameBag (map entry_output c.entries) (spread_of_done plan file c.done)
+    → IsSameBag (map entry_output c.entries) (spread_all plan (panes_item file ∷ []))
+arrived_whole plan file c held outputs =
+    bag_trans _ _ _ outputs
+    (covering_one plan (panes_item file) c.done
+    (All-weaker (λ (d : Done). IsListed (file_len (length file) ∷ []) d.node d.item) (λ (d : Done). (d.node ≡ 0) × (d.item ≡ 0)) (λ d listed. listed_one (length file) d.node d.item listed) c.done held.out_listed)
+    (λ place. omega (arith, held.times place)))
 
 -- the one item holds an offset once or not at all
 once : (own inside : Bool) → cond own (cond inside 1 0) 0 ≤ 1
@@ -140,12 +151,12 @@ once true true = omega arith
 once true false = omega arith
 once false inside = omega arith
 
-listed_once : (file : List ℕ) (place : Place) → times_listed (item_len (panes_item file) ∷ []) place ≡ min 1 (times_listed (item_len (panes_item file) ∷ []) place)
-listed_once file place =
+listed_once : (len : ℕ) (place : Place) → times_listed (file_len len ∷ []) place ≡ min 1 (times_listed (file_len len ∷ []) place)
+listed_once len place =
     omega (
       arith,
-      sum_by-cons (λ (f : FileLen). times_at f.node f.item (whole f.len) place) (item_len (panes_item file)) [],
-      once (0 == place.node && 0 == place.item) (nat_le 0 place.offset && nat_lt place.offset (length file)),
+      sum_by-cons (λ (f : FileLen). times_at f.node f.item (whole f.len) place) (file_len len) [],
+      once (0 == place.node && 0 == place.item) (nat_le 0 place.offset && nat_lt place.offset len),
     )
 
 -- what grouping of entries gives
@@ -160,7 +171,8 @@ pub record AreGrouped (commit : ℕ) (entries : List Entry) (cells : List Cell) 
   pub sorted : IsSorted pane_cmp panes
 
 module _ (name : List ℕ) (size : ℤ) (file : List ℕ) (c : Committed) (cells : List Cell) (panes : List Pane) (marks : List CommitMarks)
-    (long : IsLength size) (known : IsCommitted size file [] c) (grouped : AreGrouped c.commits c.entries cells panes) where
+    (long : IsLength size) (held : IsPartition (file_len (length file) ∷ []) [] c.done)
+    (outputs : IsSameBag (map entry_output c.entries) (spread_of_done (panes_plan name size) file c.done)) (grouped : AreGrouped c.commits c.entries cells panes) where
   abbrev plan : Plan
   plan = panes_plan name size
 
@@ -173,7 +185,7 @@ module _ (name : List ℕ) (size : ℤ) (file : List ℕ) (c : Committed) (cells
   abbrev outcome : Outcome
   outcome = record {
     plan = plan;
-    files = item_len (panes_item file) ∷ [];
+    files = file_len (length file) ∷ [];
     done = c.done;
     cells = cells;
     panes = panes;
@@ -185,7 +197,7 @@ module _ (name : List ℕ) (size : ℤ) (file : List ℕ) (c : Committed) (cells
   }
 
   all_arrived : IsSameBag (map entry_output c.entries) (spread_all plan source)
-  all_arrived = arrived_whole name size file c known
+  all_arrived = arrived_whole plan file c held outputs
 
   -- all that is brought to the Group and the Write arrived there, and nothing of it is poison
   clean : IsSameBag (spread_all plan source ++ map Arrives (map written_of panes)) (map Arrives arrived)
@@ -276,8 +288,8 @@ module _ (name : List ℕ) (size : ℤ) (file : List ℕ) (c : Committed) (cells
   plainly : ArePlainlyWritten source outcome
   plainly node write = subst (λ (n : ℕ). HasNoStatefulAbove plan n → IsPlainlyWritten source outcome n) (sym (write-is-4 name size node write)) written_plainly
 
-  -- ---- commits
-
+module _ (plan : Plan) (opening : Option Opening) (len : ℕ) (c : Committed) (cells : List Cell) (panes : List Pane) (known : IsCommitted plan opening len [] c)
+    (grouped : AreGrouped c.commits c.entries cells panes) where
   abbrev is_of_commit : Entry → Bool
   is_of_commit entry = nat_le 1 entry.commit && nat_le entry.commit c.commits
 
@@ -296,32 +308,40 @@ module _ (name : List ℕ) (size : ℤ) (file : List ℕ) (c : Committed) (cells
       (all_in_cells is_of_commit (λ e. refl) cells c.entries grouped.held
       (All-weaker (IsOfCommitUpTo c.commits) (λ e. is_of_commit e ≡ true) tested c.entries known.entries))
 
-  -- the outcome of a file of which everything was committed, grouped and written
-  pub outcome_is : IsPanesOutcome name size file outcome
-  outcome_is = record {
-    plan = refl;
-    lengths = refl;
-    cover = λ place. omega (arith, known.held.times place, listed_once file place);
-    account = accounted;
-    plain = plainly;
-    commits = record {
-      panes =
-          All-weaker (λ (pane : Pane). (pane.node ≡ 3) × (pane.commit ≡ c.commits)) (λ pane. pane.commit ≡ length c.done)
-          (λ pane f. f.1 ∙ known.counted) panes grouped.fired;
-      entries = committed_entries;
-    };
-    order = record { cells = ascends_sorted cell_total cells grouped.ascending; panes = grouped.sorted };
-    stopped = refl;
-  }
+  committed_panes : All (λ (pane : Pane). pane.commit ≡ length c.done) panes
+  committed_panes =
+      All-weaker (λ (pane : Pane). (pane.node ≡ 3) × (pane.commit ≡ c.commits)) (λ pane. pane.commit ≡ length c.done)
+      (λ pane f. f.1 ∙ known.counted) panes grouped.fired
 
-pub outcome_from : (name : List ℕ) (size : ℤ) (file : List ℕ) (o : Outcome) (c : Committed) → IsLength size → IsCommitted size file [] c
-    → AreGrouped c.commits c.entries o.cells o.panes → o.plan ≡ panes_plan name size → o.files ≡ item_len (panes_item file) ∷ [] → o.done ≡ c.done
-    → o.dropped ≡ [] → o.logs ≡ [] → o.written ≡ map written_of o.panes → o.stopped ≡ None → IsPanesOutcome name size file o
-outcome_from name size file o c long known grouped plan_is files_are done_is dropped_are logs_are written_is stopped_is =
-    let is : o ≡ outcome name size file c o.cells o.panes o.commits long known grouped =
-    λ i. record {
+-- the outcome of an opened file of which everything was committed, grouped and written
+pub outcome_from : (name : List ℕ) (size : ℤ) (opening : Option Opening) (len : ℕ) (o : Outcome) (c : Committed) → IsLength size → IsCommitted (panes_plan name size) opening len [] c
+    → AreGrouped c.commits c.entries o.cells o.panes → o.plan ≡ panes_plan name size → o.files ≡ file_len len ∷ [] → o.done ≡ c.done
+    → o.dropped ≡ [] → o.logs ≡ [] → o.written ≡ map written_of o.panes → o.stopped ≡ None → IsPanesOutcome name size opening len o
+outcome_from name size opening len o c long known grouped plan_is files_are done_is dropped_are logs_are written_is stopped_is = record {
+  plan = plan_is;
+  lengths = files_are;
+  cover = λ place. omega (arith, known.held.times place, listed_once len place, ap (λ d. times_done d place) done_is, ap (λ f. times_listed f place) files_are);
+  account = λ text told. subst (λ (p : Outcome). IsAccounted (panes_item text ∷ []) p) (sym (same text told))
+      (accounted name size text c o.cells o.panes o.commits long (held text told) (known.outputs text told) grouped);
+  plain = λ text told. subst (λ (p : Outcome). ArePlainlyWritten (panes_item text ∷ []) p) (sym (same text told))
+      (plainly name size text c o.cells o.panes o.commits long (held text told) (known.outputs text told) grouped);
+  commits = record {
+    panes = subst (λ d. All (λ (pane : Pane). pane.commit ≡ length d) o.panes) (sym done_is) (committed_panes (panes_plan name size) opening len c o.cells o.panes known grouped);
+    entries = subst (λ d. All (λ (cell : Cell). All (λ e. (1 ≤ e.commit) × (e.commit ≤ length d)) cell.entries) o.cells) (sym done_is)
+        (committed_entries (panes_plan name size) opening len c o.cells o.panes known grouped);
+  };
+  order = record { cells = ascends_sorted cell_total o.cells grouped.ascending; panes = grouped.sorted };
+  stopped = stopped_is;
+}
+  where
+    held : (text : List ℕ) → IsToldText opening len text → IsPartition (file_len (length text) ∷ []) [] c.done
+    held text told = subst (λ (n : ℕ). IsPartition (file_len n ∷ []) [] c.done) (sym (told.whole refl)) known.held
+
+    same : (text : List ℕ) → (told : IsToldText opening len text)
+        → o ≡ outcome name size text c o.cells o.panes o.commits long (held text told) (known.outputs text told) grouped
+    same text told = λ i. record {
       plan = plan_is i;
-      files = files_are i;
+      files = (files_are ∙ ap (λ (n : ℕ). file_len n ∷ []) (sym (told.whole refl))) i;
       done = done_is i;
       cells = o.cells;
       panes = o.panes;
@@ -330,39 +350,84 @@ outcome_from name size file o c long known grouped plan_is files_are done_is dro
       written = written_is i;
       commits = o.commits;
       stopped = stopped_is i;
-    } in
-    subst (λ (p : Outcome). IsPanesOutcome name size file p) (sym is) (outcome_is name size file c o.cells o.panes o.commits long known grouped)
+    }
 
--- it is the run of the file of that name, where the name's bytes are those
-pub run_is : (files : Option (List FileText)) (name : List ℕ) (size : ℤ) (file : List ℕ) (o : Outcome) → IsPanesOutcome name size file o
-    → ((told : List FileText) → files ≡ Some told → first_named name told ≡ Some file) → IsPanesRun files name size o
-run_is files name size file o known names =
-    let there : (told : List FileText) → files ≡ Some told → items told o.plan ≡ panes_item file ∷ [] = λ told is.
-    ap (items told) known.plan ∙ ap (λ bytes. panes_item bytes ∷ []) (ap (λ b. unwrap_or b []) (names told is)) in
+-- it is the run of the file of that name, where each told text of the opening is that of the name
+pub run_is : (files : Option (List FileText)) (name : List ℕ) (size : ℤ) (opening : Option Opening) (len : ℕ) (o : Outcome) → IsPanesOutcome name size opening len o
+    → ((told : List FileText) → files ≡ Some told → (text : List ℕ) × (first_named name told ≡ Some text) × IsToldText opening len text) → IsPanesRun files name size o
+run_is files name size opening len o known names =
+    let there : (told : List FileText) → (is : files ≡ Some told) → items told o.plan ≡ panes_item (names told is).0 ∷ [] = λ told is.
+    ap (items told) known.plan ∙ ap (λ bytes. panes_item bytes ∷ []) (ap (λ b. unwrap_or b []) (names told is).1) in
     record {
       plan = known.plan;
-      found = λ told is. subst (λ b. IsSome b) (sym (names told is)) refl;
-      lengths = λ told is. known.lengths ∙ ap (map item_len) (sym (there told is));
+      found = λ told is. subst (λ b. IsSome b) (sym (names told is).1) refl;
+      lengths = λ told is. known.lengths ∙ ap (λ (n : ℕ). file_len n ∷ []) (sym ((names told is).2.whole refl)) ∙ ap (map item_len) (sym (there told is));
       cover = known.cover;
-      account = λ told is. subst (λ its. IsAccounted its o) (sym (there told is)) known.account;
-      plain = λ told is. subst (λ its. ArePlainlyWritten its o) (sym (there told is)) known.plain;
+      account = λ told is. subst (λ its. IsAccounted its o) (sym (there told is)) (known.account (names told is).0 (names told is).2);
+      plain = λ told is. subst (λ its. ArePlainlyWritten its o) (sym (there told is)) (known.plain (names told is).0 (names told is).2);
       commits = known.commits;
       order = known.order;
       stopped = known.stopped;
     }
 
--- poison of the file is poison of the file of that name
-pub poison_is : (files : Option (List FileText)) (name : List ℕ) (size : ℤ) (file : List ℕ) → HasPoison (panes_plan [] size) (panes_item file ∷ [])
-    → ((told : List FileText) → files ≡ Some told → first_named name told ≡ Some file) → FindsPoison files name size
-poison_is files name size file poison names = λ told is.
-    (subst (λ b. IsSome b) (sym (names told is)) refl, subst (λ bytes. HasPoison (panes_plan name size) (panes_item bytes ∷ [])) (sym (ap (λ b. unwrap_or b []) (names told is))) poison)
+found_named : (found : Option (List ℕ)) (text : List ℕ) → found ≡ Some text → IsSome found
+found_named found text is = subst (λ (b : Option (List ℕ)). IsSome b) (sym is) refl
+
+-- why a file was not worked is why the run of that name was not
+pub prevents_is : (shelf : ObservedShelf) (store : ObservedStore) (start : ℕ) (name : List ℕ) (size : ℤ) (opening : Option Opening) (len : ℕ) → store.before ≤ start
+    → ((told : List FileText) → store.files ≡ Some told → (text : List ℕ) × (first_named name told ≡ Some text) × IsToldText opening len text)
+    → (refusal : ExecRefusal) → IsWorkRefused shelf (record { before = start; after = store.after }) opening len (λ text. spread_of (panes_plan name size) text 0 len) refusal
+    → Prevents shelf store name size (status_of refusal)
+prevents_is shelf store start name size opening len kept names (Faulted at Read) refused = (refl, λ told is. found_named _ _ (names told is).1, (rose_after store.before start store.after kept refused.0, refused.1))
+prevents_is shelf store start name size opening len kept names (Faulted at Call) refused = (
+  refl,
+  λ told is. found_named _ _ (names told is).1,
+  (
+    refused.0,
+    λ strict told is.
+        let there = names told is in
+        let found = refused.1 strict there.0 there.2 in
+        let whole : list_any is_poison (spread_of (panes_plan name size) there.0 0 (length there.0)) ≡ true =
+        ap (λ (n : ℕ). list_any is_poison (spread_of (panes_plan name size) there.0 0 n)) (there.2.whole refl) ∙ found.1 in (
+          found.0,
+          (
+            subst (λ b. IsSome b) (sym there.1) refl,
+            subst (λ bytes. HasPoison (panes_plan name size) (panes_item bytes ∷ [])) (sym (ap (λ b. unwrap_or b []) there.1))
+                (ap (list_any is_poison) (append-nil (spread_of (panes_plan name size) there.0 0 (length there.0))) ∙ whole),
+          ),
+        ),
+  ),
+)
+prevents_is shelf store start name size opening len kept names NoMemory refused = tt
 
 -- the same under the size as the words have it
-pub outcome_at : (name : List ℕ) (size real : ℤ) (file : List ℕ) (o : Outcome) → size ≡ real → IsPanesOutcome name size file o → IsPanesOutcome name real file o
-outcome_at name size real file o same known = subst (λ (z : ℤ). IsPanesOutcome name z file o) same known
+pub outcome_at : (name : List ℕ) (size real : ℤ) (opening : Option Opening) (len : ℕ) (o : Outcome) → size ≡ real → IsPanesOutcome name size opening len o → IsPanesOutcome name real opening len o
+outcome_at name size real opening len o same known = subst (λ (z : ℤ). IsPanesOutcome name z opening len o) same known
 
 pub run_at : (files : Option (List FileText)) (name : List ℕ) (size real : ℤ) (o : Outcome) → size ≡ real → IsPanesRun files name size o → IsPanesRun files name real o
 run_at files name size real o same known = subst (λ (z : ℤ). IsPanesRun files name z o) same known
 
-pub poison_at : (files : Option (List FileText)) (name : List ℕ) (size real : ℤ) → size ≡ real → FindsPoison files name size → FindsPoison files name real
-poison_at files name size real same found = subst (λ (z : ℤ). FindsPoison files name z) same found
+-- what prevented a run is its end
+pub ended : (shelf : ObservedShelf) (store : ObservedStore) (name : List ℕ) (size : ℤ) (s : Status) → Prevents shelf store name size s → IsRunEnd shelf store name size s None
+ended shelf store name size status.Ok prevents = absurd prevents
+ended shelf store name size status.Usage prevents = absurd prevents
+ended shelf store name size (status.NoSource absent) prevents = (refl, prevents)
+ended shelf store name size (status.SourceFault kit) prevents = (refl, prevents)
+ended shelf store name size (status.WorkFault note) prevents = (refl, prevents)
+ended shelf store name size status.SinkFault prevents = absurd prevents
+ended shelf store name size status.NoMemory prevents = (refl, prevents)
+
+-- the text that is told at the opening of a name
+pub named_text : (opened : ℕ → Option Opening) (pager : Paged) (file len : ℕ) (name : List ℕ) (told : List FileText) → pager ≡ record { file = file; len = len; base = 0; bytes = [] }
+    → OpensText (first_named name told) len (opened file) → (text : List ℕ) × (first_named name told ≡ Some text) × IsToldText (opened pager.file) pager.len text
+named_text opened pager file len name told is opens =
+    let files = ap (λ (p : Paged). p.file) is in
+    let lens = ap (λ (p : Paged). p.len) is in (
+      opens.0,
+      opens.1,
+      record {
+        told = λ reads. ap opened files ∙ opens.3 ∙ ap (λ (n : ℕ). Some (record { len = n; text = Some opens.0 })) (sym lens);
+        whole = λ reads. opens.2 ∙ sym lens;
+        none = λ fails. absurd (false≢true (sym fails));
+      },
+    )

@@ -247,7 +247,7 @@ arrivals_here node (c ∷ cells) fired =
     ∙ ap (λ (l : List Arrival). map (entry_arrival node) c.entries ++ l) (arrivals_here node cells (All-tail (IsFiredCell node) c cells fired))
     ∙ sym (map-append (entry_arrival node) c.entries (entries_of cells))
 
--- what cells took is what arrived
+-- the elements in the cells are those that arrived
 pub account_of_cells : (node : ℕ) (cells : List Cell) (entries : List Entry) → AreInOrder node cells → IsSameBag (entries_of cells) (map as_shown entries)
     → IsSameBag (flat_map cell_arrivals cells) (map (entry_arrival node) entries)
 account_of_cells node cells entries g held =

@@ -1,5 +1,5 @@
 -- Elements of byte strings, as the file brings them: they can be stored, and so can the panes that hold them.
-use Rattle.std.proofs.Common.{◌≡◌, ℕ, ◌-◌, ◌≤◌, nat_lt, ℤ, ◌+ℤ◌, Bool, true, false, cond, ◌&&◌, List, [], ◌∷◌, length, get_or, map, refl, sym, ap, subst, ◌∙◌, arith}
+use Rattle.std.proofs.Common.{◌≡◌, ℕ, ◌-◌, ◌≤◌, nat_lt, ℤ, ◌+ℤ◌, Bool, true, false, cond, ◌&&◌, ◌==◌, List, [], ◌∷◌, length, get_or, map, refl, sym, ap, subst, ◌∙◌, arith}
 use Rattle.std.specs.Ordering.{int_eq}
 use Rattle.std.specs.List.{All, AllByRecursion}
 use Rattle.std.proofs.lemmas.Bool.{false≢true, and_parts}
@@ -106,9 +106,9 @@ module _ (size : ℤ) where
 
 -- ---- what the file brings
 
-abbrev is_right : ℤ → Output → Bool
-is_right size (Arrives arrival) = is_keyed_text size arrival.element
-is_right size (PoisonAt node) = true
+abbrev pub is_right : ℤ → Output → Bool
+is_right size (Arrives arrival) = arrival.node == 3 && is_keyed_text size arrival.element
+is_right size (PoisonAt node) = node == 0
 
 module _ (name : List ℕ) (size : ℤ) where
   timed_right : (time : ℤ) (text : List ℕ) → is_keyed_text size (panes_element size time text) ≡ true
@@ -134,7 +134,7 @@ module _ (name : List ℕ) (size : ℤ) where
   abbrev at : List ℕ → ℕ → List Output
   at file = outputs_at (panes_plan name size) (panes_item file)
 
-  right_at : (file : List ℕ) (p : ℕ) → All (λ o. is_right size o ≡ true) (at file p)
+  pub right_at : (file : List ℕ) (p : ℕ) → All (λ o. is_right size o ≡ true) (at file p)
   right_at file p =
       All-from_recursion (λ o. is_right size o ≡ true) (at file p)
       (emission_right (nat_lt p (length file)) (starts_line file p) (timed_line (line_at file p)))

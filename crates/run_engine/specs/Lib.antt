@@ -4,3 +4,4 @@ pub mod Grouped
 pub mod Statuses
 pub mod Working
 pub mod Written
+pub mod Outside

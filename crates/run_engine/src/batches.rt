@@ -1,43 +1,59 @@
-ghost use Rattle.std.specs.Prelude.{◌≡◌, ◌≤◌, ◌++◌, map, IfOk, OnOk};
-ghost use Rattle.run_engine.specs.Written.{written_of};
+ghost use Rattle.std.specs.Prelude.{◌≡◌, ◌≤◌, ◌++◌, map, IfOk, IfErr, OnOk};
+ghost use Rattle.chain_exec.specs.Causes.{observed_shelf};
+ghost use Rattle.run_engine.specs.Working.{IsPanesPlan};
+ghost use Rattle.run_engine.specs.Written.{written_of, IsBatchRefused};
 
-use beam_values::{Arrival, List, NoMemory, Pane};
+use beam_values::{Arrival, List, Pane, Time};
+use bundle_commit::{Receipt, Staging};
+use chain_exec::{Buffers, ExecRefusal, run_batch};
+use dofn_traits::Shelf;
+use pipeline_graph::Graph;
 use std::alloc::Global;
 
-/// What panes bring to a Write that takes them as they are, in batches of at most `bundle`.
-pub fn written(
+/// What panes of a Group bring to the Writes, in batches of at most `bundle`.
+pub fn written<F: Shelf>(
     alloc: Global,
+    graph: &Graph,
+    shelf: &mut F,
     node: u32,
     bundle: u32,
     panes: &[Pane],
-) -> Result<List<Arrival>, NoMemory>
-    requires { 1 ≤ bundle }
-    ensures { IfOk result (λ written. written ≡ map (written_of node) panes.now) }
+) -> Result<List<Arrival>, ExecRefusal>
+    requires plan { IsPanesPlan graph.now }
+    requires group { node ≡ 3 }
+    requires some { 1 ≤ bundle }
+    ensures ok { IfOk result (λ written. written ≡ map written_of panes.now) }
+    ensures refused { IfErr result (IsBatchRefused (observed_shelf F.strict F.faults shelf.old shelf.new)) }
+    ensures counts { F.faults shelf.old ≤ F.faults shelf.new }
+    ensures strict { F.strict shelf.new ≡ F.strict shelf.old }
 {
-    let mut written = List::new(alloc);
-    written.reserve(panes.len())?;
+    let mut buffers = Buffers::new(alloc);
+    let mut staging = Staging::new(alloc, Time::LEAST);
     let mut rest = panes;
     while !rest.is_empty() {
         let (batch, others) = rest.split_at(rest.len().min(bundle as usize));
-        write_batch(alloc, node, batch, &mut written)?;
+        write_batch(alloc, graph, shelf, node, batch, &mut buffers, &mut staging)?;
         rest = others;
     }
-    Ok(written)
+    let Receipt { arrivals, .. } = staging.seal();
+    Ok(arrivals)
 }
 
-fn write_batch(
+fn write_batch<F: Shelf>(
     alloc: Global,
+    graph: &Graph,
+    shelf: &mut F,
     node: u32,
     batch: &[Pane],
-    written: &mut List<Arrival>,
-) -> Result<(), NoMemory>
-    ensures { OnOk result (written.new ≡ written.old ++ map (written_of node) batch.now) }
+    buffers: &mut Buffers,
+    staging: &mut Staging,
+) -> Result<(), ExecRefusal>
+    requires plan { IsPanesPlan graph.now }
+    requires group { node ≡ 3 }
+    ensures staged { OnOk result (staging.new.arrivals ≡ staging.old.arrivals ++ map written_of batch.now) }
+    ensures refused { IfErr result (IsBatchRefused (observed_shelf F.strict F.faults shelf.old shelf.new)) }
+    ensures counts { F.faults shelf.old ≤ F.faults shelf.new }
+    ensures strict { F.strict shelf.new ≡ F.strict shelf.old }
 {
-    for pane in batch {
-        written.push(Arrival {
-            node,
-            element: pane.element.copy(alloc)?,
-        })?;
-    }
-    Ok(())
+    run_batch(alloc, graph, shelf, node, batch, buffers, staging)
 }

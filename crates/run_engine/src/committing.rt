@@ -1,17 +1,23 @@
-ghost use Rattle.std.specs.Prelude.{◌≡◌, ◌≤◌, ◌<◌, ◌+◌, ◌-◌, ◌++◌, [], ◌∷◌, List as ListOf, length, true, min, take, drop, map, None, OnOk, IfOk, IsErrOf, All};
-ghost use Rattle.std.specs.List.{list_any};
-ghost use Rattle.beam_values.specs.Strategies.{IsLength};
+ghost use Rattle.std.specs.Prelude.{◌≡◌, ◌≤◌, ◌<◌, ◌+◌, ◌-◌, ◌++◌, [], ◌∷◌, List as ListOf, map, min, IfErr, OnOk, IfOk};
 ghost use Rattle.beam_values.specs.Tracking.{first_unattempted};
 ghost use Rattle.beam_values.specs.declared.piece.Done.{Done};
 ghost use Rattle.beam_values.specs.declared.piece.FileLen.{FileLen};
-ghost use Rattle.beam_model.specs.Spread.{is_poison};
+ghost use Rattle.chain_exec.specs.Causes.{observed_shelf};
+ghost use Rattle.chain_exec.specs.Sources.{IsPagerOf};
 ghost use Rattle.split_core.specs.Partition.{IsPartition, range_of};
-ghost use Rattle.run_engine.specs.Working.{entry_output, spread_of};
 ghost use Rattle.run_engine.specs.Committing.{IsCommitted, IsTaken, offsets_left, offsets_of};
+ghost use Rattle.run_engine.specs.Outside.{IsKept};
+ghost use Rattle.run_engine.specs.Working.{entry_from, spread_of, IsPanesPlan, IsWorkRefused};
 
-use crate::positions::{WorkRefusal, work_bundle};
-use beam_values::{Done, Entry, List, NoMemory, Piece};
+use crate::positions::work_bundle;
+use beam_ports::Store;
+use beam_values::{Arrival, Done, Entry, List, NoMemory, Piece};
+use bundle_commit::{Receipt, Staging};
+use chain_exec::{Buffers, ExecRefusal};
+use dofn_traits::Shelf;
 use offset_tracker::Tracker;
+use pipeline_graph::Graph;
+use sdf_library::Pager;
 use split_core::Pieces;
 use std::alloc::Global;
 
@@ -28,103 +34,123 @@ pub struct Committed {
 
 /// Takes the pending pieces one after another, works a bundle of each and commits it, until none is
 /// pending. After an error nothing is said of what was committed.
-pub fn work_pieces(
+pub fn work_pieces<F: Shelf, S: Store>(
     alloc: Global,
-    size: i64,
-    file: &[u8],
+    graph: &Graph,
+    shelf: &mut F,
+    store: &mut S,
+    pager: &mut Pager,
     bundle: u32,
     pieces: &mut Pieces,
     committed: &mut Committed,
-) -> Result<(), WorkRefusal>
-    requires size { IsLength size }
+) -> Result<(), ExecRefusal>
+    requires plan { IsPanesPlan graph.now }
     requires some { 1 ≤ bundle }
-    requires held { IsCommitted size file.now pieces.old.pending committed.old }
+    requires held { IsPagerOf (S.opened store.old pager.old.file) pager.old }
+    requires known { IsCommitted graph.now (S.opened store.old pager.old.file) pager.old.len pieces.old.pending committed.old }
     ensures finished { OnOk result (pieces.new.pending ≡ []) }
-    ensures held { OnOk result (IsCommitted size file.now pieces.new.pending committed.new) }
-    ensures poison { IsErrOf result WorkRefusal.Poison → list_any is_poison (spread_of size file.now 0 (length file.now)) ≡ true }
+    ensures known { OnOk result (IsCommitted graph.now (S.opened store.old pager.old.file) pager.old.len pieces.new.pending committed.new) }
+    ensures refused { IfErr result (IsWorkRefused (observed_shelf F.strict F.faults shelf.old shelf.new)
+        (record { before = S.faults store.old; after = S.faults store.new }) (S.opened store.old pager.old.file) pager.old.len
+        (λ text. spread_of graph.now text 0 pager.old.len)) }
+    ensures kept { IsKept F.faults F.strict S.faults S.files S.opened shelf.old shelf.new store.old store.new pager.old pager.new }
 {
+    let mut buffers = Buffers::new(alloc);
     while let Some(piece) = pieces.take() {
-        work_piece(alloc, size, file, bundle, piece, pieces, committed)?;
+        work_piece(
+            alloc,
+            graph,
+            shelf,
+            store,
+            pager,
+            &mut buffers,
+            bundle,
+            piece,
+            pieces,
+            committed,
+        )?;
     }
     Ok(())
 }
 
 // Works a bundle of a piece that was taken, and commits it: its outputs are entries, the range that was
 // worked is done, and the rest of the piece is pending again.
-fn work_piece(
+fn work_piece<F: Shelf, S: Store>(
     alloc: Global,
-    size: i64,
-    file: &[u8],
+    graph: &Graph,
+    shelf: &mut F,
+    store: &mut S,
+    pager: &mut Pager,
+    buffers: &mut Buffers,
     bundle: u32,
     piece: Piece,
     pieces: &mut Pieces,
     committed: &mut Committed,
-) -> Result<(), WorkRefusal>
-    requires size { IsLength size }
+) -> Result<(), ExecRefusal>
+    requires plan { IsPanesPlan graph.now }
     requires some { 1 ≤ bundle }
-    requires taken { IsTaken size file.now piece pieces.old.pending committed.old }
-    ensures held { OnOk result (IsCommitted size file.now pieces.new.pending committed.new) }
+    requires held { IsPagerOf (S.opened store.old pager.old.file) pager.old }
+    requires taken { IsTaken graph.now (S.opened store.old pager.old.file) pager.old.len piece pieces.old.pending committed.old }
+    ensures known { OnOk result (IsCommitted graph.now (S.opened store.old pager.old.file) pager.old.len pieces.new.pending committed.new) }
     ensures less { OnOk result (offsets_left pieces.new.pending < offsets_left pieces.old.pending + offsets_of piece) }
-    ensures poison { IsErrOf result WorkRefusal.Poison → list_any is_poison (spread_of size file.now 0 (length file.now)) ≡ true }
+    ensures refused { IfErr result (IsWorkRefused (observed_shelf F.strict F.faults shelf.old shelf.new)
+        (record { before = S.faults store.old; after = S.faults store.new }) (S.opened store.old pager.old.file) pager.old.len
+        (λ text. spread_of graph.now text 0 pager.old.len)) }
+    ensures kept { IsKept F.faults F.strict S.faults S.files S.opened shelf.old shelf.new store.old store.new pager.old pager.new }
 {
     let Some(commit) = committed.commits.checked_add(1) else {
-        return Err(WorkRefusal::NoMemory);
+        return Err(ExecRefusal::NoMemory);
     };
     let mut tracker = Tracker::new(piece.range);
-    match committed.work_bundle(alloc, size, file, bundle, commit, &mut tracker) {
+    let mut staging = Staging::new(alloc, piece.seen);
+    match work_bundle(
+        alloc,
+        graph,
+        shelf,
+        store,
+        pager,
+        buffers,
+        bundle,
+        &mut tracker,
+        &mut staging,
+    ) {
         Ok(()) => {}
         Err(refusal) => return Err(refusal),
     }
     let done = put_rest(piece, tracker, pieces)?;
-    committed.commit(done, commit)?;
+    committed.commit(staging.seal(), done, commit)?;
     Ok(())
 }
 
 impl Committed {
-    // Adds the entries of a bundle.
-    fn work_bundle(
-        &mut self,
-        alloc: Global,
-        size: i64,
-        file: &[u8],
-        bundle: u32,
-        commit: u32,
-        tracker: &mut Tracker,
-    ) -> Result<(), WorkRefusal>
-        requires size { IsLength size }
-        requires some { 1 ≤ bundle }
-        requires unstarted { tracker.old.attempted ≡ None }
-        requires in_file { tracker.old.range.from < tracker.old.range.to → tracker.old.range.to ≤ length file.now }
-        ensures outputs { OnOk result (map entry_output self.new.entries ≡ map entry_output self.old.entries
-            ++ spread_of size file.now tracker.old.range.from (min (first_unattempted tracker.old.range.from tracker.new.attempted) tracker.old.range.to)) }
-        ensures some { OnOk result (tracker.old.range.from < first_unattempted tracker.old.range.from tracker.new.attempted) }
-        ensures range { tracker.new.range ≡ tracker.old.range }
-        ensures poison { IsErrOf result WorkRefusal.Poison
-            → list_any is_poison (spread_of size file.now tracker.old.range.from tracker.old.range.to) ≡ true }
-        ensures kept { OnOk result (take (length self.old.entries) self.new.entries ≡ self.old.entries) }
-        ensures commit { OnOk result (All (λ entry. entry.commit ≡ commit) (drop (length self.old.entries) self.new.entries)) }
-        ensures done { self.new.done ≡ self.old.done }
-    {
-        work_bundle(
-            alloc,
-            size,
-            file,
-            bundle,
-            commit,
-            tracker,
-            &mut self.entries,
-        )
-    }
-
-    fn commit(&mut self, done: Done, commit: u32) -> Result<(), NoMemory>
+    // Moves what arrived at the Group to the entries.
+    fn commit(&mut self, receipt: Receipt, done: Done, commit: u32) -> Result<(), NoMemory>
         ensures done { OnOk result (self.new.done ≡ self.old.done ++ done ∷ []) }
-        ensures entries { self.new.entries ≡ self.old.entries }
+        ensures entries { OnOk result (self.new.entries ≡ self.old.entries ++ map (entry_from commit) receipt.arrivals) }
         ensures counted { OnOk result (self.new.commits ≡ commit) }
     {
+        add_entries(receipt.arrivals, commit, &mut self.entries)?;
         self.done.push(done)?;
         self.commits = commit;
         Ok(())
     }
+}
+
+fn add_entries(
+    arrivals: List<Arrival>,
+    commit: u32,
+    entries: &mut List<Entry>,
+) -> Result<(), NoMemory>
+    ensures { OnOk result (entries.new ≡ entries.old ++ map (entry_from commit) arrivals) }
+{
+    for arrival in arrivals.into_vec() {
+        entries.push(Entry {
+            element: arrival.element,
+            commit,
+            shown: false,
+        })?;
+    }
+    Ok(())
 }
 
 // Makes what is left of a piece pending again, and answers the range that was worked. Where the work on

@@ -11,13 +11,14 @@
 mod batches;
 mod committing;
 mod grouping;
+mod kit;
 mod plan;
 mod positions;
-mod reading;
 mod run;
 mod status;
 mod writing;
 
+pub use kit::Kit;
 pub use run::run_panes;
 pub use status::{RunEnd, Status};
 pub use writing::put;

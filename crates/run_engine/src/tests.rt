@@ -1,8 +1,14 @@
 //! Texts written to a sink in memory, and runs over a store in memory, with what comes of them counted by hand.
-use crate::{RunEnd, put, run_panes};
+use crate::{Kit, RunEnd, put, run_panes};
 use beam_ports::{Failed, FileText, MemorySink, MemoryStore};
 use beam_text::render;
 use beam_values::{Bytes, List, NoMemory, Options, Outcome};
+use dofn_library::{
+    BatchUntil, CountSeq, Dedupe, Field, FieldInt, KeepPrefix, KeyField, LatestThenEmit, MaxSeq,
+    RunningSum, Shift, SumSeq, Swap, Unseq, Values, Words,
+};
+use dofn_traits::{BoxShelf, DoFn, SplittableFn, StatefulFn};
+use sdf_library::{Count, Lines, Made, TimedLines};
 use std::alloc::Global;
 use std::test::Fail;
 
@@ -28,25 +34,53 @@ const THREE_LINES: &[u8] = b"1000\ta\tx\n2000\ta\ty\n3000\tb\tz\n";
 const TWO_PANES: &[u8] =
     b"0\t60000\tON_TIME\t0\t(\"a\",[\"x\",\"y\"])\n0\t60000\tON_TIME\t0\t(\"b\",[\"z\"])\n";
 
-// Runs the file of three lines in windows of a minute.
-fn run(alloc: Global, bundle: u32, chunk: u64) -> Result<RunEnd, NoMemory> {
+// Adds a box of each of these objects to a list.
+macro_rules! add_boxes {
+    ($alloc:expr, $boxes:ident; $($object:ident),*) => {{
+        let mut add = || -> Result<(), NoMemory> {
+            $($boxes.push(Box::new($alloc, $object::new($alloc))?)?;)*
+            Ok(())
+        };
+        add()
+    }};
+}
+
+// Runs the file of three lines in windows of a minute, with these functions.
+fn run<D: DoFn, P: SplittableFn, T: StatefulFn>(
+    alloc: Global,
+    fns: List<D>,
+    splits: List<P>,
+    states: List<T>,
+    bundle: u32,
+    chunk: u64,
+) -> Result<RunEnd, Fail> {
     let mut files = List::new(alloc);
     files.push(FileText {
         name: Bytes::from_slice(alloc, b"f")?,
         bytes: Bytes::from_slice(alloc, THREE_LINES)?,
     })?;
-    let mut store = MemoryStore::new(files, List::new(alloc));
+    let store = MemoryStore::new(files, List::new(alloc));
+    let mut kit = Kit::new(alloc, BoxShelf::new(fns, splits, states)?, store);
     let options = Options {
         workers: 1,
         bundle: bundle.max(1),
         chunk: chunk.max(1),
         attempts: 1,
     };
-    Ok(run_panes(alloc, b"f", 60_000, &options, &mut store))
+    Ok(run_panes(alloc, b"f", 60_000, &options, &mut kit))
 }
 
 fn outcome(alloc: Global, bundle: u32, chunk: u64) -> Result<Outcome, Fail> {
-    Ok(run(alloc, bundle, chunk)?.outcome.ok_or("no outcome")?)
+    let mut fns: List<Box<dyn DoFn>> = List::new(alloc);
+    let mut splits: List<Box<dyn SplittableFn>> = List::new(alloc);
+    let mut states: List<Box<dyn StatefulFn>> = List::new(alloc);
+    add_boxes!(alloc, fns; KeyField, Words, Field, KeepPrefix)?;
+    add_boxes!(alloc, fns; FieldInt, Swap, Shift, SumSeq)?;
+    add_boxes!(alloc, fns; CountSeq, MaxSeq, Unseq, Values)?;
+    add_boxes!(alloc, splits; Lines, TimedLines, Count, Made)?;
+    add_boxes!(alloc, states; Dedupe, RunningSum, BatchUntil, LatestThenEmit)?;
+    let end = run(alloc, fns, splits, states, bundle, chunk)?;
+    Ok(end.outcome.ok_or("no outcome")?)
 }
 
 // A piece ends after a claim beyond it, and a bundle after its one element: what is left of the piece

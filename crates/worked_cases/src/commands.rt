@@ -3,7 +3,14 @@ use crate::running::Script;
 use beam_command::beam_main;
 use beam_ports::{MemorySink, MemoryStore};
 use beam_values::{Bytes, FileText, List, NoMemory};
+use dofn_library::{
+    BatchUntil, CountSeq, Dedupe, Field, FieldInt, KeepPrefix, KeyField, LatestThenEmit, MaxSeq,
+    RunningSum, Shift, SumSeq, Swap, Unseq, Values, Words,
+};
+use dofn_traits::{BoxShelf, DoFn, SplittableFn, StatefulFn};
 use itoa::Buffer;
+use run_engine::Kit;
+use sdf_library::{Count, Lines, Made, TimedLines};
 use std::alloc::Global;
 
 /// How many bytes a write takes where the case says nothing.
@@ -136,7 +143,41 @@ fn expect(case: &mut Case<'_>, wanted: &Wanted) {
     case.expect(wanted.notes.as_slice());
 }
 
+// Adds a box of each of these objects to a list.
+macro_rules! add_boxes {
+    ($alloc:expr, $boxes:ident; $($object:ident),*) => {{
+        let mut add = || -> Result<(), NoMemory> {
+            $($boxes.push(Box::new($alloc, $object::new($alloc))?)?;)*
+            Ok(())
+        };
+        add()
+    }};
+}
+
 fn run(case: &mut Case<'_>, setting: Setting) {
+    let alloc = case.alloc();
+    let mut fns: List<Box<dyn DoFn>> = List::new(alloc);
+    let mut splits: List<Box<dyn SplittableFn>> = List::new(alloc);
+    let mut states: List<Box<dyn StatefulFn>> = List::new(alloc);
+    let added = add_boxes!(alloc, fns; KeyField, Words, Field, KeepPrefix).is_ok()
+        && add_boxes!(alloc, fns; FieldInt, Swap, Shift, SumSeq).is_ok()
+        && add_boxes!(alloc, fns; CountSeq, MaxSeq, Unseq, Values).is_ok()
+        && add_boxes!(alloc, splits; Lines, TimedLines, Count, Made).is_ok()
+        && add_boxes!(alloc, states; Dedupe, RunningSum, BatchUntil, LatestThenEmit).is_ok();
+    if !added {
+        return case.fail("memory for the functions");
+    }
+    run_with(case, setting, fns, splits, states)
+}
+
+// Runs the command with these functions.
+fn run_with<D: DoFn, P: SplittableFn, T: StatefulFn>(
+    case: &mut Case<'_>,
+    setting: Setting,
+    fns: List<D>,
+    splits: List<P>,
+    states: List<T>,
+) {
     let alloc = case.alloc();
     let Setting {
         words,
@@ -146,10 +187,17 @@ fn run(case: &mut Case<'_>, setting: Setting) {
         failing_notes,
         most_taken,
     } = setting;
-    let mut store = MemoryStore::new(files, failing_reads);
+    let Ok(shelf) = BoxShelf::new(fns, splits, states) else {
+        return case.fail("a function of each kind");
+    };
+    let mut kits = Vec::new(alloc);
+    let kit = Kit::new(alloc, shelf, MemoryStore::new(files, failing_reads));
+    if kits.push(kit).is_err() {
+        return case.fail("memory for the kit");
+    }
     let mut out = MemorySink::new(alloc, most_taken.max(1), failing_writes);
     let mut notes = MemorySink::new(alloc, USUAL_WRITE, failing_notes);
-    let end = beam_main(alloc, words.as_slice(), &mut store, &mut out, &mut notes);
+    let end = beam_main(alloc, words.as_slice(), &mut kits, &mut out, &mut notes);
     case.say_number(end.status.number());
     case.say_bytes(out.taken());
     case.say_bytes(notes.taken());

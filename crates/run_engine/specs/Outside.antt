@@ -1,0 +1,18 @@
+-- What work leaves of a shelf, a store and the pager of an opened file, whatever it answers.
+use Rattle.std.specs.Prelude.{◌≡◌, ℕ, ◌≤◌, Bool, List, Option}
+use Rattle.beam_ports.specs.Files.{Opening, KeepsOpenings}
+use Rattle.beam_values.specs.declared.file_text.FileText.{FileText}
+use Rattle.chain_exec.specs.Sources.{IsPagerOf}
+use Rattle.sdf_library.specs.Paging.{Paged}
+
+-- the counts never fall, the strictness stays, and the pager is still that of the opened file
+pub record IsKept {F S : Type 0} (faults_of : F → ℕ) (is_strict : F → Bool) (fails_of : S → ℕ) (files_of : S → Option (List FileText)) (opened : S → ℕ → Option Opening)
+    (shelf shelf_after : F) (store store_after : S) (pager pager_after : Paged) : Type 0 where
+  pub counts : faults_of shelf ≤ faults_of shelf_after
+  pub strict : is_strict shelf_after ≡ is_strict shelf
+  pub store_counts : fails_of store ≤ fails_of store_after
+  pub files : files_of store_after ≡ files_of store
+  pub openings : KeepsOpenings (opened store) (opened store_after)
+  pub file : pager_after.file ≡ pager.file
+  pub len : pager_after.len ≡ pager.len
+  pub held : IsPagerOf (opened store_after pager_after.file) pager_after
