@@ -3,7 +3,8 @@
 //! A [`Book`] is seen as plain data, and each of its calls is one step by `specs/Steps.antt`, so every book
 //! is reached by steps from an opening ([`Book::is_reached`]), and [`laws`] says what holds of such books.
 //! Only [`Book::opening`], [`Book::enroll`], [`Book::take`], [`Book::split`] and [`Book::outcome`] take
-//! memory, and where they are refused the book stays as it was. Read `book.rt` first.
+//! memory, and where they are refused the book stays as it was. `Commit` is a step of the relation that
+//! no call does yet, so a book takes, splits and fails jobs, and none of them ends. Read `book.rt` first.
 #![tactic(auto)]
 
 mod book;

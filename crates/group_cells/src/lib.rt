@@ -3,9 +3,10 @@
 //!
 //! What a commit does to one Group and key is `IsRound` of `specs/Rounds.antt`, and what it promises is
 //! `KeepsLegal` and `IsCommitted` of `specs/Commits.antt`. [`Groups`] keeps the cells in the order of their
-//! making and finds them by an index; one that finds no memory undoes what it did. [`PlainGroups`] keeps
-//! them in a plain list, searched from the front and copied at each commit: only comparisons use it. The
-//! layer above may rely on these contracts alone.
+//! making. An arrival finds its cell by an index, and a commit that finds no memory undoes what it did;
+//! firing, and a Group of sessions, still look at every cell. [`PlainGroups`] keeps the cells in a plain
+//! list, searched from the front and copied at each commit: only comparisons use it. The layer above may
+//! rely on these contracts alone.
 //!
 //! [`laws`] says that commits that go by rounds, Group by Group and key by key, keep panes, cells and
 //! dropped elements legal by `beam_model::specs::Panes`. Read `firing.rt`, `plain.rt` and `groups.rt` first.
