@@ -6,9 +6,9 @@ use Rattle.std.specs.Int.{int_min}
 use Rattle.std.specs.List.{All, count_by}
 use Rattle.std.specs.List.Sorted.{IsSorted}
 use Rattle.std.proofs.lemmas.Bool.{cases_lt, eq-eqb, eqb-true}
-use Rattle.std.proofs.lemmas.List.{get_or-set_other, get_or-set_same}
+use Rattle.std.proofs.lemmas.List.{get_or-set_other, get_or-set_same, length-append}
 use Rattle.std.proofs.lemmas.List.Elements.{All-nil, All-append, All-map, All-weaker, filter-append}
-use Rattle.std.proofs.lemmas.List.Sorted.{All-permutation}
+use Rattle.std.proofs.lemmas.List.Sorted.{All-permutation, length_permutation}
 use Rattle.std.proofs.lemmas.Option.{slice_get_within}
 use Rattle.beam_values.specs.Cells.{pane_cmp}
 use Rattle.beam_values.specs.Checked.{IsChecked}
@@ -31,6 +31,7 @@ use Rattle.group_cells.specs.Commits.{cell_place, cells_keyed, hold_with}
 use Rattle.group_cells.specs.Placing.{stands_as}
 use Rattle.group_cells.specs.Plain.{AreGroupFired, AreKeyFired, AreNodesFired, IsFit, IsNodeDone, after_node, firing_at}
 use Rattle.group_cells.proofs.Counting.{filter_none}
+use Rattle.group_cells.proofs.FiredFew.{at_kept, below_more, few_all, few_here, is_at, is_below}
 use Rattle.group_cells.proofs.FiredGroups.{all_of, their_panes}
 use Rattle.group_cells.proofs.FiredNodes.{after_fit, after_kept, held_append, held_off, held_on, later, node_other, node_own, sorted_append}
 use Rattle.group_cells.proofs.PlacedCells.{map_kept}
@@ -55,6 +56,7 @@ record IsStep (plan : Plan) (c n : ℕ) (mark : ℤ) (cells new : List Cell) (he
       × (((w : Interval) → count_by (stands_as w) (cells_keyed n key cells) ≤ 1) → AreTheirPanes (rules_of plan n) n key c mark (cells_keyed n key cells) (panes_at n key here))
   fit : All (IsFit plan) cells → All (IsFit plan) new
   places : map cell_place new ≡ map cell_place cells
+  few : length here ≤ count_by (is_at n) cells
 
 group_step : (plan : Plan) (c n : ℕ) (mark : ℤ) (cells new : List Cell) (here : List Pane) → is_group plan n ≡ true → AreGroupFired (rules_of plan n) n c mark cells new here → IsStep plan c n mark cells new here
 group_step plan c n mark cells new here group h = record {
@@ -72,6 +74,7 @@ group_step plan c n mark cells new here group h = record {
       (All-map (IsFit plan) (after_node (rules_of plan n) n mark) cells
       (All-weaker (IsFit plan) (λ cell. IsFit plan (after_node (rules_of plan n) n mark cell)) (λ cell fit. after_fit plan (firing_at (rules_of plan n) n mark cell) cell fit) cells fits));
   places = ap (map cell_place) h.fires ∙ map_kept (after_node (rules_of plan n) n mark) (λ cell. after_kept (firing_at (rules_of plan n) n mark cell) cell) cells;
+  few = omega (arith, few_here (rules_of plan n) n c mark cells h.panes h.each, length_permutation h.panes here h.order);
 }
   where
     all : All (λ pane. (pane.node ≡ n) × (pane.commit ≡ c)) here
@@ -90,6 +93,7 @@ rest_step plan c n mark cells new here rests same none = record {
   own = λ key group. let no_ : true ≡ false = sym group ∙ rests in absurd (cc);
   fit = λ fits. subst (All (IsFit plan)) (sym same) fits;
   places = ap (map cell_place) same;
+  few = omega (arith, ap length none);
 }
 
 -- ---- node after node
@@ -105,6 +109,7 @@ module _ (plan : Plan) (before : List StageMarks) (hold : ℕ → ℤ) (c : ℕ)
     pub ordered : IsSorted pane_cmp fired
     pub fit : All (IsFit plan) old → All (IsFit plan) new
     pub places : map cell_place new ≡ map cell_place old
+    pub few : length fired ≤ count_by (is_below bound) old
 
   pub fired_none : (marks : List StageMarks) → length marks ≡ length plan.nodes → AreFiredBelow 0 old marks []
   fired_none marks sized = record {
@@ -117,6 +122,7 @@ module _ (plan : Plan) (before : List StageMarks) (hold : ℕ → ℤ) (c : ℕ)
     ordered = sorted_none;
     fit = λ fits. fits;
     places = refl;
+    few = omega arith;
   }
 
   pub fired_all : (bound : ℕ) (new : List Cell) (marks : List StageMarks) (fired : List Pane) → length plan.nodes ≤ bound → AreFiredBelow bound new marks fired
@@ -129,6 +135,7 @@ module _ (plan : Plan) (before : List StageMarks) (hold : ℕ → ℤ) (c : ℕ)
     ordered = h.ordered;
     fit = h.fit;
     places = h.places;
+    few = omega (arith, h.few, few_all bound old);
   }
     where
       group_within : (node : ℕ) → is_group plan node ≡ true → node < bound
@@ -243,4 +250,5 @@ module _ (plan : Plan) (before : List StageMarks) (hold : ℕ → ℤ) (c : ℕ)
           (let low : (get_or fired i d).node < n = h.below i d in_fired in let at : (get_or here j e).node ≡ n = step.at_node j e in_here in omega arith));
       fit = λ fits. step.fit (h.fit fits);
       places = step.places ∙ h.places;
+      few = omega (arith, length-append fired here, h.few, step.few, below_more n old, at_kept n old cells h.places);
     }

@@ -30,6 +30,7 @@ mod RisenMarks
 mod PlainRounds
 mod PlainPlacing
 mod WindowSessions
+mod FiredFew
 mod FiredPanes
 mod FireSteps
 mod Advancing

@@ -48,7 +48,7 @@ found_now p xs i x within is yes_ before =
 
 -- ---- moments
 
-any_longer : {X : Type 0} (P : X → Type 0) (xs : List X) (y : X) → Any P xs → Any P (xs ++ y ∷ [])
+pub any_longer : {X : Type 0} (P : X → Type 0) (xs : List X) (y : X) → Any P xs → Any P (xs ++ y ∷ [])
 any_longer {X} P xs y h =
     let longer : h.0 < length (xs ++ y ∷ []) = omega (arith, length-append xs (y ∷ []), h.2) in
     (h.0, h.1, longer, get_or_append_left xs (y ∷ []) h.1 h.0 h.2 ∙ h.3, h.4)

@@ -1,5 +1,5 @@
 -- Cells of all Groups and keys in one list: what becomes of those of one Group and key, while the others stay as they are.
-use Rattle.std.specs.Prelude.{◌≡◌, ℕ, ◌==◌, ℤ, Bool, true, false, ◌&&◌, if◌then◌else◌, List, [], ◌∷◌, ◌++◌, map, fold, Option, None}
+use Rattle.std.specs.Prelude.{◌≡◌, ℕ, ◌==◌, ℤ, Bool, true, false, ◌&&◌, if◌then◌else◌, List, [], ◌∷◌, ◌++◌, map, length, fold, Option, None}
 use Rattle.std.specs.Prelude.{◌≤◌, Some, slice_get, slice_set}
 use Rattle.std.specs.Int.{int_min}
 use Rattle.std.specs.List.Sorted.{IsPermutation, IsSorted}
@@ -154,6 +154,8 @@ pub record AreNodesFired (plan : Plan) (before : List StageMarks) (hold : ℕ �
   pub ordered : IsSorted pane_cmp fired
   pub fit : All (IsFit plan) cells → All (IsFit plan) new
   pub places : map cell_place new ≡ map cell_place cells
+  -- a cell fires at most one pane
+  pub few : length fired ≤ length cells
 
 -- one commit: what Groups take is placed, and then all nodes in their order get their marks and fire
 pub record AreCellsNext (plan : Plan) (before : List StageMarks) (hold : ℕ → ℤ) (c : ℕ) (arrivals : List Arrival) (cells new : List Cell)

@@ -1,6 +1,6 @@
 //! The cells of all Groups in the order in which they were made, found by index.
 
-ghost use Rattle.std.specs.Prelude.{◌≡◌, ℕ, ℤ, [], length, All, IfOk, OnOk, OnErr};
+ghost use Rattle.std.specs.Prelude.{◌≡◌, ◌+◌, ◌≤◌, ℕ, ℤ, [], length, All, IfOk, OnOk, OnErr};
 ghost use Rattle.beam_values.specs.Checked.{IsChecked};
 ghost use Rattle.beam_values.specs.Marks.{AreMarks};
 ghost use Rattle.group_cells.specs.Commits.{HasGap, IsCommitted, KeepsLegal, NoneFalls, RisesFrom};
@@ -91,6 +91,8 @@ impl Groups {
         ensures legal { IfOk result (KeepsLegal plan.now commit marks.old marks.new self.old self.new) }
         ensures committed { IfOk result (IsCommitted plan.now commit marks.old marks.new (hold_at holds.now) arrivals.old arrivals.new self.old self.new) }
         ensures rises { OnOk result ((held : ℕ → ℤ) → AreMarks plan.now held marks.old → NoneFalls marks.old marks.new) }
+        ensures few { IfOk result (λ fired. length fired ≤ length self.old.cells + length arrivals.old) }
+        ensures grown { OnOk result (length self.new.cells ≤ length self.old.cells + length arrivals.old) }
         ensures err { OnErr result ((self.new ≡ self.old) × (marks.new ≡ marks.old) × (arrivals.new ≡ arrivals.old)) }
     {
         let indexed = self.indexed;

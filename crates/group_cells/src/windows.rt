@@ -1,13 +1,13 @@
 //! For which windows there are to be cells.
 
-ghost use Rattle.std.specs.Prelude.{◌≡◌, ◌∷◌, [], ◌++◌, All, Contains, List as ListOf, IfOk, OnOk};
-ghost use Rattle.std.specs.List.{filter};
+ghost use Rattle.std.specs.Prelude.{◌≡◌, ◌≤◌, ◌≤ℤ◌, ◌<ℤ◌, ◌∷◌, [], ◌++◌, ⊤, length, option_to_list, All, Any, Contains, List as ListOf, IfOk, OnOk, MatchOption};
+ghost use Rattle.std.specs.List.{AllWithin, filter};
 ghost use Rattle.beam_values.specs.Intervals.{Interval};
-ghost use Rattle.beam_values.specs.Sessions.{IsNonEmpty};
+ghost use Rattle.beam_values.specs.Sessions.{IsNonEmpty, LiesIn};
 ghost use Rattle.beam_model.specs.Panes.{is_cell_at_key};
 ghost use Rattle.group_cells.specs.Placing.{is_same_key};
 ghost use Rattle.group_cells.specs.Rounds.{is_open, open_windows, AreSessionsOver, AreWindowsFor};
-ghost use Rattle.session_merge.specs.Merging.{AreSessionsOf};
+ghost use Rattle.session_merge.specs.Merging.{AreApart, AreSessionsOf};
 
 use crate::rules::Rules;
 use beam_values::{Cell, List, Mark, NoMemory, Span, Value, cmp_values};
@@ -48,7 +48,8 @@ pub fn windows_for(
     own: &[Span],
     cells: &[Cell],
 ) -> Result<List<Span>, NoMemory>
-    ensures { IfOk result (AreWindowsFor rules.now.merges own.now (open_windows rules.now before (filter (is_cell_at_key node key.now) cells.now))) }
+    ensures windows { IfOk result (AreWindowsFor rules.now.merges own.now (open_windows rules.now before (filter (is_cell_at_key node key.now) cells.now))) }
+    ensures few { IfOk result (λ windows. length windows ≤ length own.now) }
 {
     if rules.merges {
         let open = open_windows(alloc, rules, before, node, key, cells)?;
@@ -77,9 +78,11 @@ fn open_windows(
     Ok(open)
 }
 
-/// The sessions of some open windows and the own windows of the entries that come.
+/// Of the own window of each entry that comes, the session over some open windows and all own ones in
+/// which it lies.
 pub fn sessions_over(alloc: Global, own: &[Span], open: &[Span]) -> Result<List<Span>, NoMemory>
-    ensures { IfOk result (AreSessionsOver own.now open.now) }
+    ensures windows { IfOk result (AreSessionsOver own.now open.now) }
+    ensures few { IfOk result (λ windows. length windows ≤ length own.now) }
 {
     let mut sessions = SessionSet::new(alloc);
     for span in open {
@@ -88,7 +91,56 @@ pub fn sessions_over(alloc: Global, own: &[Span], open: &[Span]) -> Result<List<
     for span in own {
         merge(&mut sessions, *span)?;
     }
-    List::from_slice(alloc, sessions.spans())
+    sessions_of(alloc, sessions.spans(), own)
+}
+
+/// Of each window, the listed one in which it lies.
+fn sessions_of(alloc: Global, listed: &[Span], own: &[Span]) -> Result<List<Span>, NoMemory>
+    requires { AreApart listed.now }
+    ensures listed { IfOk result (All (Contains listed.now)) }
+    ensures covers { IfOk result (λ windows. All (λ span. Any (LiesIn span) listed.now → Any (LiesIn span) windows) own.now) }
+    ensures few { IfOk result (λ windows. length windows ≤ length own.now) }
+{
+    let mut windows = List::new(alloc);
+    for span in own {
+        push_if(&mut windows, holder(listed, *span))?;
+    }
+    Ok(windows)
+}
+
+/// The listed window in which another lies, if there is one.
+fn holder(listed: &[Span], own: Span) -> Option<Span>
+    requires { AreApart listed.now }
+    ensures listed { MatchOption result ⊤ (Contains listed.now) }
+    ensures covers { Any (LiesIn own) listed.now → MatchOption result ⊥ (LiesIn own) }
+{
+    let at = count_ended(listed, own);
+    if at < listed.len() {
+        Some(listed[at])
+    } else {
+        None
+    }
+}
+
+/// How many of the listed windows end by the start of another.
+fn count_ended(listed: &[Span], own: Span) -> usize
+    requires { AreApart listed.now }
+    ensures some { IsNonEmpty own }
+    ensures ended { AllWithin (λ w. w.end ≤ℤ own.start) listed.now 0 result }
+    ensures later { AllWithin (λ w. own.start <ℤ w.end) listed.now result (length listed.now) }
+{
+    let start = own.start();
+    let _some = own.end();
+    listed.partition_point(|window| window.end() <= start)
+}
+
+fn push_if(windows: &mut List<Span>, window: Option<Span>) -> Result<(), NoMemory>
+    ensures { OnOk result (windows.new ≡ windows.old ++ option_to_list window) }
+{
+    if let Some(window) = window {
+        windows.push(window)?;
+    }
+    Ok(())
 }
 
 fn merge(sessions: &mut SessionSet, span: Span) -> Result<(), NoMemory>

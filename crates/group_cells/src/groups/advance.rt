@@ -1,4 +1,4 @@
-ghost use Rattle.std.specs.Prelude.{◌≡◌, [], ◌++◌, ◌<◌, ◌^◌, true, length, map, not, take, IfOk, OnOk, OnErr};
+ghost use Rattle.std.specs.Prelude.{◌≡◌, [], ◌++◌, ◌+◌, ◌<◌, ◌≤◌, ◌^◌, true, length, map, not, take, IfOk, OnOk, OnErr};
 ghost use Rattle.std.specs.List.{filter};
 ghost use Rattle.beam_values.specs.Checked.{IsChecked};
 ghost use Rattle.beam_values.specs.Nodes.{facts_of};
@@ -49,6 +49,7 @@ impl Draft {
         ensures stand { OnOk result (UnmergedStand plan.now self.new.cells.items) }
         ensures indexed { OnOk result (IsIndexOf self.new.index self.new.cells.items) }
         ensures small { OnOk result (length self.new.cells.items < 2 ^ 32) }
+        ensures grown { OnOk result (length self.new.cells.items ≤ length self.old.cells.items + length arrivals.now) }
         ensures dropped { OnOk result (self.new.dropped.items ≡ self.old.dropped.items ++ map (dropped_arrival commit) (filter (is_dropped plan.now before.now) arrivals.now)) }
         ensures others { IfOk result (λ next. next.others ≡ filter (λ arrival. not (is_at_group plan.now arrival)) arrivals.now) }
         ensures changes { self.new.changes.items ≡ [] }
@@ -86,6 +87,7 @@ impl Draft {
         ensures stand { OnOk result (UnmergedStand plan.now self.new.cells.items) }
         ensures indexed { OnOk result (IsIndexOf self.new.index self.new.cells.items) }
         ensures small { OnOk result (length self.new.cells.items < 2 ^ 32) }
+        ensures grown { OnOk result (length self.new.cells.items ≤ length self.old.cells.items + length arrivals.now) }
         ensures dropped { OnOk result (self.new.dropped.items ≡ self.old.dropped.items ++ map (dropped_arrival commit) (filter (is_dropped plan.now before.now) arrivals.now)) }
         ensures others { IfOk result (λ next. next.others ≡ filter (λ arrival. not (is_at_group plan.now arrival)) arrivals.now) }
         ensures kept { take (length self.old.dropped.items) self.new.dropped.items ≡ self.old.dropped.items }

@@ -1,4 +1,4 @@
-ghost use Rattle.std.specs.Prelude.{◌≡◌, OnOk, IfOk, true, All};
+ghost use Rattle.std.specs.Prelude.{◌≡◌, ◌+◌, ◌≤◌, length, OnOk, IfOk, true, All};
 ghost use Rattle.beam_values.specs.Nodes.{facts_of, is_group};
 ghost use Rattle.group_cells.specs.Indexes.{IsIndexOf};
 ghost use Rattle.group_cells.specs.Plain.{AreAllPlaced};
@@ -24,6 +24,7 @@ impl Draft {
         requires groups { All (λ arrival. is_group commit.plan.now arrival.node ≡ true) taken }
         requires indexed { IsIndexOf self.old.index self.old.cells.items }
         ensures ok { OnOk result (AreAllPlaced commit.entry.plan.now commit.entry.before.now commit.entry.number taken self.old.cells.items self.new.cells.items) }
+        ensures grown { OnOk result (length self.new.cells.items ≤ length self.old.cells.items + length taken) }
         ensures indexed { OnOk result (IsIndexOf self.new.index self.new.cells.items) }
         ensures dropped { self.new.dropped ≡ self.old.dropped }
         ensures undo { undone_all self.new.changes.items self.new.cells.items ≡ undone_all self.old.changes.items self.old.cells.items }
@@ -44,6 +45,7 @@ impl Draft {
         requires facts { commit.facts.now ≡ facts_of commit.plan.now.nodes }
         requires groups { All (λ arrival. is_group commit.plan.now arrival.node ≡ true) taken }
         ensures ok { OnOk result (AreAllPlaced commit.entry.plan.now commit.entry.before.now commit.entry.number taken self.old.cells.items self.new.cells.items) }
+        ensures grown { OnOk result (length self.new.cells.items ≤ length self.old.cells.items + length taken) }
         ensures indexed { OnOk result (IsIndexOf self.new.index self.new.cells.items) }
         ensures dropped { self.new.dropped ≡ self.old.dropped }
         ensures undo { undone_all self.new.changes.items self.new.cells.items ≡ undone_all self.old.changes.items self.old.cells.items }

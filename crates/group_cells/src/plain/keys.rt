@@ -1,6 +1,6 @@
 //! The arrivals that are in time, one Group and key after another.
 
-ghost use Rattle.std.specs.Prelude.{◌≡◌, ◌∷◌, ◌++◌, [], List as ListOf, not, true, All, IfOk, OnOk, MatchOption};
+ghost use Rattle.std.specs.Prelude.{◌≡◌, ◌+◌, ◌≤◌, ◌∷◌, ◌++◌, [], List as ListOf, length, not, true, All, IfOk, OnOk, MatchOption};
 ghost use Rattle.std.specs.List.{filter};
 ghost use Rattle.beam_values.specs.Grouping.{key_of};
 ghost use Rattle.beam_values.specs.Marks.{marks_at};
@@ -46,7 +46,8 @@ pub fn place_all(
 ) -> Result<(), NoMemory>
     requires facts { facts.now ≡ facts_of plan.now.nodes }
     requires groups { All (λ arrival. is_group plan.now arrival.node ≡ true) taken }
-    ensures { OnOk result (AreAllPlaced plan.now before.now commit taken cells.old.items cells.new.items) }
+    ensures placed { OnOk result (AreAllPlaced plan.now before.now commit taken cells.old.items cells.new.items) }
+    ensures grown { OnOk result (length cells.new.items ≤ length cells.old.items + length taken) }
 {
     let mut left = taken;
     while let Some(place) = next_place(alloc, left.as_slice())? {
@@ -84,6 +85,7 @@ fn place_next(
     ensures others { IfOk result (λ others. others ≡ filter (λ arrival. not (is_arrival_at place.node place.key arrival)) left) }
     ensures placed { OnOk result (ArePlacedAt (rules_of plan.now place.node) (marks_at before.now place.node).mark_in place.node place.key commit
         (elements_keyed place.node place.key left) cells.old.items cells.new.items) }
+    ensures grown { IfOk result (λ others. length cells.new.items + length others ≤ length cells.old.items + length left) }
 {
     let split = split_off(alloc, &place, left)?;
     let rules = rules_of(plan, facts, place.node);

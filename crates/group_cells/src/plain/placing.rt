@@ -1,6 +1,6 @@
 //! Where the entries of one Group and key go.
 
-ghost use Rattle.std.specs.Prelude.{◌≡◌, ◌++◌, ◌<◌, length, map, if◌then◌else◌, slice_index_or, slice_set, IfOk, OnOk, MatchOption};
+ghost use Rattle.std.specs.Prelude.{◌≡◌, ◌+◌, ◌++◌, ◌<◌, ◌≤◌, length, map, if◌then◌else◌, slice_index_or, slice_set, IfOk, OnOk, MatchOption};
 ghost use Rattle.std.specs.List.{flat_map, list_any};
 ghost use Rattle.beam_values.specs.Spans.{lies_in, same_span};
 ghost use Rattle.beam_values.specs.declared.cell.Cell.{Cell as CellOf};
@@ -26,7 +26,8 @@ pub fn place_key(
     own: List<Element>,
     cells: &mut Vec<Cell>,
 ) -> Result<(), NoMemory>
-    ensures { OnOk result (ArePlacedAt rules.now before node key.now commit own cells.old.items cells.new.items) }
+    ensures placed { OnOk result (ArePlacedAt rules.now before node key.now commit own cells.old.items cells.new.items) }
+    ensures grown { OnOk result (length cells.new.items ≤ length cells.old.items + length own) }
 {
     let spans = own_spans(alloc, own.as_slice())?;
     let windows = windows_for(

@@ -1,11 +1,11 @@
 use Rattle.std.proofs.Common.{◌≡◌, ◌++◌, [], List, take, arith, sym, subst}
-use Rattle.std.proofs.lemmas.Result.{IfOk-weaker}
 use Rattle.group_cells.specs.Rounds.{AreSessionsOver}
-use Rattle.std.specs.Prelude.{Contains}
+use Rattle.std.specs.Prelude.{All, Any, Contains}
+use Rattle.beam_values.specs.Sessions.{LiesIn}
 use Rattle.std.proofs.lemmas.List.{take_all}
 use Rattle.beam_values.specs.Intervals.{Interval}
 use Rattle.session_merge.specs.Merging.{AreSessionsOf}
-use Rattle.group_cells.proofs.WindowSessions.{merged_more, over_from}
+use Rattle.group_cells.proofs.WindowSessions.{merged_more, ok_both, over_from}
 use Rattle.group_cells.proofs.windows.sessions_over.Goals as goal
 
 pub loop-span-preserved : goal.loop-span-preserved
@@ -20,12 +20,13 @@ loop-span-2-preserved c =
     c.loop-span-2-test.true c.span-item-in-loop-span-2.is c.in_ok-merge-2.ensures.some c.in_ok-merge-2.ensures.sessions c.loop-span-2.invariant.some c.loop-span-2.invariant.sessions in
     record { some = more.0; sessions = more.1 }
 
-pub returns : goal.returns
-returns c =
+pub returns-clause-windows : goal.returns-clause-windows
+returns-clause-windows c =
     let own = c.args.own.now in
     let open_ = c.args.open.now in
     let all : take c.loop-span-2.span-index own ≡ own = take_all c.loop-span-2.span-index own (omega (arith, c.loop-span-2-test.false)) in
     let are : AreSessionsOf (Contains (open_ ++ own)) c.spans.result.now =
     subst (λ (l : List Interval). AreSessionsOf (Contains (open_ ++ own)) l) (sym c.spans.ensures.value)
     (subst (λ (l : List Interval). AreSessionsOf (Contains (open_ ++ l)) c.loop-span-2.sessions) all c.loop-span-2.invariant.sessions) in
-    IfOk-weaker c.from_slice.result (λ l. l ≡ c.spans.result.now) (AreSessionsOver own open_) (λ l e. subst (λ (x : List Interval). AreSessionsOver own open_ x) (sym e) (over_from own open_ c.spans.result.now are)) c.from_slice.ensures
+    ok_both c.sessions_of.result (λ l. All (Contains c.spans.result.now) l) (λ l. All (λ span. Any (LiesIn span) c.spans.result.now → Any (LiesIn span) l) own) (AreSessionsOver own open_)
+    (λ l all covers. over_from own open_ c.spans.result.now l are all covers) c.sessions_of.ensures.listed c.sessions_of.ensures.covers

@@ -1,4 +1,4 @@
-use Rattle.std.proofs.Common.{◌≡◌, ◌++◌, List, ap, map, refl, subst, sym, ◌∙◌}
+use Rattle.std.proofs.Common.{◌≡◌, ◌+◌, ◌++◌, List, ap, arith, length, map, refl, subst, sym, ◌∙◌}
 use Rattle.std.specs.Prelude.{not}
 use Rattle.std.specs.List.{filter}
 use Rattle.beam_values.specs.declared.arrival.Arrival.{Arrival}
@@ -10,6 +10,7 @@ use Rattle.group_cells.specs.Arrivals.{UnmergedStand}
 use Rattle.group_cells.specs.Commits.{IsCommitted, KeepsLegal, NoneFalls, SeenGroups, dropped_arrival, is_at_group, is_dropped}
 use Rattle.group_cells.specs.Plain.{AreCells, AreCellsNext}
 use Rattle.group_cells.proofs.AllKeys.{keep_legal}
+use Rattle.group_cells.proofs.FiredFew.{commit_few}
 use Rattle.group_cells.proofs.PlainRounds.{cells_kept, committed, rounds}
 use Rattle.group_cells.proofs.RisenMarks.{none_falls}
 use Rattle.group_cells.proofs.groups.Groups.commit.Goals as goal
@@ -81,3 +82,17 @@ returns-clause-rises c =
     let after_is : c.copy_from_slice.new.self ≡ next.marks = c.copy_from_slice.ensures.after ∙ c.as_slice-2.ensures in
     λ held were. subst (NoneFalls before) (sym after_is)
     (none_falls plan held (hold_at c.args.holds.now) before next.marks next.fired c.requires.checked were c.requires.rises c.in_ok-next.ensures.cells.fires.marks_are)
+
+pub returns-clause-few : goal.returns-clause-few
+returns-clause-few c =
+    let next = c.in_ok-next.next in
+    let cells_are : c.self.inside.draft.cells.items ≡ c.args.self.now.cells = ap (λ (g : SeenGroups). g.cells) c.self.view_is in
+    let fires = c.in_ok-next.ensures.cells.fires in
+    commit_few c.args.plan.now c.args.marks.now (hold_at c.args.holds.now) c.args.commit c.in_ok-next.ensures.cells.placed c.commit.new.self.cells.items next.marks next.fired
+    (length c.args.self.now.cells + length c.args.arrivals.now) fires
+    (omega (arith, c.in_ok-next.ensures.grown, ap length cells_are, ap length c.as_slice.ensures))
+
+pub returns-clause-grown : goal.returns-clause-grown
+returns-clause-grown c =
+    let cells_are : c.self.inside.draft.cells.items ≡ c.args.self.now.cells = ap (λ (g : SeenGroups). g.cells) c.self.view_is in
+    omega (arith, c.in_ok-next.ensures.grown, ap length cells_are, ap length c.as_slice.ensures)

@@ -1,4 +1,4 @@
-use Rattle.std.proofs.Common.{◌≡◌, List, Vec, Global, ap, subst, sym, true, ◌∙◌}
+use Rattle.std.proofs.Common.{◌≡◌, List, Vec, Global, ap, arith, length, subst, sym, true, ◌∙◌}
 use Rattle.std.specs.List.{All}
 use Rattle.beam_values.specs.Nodes.{is_group}
 use Rattle.beam_values.specs.declared.arrival.Arrival.{Arrival}
@@ -8,6 +8,7 @@ use Rattle.watermarks.specs.Holds.{hold_at}
 use Rattle.group_cells.specs.Arrivals.{with_arrivals}
 use Rattle.group_cells.specs.Plain.{AreCellsNext}
 use Rattle.group_cells.proofs.AllArrived.{all_placed, all_stand, joined}
+use Rattle.group_cells.proofs.FiredFew.{arrivals_few, same_length}
 use Rattle.group_cells.proofs.Advancing.{index_moved, later_at_groups, stand_fired}
 use Rattle.group_cells.proofs.groups.draft.Draft.advance.Goals as goal
 
@@ -50,3 +51,21 @@ pub returns-clause-indexed : goal.returns-clause-indexed
 returns-clause-indexed c =
     index_moved c.place_later.new.self.index c.fire_all.new.self.index c.place_later.new.self.cells.items c.fire_all.new.self.cells.items c.fire_all.ensures.others.0
     c.in_ok-fired.ensures.fired.places c.in_ok-place_later.ensures.indexed
+
+pub returns-clause-grown : goal.returns-clause-grown
+returns-clause-grown c =
+    let plan = c.args.plan.now in
+    let before = c.args.before.now in
+    let arrivals = c.args.arrivals.now in
+    let old = c.args.self.now.cells.items in
+    let placed = c.place_later.new.self.cells.items in
+    let from : c.place_all.new.self.cells.items ≡ with_arrivals plan before c.args.commit old arrivals =
+    c.in_ok-place_all.ensures.ok ∙ ap (λ (v : Vec Cell Global). with_arrivals plan before c.args.commit v.items arrivals) c.prepare.ensures.others.0 in
+    omega (
+      arith,
+      arrivals_few plan before c.args.commit arrivals old,
+      ap length from,
+      ap length c.in_ok-later.ensures,
+      c.in_ok-place_later.ensures.grown,
+      same_length placed c.fire_all.new.self.cells.items c.in_ok-fired.ensures.fired.places,
+    )
