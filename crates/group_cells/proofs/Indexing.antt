@@ -30,10 +30,10 @@ pushed_at p xs y i e = grind (arith, common_steps, position_or_len_push p xs y, 
 pub place_pushed : {X : Type 0} (p : X → Bool) (xs : List X) (y : X) → position p (xs ++ y ∷ []) ≡ option_or (position p xs) (cond (p y) (Some (length xs)) None)
 place_pushed p xs y = pushed_at p xs y (position_or_len p xs) refl
 
-nat_tied : (a b : ℕ) → is_eq (nat_cmp a b) ≡ (a == b)
+pub nat_tied : (a b : ℕ) → is_eq (nat_cmp a b) ≡ (a == b)
 nat_tied a b = grind (arith, nat_tests)
 
-int_tied : (a b : ℤ) → is_eq (int_cmp a b) ≡ int_eq a b
+pub int_tied : (a b : ℤ) → is_eq (int_cmp a b) ≡ int_eq a b
 int_tied a b = refl
 
 and_swapped : (n k s e : Bool) → (n && ((s && e) && k)) ≡ ((n && k) && (s && e))

@@ -32,6 +32,8 @@ mod PlainPlacing
 mod WindowSessions
 mod FiredFew
 mod FiredPanes
+mod DueKeys
+mod DueRanges
 mod FireSteps
 mod Advancing
 mod AllArrived

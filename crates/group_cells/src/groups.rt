@@ -9,6 +9,7 @@ ghost use Rattle.watermarks.specs.Holds.{hold_at};
 
 mod advance;
 mod draft;
+mod due;
 mod firing;
 mod index;
 mod looking;

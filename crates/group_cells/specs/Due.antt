@@ -1,0 +1,39 @@
+-- When cells are due: an ordered set has each cell that has a moment, by its node, that moment and its place.
+use Rattle.std.specs.Prelude.{◌≡◌, ℕ, ◌≤◌, ◌^◌, ◌==◌, ℤ, Bool, false, ◌&&◌, List, length, map, slice_get, Option, Some, None}
+use Rattle.std.specs.BTreeSet.{contains}
+use Rattle.std.specs.Ordering.{int_cmp, int_eq, nat_cmp, on, then_cmp}
+use Rattle.std.specs.declared.cmp.Ordering.{Ordering}
+use Rattle.beam_values.specs.declared.cell.Cell.{Cell}
+use Rattle.beam_values.specs.declared.plan.Plan.{Plan}
+use Rattle.beam_model.specs.Panes.{trigger_of}
+use Rattle.group_cells.specs.Cells.{unseen_in}
+use Rattle.group_cells.specs.Looking.{moment_of}
+use Rattle.group_cells.specs.declared.groups.due.DueCells.{DueCells}
+use Rattle.group_cells.specs.declared.groups.due.DueKey.{DueKey}
+
+abbrev pub due_cmp : DueKey → DueKey → Ordering
+due_cmp = then_cmp (on (λ k. k.node) nat_cmp) (then_cmp (on (λ k. k.moment) int_cmp) (on (λ k. k.place) nat_cmp))
+
+abbrev pub has_moment : Option ℤ → ℤ → Bool
+has_moment None moment = false
+has_moment (Some own) moment = int_eq own moment
+
+-- it is the key of the cell at a place, where that has a moment
+abbrev pub is_key_of : ℕ → ℕ → Option ℤ → DueKey → Bool
+is_key_of node place moment q = (node == q.node && place == q.place) && has_moment moment q.moment
+
+-- the moment of a cell by the trigger of its node
+abbrev pub own_moment : Plan → Cell → Option ℤ
+own_moment plan cell = moment_of (trigger_of plan cell.node) cell
+
+abbrev pub is_due_as : Plan → DueKey → Option Cell → Bool
+is_due_as plan q None = false
+is_due_as plan q (Some cell) = cell.node == q.node && has_moment (own_moment plan cell) q.moment
+
+pub record IsDueOf (plan : Plan) (due : DueCells) (cells : List Cell) : Type 0 where
+  -- how many entries of each cell no pane has shown
+  pub counts : due.unseen.items ≡ map (λ cell. unseen_in cell.entries) cells
+  -- the set has the moment of each cell, and nothing else
+  pub moments : (q : DueKey) → contains due_cmp due.moments q ≡ is_due_as plan q (slice_get cells q.place)
+  -- each place is a number of 32 bits
+  pub small : length cells ≤ 2 ^ 32

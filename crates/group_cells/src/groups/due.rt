@@ -1,0 +1,247 @@
+ghost use Rattle.std.specs.Prelude.{◌≡◌, ◌+◌, ◌<◌, ◌^◌, ◌≤ℤ◌, ◌∷◌, [], ◌++◌, ℤ, true, false, Contains, List as ListOf, Some, length, map, if◌then◌else◌, slice_get, slice_set, IfOk, OnOk};
+ghost use Rattle.std.specs.BTreeSet.{contains, keys_between};
+ghost use Rattle.std.specs.Ordering.{as_partial_cmp, eq_by_cmp, int_cmp, is_gt, nat_cmp, on, then_cmp};
+ghost use Rattle.std.specs.declared.ops.Bound.TheVariants.{Included};
+ghost use Rattle.std.specs.Cmp.{partial_order_from_own_ties};
+ghost use Rattle.std.specs.Cmp.Rules.{comparing};
+ghost use Rattle.std.proofs.Common.{rules};
+ghost use Rattle.beam_values.specs.declared.cell.Cell.{Cell as CellOf};
+ghost use Rattle.beam_values.specs.Times.{least_time};
+ghost use Rattle.beam_values.specs.declared.plan.Plan.{Plan as PlanOf};
+ghost use Rattle.group_cells.specs.Cells.{unseen_in};
+ghost use Rattle.group_cells.specs.Due.{due_cmp, has_moment, is_key_of, own_moment, IsDueOf};
+ghost use Rattle.group_cells.specs.declared.groups.due.DueKey.{DueKey as DueKeyOf};
+
+use crate::firing::unseen;
+use crate::rules::trigger_of;
+use beam_values::{Cell, Mark, NoMemory, Plan, Time};
+use pane_triggers::next_mark;
+use std::alloc::Global;
+use std::cmp::Ordering;
+use std::collections::BTreeSet;
+
+/// A cell and its moment.
+#[derive(Clone, Copy, Debug)]
+pub struct DueKey {
+    pub node: u32,
+    pub moment: i64,
+    pub place: u32,
+}
+
+impl DueKey {
+    /// Where the keys of a node begin.
+    fn first(node: u32) -> DueKey
+        ensures { result ≡ record { node = node; moment = least_time; place = 0 } }
+    {
+        DueKey {
+            node,
+            moment: Time::LEAST_MS,
+            place: 0,
+        }
+    }
+
+    /// Where the keys of a node end whose moments a mark has reached.
+    fn last(node: u32, mark: Mark) -> DueKey
+        ensures value { result ≡ record { node = node; moment = mark; place = 4294967295 } }
+        ensures reached { least_time ≤ℤ mark }
+    {
+        DueKey {
+            node,
+            moment: mark.ms(),
+            place: u32::MAX,
+        }
+    }
+}
+
+fn cmp_moments(a: &DueKey, b: &DueKey) -> Ordering
+    ensures { result ≡ then_cmp (on (λ k. k.moment) int_cmp) (on (λ k. k.place) nat_cmp) a.now b.now }
+{
+    match a.moment.cmp(&b.moment) {
+        Ordering::Equal => a.place.cmp(&b.place),
+        decided => decided,
+    }
+}
+
+impl PartialEq for DueKey {
+    ghost eq = { eq_by_cmp due_cmp };
+
+    ghost laws = { Prim.search (comparing, rules) depth 12 };
+
+    fn eq(&self, other: &DueKey) -> bool {
+        self.cmp(other).is_eq()
+    }
+}
+
+impl Eq for DueKey {
+    ghost laws = { Prim.search (comparing, rules) depth 12 };
+}
+
+impl PartialOrd for DueKey {
+    ghost partial_cmp = { as_partial_cmp due_cmp };
+
+    ghost laws = { partial_order_from_own_ties (Prim.search (comparing, rules) depth 12) (Prim.search (comparing, rules) depth 12) };
+
+    fn partial_cmp(&self, other: &DueKey) -> Option<Ordering> {
+        Some(self.cmp(other))
+    }
+}
+
+impl Ord for DueKey {
+    ghost cmp = { due_cmp };
+
+    ghost total = { Prim.search (comparing, rules) depth 12 };
+
+    ghost matches_partial_cmp = { Prim.search (comparing, rules) depth 12 };
+
+    ghost matches_eq = { Prim.search (comparing, rules) depth 12 };
+
+    fn cmp(&self, other: &DueKey) -> Ordering {
+        match self.node.cmp(&other.node) {
+            Ordering::Equal => cmp_moments(self, other),
+            decided => decided,
+        }
+    }
+}
+
+/// What cells are due by.
+#[derive(Debug, Drop)]
+pub struct DueCells {
+    /// How many entries of each cell no pane has shown.
+    pub unseen: Vec<u64>,
+    /// Each cell that has a moment.
+    pub moments: BTreeSet<DueKey>,
+}
+
+impl DueCells {
+    /// Takes no memory.
+    pub fn new(alloc: Global) -> DueCells
+        ensures { (plan : PlanOf) → IsDueOf plan result [] }
+    {
+        DueCells {
+            unseen: Vec::new(alloc),
+            moments: BTreeSet::new(alloc),
+        }
+    }
+
+    /// The moments of all cells there are.
+    pub fn of(alloc: Global, plan: &Plan, cells: &[Cell]) -> Result<DueCells, NoMemory>
+        ensures { IfOk result (λ due. IsDueOf plan.now due cells.now) }
+    {
+        let mut due = DueCells::new(alloc);
+        for (place, cell) in cells.iter().enumerate() {
+            due.add(plan, place, cell)?;
+        }
+        Ok(due)
+    }
+
+    /// One more cell, behind the others.
+    pub fn add(&mut self, plan: &Plan, place: usize, cell: &Cell) -> Result<(), NoMemory>
+        ensures { OnOk result ((cells : ListOf CellOf) → place ≡ length cells → IsDueOf plan.now self.old cells → IsDueOf plan.now self.new (cells ++ cell.now ∷ [])) }
+    {
+        let place = u32::try_from(place).map_err(|_| NoMemory)?;
+        let count = unseen(cell.entries.as_slice());
+        let moment = moment_with(plan, cell, count);
+        self.unseen.push(count)?;
+        self.enter(cell.node, place, moment)
+    }
+
+    /// The moment of the cell at a place.
+    pub fn moment_at(&self, plan: &Plan, place: u32, cell: &Cell) -> Option<i64>
+        requires { place < length self.now.unseen.items }
+        ensures { (cells : ListOf CellOf) → IsDueOf plan.now self.now cells → slice_get cells place ≡ Some cell.now → result ≡ own_moment plan.now cell.now }
+    {
+        moment_with(plan, cell, self.unseen[place as usize])
+    }
+
+    /// How many entries of the cell at a place are unseen once one more is.
+    pub fn one_more(&self, place: u32) -> Result<u64, NoMemory>
+        requires { place < length self.now.unseen.items }
+        ensures { IfOk result (λ count. (plan : PlanOf) (cells : ListOf CellOf) (cell : CellOf) → IsDueOf plan self.now cells → slice_get cells place ≡ Some cell → count ≡ unseen_in cell.entries + 1) }
+    {
+        self.unseen[place as usize].checked_add(1).ok_or(NoMemory)
+    }
+
+    /// The cell at a place, which was due at this moment, has become another.
+    pub fn change(
+        &mut self,
+        plan: &Plan,
+        place: u32,
+        was: Option<i64>,
+        cell: &Cell,
+        count: u64,
+    ) -> Result<(), NoMemory>
+        requires { place < length self.old.unseen.items }
+        ensures { OnOk result ((cells : ListOf CellOf) (before : CellOf) → IsDueOf plan.now self.old cells → slice_get cells place ≡ Some before → was ≡ own_moment plan.now before
+            → cell.now.node ≡ before.node → count ≡ unseen_in cell.now.entries → IsDueOf plan.now self.new (slice_set cells place cell.now)) }
+    {
+        let now = moment_with(plan, cell, count);
+        self.unseen[place as usize] = count;
+        self.leave(cell.node, place, was);
+        self.enter(cell.node, place, now)
+    }
+
+    fn leave(&mut self, node: u32, place: u32, moment: Option<i64>)
+        ensures moments { (q : DueKeyOf) → contains due_cmp self.new.moments q ≡ (if is_key_of node place moment q then false else contains due_cmp self.old.moments q) }
+        ensures unseen { self.new.unseen ≡ self.old.unseen }
+    {
+        if let Some(moment) = moment {
+            self.moments.remove(&DueKey {
+                node,
+                moment,
+                place,
+            });
+        }
+    }
+
+    fn enter(&mut self, node: u32, place: u32, moment: Option<i64>) -> Result<(), NoMemory>
+        ensures moments { OnOk result ((q : DueKeyOf) → contains due_cmp self.new.moments q ≡ (if is_key_of node place moment q then true else contains due_cmp self.old.moments q)) }
+        ensures unseen { self.new.unseen ≡ self.old.unseen }
+    {
+        if let Some(moment) = moment {
+            self.moments.insert(DueKey {
+                node,
+                moment,
+                place,
+            })?;
+        }
+        Ok(())
+    }
+
+    /// The places of the cells of a node whose moments a mark has reached, by their moments.
+    pub fn places_until(&self, alloc: Global, node: u32, mark: Mark) -> Result<Vec<u32>, NoMemory>
+        ensures { IfOk result (λ places. (q : DueKeyOf) → q.node ≡ node → least_time ≤ℤ q.moment → q.moment ≤ℤ mark → q.place < 2 ^ 32
+            → contains due_cmp self.now.moments q ≡ true → Contains places.items q.place) }
+    {
+        self.places_between(alloc, DueKey::first(node), DueKey::last(node, mark))
+    }
+
+    fn places_between(
+        &self,
+        alloc: Global,
+        first: DueKey,
+        last: DueKey,
+    ) -> Result<Vec<u32>, NoMemory>
+        requires { is_gt (due_cmp first last) ≡ false }
+        ensures { IfOk result (λ places. places.items ≡ map (λ key. key.place) (keys_between due_cmp (Included first) (Included last) self.now.moments)) }
+    {
+        let mut places = Vec::new(alloc);
+        for key in self.moments.range(first..=last) {
+            places.push(key.place)?;
+        }
+        Ok(places)
+    }
+}
+
+fn moment_with(plan: &Plan, cell: &Cell, count: u64) -> Option<i64>
+    ensures { count ≡ unseen_in cell.now.entries → result ≡ own_moment plan.now cell.now }
+{
+    if cell.merged_into.is_some() {
+        return None;
+    }
+    next_mark(
+        &trigger_of(plan, cell.node),
+        cell.span.end(),
+        cell.on_time,
+        count,
+    )
+}
