@@ -1,5 +1,5 @@
 -- How the set of the due follows the cells.
-use Rattle.std.proofs.Common.{◌≡◌, ◌⊎◌, inl, inr, ℕ, zero, suc, ◌+◌, ◌<◌, ◌≤◌, ◌==◌, ◌&&◌, ◌^◌, ℤ, Bool, true, false, cond, List, [], ◌∷◌, ◌++◌, length, map, get_or, Option, Some, None, refl, sym, ap, subst, ◌∙◌, arith, length-append}
+use Rattle.std.proofs.Common.{◌≡◌, ◌⊎◌, inl, inr, ℕ, zero, suc, ◌<◌, ◌≤◌, ◌==◌, ◌&&◌, ◌^◌, ℤ, Bool, true, false, cond, List, [], ◌∷◌, ◌++◌, length, map, get_or, Option, Some, None, refl, sym, ap, ◌∙◌, arith, length-append}
 use Rattle.std.proofs.Math.ListN.{set, length-set}
 use Rattle.std.specs.Prelude.{slice_get, slice_set}
 use Rattle.std.specs.BTreeSet as sorted
@@ -8,7 +8,6 @@ use Rattle.std.specs.Cmp.{tied_then}
 use Rattle.std.specs.Ordering.{int_cmp, int_eq, is_eq, nat_cmp, ordering_then}
 use Rattle.std.proofs.lemmas.Bool.{cases_lt, eqb-true, false≢true}
 use Rattle.std.proofs.lemmas.Bool.Decides.{Decides-eqb}
-use Rattle.std.proofs.lemmas.Grind.{common_steps}
 use Rattle.std.proofs.lemmas.List.{map-append, get_or-map, get_or-set_other, get_or_append_left, get_or_at}
 use Rattle.std.proofs.lemmas.Option.{slice_get_past, slice_get_within, slice_get-get_or, get_or_from_slice_get}
 use Rattle.beam_values.specs.declared.cell.Cell.{Cell}

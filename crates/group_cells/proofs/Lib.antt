@@ -34,7 +34,9 @@ mod FiredFew
 mod FiredPanes
 mod DueKeys
 mod DueRanges
+mod DueSteps
 mod FireSteps
+mod FiredPlaces
 mod Advancing
 mod AllArrived
 mod Indexing

@@ -2,6 +2,7 @@
 use Rattle.std.specs.Prelude.{◌≡◌, ◌<◌, ◌^◌, Bool, true, [], length}
 use Rattle.beam_values.specs.declared.plan.Plan.{Plan}
 use Rattle.group_cells.specs.Arrivals.{UnmergedStand}
+use Rattle.group_cells.specs.Due.{IsDueOf}
 use Rattle.group_cells.specs.Indexes.{IsIndexOf}
 use Rattle.group_cells.specs.Plain.{AreCells}
 use Rattle.group_cells.specs.declared.groups.draft.Draft.{Draft}
@@ -9,8 +10,9 @@ use Rattle.group_cells.specs.declared.groups.draft.Draft.{Draft}
 pub record IsSettled (plan : Plan) (draft : Draft) (indexed : Bool) : Type 0 where
   pub cells : AreCells plan draft.cells.items
   pub stand : UnmergedStand plan draft.cells.items
-  -- the index is whole, unless a commit was refused
+  -- the indexes are whole, unless a commit was refused
   pub index : indexed ≡ true → IsIndexOf draft.index draft.cells.items
+  pub due : indexed ≡ true → IsDueOf plan draft.due draft.cells.items
   -- a place is a number of 32 bits
   pub small : length draft.cells.items < 2 ^ 32
   -- nothing is left to undo

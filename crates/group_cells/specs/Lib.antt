@@ -10,5 +10,6 @@ pub mod Arrivals
 pub mod Undoing
 pub mod Plain
 pub mod FiredCopies
+pub mod FiredUpTo
 pub mod Drafts
 pub mod NextDue

@@ -18,6 +18,7 @@ mod sessions;
 
 use crate::groups::advance::Next;
 use crate::groups::draft::Draft;
+use crate::groups::due::DueCells;
 use crate::groups::index::{CellIndex, CellKey};
 use crate::groups::looking::{next_due, place_among};
 use beam_values::{
@@ -31,7 +32,7 @@ use std::marker::Model;
 pub struct Groups {
     plan: Plan,
     draft: Draft,
-    /// Whether the index is whole: a commit that is refused leaves it for the next one to make anew.
+    /// Whether the indexes are whole: a commit that is refused leaves them for the next one to make anew.
     indexed: bool,
     alloc: Global,
 }
@@ -63,6 +64,7 @@ impl Groups {
                 cells: Vec::new(alloc),
                 dropped: Vec::new(alloc),
                 index: CellIndex::new(alloc),
+                due: DueCells::new(alloc),
                 changes: Vec::new(alloc),
             },
             indexed: true,
@@ -164,6 +166,7 @@ impl Groups {
             cells,
             dropped,
             index: _,
+            due: _,
             changes: _,
         } = draft;
         (List::from_vec(cells), List::from_vec(dropped))

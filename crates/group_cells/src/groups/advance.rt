@@ -4,12 +4,14 @@ ghost use Rattle.beam_values.specs.Checked.{IsChecked};
 ghost use Rattle.beam_values.specs.Nodes.{facts_of};
 ghost use Rattle.group_cells.specs.Arrivals.{merging, UnmergedStand};
 ghost use Rattle.group_cells.specs.Commits.{dropped_arrival, is_at_group, is_dropped};
+ghost use Rattle.group_cells.specs.Due.{IsDueOf};
 ghost use Rattle.group_cells.specs.Indexes.{IsIndexOf};
 ghost use Rattle.group_cells.specs.Plain.{AreCellsNext};
 ghost use Rattle.group_cells.specs.Undoing.{undone_all};
 ghost use Rattle.watermarks.specs.Holds.{hold_at};
 
 use crate::groups::draft::Draft;
+use crate::groups::due::DueCells;
 use crate::groups::index::CellIndex;
 use crate::groups::placing::Commit;
 use crate::plain::arrivals::{is_taken, others_of};
@@ -28,7 +30,7 @@ pub struct Next {
 }
 
 impl Draft {
-    /// One commit. `indexed` says whether the index is whole; after a refusal it isn't.
+    /// One commit. `indexed` says whether the indexes are whole; after a refusal they aren't.
     pub fn commit(
         &mut self,
         alloc: Global,
@@ -43,11 +45,13 @@ impl Draft {
         requires holds { length holds.now ≡ length plan.now.nodes }
         requires marks { length before.now ≡ length plan.now.nodes }
         requires indexed { indexed ≡ true → IsIndexOf self.old.index self.old.cells.items }
+        requires due { indexed ≡ true → IsDueOf plan.now self.old.due self.old.cells.items }
         requires stand { UnmergedStand plan.now self.old.cells.items }
         requires changes { self.old.changes.items ≡ [] }
         ensures cells { IfOk result (λ next. AreCellsNext plan.now before.now (hold_at holds.now) commit arrivals.now self.old.cells.items self.new.cells.items next.marks next.fired) }
         ensures stand { OnOk result (UnmergedStand plan.now self.new.cells.items) }
         ensures indexed { OnOk result (IsIndexOf self.new.index self.new.cells.items) }
+        ensures due { OnOk result (IsDueOf plan.now self.new.due self.new.cells.items) }
         ensures small { OnOk result (length self.new.cells.items < 2 ^ 32) }
         ensures grown { OnOk result (length self.new.cells.items ≤ length self.old.cells.items + length arrivals.now) }
         ensures dropped { OnOk result (self.new.dropped.items ≡ self.old.dropped.items ++ map (dropped_arrival commit) (filter (is_dropped plan.now before.now) arrivals.now)) }
@@ -82,10 +86,12 @@ impl Draft {
         requires holds { length holds.now ≡ length plan.now.nodes }
         requires marks { length before.now ≡ length plan.now.nodes }
         requires indexed { indexed ≡ true → IsIndexOf self.old.index self.old.cells.items }
+        requires due { indexed ≡ true → IsDueOf plan.now self.old.due self.old.cells.items }
         requires stand { UnmergedStand plan.now self.old.cells.items }
         ensures cells { IfOk result (λ next. AreCellsNext plan.now before.now (hold_at holds.now) commit arrivals.now self.old.cells.items self.new.cells.items next.marks next.fired) }
         ensures stand { OnOk result (UnmergedStand plan.now self.new.cells.items) }
         ensures indexed { OnOk result (IsIndexOf self.new.index self.new.cells.items) }
+        ensures due { OnOk result (IsDueOf plan.now self.new.due self.new.cells.items) }
         ensures small { OnOk result (length self.new.cells.items < 2 ^ 32) }
         ensures grown { OnOk result (length self.new.cells.items ≤ length self.old.cells.items + length arrivals.now) }
         ensures dropped { OnOk result (self.new.dropped.items ≡ self.old.dropped.items ++ map (dropped_arrival commit) (filter (is_dropped plan.now before.now) arrivals.now)) }
@@ -93,7 +99,7 @@ impl Draft {
         ensures kept { take (length self.old.dropped.items) self.new.dropped.items ≡ self.old.dropped.items }
         ensures undo { undone_all self.new.changes.items self.new.cells.items ≡ undone_all self.old.changes.items self.old.cells.items }
     {
-        self.prepare(alloc, indexed)?;
+        self.prepare(alloc, plan, indexed)?;
         let facts = facts_of(alloc, plan.nodes.as_slice())?;
         let facts = facts.as_slice();
         let others = others_of(alloc, plan, arrivals)?;
@@ -118,14 +124,17 @@ impl Draft {
         })
     }
 
-    /// Makes the index anew where it isn't whole.
-    fn prepare(&mut self, alloc: Global, indexed: bool) -> Result<(), NoMemory>
-        requires { indexed ≡ true → IsIndexOf self.old.index self.old.cells.items }
+    /// Makes the indexes anew where they aren't whole.
+    fn prepare(&mut self, alloc: Global, plan: &Plan, indexed: bool) -> Result<(), NoMemory>
+        requires indexed { indexed ≡ true → IsIndexOf self.old.index self.old.cells.items }
+        requires due { indexed ≡ true → IsDueOf plan.now self.old.due self.old.cells.items }
         ensures indexed { OnOk result (IsIndexOf self.new.index self.new.cells.items) }
+        ensures due { OnOk result (IsDueOf plan.now self.new.due self.new.cells.items) }
         ensures others { (self.new.cells ≡ self.old.cells) × (self.new.dropped ≡ self.old.dropped) × (self.new.changes ≡ self.old.changes) }
     {
         if !indexed {
             self.index = CellIndex::of(alloc, self.cells.as_slice())?;
+            self.due = DueCells::of(alloc, plan, self.cells.as_slice())?;
         }
         Ok(())
     }

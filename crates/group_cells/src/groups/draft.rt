@@ -1,14 +1,16 @@
-ghost use Rattle.std.specs.Prelude.{◌≡◌, ◌<◌, ◌∷◌, [], ◌++◌, Some, length, slice_get, slice_set, OnOk, OnErr, IfOk, None, take};
+ghost use Rattle.std.specs.Prelude.{◌≡◌, ◌<◌, ◌∷◌, [], ◌++◌, Some, length, slice_get, slice_set, OnOk, OnErr, IfOk, None, false, take};
 ghost use Rattle.beam_values.specs.Grouping.{key_of};
 ghost use Rattle.beam_values.specs.declared.cell.Cell.{Cell as CellOf};
 ghost use Rattle.group_cells.specs.Arrivals.{arrived};
+ghost use Rattle.group_cells.specs.Due.{IsDueOf};
 ghost use Rattle.group_cells.specs.Indexes.{IsIndexOf};
 ghost use Rattle.group_cells.specs.Looking.{place_of};
 ghost use Rattle.group_cells.specs.Placing.{fresh_cell, with_entry};
 ghost use Rattle.group_cells.specs.Undoing.{undone, undone_all, without_last};
 
+use crate::groups::due::DueCells;
 use crate::groups::index::{CellIndex, CellKey};
-use beam_values::{Cell, Dropped, Entry, List, NoMemory, copy_key};
+use beam_values::{Cell, Dropped, Entry, List, NoMemory, Plan, copy_key};
 use std::alloc::Global;
 
 /// A change of the cells.
@@ -31,6 +33,7 @@ pub struct Draft {
     pub cells: Vec<Cell>,
     pub dropped: Vec<Dropped>,
     pub index: CellIndex,
+    pub due: DueCells,
     /// What this commit did so far, by which it is undone where memory is refused.
     pub changes: Vec<Change>,
 }
@@ -96,7 +99,7 @@ impl Draft {
     pub fn put(&mut self, place: u32, entry: Entry) -> Result<(), NoMemory>
         requires { place < length self.old.cells.items }
         ensures ok { OnOk result ((cell : CellOf) → slice_get self.old.cells.items place ≡ Some cell → self.new.cells.items ≡ slice_set self.old.cells.items place (with_entry entry cell)) }
-        ensures others { (self.new.index ≡ self.old.index) × (self.new.dropped ≡ self.old.dropped) }
+        ensures others { (self.new.index ≡ self.old.index) × (self.new.dropped ≡ self.old.dropped) × (self.new.due ≡ self.old.due) }
         ensures undo { undone_all self.new.changes.items self.new.cells.items ≡ undone_all self.old.changes.items self.old.cells.items }
     {
         self.changes.reserve(1)?;
@@ -105,37 +108,65 @@ impl Draft {
         Ok(())
     }
 
+    /// The cell at a place takes an entry that no pane has shown.
+    fn put_unseen(&mut self, plan: &Plan, place: u32, entry: Entry) -> Result<(), NoMemory>
+        requires within { place < length self.old.cells.items }
+        requires unseen { entry.shown ≡ false }
+        requires due { IsDueOf plan.now self.old.due self.old.cells.items }
+        ensures ok { OnOk result ((cell : CellOf) → slice_get self.old.cells.items place ≡ Some cell → self.new.cells.items ≡ slice_set self.old.cells.items place (with_entry entry cell)) }
+        ensures due { OnOk result (IsDueOf plan.now self.new.due self.new.cells.items) }
+        ensures others { (self.new.index ≡ self.old.index) × (self.new.dropped ≡ self.old.dropped) }
+        ensures undo { undone_all self.new.changes.items self.new.cells.items ≡ undone_all self.old.changes.items self.old.cells.items }
+    {
+        let was = self.due.moment_at(plan, place, &self.cells[place as usize]);
+        let count = self.due.one_more(place)?;
+        self.put(place, entry)?;
+        self.due
+            .change(plan, place, was, &self.cells[place as usize], count)
+    }
+
     /// Puts a cell behind the others.
-    fn open(&mut self, key: CellKey, cell: Cell) -> Result<(), NoMemory>
+    fn open(&mut self, plan: &Plan, key: CellKey, cell: Cell) -> Result<(), NoMemory>
         requires { (cell.node ≡ key.node) × (cell.key ≡ key.key) × (cell.span ≡ key.span) }
         ensures ok { OnOk result (self.new.cells.items ≡ self.old.cells.items ++ cell ∷ []) }
         ensures indexed { OnOk result (IsIndexOf self.old.index self.old.cells.items → place_of key.node key.key key.span self.old.cells.items ≡ None
             → IsIndexOf self.new.index self.new.cells.items) }
+        ensures due { OnOk result (IsDueOf plan.now self.old.due self.old.cells.items → IsDueOf plan.now self.new.due self.new.cells.items) }
         ensures dropped { self.new.dropped ≡ self.old.dropped }
         ensures undo { undone_all self.new.changes.items self.new.cells.items ≡ undone_all self.old.changes.items self.old.cells.items }
     {
         let place = u32::try_from(self.cells.len()).map_err(|_| NoMemory)?;
         self.changes.reserve(1)?;
         self.index.add(key, place)?;
+        self.due.add(plan, self.cells.len(), &cell)?;
         self.cells.push(cell)?;
         self.changes.push_reserved(Change::Opened);
         Ok(())
     }
 
     /// The cell of the entry's window takes it; where there is none, a new one does.
-    pub fn take(&mut self, alloc: Global, node: u32, entry: Entry) -> Result<(), NoMemory>
-        requires { IsIndexOf self.old.index self.old.cells.items }
+    pub fn take(
+        &mut self,
+        alloc: Global,
+        plan: &Plan,
+        node: u32,
+        entry: Entry,
+    ) -> Result<(), NoMemory>
+        requires indexed { IsIndexOf self.old.index self.old.cells.items }
+        requires unseen { entry.shown ≡ false }
+        requires due { IsDueOf plan.now self.old.due self.old.cells.items }
         ensures ok { OnOk result (self.new.cells.items ≡ arrived node (key_of entry.element) entry.element.span entry self.old.cells.items) }
         ensures indexed { OnOk result (IsIndexOf self.new.index self.new.cells.items) }
+        ensures due { OnOk result (IsDueOf plan.now self.new.due self.new.cells.items) }
         ensures dropped { self.new.dropped ≡ self.old.dropped }
         ensures undo { undone_all self.new.changes.items self.new.cells.items ≡ undone_all self.old.changes.items self.old.cells.items }
     {
         let key = cell_key(alloc, node, &entry)?;
         match self.index.find(&key) {
-            Some(place) => self.put(place, entry),
+            Some(place) => self.put_unseen(plan, place, entry),
             None => {
                 let cell = first_cell(alloc, &key, entry)?;
-                self.open(key, cell)
+                self.open(plan, key, cell)
             }
         }
     }

@@ -1,19 +1,23 @@
-ghost use Rattle.std.specs.Prelude.{◌≡◌, ◌<◌, Some, None, [], true, false, length, map, option_to_list, slice_get, slice_set, IfOk, OnOk};
+ghost use Rattle.std.specs.Prelude.{◌≡◌, ◌<◌, ◌≤◌, List as ListOf, Some, None, [], true, false, length, map, option_to_list, slice_get, slice_set, IfOk, OnOk};
+ghost use Rattle.std.specs.List.Sorted.{IsNonDecreasing};
 ghost use Rattle.std.specs.Option.{is_some};
 ghost use Rattle.beam_values.specs.Checked.{IsChecked};
 ghost use Rattle.beam_values.specs.Nodes.{facts_of, is_group};
 ghost use Rattle.beam_values.specs.declared.cell.Cell.{Cell as CellOf};
-ghost use Rattle.beam_model.specs.Panes.{rules_of};
+ghost use Rattle.beam_model.specs.Panes.{rules_of, trigger_of};
 ghost use Rattle.group_cells.specs.Plain.{after_node, AreFired, AreGroupFired, AreNodesFired, FiresAs, firing_at, IsNodeDone};
+ghost use Rattle.group_cells.specs.Due.{IsDueOf};
 ghost use Rattle.group_cells.specs.FiredCopies.{IsFiredCopy};
+ghost use Rattle.group_cells.specs.FiredUpTo.{AreAllDue, AreFiredUpTo, IsFiredPast, IsNoneDue};
 ghost use Rattle.group_cells.specs.Undoing.{undone_all};
 ghost use Rattle.watermarks.specs.Holds.{hold_at};
 
-use crate::firing::firing_of;
+use crate::firing::{firing_of, unseen};
 use crate::groups::draft::{Change, Draft};
 use crate::plain::nodes::{cmp_panes, fire_at, least_with, push_if};
 use crate::rules::{Rules, is_group, rules_of};
 use beam_values::{Cell, Duplicate, List, Mark, NoMemory, Pane, Plan, StageMarks};
+use pane_triggers::laws::{cells_are_due_from_their_next_mark_on, the_next_mark_is_the_least};
 use std::alloc::Global;
 use std::mem;
 use watermarks::marks_of_node;
@@ -35,7 +39,9 @@ impl Draft {
         requires facts { facts.now ≡ facts_of plan.now.nodes }
         requires holds { length holds.now ≡ length plan.now.nodes }
         requires marks { length marks.old.items ≡ length plan.now.nodes }
+        requires due { IsDueOf plan.now self.old.due self.old.cells.items }
         ensures fired { IfOk result (AreNodesFired plan.now before.now (hold_at holds.now) commit self.old.cells.items self.new.cells.items marks.new.items) }
+        ensures due { OnOk result (IsDueOf plan.now self.new.due self.new.cells.items) }
         ensures others { (self.new.index ≡ self.old.index) × (self.new.dropped ≡ self.old.dropped) }
         ensures undo { undone_all self.new.changes.items self.new.cells.items ≡ undone_all self.old.changes.items self.old.cells.items }
     {
@@ -63,7 +69,9 @@ impl Draft {
         requires facts { facts.now ≡ facts_of plan.now.nodes }
         requires within { n < length plan.now.nodes }
         requires marks { length marks.old.items ≡ length plan.now.nodes }
+        requires due { IsDueOf plan.now self.old.due self.old.cells.items }
         ensures fired { IfOk result (IsNodeDone plan.now before.now hold commit n self.old.cells.items self.new.cells.items marks.old.items marks.new.items) }
+        ensures due { OnOk result (IsDueOf plan.now self.new.due self.new.cells.items) }
         ensures others { (self.new.index ≡ self.old.index) × (self.new.dropped ≡ self.old.dropped) }
         ensures undo { undone_all self.new.changes.items self.new.cells.items ≡ undone_all self.old.changes.items self.old.cells.items }
     {
@@ -85,10 +93,12 @@ impl Draft {
         commit: u32,
         mark: Mark,
     ) -> Result<List<Pane>, NoMemory>
-        requires { facts.now ≡ facts_of plan.now.nodes }
+        requires facts { facts.now ≡ facts_of plan.now.nodes }
+        requires due { IsDueOf plan.now self.old.due self.old.cells.items }
         ensures fires { IfOk result (λ fired. is_group plan.now n ≡ true
             → AreGroupFired (rules_of plan.now n) n commit mark self.old.cells.items self.new.cells.items fired) }
         ensures rests { IfOk result (λ fired. is_group plan.now n ≡ false → (self.new.cells.items ≡ self.old.cells.items) × (fired ≡ [])) }
+        ensures due { OnOk result (IsDueOf plan.now self.new.due self.new.cells.items) }
         ensures others { (self.new.index ≡ self.old.index) × (self.new.dropped ≡ self.old.dropped) }
         ensures undo { undone_all self.new.changes.items self.new.cells.items ≡ undone_all self.old.changes.items self.old.cells.items }
     {
@@ -96,23 +106,27 @@ impl Draft {
             return Ok(List::new(alloc));
         }
         let rules = rules_of(plan, facts, n);
-        self.fire_group(alloc, &rules, n, commit, mark)
+        self.fire_group(alloc, plan, &rules, n, commit, mark)
     }
 
-    // Each cell of a Group fires, or doesn't; the panes stand by key and window.
+    // The cells of a Group that are due fire; the panes stand by key and window.
     fn fire_group(
         &mut self,
         alloc: Global,
+        plan: &Plan,
         rules: &Rules,
         node: u32,
         commit: u32,
         mark: Mark,
     ) -> Result<List<Pane>, NoMemory>
+        requires due { IsDueOf plan.now self.old.due self.old.cells.items }
+        requires trigger { rules.now.trigger ≡ trigger_of plan.now node }
         ensures fired { IfOk result (AreGroupFired rules.now node commit mark self.old.cells.items self.new.cells.items) }
+        ensures due { OnOk result (IsDueOf plan.now self.new.due self.new.cells.items) }
         ensures others { (self.new.index ≡ self.old.index) × (self.new.dropped ≡ self.old.dropped) }
         ensures undo { undone_all self.new.changes.items self.new.cells.items ≡ undone_all self.old.changes.items self.old.cells.items }
     {
-        let mut panes = self.fire_cells(alloc, rules, node, commit, mark)?;
+        let mut panes = self.fire_cells(alloc, plan, rules, node, commit, mark)?;
         panes.sort_by(|a, b| cmp_panes(a, b))?;
         Ok(List::from_vec(panes))
     }
@@ -120,40 +134,116 @@ impl Draft {
     fn fire_cells(
         &mut self,
         alloc: Global,
+        plan: &Plan,
         rules: &Rules,
         node: u32,
         commit: u32,
         mark: Mark,
     ) -> Result<Vec<Pane>, NoMemory>
+        requires due { IsDueOf plan.now self.old.due self.old.cells.items }
+        requires trigger { rules.now.trigger ≡ trigger_of plan.now node }
         ensures cells { OnOk result (self.new.cells.items ≡ map (after_node rules.now node mark) self.old.cells.items) }
         ensures panes { IfOk result (λ panes. AreFired rules.now node commit mark self.old.cells.items panes.items) }
+        ensures due { OnOk result (IsDueOf plan.now self.new.due self.new.cells.items) }
+        ensures others { (self.new.index ≡ self.old.index) × (self.new.dropped ≡ self.old.dropped) }
+        ensures undo { undone_all self.new.changes.items self.new.cells.items ≡ undone_all self.old.changes.items self.old.cells.items }
+    {
+        cells_are_due_from_their_next_mark_on();
+        the_next_mark_is_the_least();
+        let _reached = mark.ms();
+        let mut places = self.due.places_until(alloc, node, mark)?;
+        places.sort_unstable();
+        self.fire_places(alloc, plan, rules, node, commit, mark, places.as_slice())
+    }
+
+    /// The cells at these places fire, which ascend. No cell at another place is due.
+    fn fire_places(
+        &mut self,
+        alloc: Global,
+        plan: &Plan,
+        rules: &Rules,
+        node: u32,
+        commit: u32,
+        mark: Mark,
+        places: &[u32],
+    ) -> Result<Vec<Pane>, NoMemory>
+        requires due { IsDueOf plan.now self.old.due self.old.cells.items }
+        requires ascending { IsNonDecreasing places.now }
+        requires all { AreAllDue rules.now node mark self.old.cells.items places.now }
+        ensures cells { OnOk result (self.new.cells.items ≡ map (after_node rules.now node mark) self.old.cells.items) }
+        ensures panes { IfOk result (λ panes. AreFired rules.now node commit mark self.old.cells.items panes.items) }
+        ensures due { OnOk result (IsDueOf plan.now self.new.due self.new.cells.items) }
         ensures others { (self.new.index ≡ self.old.index) × (self.new.dropped ≡ self.old.dropped) }
         ensures undo { undone_all self.new.changes.items self.new.cells.items ≡ undone_all self.old.changes.items self.old.cells.items }
     {
         let mut panes = Vec::new(alloc);
-        let count = self.cells.len();
-        for place in 0..count {
-            let pane = self.fire(alloc, rules, node, commit, mark, place)?;
-            push_if(&mut panes, pane)?;
+        let mut done = 0;
+        for place in places {
+            done = self.fire_next(
+                alloc,
+                plan,
+                rules,
+                node,
+                commit,
+                mark,
+                *place as usize,
+                done,
+                &mut panes,
+            )?;
         }
         Ok(panes)
+    }
+
+    /// The cell at a place fires, where those before `done` did. Answers up to where all did then.
+    fn fire_next(
+        &mut self,
+        alloc: Global,
+        plan: &Plan,
+        rules: &Rules,
+        node: u32,
+        commit: u32,
+        mark: Mark,
+        place: usize,
+        done: usize,
+        panes: &mut Vec<Pane>,
+    ) -> Result<usize, NoMemory>
+        requires due { IsDueOf plan.now self.old.due self.old.cells.items }
+        ensures fired { IfOk result (λ next. (cells : ListOf CellOf) → AreFiredUpTo rules.now node commit mark cells done self.old.cells.items panes.old.items
+            → (done ≤ place → place < length cells → IsNoneDue rules.now node mark cells done place)
+            → IsFiredPast rules.now node commit mark cells place done next self.new.cells.items panes.new.items) }
+        ensures due { OnOk result (IsDueOf plan.now self.new.due self.new.cells.items) }
+        ensures others { (self.new.index ≡ self.old.index) × (self.new.dropped ≡ self.old.dropped) }
+        ensures undo { undone_all self.new.changes.items self.new.cells.items ≡ undone_all self.old.changes.items self.old.cells.items }
+    {
+        if place < done {
+            return Ok(done);
+        }
+        if self.cells.len() <= place {
+            return Ok(done);
+        }
+        let pane = self.fire(alloc, plan, rules, node, commit, mark, place)?;
+        push_if(panes, pane)?;
+        Ok(place + 1)
     }
 
     /// The cell at a place fires, or doesn't.
     fn fire(
         &mut self,
         alloc: Global,
+        plan: &Plan,
         rules: &Rules,
         node: u32,
         commit: u32,
         mark: Mark,
         place: usize,
     ) -> Result<Option<Pane>, NoMemory>
-        requires { place < length self.old.cells.items }
+        requires within { place < length self.old.cells.items }
+        requires due { IsDueOf plan.now self.old.due self.old.cells.items }
         ensures cells { OnOk result ((cell : CellOf) → slice_get self.old.cells.items place ≡ Some cell
             → self.new.cells.items ≡ slice_set self.old.cells.items place (after_node rules.now node mark cell)) }
         ensures pane { IfOk result (λ pane. (cell : CellOf) → slice_get self.old.cells.items place ≡ Some cell
             → FiresAs rules.now node commit mark cell (option_to_list pane)) }
+        ensures due { OnOk result (IsDueOf plan.now self.new.due self.new.cells.items) }
         ensures others { (self.new.index ≡ self.old.index) × (self.new.dropped ≡ self.old.dropped) }
         ensures undo { undone_all self.new.changes.items self.new.cells.items ≡ undone_all self.old.changes.items self.old.cells.items }
     {
@@ -162,19 +252,36 @@ impl Draft {
             None => Ok(None),
             Some(fired) => {
                 let Fired { cell, pane } = fired;
-                self.replace(place, cell)?;
+                self.replace_due(plan, place, cell)?;
                 Ok(pane)
             }
         }
     }
 
-    fn replace(&mut self, place: usize, cell: Cell) -> Result<(), NoMemory>
-        requires { place < length self.old.cells.items }
+    /// The cell at a place, which keeps its node, becomes another.
+    fn replace_due(&mut self, plan: &Plan, place: usize, cell: Cell) -> Result<(), NoMemory>
+        requires within { place < length self.old.cells.items }
+        requires due { IsDueOf plan.now self.old.due self.old.cells.items }
+        requires node { (was : CellOf) → slice_get self.old.cells.items place ≡ Some was → cell.node ≡ was.node }
         ensures ok { OnOk result (self.new.cells.items ≡ slice_set self.old.cells.items place cell) }
+        ensures due { OnOk result (IsDueOf plan.now self.new.due self.new.cells.items) }
         ensures others { (self.new.index ≡ self.old.index) × (self.new.dropped ≡ self.old.dropped) }
         ensures undo { undone_all self.new.changes.items self.new.cells.items ≡ undone_all self.old.changes.items self.old.cells.items }
     {
         let at = u32::try_from(place).map_err(|_| NoMemory)?;
+        let was = self.due.moment_at(plan, at, &self.cells[place]);
+        let count = unseen(cell.entries.as_slice());
+        self.replace(place, at, cell)?;
+        self.due.change(plan, at, was, &self.cells[place], count)
+    }
+
+    fn replace(&mut self, place: usize, at: u32, cell: Cell) -> Result<(), NoMemory>
+        requires within { place < length self.old.cells.items }
+        requires at { at ≡ place }
+        ensures ok { OnOk result (self.new.cells.items ≡ slice_set self.old.cells.items place cell) }
+        ensures others { (self.new.index ≡ self.old.index) × (self.new.dropped ≡ self.old.dropped) × (self.new.due ≡ self.old.due) }
+        ensures undo { undone_all self.new.changes.items self.new.cells.items ≡ undone_all self.old.changes.items self.old.cells.items }
+    {
         self.changes.reserve(1)?;
         let was = mem::replace(&mut self.cells[place], cell);
         self.changes.push_reserved(Change::Replaced(at, was));

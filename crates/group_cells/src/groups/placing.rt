@@ -5,6 +5,7 @@ ghost use Rattle.beam_values.specs.Marks.{marks_at};
 ghost use Rattle.beam_values.specs.Nodes.{facts_of};
 ghost use Rattle.group_cells.specs.Arrivals.{arrived, with_arrival, with_arrivals};
 ghost use Rattle.group_cells.specs.Commits.{dropped_arrival, is_dropped};
+ghost use Rattle.group_cells.specs.Due.{IsDueOf};
 ghost use Rattle.group_cells.specs.Indexes.{IsIndexOf};
 ghost use Rattle.group_cells.specs.Rounds.{entry_of};
 ghost use Rattle.group_cells.specs.Undoing.{undone_all};
@@ -44,10 +45,12 @@ impl Draft {
         requires indexed { IsIndexOf self.old.index self.old.cells.items }
         requires facts { commit.facts.now ≡ facts_of commit.plan.now.nodes }
         requires marks { length commit.before.now ≡ length commit.plan.now.nodes }
+        requires due { IsDueOf commit.plan.now self.old.due self.old.cells.items }
         ensures ok { OnOk result (self.new.cells.items ≡ with_arrivals commit.entry.plan.now commit.entry.before.now commit.entry.number self.old.cells.items arrivals.now) }
         ensures dropped { OnOk result (self.new.dropped.items
             ≡ self.old.dropped.items ++ map (dropped_arrival commit.entry.number) (filter (is_dropped commit.entry.plan.now commit.entry.before.now) arrivals.now)) }
         ensures indexed { OnOk result (IsIndexOf self.new.index self.new.cells.items) }
+        ensures due { OnOk result (IsDueOf commit.entry.plan.now self.new.due self.new.cells.items) }
         ensures kept { take (length self.old.dropped.items) self.new.dropped.items ≡ self.old.dropped.items }
         ensures undo { undone_all self.new.changes.items self.new.cells.items ≡ undone_all self.old.changes.items self.old.cells.items }
     {
@@ -61,10 +64,12 @@ impl Draft {
         requires indexed { IsIndexOf self.old.index self.old.cells.items }
         requires facts { commit.facts.now ≡ facts_of commit.plan.now.nodes }
         requires marks { length commit.before.now ≡ length commit.plan.now.nodes }
+        requires due { IsDueOf commit.plan.now self.old.due self.old.cells.items }
         ensures ok { OnOk result (self.new.cells.items ≡ with_arrival commit.entry.plan.now commit.entry.before.now commit.entry.number self.old.cells.items arrival.now) }
         ensures dropped { OnOk result (self.new.dropped.items
             ≡ self.old.dropped.items ++ map (dropped_arrival commit.entry.number) (if is_dropped commit.entry.plan.now commit.entry.before.now arrival.now then arrival.now ∷ [] else [])) }
         ensures indexed { OnOk result (IsIndexOf self.new.index self.new.cells.items) }
+        ensures due { OnOk result (IsDueOf commit.entry.plan.now self.new.due self.new.cells.items) }
         ensures kept { take (length self.old.dropped.items) self.new.dropped.items ≡ self.old.dropped.items }
         ensures undo { undone_all self.new.changes.items self.new.cells.items ≡ undone_all self.old.changes.items self.old.cells.items }
     {
@@ -76,7 +81,7 @@ impl Draft {
         if is_dropped(&rules.trigger, arrival.element.span.end(), mark) {
             self.drop_late(alloc, commit.number, arrival)
         } else {
-            self.take_in(alloc, &rules, commit.number, arrival)
+            self.take_in(alloc, commit.plan, &rules, commit.number, arrival)
         }
     }
 
@@ -84,14 +89,17 @@ impl Draft {
     fn take_in(
         &mut self,
         alloc: Global,
+        plan: &Plan,
         rules: &Rules,
         commit: u32,
         arrival: &Arrival,
     ) -> Result<(), NoMemory>
-        requires { IsIndexOf self.old.index self.old.cells.items }
+        requires indexed { IsIndexOf self.old.index self.old.cells.items }
+        requires due { IsDueOf plan.now self.old.due self.old.cells.items }
         ensures ok { OnOk result (self.new.cells.items ≡ (if rules.now.merges then self.old.cells.items
             else arrived arrival.now.node (key_of arrival.now.element) arrival.now.element.span (entry_of commit arrival.now.element) self.old.cells.items)) }
         ensures indexed { OnOk result (IsIndexOf self.new.index self.new.cells.items) }
+        ensures due { OnOk result (IsDueOf plan.now self.new.due self.new.cells.items) }
         ensures dropped { self.new.dropped ≡ self.old.dropped }
         ensures undo { undone_all self.new.changes.items self.new.cells.items ≡ undone_all self.old.changes.items self.old.cells.items }
     {
@@ -103,13 +111,13 @@ impl Draft {
             commit,
             shown: false,
         };
-        self.take(alloc, arrival.node, entry)
+        self.take(alloc, plan, arrival.node, entry)
     }
 
     fn drop_late(&mut self, alloc: Global, commit: u32, arrival: &Arrival) -> Result<(), NoMemory>
         ensures ok { OnOk result (self.new.dropped.items ≡ self.old.dropped.items ++ dropped_arrival commit arrival.now ∷ []) }
         ensures kept { take (length self.old.dropped.items) self.new.dropped.items ≡ self.old.dropped.items }
-        ensures others { (self.new.cells ≡ self.old.cells) × (self.new.index ≡ self.old.index) × (self.new.changes ≡ self.old.changes) }
+        ensures others { (self.new.cells ≡ self.old.cells) × (self.new.index ≡ self.old.index) × (self.new.changes ≡ self.old.changes) × (self.new.due ≡ self.old.due) }
     {
         let element = arrival.element.copy(alloc)?;
         self.dropped.push(Dropped {

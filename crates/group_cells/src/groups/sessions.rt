@@ -1,10 +1,12 @@
 ghost use Rattle.std.specs.Prelude.{◌≡◌, ◌+◌, ◌≤◌, length, OnOk, IfOk, true, All};
 ghost use Rattle.beam_values.specs.Nodes.{facts_of, is_group};
+ghost use Rattle.group_cells.specs.Due.{IsDueOf};
 ghost use Rattle.group_cells.specs.Indexes.{IsIndexOf};
 ghost use Rattle.group_cells.specs.Plain.{AreAllPlaced};
 ghost use Rattle.group_cells.specs.Undoing.{undone_all};
 
 use crate::groups::draft::{Change, Draft};
+use crate::groups::due::DueCells;
 use crate::groups::index::CellIndex;
 use crate::groups::placing::Commit;
 use crate::plain::keys;
@@ -23,9 +25,11 @@ impl Draft {
         requires facts { commit.facts.now ≡ facts_of commit.plan.now.nodes }
         requires groups { All (λ arrival. is_group commit.plan.now arrival.node ≡ true) taken }
         requires indexed { IsIndexOf self.old.index self.old.cells.items }
+        requires due { IsDueOf commit.plan.now self.old.due self.old.cells.items }
         ensures ok { OnOk result (AreAllPlaced commit.entry.plan.now commit.entry.before.now commit.entry.number taken self.old.cells.items self.new.cells.items) }
         ensures grown { OnOk result (length self.new.cells.items ≤ length self.old.cells.items + length taken) }
         ensures indexed { OnOk result (IsIndexOf self.new.index self.new.cells.items) }
+        ensures due { OnOk result (IsDueOf commit.entry.plan.now self.new.due self.new.cells.items) }
         ensures dropped { self.new.dropped ≡ self.old.dropped }
         ensures undo { undone_all self.new.changes.items self.new.cells.items ≡ undone_all self.old.changes.items self.old.cells.items }
     {
@@ -47,6 +51,7 @@ impl Draft {
         ensures ok { OnOk result (AreAllPlaced commit.entry.plan.now commit.entry.before.now commit.entry.number taken self.old.cells.items self.new.cells.items) }
         ensures grown { OnOk result (length self.new.cells.items ≤ length self.old.cells.items + length taken) }
         ensures indexed { OnOk result (IsIndexOf self.new.index self.new.cells.items) }
+        ensures due { OnOk result (IsDueOf commit.entry.plan.now self.new.due self.new.cells.items) }
         ensures dropped { self.new.dropped ≡ self.old.dropped }
         ensures undo { undone_all self.new.changes.items self.new.cells.items ≡ undone_all self.old.changes.items self.old.cells.items }
     {
@@ -61,10 +66,12 @@ impl Draft {
             &mut cells,
         )?;
         let index = CellIndex::of(alloc, cells.as_slice())?;
+        let due = DueCells::of(alloc, commit.plan, cells.as_slice())?;
         self.changes.reserve(1)?;
         let was = mem::replace(&mut self.cells, cells);
         self.changes.push_reserved(Change::Whole(was));
         self.index = index;
+        self.due = due;
         Ok(())
     }
 }

@@ -1,4 +1,4 @@
-use Rattle.std.proofs.Common.{◌≡◌, ◌+◌, ◌++◌, List, ap, arith, length, map, refl, subst, sym, ◌∙◌}
+use Rattle.std.proofs.Common.{◌≡◌, ◌+◌, ◌++◌, List, ap, arith, length, map, refl, subst, sym, true, ◌∙◌}
 use Rattle.std.specs.Prelude.{not}
 use Rattle.std.specs.List.{filter}
 use Rattle.beam_values.specs.declared.arrival.Arrival.{Arrival}
@@ -8,6 +8,7 @@ use Rattle.beam_values.specs.declared.plan.Plan.{Plan}
 use Rattle.watermarks.specs.Holds.{hold_at}
 use Rattle.group_cells.specs.Arrivals.{UnmergedStand}
 use Rattle.group_cells.specs.Commits.{IsCommitted, KeepsLegal, NoneFalls, SeenGroups, dropped_arrival, is_at_group, is_dropped}
+use Rattle.group_cells.specs.Due.{IsDueOf}
 use Rattle.group_cells.specs.Plain.{AreCells, AreCellsNext}
 use Rattle.group_cells.proofs.AllKeys.{keep_legal}
 use Rattle.group_cells.proofs.FiredFew.{commit_few}
@@ -26,6 +27,7 @@ invariant_of-self-2 c =
           (cells_kept c.args.plan.now c.args.marks.now (hold_at c.args.holds.now) c.args.commit c.as_slice.result.now c.self.inside.draft.cells.items new.cells.items next.marks next.fired was c.in_ok-next.ensures.cells);
       stand = subst (λ (p : Plan). UnmergedStand p new.cells.items) (sym plan_is) c.in_ok-next.ensures.stand;
       index = λ e. c.in_ok-next.ensures.indexed;
+      due = subst (λ (p : Plan). true ≡ true → IsDueOf p new.due new.cells.items) (sym plan_is) (λ e. c.in_ok-next.ensures.due);
       small = c.in_ok-next.ensures.small;
       changes = c.in_ok-next.ensures.changes;
     }

@@ -20,6 +20,7 @@ loop-n-preserved c =
       fired = subst (λ (l : List Pane). AreFiredBelow plan before (hold_at holds) c.args.commit c.args.self.now.cells.items (n + 1) c.fire_node.new.self.cells.items c.fire_node.new.marks.items l) (sym c.in_ok-append.ensures.ok)
           (fired_more plan before (hold_at holds) c.args.commit c.args.self.now.cells.items n c.loop-n.self.cells.items c.fire_node.new.self.cells.items c.loop-n.marks.items c.fire_node.new.marks.items c.loop-n.fired
           c.in_ok-panes.panes c.requires.checked c.loop-n.invariant.fired done);
+      due = c.in_ok-panes.ensures.due;
       others = (c.fire_node.ensures.others.0 ∙ c.loop-n.invariant.others.0, c.fire_node.ensures.others.1 ∙ c.loop-n.invariant.others.1);
       undo = c.fire_node.ensures.undo ∙ c.loop-n.invariant.undo;
     }

@@ -1,20 +1,17 @@
-use Rattle.std.proofs.Common.{◌<◌, ◌∙◌, arith, length}
-use Rattle.group_cells.specs.Plain.{after_node}
-use Rattle.group_cells.proofs.FireSteps.{fired_step, still_within}
+use Rattle.std.proofs.Common.{List, ℕ, subst, sym}
+use Rattle.std.specs.List.Sorted.{IsNonDecreasing}
+use Rattle.std.proofs.lemmas.List.Sorted.{IsNonDecreasingBy-from_sort}
+use Rattle.group_cells.specs.FiredUpTo.{AreAllDue}
+use Rattle.group_cells.proofs.FiredPlaces.{all_listed, upto_final}
 use Rattle.group_cells.proofs.groups.draft.Draft.fire_cells.Goals as goal
 
-pub loop-place-preserved : goal.loop-place-preserved
-loop-place-preserved c =
-    let xs = c.args.self.now.cells.items in
-    let items = c.loop-place.self.cells.items in
-    let i = c.loop-place.place in
-    let inside : i < length xs = omega (arith, c.args.self.now.cells.ok, c.len-count.ensures) in
-    let step = fired_step c.args.rules.now c.args.node c.args.commit c.args.mark xs items c.fire.new.self.cells.items i c.loop-place.panes.items c.push_if.new.panes.items c.in_ok-pane.pane
-    (still_within (after_node c.args.rules.now c.args.node c.args.mark) xs items i inside c.loop-place.invariant.cells) c.loop-place.invariant.cells c.loop-place.invariant.panes
-    c.in_ok-pane.ensures.cells c.in_ok-pane.ensures.pane c.in_ok-push_if.ensures in
-    record {
-      cells = step.0;
-      panes = step.1;
-      others = (c.fire.ensures.others.0 ∙ c.loop-place.invariant.others.0, c.fire.ensures.others.1 ∙ c.loop-place.invariant.others.1);
-      undo = c.fire.ensures.undo ∙ c.loop-place.invariant.undo;
-    }
+pub fire_places-requires-clause-ascending : goal.fire_places-requires-clause-ascending
+fire_places-requires-clause-ascending c =
+    subst (λ (l : List ℕ). IsNonDecreasing l) (sym c.as_slice.ensures.value) (IsNonDecreasingBy-from_sort (λ (x : ℕ). x) c.sort_unstable.new.self.items c.sort_unstable.ensures.sorted)
+
+pub fire_places-requires-clause-all : goal.fire_places-requires-clause-all
+fire_places-requires-clause-all c =
+    subst (λ (l : List ℕ). AreAllDue c.args.rules.now c.args.node c.args.mark c.args.self.now.cells.items l) (sym c.as_slice.ensures.value)
+    (all_listed c.args.plan.now c.args.rules.now c.args.node c.args.mark c.args.self.now.due c.args.self.now.cells.items c.in_ok-places.places.items c.sort_unstable.new.self.items
+    c.requires.trigger c.ms-reached.ensures.within.0 (upto_final c.args.mark c.ms-reached.ensures.within) c.requires.due c.cells_are_due_from_their_next_mark_on.ensures c.the_next_mark_is_the_least.ensures
+    c.in_ok-places.ensures c.sort_unstable.ensures.permutation)

@@ -16,5 +16,6 @@ loop-arrival-preserved c = record {
       ∙ c.loop-arrival.invariant.dropped;
   kept = kept_longer c.args.self.now.dropped.items c.loop-arrival.self.dropped.items c.place.new.self.dropped.items c.loop-arrival.invariant.kept c.in_ok-place.ensures.kept;
   indexed = c.in_ok-place.ensures.indexed;
+  due = c.in_ok-place.ensures.due;
   undo = c.in_ok-place.ensures.undo ∙ c.loop-arrival.invariant.undo;
 }

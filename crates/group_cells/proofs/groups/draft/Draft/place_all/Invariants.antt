@@ -2,6 +2,7 @@ use Rattle.std.proofs.Common.{◌≡◌, ◌++◌, length, take, drop, map}
 use Rattle.std.specs.List.{filter}
 use Rattle.group_cells.specs.Arrivals.{with_arrivals}
 use Rattle.group_cells.specs.Commits.{dropped_arrival, is_dropped}
+use Rattle.group_cells.specs.Due.{IsDueOf}
 use Rattle.group_cells.specs.Indexes.{IsIndexOf}
 use Rattle.group_cells.specs.Undoing.{undone_all}
 use Rattle.group_cells.proofs.groups.draft.Draft.place_all.Given as goal
@@ -14,5 +15,6 @@ invariant-loop-arrival l = record {
       ≡ l.fn.self.dropped.items ++ map (dropped_arrival l.commit.number) (filter (is_dropped l.commit.plan.now l.commit.before.now) l.arrivals);
   kept : take (length l.fn.self.dropped.items) l.self.dropped.items ≡ l.fn.self.dropped.items;
   indexed : IsIndexOf l.self.index l.self.cells.items;
+  due : IsDueOf l.commit.plan.now l.self.due l.self.cells.items;
   undo : undone_all l.self.changes.items l.self.cells.items ≡ undone_all l.fn.self.changes.items l.fn.self.cells.items;
 }

@@ -8,15 +8,15 @@ use Rattle.group_cells.proofs.groups.draft.Draft.take.Goals as goal
 pub returns-in-Some-clause-ok : goal.returns-in-Some-clause-ok
 returns-in-Some-clause-ok c =
     let at : Some c.in-Some.place ≡ place_of c.args.node (key_of c.args.entry.element) c.args.entry.element.span c.args.self.now.cells.items =
-    c.in-Some.ensures c.args.self.now.cells.items c.requires ∙ ap (λ k. place_of k.node k.key k.span c.args.self.now.cells.items) c.in_ok-key.ensures in
-    on_ok_weaker c.put.result (taken_at c.args.node (key_of c.args.entry.element) c.args.entry.element.span c.args.entry c.args.self.now.cells.items c.put.new.self.cells.items c.in-Some.place at) c.put.ensures.ok
+    c.in-Some.ensures c.args.self.now.cells.items c.requires.indexed ∙ ap (λ k. place_of k.node k.key k.span c.args.self.now.cells.items) c.in_ok-key.ensures in
+    on_ok_weaker c.put_unseen.result (taken_at c.args.node (key_of c.args.entry.element) c.args.entry.element.span c.args.entry c.args.self.now.cells.items c.put_unseen.new.self.cells.items c.in-Some.place at) c.put_unseen.ensures.ok
 
 pub returns-in-Some-clause-indexed : goal.returns-in-Some-clause-indexed
 returns-in-Some-clause-indexed c =
-    on_ok_weaker c.put.result (index_taken c.args.self.now.index c.put.new.self.index c.in_ok-key.key c.args.self.now.cells.items c.put.new.self.cells.items c.in-Some.place c.args.entry
-    c.put.ensures.others.0 (c.in-Some.ensures c.args.self.now.cells.items c.requires) c.requires) c.put.ensures.ok
+    on_ok_weaker c.put_unseen.result (index_taken c.args.self.now.index c.put_unseen.new.self.index c.in_ok-key.key c.args.self.now.cells.items c.put_unseen.new.self.cells.items c.in-Some.place c.args.entry
+    c.put_unseen.ensures.others.0 (c.in-Some.ensures c.args.self.now.cells.items c.requires.indexed) c.requires.indexed) c.put_unseen.ensures.ok
 
 pub returns-in_ok-cell-in-None-clause-ok : goal.returns-in_ok-cell-in-None-clause-ok
 returns-in_ok-cell-in-None-clause-ok c =
     on_ok_weaker c.open.result (first_taken c.in_ok-key.key c.args.node c.args.entry c.args.self.now.cells.items c.open.new.self.cells.items c.in_ok-cell-in-None.cell
-    c.in_ok-key.ensures c.in_ok-cell-in-None.ensures (c.in-None.ensures c.args.self.now.cells.items c.requires)) c.open.ensures.ok
+    c.in_ok-key.ensures c.in_ok-cell-in-None.ensures (c.in-None.ensures c.args.self.now.cells.items c.requires.indexed)) c.open.ensures.ok

@@ -1,4 +1,4 @@
-use Rattle.std.proofs.Common.{◌≡◌, ◌<◌, ◌^◌, ◌≤ℤ◌, ℤ, List, ℕ, Contains, map, subst, sym, true}
+use Rattle.std.proofs.Common.{◌≡◌, ◌<◌, ◌^◌, ◌≤ℤ◌, List, ℕ, Contains, map, subst, sym, true}
 use Rattle.std.specs.BTreeSet.{contains, keys_between}
 use Rattle.std.specs.declared.ops.Bound.TheVariants.{Included}
 use Rattle.std.proofs.lemmas.Result.{IfOk-weaker}

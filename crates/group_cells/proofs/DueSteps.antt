@@ -1,0 +1,63 @@
+-- The set of the due once a cell took an entry, or became another.
+use Rattle.std.proofs.Common.{◌≡◌, ℕ, ◌+◌, ◌<◌, ℤ, Bool, false, cond, not, List, [], ◌∷◌, ◌++◌, length, get_or, Option, Some, sym, ap, subst, ◌∙◌, arith}
+use Rattle.std.proofs.Math.ListN.{set, length-set}
+use Rattle.std.specs.Prelude.{slice_get, slice_set}
+use Rattle.std.specs.List.{count_by}
+use Rattle.std.proofs.lemmas.List.{get_or-set_same, length-map}
+use Rattle.std.proofs.lemmas.List.Sums.{sum_by-cons}
+use Rattle.beam_values.specs.declared.cell.Cell.{Cell}
+use Rattle.beam_values.specs.declared.cell.Entry.{Entry}
+use Rattle.beam_values.specs.declared.plan.Plan.{Plan}
+use Rattle.group_cells.specs.Cells.{unseen_in}
+use Rattle.group_cells.specs.Due.{IsDueOf, own_moment}
+use Rattle.group_cells.specs.Placing.{with_entry}
+use Rattle.group_cells.specs.declared.groups.due.DueCells.{DueCells}
+use Rattle.group_cells.proofs.Counting.{count-append}
+use Rattle.group_cells.proofs.FireSteps.{read_is}
+use Rattle.group_cells.proofs.Taking.{with_cell}
+
+pub counts_length : (plan : Plan) (due : DueCells) (cells : List Cell) → IsDueOf plan due cells → length due.unseen.items ≡ length cells
+counts_length plan due cells h = ap length h.counts ∙ length-map cells (λ cell. unseen_in cell.entries)
+
+unseen_more : (entries : List Entry) (entry : Entry) → entry.shown ≡ false → unseen_in (entries ++ entry ∷ []) ≡ unseen_in entries + 1
+unseen_more entries entry e =
+    let one : count_by (λ (x : Entry). not x.shown) (entry ∷ []) ≡ cond (not entry.shown) 1 0 + count_by (λ (x : Entry). not x.shown) [] =
+    sum_by-cons (λ (x : Entry). cond {A = ℕ} (not x.shown) 1 0) entry [] in
+    let on : cond {A = ℕ} (not entry.shown) 1 0 ≡ 1 = ap (λ (b : Bool). cond {A = ℕ} (not b) 1 0) e in
+    omega (arith, count-append (λ (x : Entry). not x.shown) entries (entry ∷ []), one, on)
+
+-- what `change` promises
+abbrev pub IsChanged : Plan → DueCells → DueCells → ℕ → Option ℤ → Cell → ℕ → Type 0
+IsChanged plan old new place was cell count =
+    (cells : List Cell) (before : Cell) → IsDueOf plan old cells → slice_get cells place ≡ Some before → was ≡ own_moment plan before → cell.node ≡ before.node
+    → count ≡ unseen_in cell.entries → IsDueOf plan new (slice_set cells place cell)
+
+abbrev pub IsMomentAt : Plan → DueCells → ℕ → Cell → Option ℤ → Type 0
+IsMomentAt plan due place cell was = (cells : List Cell) → IsDueOf plan due cells → slice_get cells place ≡ Some cell → was ≡ own_moment plan cell
+
+pub put_due : (plan : Plan) (old new : DueCells) (cells after : List Cell) (place : ℕ) (entry : Entry) (was : Option ℤ) (count : ℕ) (first last_ : Cell) → place < length cells
+    → IsDueOf plan old cells → ((cell : Cell) → slice_get cells place ≡ Some cell → after ≡ slice_set cells place (with_entry entry cell)) → entry.shown ≡ false
+    → first ≡ get_or cells place first → IsMomentAt plan old place first was
+    → ((p : Plan) (l : List Cell) (cell : Cell) → IsDueOf p old l → slice_get l place ≡ Some cell → count ≡ unseen_in cell.entries + 1)
+    → last_ ≡ get_or after place last_ → IsChanged plan old new place was last_ count → IsDueOf plan new after
+put_due plan old new cells after place entry was count first last_ within h put unshown read moment counted again changed = with_cell cells place within (λ cell found.
+    let here : first ≡ cell = read_is cells place first cell read found in
+    let made : last_ ≡ with_entry entry cell = again ∙ ap (λ l. get_or l place last_) (put cell found) ∙ get_or-set_same cells place (with_entry entry cell) last_ within in
+    subst (λ (l : List Cell). IsDueOf plan new l) (ap (set cells place) made ∙ sym (put cell found))
+    (changed cells cell h found (moment cells h (found ∙ ap (λ (x : Cell). Some x) (sym here)) ∙ ap (own_moment plan) here) (ap (λ (x : Cell). x.node) made)
+    (counted plan cells cell h found ∙ sym (unseen_more cell.entries entry unshown) ∙ ap (λ (x : Cell). unseen_in x.entries) (sym made))))
+
+pub replaced_due : (plan : Plan) (old new : DueCells) (cells after : List Cell) (place : ℕ) (cell : Cell) (was : Option ℤ) (count : ℕ) (first last_ : Cell) → place < length cells
+    → IsDueOf plan old cells → ((x : Cell) → slice_get cells place ≡ Some x → cell.node ≡ x.node) → after ≡ slice_set cells place cell
+    → first ≡ get_or cells place first → IsMomentAt plan old place first was → count ≡ unseen_in cell.entries
+    → last_ ≡ get_or after place last_ → IsChanged plan old new place was last_ count → IsDueOf plan new after
+replaced_due plan old new cells after place cell was count first last_ within h nodes is read moment counted again changed = with_cell cells place within (λ x found.
+    let here : first ≡ x = read_is cells place first x read found in
+    let made : last_ ≡ cell = again ∙ ap (λ l. get_or l place last_) is ∙ get_or-set_same cells place cell last_ within in
+    subst (λ (l : List Cell). IsDueOf plan new l) (ap (set cells place) made ∙ sym is)
+    (changed cells x h found (moment cells h (found ∙ ap (λ (y : Cell). Some y) (sym here)) ∙ ap (own_moment plan) here) (ap (λ (y : Cell). y.node) made ∙ nodes x found)
+    (counted ∙ ap (λ (y : Cell). unseen_in y.entries) (sym made))))
+
+pub put_length : (cells after : List Cell) (place : ℕ) (entry : Entry) → place < length cells
+    → ((cell : Cell) → slice_get cells place ≡ Some cell → after ≡ slice_set cells place (with_entry entry cell)) → length after ≡ length cells
+put_length cells after place entry within put = with_cell cells place within (λ cell found. ap length (put cell found) ∙ length-set cells place (with_entry entry cell))

@@ -1,0 +1,27 @@
+use Rattle.std.proofs.Common.{List, ap, arith, length, subst, sym, true, ◌≡◌}
+use Rattle.std.proofs.lemmas.List.Elements.{All-nil}
+use Rattle.beam_values.specs.Nodes.{is_group}
+use Rattle.beam_values.specs.declared.cell.Cell.{Cell}
+use Rattle.beam_model.specs.Panes.{IsKeyed}
+use Rattle.group_cells.specs.Arrivals.{UnmergedStand}
+use Rattle.group_cells.specs.Due.{IsDueOf}
+use Rattle.group_cells.specs.Indexes.{IsIndexOf}
+use Rattle.group_cells.specs.Plain.{AreCells}
+use Rattle.group_cells.proofs.groups.Groups.new.Goals as goal
+
+pub invariant_of-result : goal.invariant_of-result
+invariant_of-result c =
+    let plan = c.in_ok-copy.field-0 in
+    let none = sym c.new.ensures.items in
+    record {
+      cells = subst (λ (l : List Cell). AreCells plan l) none (record {
+        groups = All-nil (λ (cell : Cell). is_group plan cell.node ≡ true);
+        keyed = All-nil IsKeyed;
+        once = λ node key w. omega arith;
+      });
+      stand = subst (λ (l : List Cell). UnmergedStand plan l) none (record { each = λ node key group unmerged. tt });
+      index = λ _. subst (λ (l : List Cell). IsIndexOf c.new-3.result l) none c.new-3.ensures;
+      due = λ _. subst (λ (l : List Cell). IsDueOf plan c.new-4.result l) none (c.new-4.ensures plan);
+      small = omega (arith, ap length c.new.ensures.items);
+      changes = c.new-5.ensures.items;
+    }

@@ -1,0 +1,25 @@
+-- The cells of a Group up to a place, once those of them that are due fired.
+use Rattle.std.specs.Prelude.{◌≡◌, ◌⊎◌, ℕ, ◌≤◌, ◌<◌, ℤ, Contains, List, ◌++◌, length, map, take, drop, slice_get, IsSome, Some, None}
+use Rattle.beam_values.specs.declared.cell.Cell.{Cell}
+use Rattle.beam_values.specs.declared.cell.Pane.{Pane}
+use Rattle.beam_model.specs.Panes.{GroupRules}
+use Rattle.group_cells.specs.Plain.{after_node, AreFired, firing_at}
+
+pub record AreFiredUpTo (rules : GroupRules) (node c : ℕ) (mark : ℤ) (cells : List Cell) (done : ℕ) (new : List Cell) (fired : List Pane) : Type 0 where
+  pub within : done ≤ length cells
+  pub written : new ≡ map (after_node rules node mark) (take done cells) ++ drop done cells
+  pub each : AreFired rules node c mark (take done cells) fired
+
+-- no cell from one place on and below another is due
+abbrev pub IsNoneDue : GroupRules → ℕ → ℤ → List Cell → ℕ → ℕ → Type 0
+IsNoneDue rules node mark cells from_ to_ = (place : ℕ) (cell : Cell) → from_ ≤ place → place < to_ → slice_get cells place ≡ Some cell → firing_at rules node mark cell ≡ None
+
+-- each cell that is due is at one of these places
+abbrev pub AreAllDue : GroupRules → ℕ → ℤ → List Cell → List ℕ → Type 0
+AreAllDue rules node mark cells places = (place : ℕ) (cell : Cell) → slice_get cells place ≡ Some cell → IsSome (firing_at rules node mark cell) → Contains places place
+
+-- and up to a later place, with one cell more: it is passed, or there is none at its place
+pub record IsFiredPast (rules : GroupRules) (node c : ℕ) (mark : ℤ) (cells : List Cell) (place done next : ℕ) (new : List Cell) (fired : List Pane) : Type 0 where
+  pub upto : AreFiredUpTo rules node c mark cells next new fired
+  pub on : done ≤ next
+  pub past : (place < next) ⊎ (length cells ≤ place)
