@@ -39,7 +39,7 @@ use Rattle.book_core.proofs.Taking.{IsAmong, IsOldest, take_cases}
 
 -- ---- done ranges stay in order
 
-done_total : IsTotalOrder done_cmp
+pub done_total : IsTotalOrder done_cmp
 done_total =
     then_total (on_total (λ (d : Done). d.node) nat_cmp_total)
     (then_total (on_total (λ (d : Done). d.item) nat_cmp_total)

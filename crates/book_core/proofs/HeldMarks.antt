@@ -1,6 +1,6 @@
 -- The marks that are held at each node, as holds come and go.
 use Rattle.std.proofs.Common.{◌≡◌, ◌⊎◌, inl, inr, ℕ, zero, suc, ◌<◌, ℤ, Bool, true, false, cond, List, [], ◌∷◌, map, length, refl, sym, ap, subst, ◌∙◌, arith}
-use Rattle.std.specs.Prelude.{slice_get, slice_set, get_or, ◌==◌, Contains, unwrap_or, Option, Some, None}
+use Rattle.std.specs.Prelude.{slice_get, slice_set, get_or, ◌==◌, ◌+◌, ◌≤◌, Contains, unwrap_or, Option, Some, None}
 use Rattle.std.specs.Int.{int_min}
 use Rattle.std.specs.Option.{option_map}
 use Rattle.std.specs.List.{sum_by, filter, fold}
@@ -16,16 +16,16 @@ use Rattle.beam_values.proofs.Bags.{bag_sym, bag_trans, bag_cons}
 use Rattle.beam_model.specs.Holds.{Hold, marks_held, least_hold}
 use Rattle.watermarks.proofs.BagMembers.{bag_least, bag_contains}
 use Rattle.watermarks.specs.Holds.{SeenHolds}
-use Rattle.book_core.specs.Indexes.{marks_in, least_in, AreHeldIn}
+use Rattle.book_core.specs.Indexes.{marks_in, least_in, room_in, AreHeldIn}
 
 -- ---- one node's marks are set
 
-slice_get-set_same : {X : Type 0} (xs : List X) (i : ℕ) (x : X) → i < length xs → slice_get (slice_set xs i x) i ≡ Some x
+pub slice_get-set_same : {X : Type 0} (xs : List X) (i : ℕ) (x : X) → i < length xs → slice_get (slice_set xs i x) i ≡ Some x
 slice_get-set_same [] i x h = absurd (omega arith)
 slice_get-set_same (y ∷ ys) zero x h = refl
 slice_get-set_same (y ∷ ys) (suc i) x h = slice_get-set_same ys i x (omega arith)
 
-slice_get-set_other : {X : Type 0} (xs : List X) (i j : ℕ) (x : X) → (j ≡ i → ⊥) → slice_get (slice_set xs i x) j ≡ slice_get xs j
+pub slice_get-set_other : {X : Type 0} (xs : List X) (i j : ℕ) (x : X) → (j ≡ i → ⊥) → slice_get (slice_set xs i x) j ≡ slice_get xs j
 slice_get-set_other [] i j x h = refl
 slice_get-set_other (y ∷ ys) zero zero x h = absurd (h refl)
 slice_get-set_other (y ∷ ys) zero (suc j) x h = refl
@@ -36,13 +36,13 @@ held_cons : (h : Hold) (holds : List Hold) (n : ℕ) (t : Bool) → (h.node == n
 held_cons h holds n true e = ap (λ (b : Bool). map (λ (x : Hold). x.mark) (cond b (h ∷ filter (λ (x : Hold). x.node == n) holds) (filter (λ (x : Hold). x.node == n) holds))) e
 held_cons h holds n false e = ap (λ (b : Bool). map (λ (x : Hold). x.mark) (cond b (h ∷ filter (λ (x : Hold). x.node == n) holds) (filter (λ (x : Hold). x.node == n) holds))) e
 
-eq_true : (a b : ℕ) → a ≡ b → (a == b) ≡ true
+pub eq_true : (a b : ℕ) → a ≡ b → (a == b) ≡ true
 eq_true a b e = grind (arith, Rattle.std.proofs.lemmas.Bool.Decides.nat_tests)
 
-eq_false : (a b : ℕ) → (b ≡ a → ⊥) → (a == b) ≡ false
+pub eq_false : (a b : ℕ) → (b ≡ a → ⊥) → (a == b) ≡ false
 eq_false a b e = grind (arith, Rattle.std.proofs.lemmas.Bool.Decides.nat_tests)
 
-same_or_not : (a b : ℕ) → (a ≡ b) ⊎ (a ≡ b → ⊥)
+pub same_or_not : (a b : ℕ) → (a ≡ b) ⊎ (a ≡ b → ⊥)
 same_or_not a b = grind arith
 
 pub marks_here : (held : List SeenHolds) (node : ℕ) (new : SeenHolds) → node < length held → marks_in (slice_set held node new) node ≡ new.marks
@@ -68,6 +68,44 @@ added held node mark old new within is bag holds h = record { each = λ n. by n 
         (subst (λ (ms : List ℤ). IsSameBag ms (mark ∷ marks_held holds n)) (sym (ap (marks_in (slice_set held node new)) e ∙ marks_here held node new within))
         (bag_trans new.marks (mark ∷ old.marks) (mark ∷ marks_held holds n) bag (bag_cons mark old.marks (marks_held holds n)
         (subst (λ (ms : List ℤ). IsSameBag ms (marks_held holds n)) (ap (marks_in held) e ∙ marks_read held node old within is) (h.each n)))))
+
+-- a mark that is listed is taken out
+pub removed : (held : List SeenHolds) (node : ℕ) (mark : ℤ) (old new : SeenHolds) → node < length held → old ≡ get_or held node old → IsSameBag old.marks (mark ∷ new.marks)
+    → (holds : List Hold) → AreHeldIn held (record { node = node; mark = mark } ∷ holds) → AreHeldIn (slice_set held node new) holds
+removed held node mark old new within is bag holds h = record { each = λ n. by n (same_or_not n node) }
+  where
+    by : (n : ℕ) → (n ≡ node) ⊎ (n ≡ node → ⊥) → IsSameBag (marks_in (slice_set held node new) n) (marks_held holds n)
+    by n (inr other) =
+        subst (λ (ms : List ℤ). IsSameBag ms (marks_held holds n)) (sym (marks_there held node n new other))
+        (subst (λ (ms : List ℤ). IsSameBag (marks_in held n) ms) (held_cons (record { node = node; mark = mark }) holds n false (eq_false node n other)) (h.each n))
+    by n (inl e) =
+        let here : IsSameBag old.marks (mark ∷ marks_held holds n) =
+        subst (λ (ms : List ℤ). IsSameBag ms (mark ∷ marks_held holds n)) (ap (marks_in held) e ∙ marks_read held node old within is)
+        (subst (λ (ms : List ℤ). IsSameBag (marks_in held n) ms) (held_cons (record { node = node; mark = mark }) holds n true (eq_true node n (sym e))) (h.each n)) in
+        subst (λ (ms : List ℤ). IsSameBag ms (marks_held holds n)) (sym (ap (marks_in (slice_set held node new)) e ∙ marks_here held node new within))
+        (record { weighs = λ w. omega (arith, bag.weighs w, here.weighs w, sum_by-cons w mark new.marks, sum_by-cons w mark (marks_held holds n)) })
+
+-- ---- room
+
+room_of : Option SeenHolds → ℕ
+room_of o = unwrap_or (option_map (λ (h : SeenHolds). h.room) o) 0
+
+-- one node's marks are set: each node has as much room, but for so many places
+pub room_set : (held : List SeenHolds) (node : ℕ) (old new : SeenHolds) (more : ℕ) → node < length held → old ≡ get_or held node old → old.room ≤ new.room + more
+    → (n : ℕ) → room_in held n ≤ room_in (slice_set held node new) n + more
+unfolding room_of
+room_set held node old new more within is room n = by (same_or_not n node)
+  where
+    by : (n ≡ node) ⊎ (n ≡ node → ⊥) → room_in held n ≤ room_in (slice_set held node new) n + more
+    by (inr other) = omega (arith, ap room_of (slice_get-set_other held node n new other))
+    by (inl e) =
+        let was : room_in held n ≡ old.room = ap (room_in held) e ∙ ap room_of (slice_get-get_or held node old within) ∙ ap (λ (h : SeenHolds). h.room) (sym is) in
+        let now : room_in (slice_set held node new) n ≡ new.room = ap (room_in (slice_set held node new)) e ∙ ap room_of (slice_get-set_same held node new within) in
+        omega (arith, was, now, room)
+
+pub room_kept : (held : List SeenHolds) (node : ℕ) (old new : SeenHolds) → node < length held → old ≡ get_or held node old → old.room ≤ new.room
+    → (n : ℕ) → room_in held n ≤ room_in (slice_set held node new) n
+room_kept held node old new within is room n = omega (arith, room_set held node old new 0 within is (omega (arith, room)) n)
 
 -- a hold that is listed is of a node that has marks
 pub held_within : (held : List SeenHolds) (h : Hold) (holds : List Hold) → AreHeldIn held (h ∷ holds) → h.node < length held

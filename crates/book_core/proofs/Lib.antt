@@ -47,3 +47,10 @@ pub mod EarlyEnds
 pub mod EarlyAlways
 pub mod Lowered
 pub mod TakenLeft
+pub mod Rooms
+pub mod CommitParts
+pub mod CommitRooms
+pub mod CommitFired
+pub mod CommitHolds
+pub mod CommitStep
+pub mod CommitCalls

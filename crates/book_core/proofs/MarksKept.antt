@@ -43,10 +43,10 @@ use Rattle.book_core.proofs.Slotted.{All-append_left, All-append_right, All-flat
 abbrev pub IsUp : Plan → List StageMarks → ℕ → ℤ → Type 0
 IsUp plan before node mark = node < length plan.nodes → (marks_at before node).mark_out ≤ℤ mark
 
-is_up : Plan → List StageMarks → ℕ → ℤ → Bool
+pub is_up : Plan → List StageMarks → ℕ → ℤ → Bool
 is_up plan before node mark = cond (nat_lt node (length plan.nodes)) (int_le (marks_at before node).mark_out mark) true
 
-up_from : (plan : Plan) (before : List StageMarks) (node : ℕ) (mark : ℤ) → IsUp plan before node mark → is_up plan before node mark ≡ true
+pub up_from : (plan : Plan) (before : List StageMarks) (node : ℕ) (mark : ℤ) → IsUp plan before node mark → is_up plan before node mark ≡ true
 unfolding is_up
 up_from plan before node mark h = by (nat_lt node (length plan.nodes)) refl
   where
@@ -57,7 +57,7 @@ up_from plan before node mark h = by (nat_lt node (length plan.nodes)) refl
     by true e = let less : node < length plan.nodes = grind (arith, nat_tests) in le_true (marks_at before node).mark_out mark (h less)
     by false e = refl
 
-up_is : (plan : Plan) (before : List StageMarks) (node : ℕ) (mark : ℤ) → is_up plan before node mark ≡ true → IsUp plan before node mark
+pub up_is : (plan : Plan) (before : List StageMarks) (node : ℕ) (mark : ℤ) → is_up plan before node mark ≡ true → IsUp plan before node mark
 unfolding is_up
 up_is plan before node mark h less = le_from (marks_at before node).mark_out mark (sym (ap (λ (t : Bool). cond t (int_le (marks_at before node).mark_out mark) true) e) ∙ h)
   where
@@ -101,10 +101,10 @@ item_there [] n less = absurd (omega arith)
 item_there (x ∷ xs) zero less = (x, refl)
 item_there (x ∷ xs) (suc n) less = item_there xs n (omega arith)
 
-further : (a b c : ℤ) → a ≤ℤ b → b ≤ℤ c → a ≤ℤ c
+pub further : (a b c : ℤ) → a ≤ℤ b → b ≤ℤ c → a ≤ℤ c
 further a b c p q = omega (arith, ints)
 
-holds_up : (plan : Plan) (hs : List Hold) (before : List StageMarks) → AreMarks plan (least_hold hs) before → All (λ hold. IsUp plan before hold.node hold.mark) hs
+pub holds_up : (plan : Plan) (hs : List Hold) (before : List StageMarks) → AreMarks plan (least_hold hs) before → All (λ hold. IsUp plan before hold.node hold.mark) hs
 holds_up plan hs before marked =
     All-weaker (λ hold. least_hold hs hold.node ≤ℤ hold.mark) (λ hold. IsUp plan before hold.node hold.mark)
     (λ hold low less.
@@ -113,7 +113,7 @@ holds_up plan hs before marked =
     hs (least_below hs)
 
 -- where no hold is below the marks before, no mark falls
-rise_from : (plan : Plan) (old new : List Hold) (before after : List StageMarks) → IsChecked plan → AreMarks plan (least_hold old) before → AreMarks plan (least_hold new) after
+pub rise_from : (plan : Plan) (old new : List Hold) (before after : List StageMarks) → IsChecked plan → AreMarks plan (least_hold old) before → AreMarks plan (least_hold new) after
     → All (λ hold. IsUp plan before hold.node hold.mark) new → NoneFalls before after
 rise_from plan old new before after checked was is up = marks_rise plan (least_hold old) (least_hold new) before after checked was is above
   where

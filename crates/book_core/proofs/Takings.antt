@@ -293,10 +293,6 @@ oldest_within b node h =
     let there = first_is_due b (Oldest (oldest_batch b node)) h in
     slice_get_within b.queues node (there.first ∷ there.later) there.queue
 
-pub queue_there : (b : BookData) (node : ℕ) (queue : List WaitingPane) → node < length b.queues → queue ≡ get_or b.queues node queue → queue_at b node ≡ queue
-queue_there b node queue within is =
-    ap (λ (o : Option (List WaitingPane)). unwrap_or o []) (slice_get-get_or b.queues node queue within) ∙ sym is
-
 pub more_batches : (b : BookData) (held_marks : List SeenHolds) (piece_room batch_room more : ℕ) (returned : List Batch) → returned ≡ b.returned → batch_room ≤ more
     → IsIndexed b held_marks piece_room batch_room → IsIndexed (record b { returned = returned }) held_marks piece_room more
 more_batches b held_marks piece_room batch_room more returned e room k =
@@ -306,11 +302,6 @@ more_batches b held_marks piece_room batch_room more returned e room k =
 pub batch_is : (b : BookData) (node : ℕ) (panes queue : List WaitingPane) → panes ≡ take b.options.bundle queue → queue_at b node ≡ queue
     → record { node = node; panes = panes; attempts = 0 } ≡ oldest_batch b node
 batch_is b node panes queue e f = ap (λ (l : List WaitingPane). record { node = node; panes = l; attempts = 0 }) (e ∙ ap (take b.options.bundle) (sym f))
-
-pub queue_in : (b : BookData) (node : ℕ) (queues : List (List WaitingPane)) (queue : List WaitingPane) → b.queues ≡ queues → node < length queues → queue ≡ get_or queues node queue
-    → queue_at b node ≡ queue
-queue_in b node queues queue e within is =
-    queue_there b node queue (omega (arith, within, ap (λ (l : List (List WaitingPane)). length l) e)) (is ∙ ap (λ (l : List (List WaitingPane)). get_or l node queue) (sym e))
 
 pub not_found : (found : Option DueAt) → ((place : DueAt) → found ≡ Some place → ⊥) → found ≡ None
 not_found None h = refl

@@ -1,4 +1,5 @@
 -- What contracts see of a book, and what it keeps.
+use Rattle.std.specs.Prelude.{◌≡◌, map}
 use Rattle.book_core.specs.Book.{BookData}
 use Rattle.book_core.specs.Indexes.{IsIndexed}
 use Rattle.book_core.specs.declared.book.Book.TheInside.{Inside}
@@ -10,18 +11,20 @@ data_of b = record {
   options = b.options;
   pending = b.pieces.pending;
   slots = b.slots.items;
-  queues = b.queues.items;
+  queues = map (λ q. q.panes) b.queues.items;
   returned = b.returned.items;
   cells = b.groups.cells;
   dropped = b.groups.dropped;
-  panes = b.panes;
-  done = b.done;
-  written = b.written;
-  commits = b.commits;
+  panes = b.results.panes.items;
+  done = b.results.done.items;
+  written = b.results.written.items;
+  commits = b.results.commits.items;
   calls = b.faults.calls;
   reads = b.faults.reads;
   stopped = b.stopped;
 }
 
-abbrev pub IsKept : Inside → Type 0
-IsKept b = IsIndexed (data_of b) b.held b.pieces.room b.returned.room
+-- its data agrees with its indexes, and its Groups are those of its own plan
+pub record IsKept (b : Inside) : Type 0 where
+  pub indexed : IsIndexed (data_of b) b.held b.pieces.room b.returned.room
+  pub grouped : b.groups.plan ≡ b.graph

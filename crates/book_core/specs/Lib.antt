@@ -8,6 +8,8 @@ pub mod Left
 pub mod Calls
 pub mod Facts
 pub mod Indexes
+pub mod Queues
+pub mod Committing
 pub mod Inside
 pub mod NextFor
 pub mod DueAt

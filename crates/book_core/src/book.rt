@@ -1,29 +1,35 @@
-ghost use Rattle.std.specs.Prelude.{◌≡◌, ℕ, ◌≤◌, ◌<◌, [], reverse, length, Some, None, IfOk, OnErr};
+ghost use Rattle.std.specs.Prelude.{◌≡◌, ℕ, ◌≤◌, ◌<◌, [], reverse, length, List, Option, Some, None, IfOk, IfErr, OnOk, OnErr};
+ghost use Rattle.beam_values.specs.declared.file_text.FileText.{FileText};
 ghost use Rattle.beam_model.specs.Positions.{items};
 ghost use Rattle.book_core.specs.Book.{BookData};
 ghost use Rattle.book_core.specs.Calls.{Makes, CanClaim, CanFail, answer_of, failure_of, live_piece, IsOutcomeOf};
 ghost use Rattle.book_core.specs.DueAt.{IsDueAs};
 ghost use Rattle.book_core.specs.Jobs.{first_due};
 ghost use Rattle.book_core.specs.Runs.{AreOptions, AreLengthsOf, IsOpening, Reached};
-ghost use Rattle.book_core.specs.Steps.{Enroll, Take, Claim, Split, Fail, Stop, Enrolled, Claimed, SplitAt, Noted, IsFree, IsRunning, IsNextFor};
+ghost use Rattle.book_core.specs.Steps.{Enroll, Take, Claim, Split, Fail, Stop, Enrolled, Claimed, SplitAt, Noted, IsFree, IsRunning, IsNextFor, CanCommit, IsCommitting, IsWithinLimits};
 
+use crate::committing::{
+    Fired, done_of, fire, free_job, free_residual, has_numbers, hold_job, hold_residual, keep_room,
+    own_in, put_back, residual_of, wait_all,
+};
 use crate::due::{DueAt, batch_job, first_due, piece_job, started};
 use crate::failing::{failure_where, give_back, is_spent, note_of, stopped_after, take_out};
 use crate::held::{NodeHolds, mark_of_piece};
-use crate::live::{Batch, Failure, Live, Taken};
-use crate::opening::{cut_files, empty_queues, first_commit, hold_pieces, mark_nodes};
+use crate::live::{Batch, Failure, Live, Taken, Unplaced};
+use crate::opening::{cut_files, empty_queues, hold_pieces, mark_nodes};
 use crate::outcome::in_order;
 use crate::queue::Queue;
+use crate::results::Results;
 use crate::working::{
     count_batches, count_pieces, idle_answer, most_left, piece_at, span_at, tracker_of,
 };
 use beam_values::{
-    Arrival, Cause, CommitMarks, Done, FileLen, List, NoMemory, Options, Outcome, Pane, Piece,
-    RoomyList, StopCause,
+    Cause, Done, FileLen, List, NoMemory, Options, Outcome, Piece, RoomyList, StopCause,
 };
-use bundle_commit::Job;
+use bundle_commit::{Job, Receipt};
 use group_cells::Groups;
 use pipeline_graph::Graph;
+use pipeline_graph::laws::{nodes_take_elements_of_their_strategy, strategies_follow_kinds};
 use retry_core::FaultShare;
 use split_core::Pieces;
 use std::alloc::Global;
@@ -43,10 +49,7 @@ pub struct Book {
     queues: Vec<Queue>,
     returned: RoomyList<Batch>,
     groups: Groups,
-    panes: List<Pane>,
-    done: List<Done>,
-    written: List<Arrival>,
-    commits: List<CommitMarks>,
+    results: Results,
     faults: FaultShare,
     stopped: Option<StopCause>,
     // Of each node the marks that hold it back: of pieces that aren't committed, and of panes that aren't
@@ -92,7 +95,7 @@ impl Book {
         let marks = mark_nodes(alloc, plan, &held)?;
         let queues = empty_queues(alloc, plan.nodes.as_slice())?;
         let groups = Groups::new(alloc, plan)?;
-        let commits = first_commit(alloc, marks)?;
+        let results = Results::new(alloc, marks)?;
         Ok(Book {
             graph,
             files,
@@ -102,10 +105,7 @@ impl Book {
             queues,
             returned: RoomyList::new(alloc),
             groups,
-            panes: List::new(alloc),
-            done: List::new(alloc),
-            written: List::new(alloc),
-            commits,
+            results,
             faults: FaultShare::new(),
             stopped: None,
             held,
@@ -130,7 +130,7 @@ impl Book {
     pub fn done(&self) -> &[Done]
         ensures { result.now ≡ self.now.done }
     {
-        self.done.as_slice()
+        self.results.done.as_slice()
     }
 
     /// The pieces that no slot works, the first to be taken last.
@@ -151,7 +151,7 @@ impl Book {
     pub fn fired(&self) -> u32
         ensures { result ≡ length self.now.panes }
     {
-        self.panes.len() as u32
+        self.results.panes.len() as u32
     }
 
     /// How many elements came too late.
@@ -206,7 +206,7 @@ impl Book {
         ensures err { OnErr result (self.new ≡ self.old) }
     {
         let batch = &self.returned.as_slice()[at];
-        let job = batch_job(self.alloc, &self.panes, batch)?;
+        let job = batch_job(self.alloc, self.results.panes.as_slice(), batch)?;
         let batch = self.returned.remove(at);
         self.slots[slot as usize] = Some(Live::Batch(batch));
         Ok(Taken::Job(job))
@@ -227,7 +227,7 @@ impl Book {
             panes,
             attempts: 0,
         };
-        let job = batch_job(self.alloc, &self.panes, &batch)?;
+        let job = batch_job(self.alloc, self.results.panes.as_slice(), &batch)?;
         self.returned
             .reserve(count_batches(self.slots.as_slice()) + 1)?;
         let queue = &mut self.queues[node as usize];
@@ -304,6 +304,83 @@ impl Book {
         Ok(Some(rest.from()))
     }
 
+    /// Places the receipt of the slot's job: arrivals become entries or are written, the range that was
+    /// worked is done and its rest pending again, panes fire and wait, and the slot is free. Where there
+    /// is no memory nothing is changed, and the receipt is handed back.
+    pub fn commit(&mut self, slot: u32, receipt: Receipt) -> Result<(), Unplaced>
+        requires { CanCommit None self.old slot receipt }
+        ensures ok { OnOk result ((told : Option (List FileText)) → CanCommit told self.old slot receipt
+            → IsCommitting told self.old slot receipt self.new × IsWithinLimits self.new) }
+        ensures err { IfErr result (λ unplaced. (unplaced.receipt ≡ receipt) × (self.new ≡ self.old)) }
+    {
+        nodes_take_elements_of_their_strategy();
+        strategies_follow_kinds();
+        let count = receipt.arrivals.len();
+        if !has_numbers(&self.results, &self.groups, count) {
+            return Err(Unplaced { receipt });
+        }
+        let most = self.groups.cells().len() + count;
+        let own = own_in(self.slots.as_slice(), slot);
+        let plan = self.graph.plan();
+        let Ok(()) = keep_room(
+            plan,
+            &mut self.queues,
+            &mut self.held,
+            &mut self.results,
+            own,
+            most,
+            count,
+        ) else {
+            return Err(Unplaced { receipt });
+        };
+        let Some(job) = take_out(&mut self.slots, slot) else {
+            unreachable!()
+        };
+        let residual = residual_of(&job, &receipt);
+        free_job(&mut self.held, plan, &job);
+        hold_residual(&mut self.held, plan, &residual);
+        let Receipt {
+            mut arrivals,
+            seen,
+            logged,
+        } = receipt;
+        let number = self.results.commits.len() as u32;
+        let first = self.results.panes.len() as u32;
+        let before = self.results.last_marks();
+        let fired = fire(
+            self.alloc,
+            plan,
+            &mut self.groups,
+            &mut arrivals,
+            &self.held,
+            before,
+            number,
+        );
+        let Ok(fired) = fired else {
+            free_residual(&mut self.held, plan, &residual);
+            hold_job(&mut self.held, plan, &job);
+            self.slots[slot as usize] = Some(job);
+            return Err(Unplaced {
+                receipt: Receipt {
+                    arrivals,
+                    seen,
+                    logged,
+                },
+            });
+        };
+        let Fired { panes, marks } = fired;
+        wait_all(
+            &mut self.queues,
+            &mut self.held,
+            before,
+            first,
+            panes.as_slice(),
+        );
+        put_back(&mut self.pieces, residual);
+        self.results.add(plan, done_of(&job), panes, arrivals, marks);
+        Ok(())
+    }
+
     /// The slot whose range an idle slot splits at a half: another one with the most left, the lowest of
     /// these. Takes no memory.
     pub fn next_for(&self, slot: u32) -> Option<u32>
@@ -343,25 +420,28 @@ impl Book {
             graph,
             files,
             groups,
-            panes,
-            done,
-            written,
-            commits,
+            results,
             stopped,
             alloc,
             ..
         } = self;
+        let Results {
+            panes,
+            done,
+            written,
+            commits,
+        } = results;
         let (cells, dropped) = groups.into_lists();
         Ok(Outcome {
             plan: graph.into_plan(),
             files,
-            done,
+            done: done.into_list(),
             cells: in_order(cells)?,
-            panes,
+            panes: panes.into_list(),
             dropped,
             logs: List::new(alloc),
-            written,
-            commits,
+            written: written.into_list(),
+            commits: commits.into_list(),
             stopped,
         })
     }

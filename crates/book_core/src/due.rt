@@ -1,4 +1,4 @@
-ghost use Rattle.std.specs.Prelude.{◌≡◌, ◌<◌, ◌==◌, ◌++◌, Option, Some, None, length, slice_get, if◌then◌else◌, IfOk, OnOk};
+ghost use Rattle.std.specs.Prelude.{◌≡◌, ◌<◌, ◌==◌, ◌++◌, Option, Some, None, length, map, slice_get, if◌then◌else◌, IfOk, OnOk};
 ghost use Rattle.std.specs.List.{filter};
 ghost use Rattle.book_core.specs.Book.{BookData, panes_of, pane_at, queue_at};
 ghost use Rattle.book_core.specs.DueAt.{IsBatchAt, IsDueAs};
@@ -25,7 +25,7 @@ pub enum DueAt {
 /// What is due first, in the order of the nodes.
 pub fn first_due(returned: &[Batch], queues: &[Queue]) -> Option<DueAt>
     requires { length queues.now < 4294967296 }
-    ensures { (b : BookData) → b.returned ≡ returned.now → b.queues ≡ queues.now → length b.plan.nodes ≡ length queues.now
+    ensures { (b : BookData) → b.returned ≡ returned.now → b.queues ≡ map (λ q. q.panes) queues.now → length b.plan.nodes ≡ length queues.now
         → IsDueAs b (first_due b) result }
 {
     for (node, queue) in queues.iter().enumerate() {
@@ -37,7 +37,7 @@ pub fn first_due(returned: &[Batch], queues: &[Queue]) -> Option<DueAt>
 }
 
 fn due_at(returned: &[Batch], node: u32, queue: &Queue) -> Option<DueAt>
-    ensures { (b : BookData) → b.returned ≡ returned.now → queue_at b node ≡ queue.now → IsDueAs b (due_at b node) result }
+    ensures { (b : BookData) → b.returned ≡ returned.now → queue_at b node ≡ queue.now.panes → IsDueAs b (due_at b node) result }
 {
     match lowest_at(returned, node) {
         Some(at) => Some(DueAt::GivenBack(at)),
@@ -81,7 +81,7 @@ fn lower_at(returned: &[Batch], node: u32, lowest: Option<usize>, at: usize) -> 
 }
 
 /// The job of a batch, with copies of its panes.
-pub fn batch_job(alloc: Global, panes: &List<Pane>, batch: &Batch) -> Result<Job, NoMemory>
+pub fn batch_job(alloc: Global, panes: &[Pane], batch: &Batch) -> Result<Job, NoMemory>
     ensures { IfOk result (λ job. job ≡ job_of panes.now (live.Batch batch.now)) }
 {
     Ok(Job::Batch {
@@ -94,7 +94,7 @@ pub fn batch_job(alloc: Global, panes: &List<Pane>, batch: &Batch) -> Result<Job
 
 fn copy_panes(
     alloc: Global,
-    panes: &List<Pane>,
+    panes: &[Pane],
     waiting: &[WaitingPane],
 ) -> Result<List<Pane>, NoMemory>
     ensures { IfOk result (λ copies. copies ≡ panes_of panes.now waiting.now) }
@@ -108,7 +108,7 @@ fn copy_panes(
 
 fn copy_pane(
     alloc: Global,
-    panes: &List<Pane>,
+    panes: &[Pane],
     waiting: &WaitingPane,
     copies: &mut List<Pane>,
 ) -> Result<(), NoMemory>

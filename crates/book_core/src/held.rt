@@ -1,4 +1,4 @@
-ghost use Rattle.std.specs.Prelude.{◌≡◌, ℕ, true, ◌<◌, ◌≤◌, ◌∷◌, List, length, map, [], OnOk, IfOk};
+ghost use Rattle.std.specs.Prelude.{◌≡◌, ℕ, true, ◌+◌, ◌<◌, ◌≤◌, ◌∷◌, List, length, map, [], Contains, OnOk, IfOk};
 ghost use Rattle.beam_model.specs.Holds.{Hold, piece_hold, estimator_in};
 ghost use Rattle.beam_values.specs.Checked.{IsChecked, is_estimator_allowed};
 ghost use Rattle.beam_values.specs.Marks.{mark_of, least_mark};
@@ -75,6 +75,7 @@ impl NodeHolds {
         requires { node < length self.old }
         ensures ok { OnOk result (places ≤ room_in self.new node) }
         ensures marks { (n : ℕ) → marks_in self.new n ≡ marks_in self.old n }
+        ensures kept { (n : ℕ) → room_in self.old n ≤ room_in self.new n }
         ensures sized { length self.new ≡ length self.old }
     {
         keep_room(self.nodes.as_mut_slice(), node, places)
@@ -85,9 +86,21 @@ impl NodeHolds {
         requires within { node < length self.old }
         requires room { 0 < room_in self.old node }
         ensures added { (holds : List Hold) → AreHeldIn self.old holds → AreHeldIn self.new (record { node = node; mark = mark } ∷ holds) }
+        ensures used { (n : ℕ) → room_in self.old n ≤ room_in self.new n + 1 }
         ensures sized { length self.new ≡ length self.old }
     {
         add_kept(self.nodes.as_mut_slice(), node, mark);
+    }
+
+    /// Takes out a mark that holds a node back.
+    pub fn remove(&mut self, node: u32, mark: Mark)
+        requires within { node < length self.old }
+        requires held { Contains (marks_in self.old node) mark }
+        ensures removed { (holds : List Hold) → AreHeldIn self.old (record { node = node; mark = mark } ∷ holds) → AreHeldIn self.new holds }
+        ensures kept { (n : ℕ) → room_in self.old n ≤ room_in self.new n }
+        ensures sized { length self.new ≡ length self.old }
+    {
+        remove(self.nodes.as_mut_slice(), node, mark);
     }
 }
 
@@ -95,6 +108,7 @@ fn keep_room(held: &mut [Holds], node: u32, places: usize) -> Result<(), NoMemor
     requires { node < length held.old }
     ensures ok { OnOk result (places ≤ room_in held.new node) }
     ensures marks { (n : ℕ) → marks_in held.new n ≡ marks_in held.old n }
+    ensures kept { (n : ℕ) → room_in held.old n ≤ room_in held.new n }
 {
     let holds = &mut held[node as usize];
     holds.keep_room(places)
@@ -103,10 +117,21 @@ fn keep_room(held: &mut [Holds], node: u32, places: usize) -> Result<(), NoMemor
 fn add_kept(held: &mut [Holds], node: u32, mark: Mark)
     requires within { node < length held.old }
     requires room { 0 < room_in held.old node }
-    ensures { (holds : List Hold) → AreHeldIn held.old holds → AreHeldIn held.new (record { node = node; mark = mark } ∷ holds) }
+    ensures added { (holds : List Hold) → AreHeldIn held.old holds → AreHeldIn held.new (record { node = node; mark = mark } ∷ holds) }
+    ensures used { (n : ℕ) → room_in held.old n ≤ room_in held.new n + 1 }
 {
     let holds = &mut held[node as usize];
     let Ok(()) = holds.add(mark) else {
         unreachable!()
     };
+}
+
+fn remove(held: &mut [Holds], node: u32, mark: Mark)
+    requires within { node < length held.old }
+    requires held { Contains (marks_in held.old node) mark }
+    ensures removed { (holds : List Hold) → AreHeldIn held.old (record { node = node; mark = mark } ∷ holds) → AreHeldIn held.new holds }
+    ensures kept { (n : ℕ) → room_in held.old n ≤ room_in held.new n }
+{
+    let holds = &mut held[node as usize];
+    holds.remove(mark);
 }

@@ -2,12 +2,13 @@
 //!
 //! A [`Book`] is seen as plain data, and each of its calls is one step by `specs/Steps.antt`, so every book
 //! is reached by steps from an opening ([`Book::is_reached`]), and [`laws`] says what holds of such books.
-//! Only [`Book::opening`], [`Book::enroll`], [`Book::take`], [`Book::split`] and [`Book::outcome`] take
-//! memory, and where they are refused the book stays as it was. `Commit` is a step of the relation that
-//! no call does yet, so a book takes, splits and fails jobs, and none of them ends. Read `book.rt` first.
+//! Only [`Book::opening`], [`Book::enroll`], [`Book::take`], [`Book::split`], [`Book::commit`] and
+//! [`Book::outcome`] take memory, and where they are refused the book stays as it was; a refused commit
+//! hands its receipt back. Read `book.rt` first.
 #![tactic(auto)]
 
 mod book;
+mod committing;
 mod due;
 mod failing;
 mod held;
@@ -16,6 +17,7 @@ mod live;
 mod opening;
 mod outcome;
 mod queue;
+mod results;
 mod working;
 
 pub use book::Book;

@@ -1,14 +1,13 @@
-ghost use Rattle.std.specs.Prelude.{◌≡◌, ◌≤◌, ◌<◌, [], ◌∷◌, map, length, IfOk, All};
+ghost use Rattle.std.specs.Prelude.{◌≡◌, ◌≤◌, ◌<◌, [], map, length, IfOk, All};
 ghost use Rattle.beam_model.specs.Holds.{piece_hold};
 ghost use Rattle.beam_values.specs.Checked.{IsChecked};
 ghost use Rattle.beam_values.specs.Marks.{AreMarks};
-ghost use Rattle.group_cells.specs.Commits.{as_commit};
 ghost use Rattle.book_core.specs.Indexes.{AreHeldIn, least_in};
 ghost use Rattle.book_core.specs.Runs.{pieces_of};
 
 use crate::held::{NodeHolds, mark_of_piece};
 use crate::queue::Queue;
-use beam_values::{CommitMarks, FileLen, List, Mark, NoMemory, Node, Piece, Plan, StageMarks};
+use beam_values::{FileLen, List, Mark, NoMemory, Node, Piece, Plan, StageMarks};
 use split_core::Pieces;
 use std::alloc::Global;
 use watermarks::stage_marks;
@@ -64,20 +63,11 @@ const UNMARKED: StageMarks = StageMarks {
 
 /// No pane waits at any node.
 pub fn empty_queues(alloc: Global, nodes: &[Node]) -> Result<Vec<Queue>, NoMemory>
-    ensures { IfOk result (λ queues. queues.items ≡ map (λ node. []) nodes.now) }
+    ensures { IfOk result (λ queues. map (λ q. q.panes) queues.items ≡ map (λ node. []) nodes.now) }
 {
     let mut queues = Vec::new(alloc);
     for _node in nodes {
         queues.push(Queue::new(alloc))?;
     }
     Ok(queues)
-}
-
-/// The list of commits with the opening alone.
-pub fn first_commit(alloc: Global, marks: List<StageMarks>) -> Result<List<CommitMarks>, NoMemory>
-    ensures { IfOk result (λ commits. commits ≡ as_commit marks ∷ []) }
-{
-    let mut commits = List::new(alloc);
-    commits.push(CommitMarks { marks })?;
-    Ok(commits)
 }

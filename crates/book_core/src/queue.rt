@@ -1,4 +1,4 @@
-ghost use Rattle.std.specs.Prelude.{◌≡◌, [], ◌↔◌, take, drop, IsTrue, IfOk};
+ghost use Rattle.std.specs.Prelude.{◌≡◌, [], ◌∷◌, ◌++◌, ◌↔◌, ◌<◌, ◌≤◌, ◌+◌, take, drop, IsTrue, IfOk, OnOk};
 
 use crate::live::WaitingPane;
 use beam_values::{List, NoMemory};
@@ -6,25 +6,25 @@ use std::alloc::Global;
 use std::collections::VecDeque;
 use std::marker::Model;
 
-/// Panes that wait, oldest first. Contracts see it as their list.
+/// Panes that wait, oldest first. Contracts see their list, and the room that is kept for more.
 #[derive(Debug, Drop)]
 pub struct Queue {
     panes: VecDeque<WaitingPane>,
 }
 
 impl Model for Queue {
-    ghost use Rattle.std.specs.Prelude.{List};
-    ghost use Rattle.book_core.specs.declared.live.WaitingPane.{WaitingPane};
+    ghost use Rattle.std.specs.Prelude.{◌-◌};
+    ghost use Rattle.book_core.specs.Queues.{SeenQueue};
 
-    ghost Value = { List WaitingPane };
+    ghost Value = { SeenQueue };
 
-    ghost view = { λ q. q.panes.items };
+    ghost view = { λ q. record { panes = q.panes.items; room = q.panes.cap - q.panes.len } };
 }
 
 impl Queue {
     /// Takes no memory.
     pub fn new(alloc: Global) -> Queue
-        ensures { result ≡ [] }
+        ensures { result.panes ≡ [] }
     {
         Queue {
             panes: VecDeque::new(alloc),
@@ -32,14 +32,14 @@ impl Queue {
     }
 
     pub fn is_empty(&self) -> bool
-        ensures { IsTrue result ↔ (self.now ≡ []) }
+        ensures { IsTrue result ↔ (self.now.panes ≡ []) }
     {
         self.panes.front().is_none()
     }
 
     /// A copy of the oldest panes, at most so many.
     pub fn oldest(&self, alloc: Global, most: usize) -> Result<List<WaitingPane>, NoMemory>
-        ensures { IfOk result (λ panes. panes ≡ take most self.now) }
+        ensures { IfOk result (λ panes. panes ≡ take most self.now.panes) }
     {
         let mut oldest = List::new(alloc);
         for place in 0..most.min(self.panes.len()) {
@@ -50,10 +50,29 @@ impl Queue {
 
     /// Takes the oldest panes out, at most so many.
     pub fn remove_oldest(&mut self, most: usize)
-        ensures { self.new ≡ drop most self.old }
+        ensures { self.new.panes ≡ drop most self.old.panes }
     {
         for _place in 0..most.min(self.panes.len()) {
             let _ = self.panes.pop_front();
         }
+    }
+
+    /// Keeps room for so many more panes.
+    pub fn keep_room(&mut self, places: usize) -> Result<(), NoMemory>
+        ensures panes { self.new.panes ≡ self.old.panes }
+        ensures ok { OnOk result (places ≤ self.new.room) }
+        ensures kept { self.old.room ≤ self.new.room }
+    {
+        self.panes.reserve(places)?;
+        Ok(())
+    }
+
+    /// A pane waits behind the others, where room is kept for it.
+    pub fn add_kept(&mut self, pane: WaitingPane)
+        requires { 0 < self.old.room }
+        ensures panes { self.new.panes ≡ self.old.panes ++ pane ∷ [] }
+        ensures used { self.old.room ≡ self.new.room + 1 }
+    {
+        self.panes.push_back_reserved(pane);
     }
 }

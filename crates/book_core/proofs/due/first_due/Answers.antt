@@ -1,5 +1,6 @@
 use Rattle.std.proofs.Common.{arith}
-use Rattle.book_core.proofs.Takings.{found_first, found_none, none_more, not_found, queue_in}
+use Rattle.book_core.proofs.Rooms.{queue_in}
+use Rattle.book_core.proofs.Takings.{found_first, found_none, none_more, not_found}
 use Rattle.book_core.proofs.due.first_due.Goals as goal
 
 pub returns-in-Some : goal.returns-in-Some

@@ -6,5 +6,5 @@ use Rattle.book_core.proofs.book.Book.dropped.Goals as goal
 
 pub overflow_cast-result : goal.overflow_cast-result
 overflow_cast-result c =
-    let within = reached_within None (data_of c.self.inside) c.self.invariant.reached in
+    let within = reached_within None (data_of c.self.inside) c.self.invariant.indexed.reached in
     search (rules, within.dropped, ap length c.dropped.ensures)

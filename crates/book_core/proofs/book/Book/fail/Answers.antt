@@ -6,16 +6,17 @@ use Rattle.book_core.proofs.Limits.{pieces_after, batches_after}
 use Rattle.book_core.proofs.book.Book.fail.Goals as goal
 
 pub note_of-note-requires : goal.note_of-note-requires
-note_of-note-requires c = few_attempts (data_of c.self.inside) c.args.slot c.in-Some.job c.self.invariant.reached c.in-Some.ensures.job
+note_of-note-requires c = few_attempts (data_of c.self.inside) c.args.slot c.in-Some.job c.self.invariant.indexed.reached c.in-Some.ensures.job
 
 pub give_back-requires-clause-pieces : goal.give_back-requires-clause-pieces
-give_back-requires-clause-pieces c = omega (arith, pieces_after c.self.inside.slots.items c.args.slot (Some c.in-Some.job) None c.in-Some.ensures.job, c.self.invariant.pieces)
+give_back-requires-clause-pieces c = omega (arith, pieces_after c.self.inside.slots.items c.args.slot (Some c.in-Some.job) None c.in-Some.ensures.job, c.self.invariant.indexed.pieces)
 
 pub give_back-requires-clause-batches : goal.give_back-requires-clause-batches
-give_back-requires-clause-batches c = omega (arith, batches_after c.self.inside.slots.items c.args.slot (Some c.in-Some.job) None c.in-Some.ensures.job, c.self.invariant.batches)
+give_back-requires-clause-batches c = omega (arith, batches_after c.self.inside.slots.items c.args.slot (Some c.in-Some.job) None c.in-Some.ensures.job, c.self.invariant.indexed.batches)
 
 pub invariant_of-self : goal.invariant_of-self
-invariant_of-self c =
+invariant_of-self c = record {
+      indexed =
     fail_indexed (data_of c.self.inside) c.args.slot c.args.at c.in-Some.job c.args.cause c.is_spent-spent.result c.note_of-note.result _ _ _ _ _
     (record {
       works = c.in-Some.ensures.job;
@@ -27,4 +28,6 @@ invariant_of-self c =
       share_is = c.rise.ensures;
       stopped_is = c.stopped_after-self-inside.ensures;
     })
-    c.self.inside.held c.self.inside.pieces.room c.self.inside.returned.room _ _ c.self.invariant c.give_back.ensures.pieces_room c.give_back.ensures.batches_room
+    c.self.inside.held c.self.inside.pieces.room c.self.inside.returned.room _ _ c.self.invariant.indexed c.give_back.ensures.pieces_room c.give_back.ensures.batches_room;
+      grouped = c.self.invariant.grouped;
+    }

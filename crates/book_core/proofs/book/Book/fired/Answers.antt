@@ -5,4 +5,4 @@ use Rattle.book_core.proofs.Limits.{reached_within}
 use Rattle.book_core.proofs.book.Book.fired.Goals as goal
 
 pub overflow_cast-result : goal.overflow_cast-result
-overflow_cast-result c = let within = reached_within None (data_of c.self.inside) c.self.invariant.reached in search (rules, within.panes, c.len.ensures)
+overflow_cast-result c = let within = reached_within None (data_of c.self.inside) c.self.invariant.indexed.reached in search (rules, within.panes, c.len.ensures)

@@ -14,9 +14,9 @@ use Rattle.book_core.proofs.book.Book.next_for.Goals as goal
 
 pub most_left-requires : goal.most_left-requires
 most_left-requires c =
-    let within = reached_within None (data_of c.self.inside) c.self.invariant.reached in
+    let within = reached_within None (data_of c.self.inside) c.self.invariant.indexed.reached in
     record {
-      attempted = subst (λ (s : List (Option Live)). All IsAttemptedWithin s) (sym c.as_slice.ensures.value) (reached_attempted None (data_of c.self.inside) c.self.invariant.reached);
+      attempted = subst (λ (s : List (Option Live)). All IsAttemptedWithin s) (sym c.as_slice.ensures.value) (reached_attempted None (data_of c.self.inside) c.self.invariant.indexed.reached);
       few = omega (arith, within.slots, ap length c.as_slice.ensures.value);
     }
 

@@ -18,36 +18,42 @@ use Rattle.book_core.proofs.book.Book.split.Goals as goal
 pub tracker_of-tracker-requires : goal.tracker_of-tracker-requires
 tracker_of-tracker-requires c =
     let works : slice_get c.self.inside.slots.items c.args.slot ≡ Some (Some (live.Span c.in-Some.piece c.in-Some.attempted)) = cc (c.in-Some.ensures, c.as_slice.ensures.value) in
-    attempted_within (data_of c.self.inside) c.args.slot c.in-Some.piece c.in-Some.attempted c.self.invariant.reached works
+    attempted_within (data_of c.self.inside) c.args.slot c.in-Some.piece c.in-Some.attempted c.self.invariant.indexed.reached works
 
 pub overflow_sub-count_pieces : goal.overflow_sub-count_pieces
 overflow_sub-count_pieces c =
-    let within = reached_within _ (data_of c.self.inside) c.self.invariant.reached in
+    let within = reached_within _ (data_of c.self.inside) c.self.invariant.indexed.reached in
     omega (arith, c.count_pieces.ensures.within, c.as_slice-2.ensures.len, c.self.inside.slots.ok, within.slots)
 
 pub keep_room-requires : goal.keep_room-requires
 keep_room-requires c =
     let works : slice_get c.self.inside.slots.items c.args.slot ≡ Some (Some (live.Span c.in-Some.piece c.in-Some.attempted)) = cc (c.in-Some.ensures, c.as_slice.ensures.value) in
-    node_within (data_of c.self.inside) c.self.inside.held c.self.inside.pieces.room c.self.inside.returned.room c.args.slot c.in-Some.piece c.in-Some.attempted works c.self.invariant
+    node_within (data_of c.self.inside) c.self.inside.held c.self.inside.pieces.room c.self.inside.returned.room c.args.slot c.in-Some.piece c.in-Some.attempted works c.self.invariant.indexed
 
 pub invariant_of-self : goal.invariant_of-self
-invariant_of-self c =
+invariant_of-self c = record {
+      indexed =
     indexed_room (data_of c.self.inside) c.self.inside.held c.keep_room.new.self c.self.inside.pieces.room c.self.inside.returned.room c.self.inside.pieces.room
-    c.in_err-keep_room.ensures.marks c.in_err-keep_room.ensures.sized (omega arith) c.self.invariant
+    c.in_err-keep_room.ensures.marks c.in_err-keep_room.ensures.sized (omega arith) c.self.invariant.indexed;
+      grouped = c.self.invariant.grouped;
+    }
 
 pub invariant_of-self-in_err-add_residual : goal.invariant_of-self-in_err-add_residual
-invariant_of-self-in_err-add_residual c =
+invariant_of-self-in_err-add_residual c = record {
+      indexed =
     indexed_pending (data_of c.self.inside) c.keep_room.new.self c.add_residual.new.self.room c.self.inside.returned.room c.add_residual.new.self.pending
     (ap (λ p. p.pending) c.in_err-add_residual.ensures.err)
     (indexed_room (data_of c.self.inside) c.self.inside.held c.keep_room.new.self c.self.inside.pieces.room c.self.inside.returned.room c.add_residual.new.self.room
-    c.in_ok-keep_room.ensures.marks c.in_ok-keep_room.ensures.sized c.in_err-add_residual.ensures.kept c.self.invariant)
+    c.in_ok-keep_room.ensures.marks c.in_ok-keep_room.ensures.sized c.in_err-add_residual.ensures.kept c.self.invariant.indexed);
+      grouped = c.self.invariant.grouped;
+    }
 
 pub add_kept-requires-clause-within : goal.add_kept-requires-clause-within
 add_kept-requires-clause-within c =
     let works : slice_get c.self.inside.slots.items c.args.slot ≡ Some (Some (live.Span c.in-Some.piece c.in-Some.attempted)) = cc (c.in-Some.ensures, c.as_slice.ensures.value) in
     omega (
       arith,
-      node_within (data_of c.self.inside) c.self.inside.held c.self.inside.pieces.room c.self.inside.returned.room c.args.slot c.in-Some.piece c.in-Some.attempted works c.self.invariant,
+      node_within (data_of c.self.inside) c.self.inside.held c.self.inside.pieces.room c.self.inside.returned.room c.args.slot c.in-Some.piece c.in-Some.attempted works c.self.invariant.indexed,
       c.in_ok-keep_room.ensures.sized,
     )
 
@@ -57,7 +63,8 @@ index_mut-requires c =
     omega (arith, works_within (data_of c.self.inside) c.args.slot (live.Span c.in-Some.piece c.in-Some.attempted) works, c.self.inside.slots.ok)
 
 pub invariant_of-self-2 : goal.invariant_of-self-2
-invariant_of-self-2 c =
+invariant_of-self-2 c = record {
+      indexed =
     let works : slice_get c.self.inside.slots.items c.args.slot ≡ Some (Some (live.Span c.in-Some.piece c.in-Some.attempted)) = cc (c.in-Some.ensures, c.as_slice.ensures.value) in
     let cut : IsCut c.in-Some.piece (split_point_of (tracker_of c.in-Some.piece c.in-Some.attempted) c.args.num c.args.den) c.from.result c.in-Some-try_split.rest c.range.result =
     is_cut c.in-Some.piece c.in-Some.attempted c.args.num c.args.den c.from.result c.in-Some-try_split.rest c.range.result c.try_split.new.self
@@ -73,7 +80,9 @@ invariant_of-self-2 c =
     cut_indexed (data_of c.self.inside) c.self.inside.held c.keep_room.new.self c.add_kept.new.self c.self.inside.pieces.room c.add_residual.new.self.room c.self.inside.returned.room
     c.args.slot c.args.num c.args.den c.from.result c.in-Some.piece c.in-Some.attempted c.in-Some-try_split.rest c.range.result _ _ works cut
     c.in_ok-add_residual.ensures.ok refl less c.in_ok-keep_room.ensures.marks
-    add (c.add_kept.ensures.sized ∙ c.in_ok-keep_room.ensures.sized) c.in_ok-add_residual.ensures.kept c.self.invariant
+    add (c.add_kept.ensures.sized ∙ c.in_ok-keep_room.ensures.sized) c.in_ok-add_residual.ensures.kept c.self.invariant.indexed;
+      grouped = c.self.invariant.grouped;
+    }
 
 pub returns-clause-ok : goal.returns-clause-ok
 returns-clause-ok c =
@@ -87,4 +96,4 @@ returns-clause-ok c =
     omega (arith, c.if-len-count_pieces.false, c.count_pieces.ensures.exact, c.len.ensures, ap (λ (s : List (Option Live)). length (flat_map piece_of s)) c.as_slice-2.ensures.value) in
     makes_seen (data_of c.self.inside) _ _ c.args.slot (Split c.args.num c.args.den) (SplitAt (Some c.from.result)) c.self.view_is
     (makes_cut (data_of c.self.inside) c.args.slot c.args.num c.args.den c.from.result c.in-Some.piece c.in-Some.attempted c.in-Some-try_split.rest c.range.result _ _ works cut
-    c.in_ok-add_residual.ensures.ok refl less c.self.invariant.reached)
+    c.in_ok-add_residual.ensures.ok refl less c.self.invariant.indexed.reached)

@@ -1,0 +1,75 @@
+-- The parts of a commit: which marks it takes from those that hold nodes back, which it adds, and the room that it needs.
+use Rattle.std.specs.Prelude.{ℕ, ◌+◌, ◌<◌, ◌≤◌, List, [], ◌∷◌, length, map, slice_get, unwrap_or, Option, Some, None}
+use Rattle.std.specs.Option.{option_map}
+use Rattle.beam_values.specs.declared.piece.Done.{Done}
+use Rattle.beam_values.specs.declared.piece.Piece.{Piece}
+use Rattle.beam_values.specs.declared.plan.Plan.{Plan}
+use Rattle.beam_model.specs.Holds.{Hold, piece_hold}
+use Rattle.bundle_commit.specs.declared.job.Receipt.{Receipt}
+use Rattle.watermarks.specs.Holds.{SeenHolds}
+use Rattle.book_core.specs.Changes.{done_of, residual_of, with_done}
+use Rattle.book_core.specs.Indexes.{room_in}
+use Rattle.book_core.specs.Queues.{SeenQueue}
+use Rattle.book_core.specs.declared.live.Live.{Live}
+use Rattle.book_core.specs.declared.live.Live.TheVariants as live
+use Rattle.book_core.specs.declared.live.WaitingPane.{WaitingPane}
+use Rattle.book_core.specs.declared.results.Results.{Results}
+
+-- ---- the job
+
+-- the node that a job that is worked holds back, how often, and at which marks
+abbrev pub node_of : Live → ℕ
+node_of (live.Span piece attempted) = piece.node
+node_of (live.Batch batch) = batch.node
+
+abbrev pub count_of : Live → ℕ
+count_of (live.Span piece attempted) = 1
+count_of (live.Batch batch) = length batch.panes
+
+abbrev pub pane_holds : ℕ → List WaitingPane → List Hold
+pane_holds node panes = map (λ waiting. record { node = node; mark = waiting.hold }) panes
+
+abbrev pub job_holds : Plan → Live → List Hold
+job_holds plan (live.Span piece attempted) = piece_hold plan piece ∷ []
+job_holds plan (live.Batch batch) = pane_holds batch.node batch.panes
+
+-- what is left of it behind the checkpoint, and how that holds its source back
+abbrev pub residual_in : Live → Receipt → Option Piece
+residual_in (live.Span piece attempted) receipt = residual_of piece attempted receipt
+residual_in (live.Batch batch) receipt = None
+
+abbrev pub residual_holds : Plan → Option Piece → List Hold
+residual_holds plan None = []
+residual_holds plan (Some piece) = piece_hold plan piece ∷ []
+
+-- the range that it did
+abbrev pub done_in : Live → Option Done
+done_in (live.Span piece attempted) = Some (done_of piece attempted)
+done_in (live.Batch batch) = None
+
+abbrev pub with_done_in : Option Done → List Done → List Done
+with_done_in None done = done
+with_done_in (Some new) done = with_done new done
+
+-- ---- room
+
+-- the panes that wait at a node
+abbrev pub list_at : List SeenQueue → ℕ → List WaitingPane
+list_at queues node = unwrap_or (option_map (λ q. q.panes) (slice_get queues node)) []
+
+abbrev pub queue_room : List SeenQueue → ℕ → ℕ
+queue_room queues node = unwrap_or (option_map (λ q. q.room) (slice_get queues node)) 0
+
+-- so many panes more can wait at a node before memory is asked for
+pub record HasRoom (queues : List SeenQueue) (held : List SeenHolds) (node places : ℕ) : Type 0 where
+  pub queued : node < length queues
+  pub holding : node < length held
+  pub queue : places ≤ queue_room queues node
+  pub marks : places ≤ room_in held node
+
+-- and the lists of results can take what a commit brings
+pub record HasRoomFor (results : Results) (fired arrivals : ℕ) : Type 0 where
+  pub panes : fired ≤ results.panes.room
+  pub done : 0 < results.done.room
+  pub written : arrivals ≤ results.written.room
+  pub commits : 0 < results.commits.room

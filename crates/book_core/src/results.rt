@@ -1,0 +1,167 @@
+ghost use Rattle.std.specs.Prelude.{◌≡◌, ◌+◌, ◌-◌, ◌<◌, ◌≤◌, [], ◌∷◌, ◌++◌, length, slice_get, insert, unwrap_or, IfOk, OnOk};
+ghost use Rattle.std.specs.List.{filter};
+ghost use Rattle.std.specs.List.Sorted.{IsSorted};
+ghost use Rattle.std.specs.Option.{option_map};
+ghost use Rattle.beam_values.specs.Nodes.{is_write};
+ghost use Rattle.group_cells.specs.Commits.{as_commit};
+ghost use Rattle.book_core.specs.Changes.{done_cmp, with_done};
+ghost use Rattle.book_core.specs.Committing.{with_done_in, HasRoomFor};
+
+use beam_values::{Arrival, CommitMarks, Done, List, NoMemory, Pane, Plan, RoomyList, StageMarks};
+use std::alloc::Global;
+use std::cmp::Ordering;
+
+/// What the commits of a run have brought. The lists keep room, so that a commit that has changed the
+/// cells can't be refused any more.
+#[derive(Debug, Drop)]
+pub struct Results {
+    pub panes: RoomyList<Pane>,
+    pub done: RoomyList<Done>,
+    pub written: RoomyList<Arrival>,
+    pub commits: RoomyList<CommitMarks>,
+}
+
+impl Results {
+    /// Those of the opening, which has these marks.
+    pub fn new(alloc: Global, marks: List<StageMarks>) -> Result<Results, NoMemory>
+        ensures panes { IfOk result (λ r. r.panes.items ≡ []) }
+        ensures done { IfOk result (λ r. r.done.items ≡ []) }
+        ensures written { IfOk result (λ r. r.written.items ≡ []) }
+        ensures commits { IfOk result (λ r. r.commits.items ≡ as_commit marks ∷ []) }
+    {
+        let mut commits = RoomyList::new(alloc);
+        commits.push(CommitMarks { marks })?;
+        Ok(Results {
+            panes: RoomyList::new(alloc),
+            done: RoomyList::new(alloc),
+            written: RoomyList::new(alloc),
+            commits,
+        })
+    }
+
+    /// The marks after the last commit.
+    pub fn last_marks(&self) -> &[StageMarks]
+        requires { 0 < length self.now.commits.items }
+        ensures { result.now ≡ unwrap_or (option_map (λ commit. commit.marks) (slice_get self.now.commits.items (length self.now.commits.items - 1))) [] }
+    {
+        let commits = self.commits.as_slice();
+        commits[commits.len() - 1].marks.as_slice()
+    }
+
+    /// Keeps the room that a commit of so many arrivals needs, which fires so many panes at most.
+    pub fn keep_room(&mut self, fired: usize, arrivals: usize) -> Result<(), NoMemory>
+        ensures panes { self.new.panes.items ≡ self.old.panes.items }
+        ensures done { self.new.done.items ≡ self.old.done.items }
+        ensures written { self.new.written.items ≡ self.old.written.items }
+        ensures commits { self.new.commits.items ≡ self.old.commits.items }
+        ensures ok { OnOk result (HasRoomFor self.new fired arrivals) }
+    {
+        self.panes.reserve(fired)?;
+        self.done.reserve(1)?;
+        self.written.reserve(arrivals)?;
+        self.commits.reserve(1)
+    }
+
+    /// What a commit has brought: of the arrivals that the Groups left, those at Writes are written.
+    pub fn add(
+        &mut self,
+        plan: &Plan,
+        done: Option<Done>,
+        fired: List<Pane>,
+        left: List<Arrival>,
+        marks: List<StageMarks>,
+    )
+        requires sorted { IsSorted done_cmp self.old.done.items }
+        requires room { HasRoomFor self.old (length fired) (length left) }
+        ensures panes { self.new.panes.items ≡ self.old.panes.items ++ fired }
+        ensures done { self.new.done.items ≡ with_done_in done self.old.done.items }
+        ensures written { self.new.written.items ≡ self.old.written.items ++ filter (λ arrival. is_write plan.now arrival.node) left }
+        ensures commits { self.new.commits.items ≡ self.old.commits.items ++ as_commit marks ∷ [] }
+    {
+        put_done(&mut self.done, done);
+        put_panes(&mut self.panes, fired);
+        put_written(plan, &mut self.written, left);
+        put_last(&mut self.commits, CommitMarks { marks });
+    }
+}
+
+fn put_last<T: Drop>(items: &mut RoomyList<T>, item: T)
+    requires { 0 < items.old.room }
+    ensures items { items.new.items ≡ items.old.items ++ item ∷ [] }
+    ensures used { items.old.room ≤ items.new.room + 1 }
+{
+    let Ok(()) = items.push(item) else {
+        unreachable!()
+    };
+}
+
+fn put_panes(panes: &mut RoomyList<Pane>, fired: List<Pane>)
+    requires { length fired ≤ panes.old.room }
+    ensures { panes.new.items ≡ panes.old.items ++ fired }
+{
+    for pane in fired.into_vec() {
+        put_last(panes, pane);
+    }
+}
+
+fn put_written(plan: &Plan, written: &mut RoomyList<Arrival>, left: List<Arrival>)
+    requires { length left ≤ written.old.room }
+    ensures { written.new.items ≡ written.old.items ++ filter (λ arrival. is_write plan.now arrival.node) left }
+{
+    for arrival in left.into_vec() {
+        put_if_written(plan, written, arrival);
+    }
+}
+
+fn put_if_written(plan: &Plan, written: &mut RoomyList<Arrival>, arrival: Arrival)
+    requires { 0 < written.old.room }
+    ensures items { written.new.items ≡ written.old.items ++ filter (λ a. is_write plan.now a.node) (arrival ∷ []) }
+    ensures used { written.old.room ≤ written.new.room + 1 }
+{
+    if is_write(plan, arrival.node) {
+        put_last(written, arrival);
+    }
+}
+
+fn is_write(plan: &Plan, node: u32) -> bool
+    ensures { result ≡ is_write plan.now node }
+{
+    match plan.nodes.get(node as usize) {
+        Some(node) => node.kind.is_write(),
+        None => false,
+    }
+}
+
+// Most ranges go behind all others.
+fn put_done(done: &mut RoomyList<Done>, range: Option<Done>)
+    requires sorted { IsSorted done_cmp done.old.items }
+    requires room { 0 < done.old.room }
+    ensures { done.new.items ≡ with_done_in range done.old.items }
+{
+    if let Some(range) = range {
+        let at = place_of(done.as_slice(), &range);
+        let Ok(()) = done.insert(at, range) else {
+            unreachable!()
+        };
+    }
+}
+
+// Behind the ranges that are lower.
+fn place_of(done: &[Done], range: &Done) -> usize
+    requires { IsSorted done_cmp done.now }
+    ensures within { result ≤ length done.now }
+    ensures place { insert done.now result range.now ≡ with_done range.now done.now }
+{
+    done.partition_point(|other| cmp_done(other, range).is_lt())
+}
+
+/// The order of the ranges of an outcome.
+fn cmp_done(a: &Done, b: &Done) -> Ordering
+    ensures { result ≡ done_cmp a.now b.now }
+{
+    let by_node = a.node.cmp(&b.node);
+    let by_item = a.item.cmp(&b.item);
+    let by_from = a.range.from().cmp(&b.range.from());
+    let by_to = a.range.to().cmp(&b.range.to());
+    by_node.then(by_item.then(by_from.then(by_to)))
+}
