@@ -4,8 +4,6 @@ use Rattle.std.specs.Prelude.{Option, Some, None, nat_lt, slice_get, slice_set, 
 use Rattle.std.specs.List.{All, filter, enumerate_from}
 use Rattle.std.specs.Option.{ForSome}
 use Rattle.std.proofs.lemmas.List.Elements.{All-weaker}
-use Rattle.beam_values.specs.Bags.{IsSameBag}
-use Rattle.beam_values.specs.Marks.{AreMarks}
 use Rattle.beam_values.specs.Nodes.{is_group}
 use Rattle.beam_values.specs.declared.arrival.Arrival.{Arrival}
 use Rattle.beam_values.specs.declared.cell.Pane.{Pane}
@@ -26,7 +24,6 @@ use Rattle.book_core.specs.Facts.{IsAttemptedWithin}
 use Rattle.book_core.specs.Indexes.{IsIndexed, AreHeldIn, least_in, marks_in, room_in, all_holds}
 use Rattle.book_core.specs.Jobs.{job_of, attempted_of}
 use Rattle.book_core.specs.Queues.{SeenQueue}
-use Rattle.book_core.specs.Runs.{Reached}
 use Rattle.book_core.specs.Steps.{CanCommit, IsWorking}
 use Rattle.book_core.specs.Work.{IsGiven, worked_to}
 use Rattle.book_core.specs.declared.live.Live.{Live}
@@ -37,7 +34,7 @@ use Rattle.book_core.proofs.CellsKept.{batch_at_group, given_gapped}
 use Rattle.book_core.proofs.CommitHolds.{kept_holds, kept_rise, without_job}
 use Rattle.book_core.proofs.CommitStep.{AreFired, no_longer}
 use Rattle.book_core.proofs.Formed.{reached_formed}
-use Rattle.book_core.proofs.HeldMarks.{held_as, held_within, least_held, marks_as}
+use Rattle.book_core.proofs.HeldMarks.{held_as, least_held, marks_as}
 use Rattle.book_core.proofs.HeldOnce.{group_within, reached_held}
 use Rattle.book_core.proofs.Holding.{bag_held}
 use Rattle.book_core.proofs.Limits.{pieces_after}

@@ -2,7 +2,7 @@
 use Rattle.std.proofs.Common.{◌≡◌, ℕ, ◌++◌, ℤ, List, length, map, take, drop, sym, ap, subst, ◌∙◌}
 use Rattle.std.specs.Int.{int_min}
 use Rattle.std.proofs.Math.Seq.{take-append_seam}
-use Rattle.beam_values.specs.Marks.{least_mark, AreMarks}
+use Rattle.beam_values.specs.Marks.{least_mark}
 use Rattle.beam_values.specs.declared.arrival.Arrival.{Arrival}
 use Rattle.beam_values.specs.declared.cell.Pane.{Pane}
 use Rattle.beam_values.specs.declared.marks.StageMarks.{StageMarks}

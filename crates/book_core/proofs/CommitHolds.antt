@@ -1,15 +1,15 @@
 -- The holds of a book at a commit: without the job, with what is left of it, and with the panes that fire.
-use Rattle.std.proofs.Common.{◌≡◌, ℕ, ◌+◌, ◌<◌, ℤ, Bool, true, false, cond, List, [], ◌∷◌, ◌++◌, length, map, refl, sym, ap, subst, ◌∙◌, arith}
-use Rattle.std.specs.Prelude.{Option, Some, None, ◌==◌, ◌≤ℤ◌, nat_lt, slice_get, fold}
+use Rattle.std.proofs.Common.{◌≡◌, ℕ, ◌+◌, ◌<◌, ℤ, Bool, true, false, cond, List, [], ◌∷◌, ◌++◌, length, map, refl, sym, ap, ◌∙◌, arith}
+use Rattle.std.specs.Prelude.{Option, Some, None, ◌==◌, ◌≤ℤ◌, nat_lt, fold}
 use Rattle.std.specs.Int.{int_min}
 use Rattle.std.specs.List.{All, filter, sum_by, enumerate_from}
-use Rattle.std.proofs.lemmas.Int.{ints, clamps, fold-int_min_bounds}
+use Rattle.std.proofs.lemmas.Int.{ints, fold-int_min_bounds}
 use Rattle.std.proofs.lemmas.List.{map-append}
 use Rattle.std.proofs.lemmas.List.Elements.{All-nil, All-cons, All-head, All-append, All-weaker, filter-append}
 use Rattle.std.proofs.lemmas.List.Sums.{fold-append, sum_by-cons, sum_by-append}
 use Rattle.beam_values.specs.Bags.{IsSameBag}
 use Rattle.beam_values.specs.Checked.{IsChecked}
-use Rattle.beam_values.specs.Marks.{least_mark, mark_of, marks_at, AreMarks}
+use Rattle.beam_values.specs.Marks.{least_mark, mark_of, marks_at}
 use Rattle.beam_values.specs.Times.{final_mark}
 use Rattle.beam_values.proofs.Bags.{sum_by-map}
 use Rattle.beam_values.specs.declared.cell.Cell.{Cell}
@@ -20,12 +20,11 @@ use Rattle.beam_values.specs.declared.piece.Piece.{Piece}
 use Rattle.beam_values.specs.declared.plan.Plan.{Plan}
 use Rattle.beam_model.specs.Holds.{Hold, estimator_of, piece_hold, pane_hold, marks_held, least_hold}
 use Rattle.bundle_commit.specs.declared.job.Receipt.{Receipt}
-use Rattle.group_cells.specs.Commits.{hold_with, RisesFrom}
-use Rattle.split_core.specs.Order.{with_piece}
+use Rattle.group_cells.specs.Commits.{RisesFrom}
 use Rattle.split_core.proofs.Ordered.{bag_with_piece}
 use Rattle.watermarks.proofs.Rising.{mark_of_rises}
-use Rattle.book_core.specs.Book.{BookData, HeldPane, held_in, hold_of, last_marks, AreMarksOfBook}
-use Rattle.book_core.specs.Changes.{with_slot, committed, pending_after, residual_of, with_residual}
+use Rattle.book_core.specs.Book.{BookData, last_marks, AreMarksOfBook}
+use Rattle.book_core.specs.Changes.{with_slot, committed, pending_after, with_residual}
 use Rattle.book_core.specs.Committing.{job_holds, residual_in, residual_holds}
 use Rattle.book_core.specs.Indexes.{all_holds}
 use Rattle.book_core.specs.Jobs.{job_of, attempted_of}
@@ -35,10 +34,9 @@ use Rattle.book_core.specs.declared.live.Live.{Live}
 use Rattle.book_core.specs.declared.live.Live.TheVariants as live
 use Rattle.book_core.specs.declared.live.WaitingPane.{WaitingPane}
 use Rattle.book_core.proofs.HeldOnce.{All-of_bag}
-use Rattle.book_core.proofs.HoldBags.{least_of_bag}
 use Rattle.book_core.proofs.Holding.{piece_weight, pane_weight, batch_weight, slot_weight, all_weigh}
 use Rattle.book_core.proofs.MarksKept.{IsUp, is_up, up_from, up_is, further, holds_up, rise_from}
-use Rattle.book_core.proofs.Queues.{held_fired, queued_from, fired_weigh}
+use Rattle.book_core.proofs.Queues.{held_fired, fired_weigh}
 use Rattle.book_core.proofs.Seen.{receipt_rises}
 use Rattle.book_core.proofs.Slots.{set_weighs}
 use Rattle.book_core.proofs.Slotted.{All-append_left, All-append_right}

@@ -1,13 +1,13 @@
 -- The parts of a commit: what is left of its range, where its range goes among those that are done, what is written, and where panes wait.
-use Rattle.std.proofs.Common.{◌≡◌, ◌⊎◌, inl, inr, ℕ, zero, suc, ◌+◌, ◌-◌, ◌*◌, ◌/◌, ◌≤◌, ◌<◌, ℤ, Bool, true, false, cond, List, [], ◌∷◌, ◌++◌, length, map, take, drop, get_or, refl, sym, ap, subst, ◌∙◌, append_assoc, arith}
-use Rattle.std.specs.Prelude.{Option, Some, None, not, nat_lt, max, min, insert, slice_get, unwrap_or, ◌==◌, if◌then◌else◌}
+use Rattle.std.proofs.Common.{◌≡◌, ℕ, suc, ◌+◌, ◌-◌, ◌*◌, ◌/◌, ◌≤◌, ◌<◌, Bool, true, false, cond, List, [], ◌∷◌, ◌++◌, length, map, take, drop, get_or, refl, sym, ap, subst, ◌∙◌, append_assoc, arith}
+use Rattle.std.specs.Prelude.{Option, Some, None, not, nat_lt, max, min, insert, slice_get, unwrap_or, ◌==◌}
 use Rattle.std.specs.List.{All, AllWithin, filter, enumerate_from, sum_by}
 use Rattle.std.specs.List.Sorted.{IsSorted, IsPartitionPoint, IsPartitionedBy}
 use Rattle.std.specs.Ordering.{is_lt}
-use Rattle.std.proofs.lemmas.Bool.{cases_lt, false≢true}
+use Rattle.std.proofs.lemmas.Bool.{false≢true}
 use Rattle.std.proofs.lemmas.Bool.Decides.{nat_tests}
 use Rattle.std.proofs.lemmas.List.{append-nil, get_or-drop, get_or-take, length-drop, length-take-le, take-append-drop}
-use Rattle.std.proofs.lemmas.List.Elements.{All-nil, All-cons, All-head, All-tail}
+use Rattle.std.proofs.lemmas.List.Elements.{All-head, All-tail}
 use Rattle.std.proofs.lemmas.List.Sorted.{sorted_far}
 use Rattle.beam_values.specs.Intervals.{Offsets}
 use Rattle.beam_values.specs.Nodes.{is_group, is_write, is_group_kind, is_write_kind}
@@ -25,7 +25,6 @@ use Rattle.bundle_commit.specs.declared.job.Receipt.{Receipt}
 use Rattle.group_cells.specs.Commits.{is_at_group}
 use Rattle.book_core.specs.Book.{tracker_of}
 use Rattle.book_core.specs.Changes.{as_waiting, done_cmp, done_of, fired_at, residual_of, with_done, with_fired}
-use Rattle.book_core.specs.Work.{worked_to}
 use Rattle.book_core.specs.declared.live.WaitingPane.{WaitingPane}
 use Rattle.book_core.proofs.Formed.{done_total}
 
@@ -39,7 +38,7 @@ checkpoint_at piece attempted = at (first_unattempted piece.range.from attempted
 
 by_end : (piece : Piece) (receipt : Receipt) (next : ℕ) (t : Bool) → nat_lt next piece.range.to ≡ t
     → cond (nat_lt (min next piece.range.to) piece.range.to)
-      (Some (record piece { range = record { from = min next piece.range.to; to = piece.range.to }; seen = receipt.seen; attempts = 0 })) None
+    (Some (record piece { range = record { from = min next piece.range.to; to = piece.range.to }; seen = receipt.seen; attempts = 0 })) None
     ≡ cond t (Some (record piece { range = record { from = next; to = piece.range.to }; seen = receipt.seen; attempts = 0 })) None
 by_end piece receipt next true e =
     let less : next < piece.range.to = grind (arith, nat_tests) in

@@ -1,24 +1,23 @@
 -- Marks and panes are moved one after another: what is held, where panes wait, and the room that is left.
-use Rattle.std.proofs.Common.{◌≡◌, ◌⊎◌, inl, inr, ℕ, suc, ◌+◌, ◌-◌, ◌≤◌, ◌<◌, ℤ, Bool, true, false, cond, List, [], ◌∷◌, ◌++◌, length, map, take, drop, get_or, refl, sym, ap, subst, ◌∙◌, append_assoc, arith}
+use Rattle.std.proofs.Common.{◌≡◌, ◌⊎◌, inl, inr, ℕ, suc, ◌+◌, ◌-◌, ◌≤◌, ◌<◌, ℤ, Bool, true, false, cond, List, [], ◌∷◌, ◌++◌, length, map, take, drop, get_or, refl, sym, ap, subst, ◌∙◌, arith}
 use Rattle.std.specs.Prelude.{Option, Some, None, slice_get, slice_set, unwrap_or, ◌==◌}
 use Rattle.std.specs.Option.{option_map}
-use Rattle.std.specs.List.{All, enumerate_from, sum_by}
+use Rattle.std.specs.List.{All, enumerate_from}
 use Rattle.std.proofs.Math.Seq.{drop-cons, map-set_same}
 use Rattle.std.proofs.lemmas.List.{append-nil, drop_all, length-set, map-append, take_all, take_more}
 use Rattle.std.proofs.lemmas.List.Elements.{All-weaker}
 use Rattle.std.proofs.lemmas.List.Sums.{sum_by-cons, sum_by-append}
 use Rattle.std.proofs.lemmas.Option.{slice_get-map, slice_get-get_or}
-use Rattle.beam_values.specs.Bags.{IsSameBag}
 use Rattle.beam_values.specs.declared.cell.Pane.{Pane}
 use Rattle.beam_values.specs.Nodes.{is_group, is_group_kind}
 use Rattle.beam_values.specs.declared.marks.StageMarks.{StageMarks}
 use Rattle.beam_values.specs.declared.plan.Node.{Node}
 use Rattle.beam_values.specs.declared.plan.Plan.{Plan}
-use Rattle.beam_model.specs.Holds.{Hold, pane_hold}
+use Rattle.beam_model.specs.Holds.{Hold}
 use Rattle.watermarks.specs.Holds.{SeenHolds, hold_at}
 use Rattle.beam_values.specs.Marks.{least_mark}
 use Rattle.book_core.specs.Changes.{as_waiting, fired_at, with_fired}
-use Rattle.book_core.specs.Committing.{list_at, queue_room, pane_holds, HasRoom}
+use Rattle.book_core.specs.Committing.{list_at, queue_room, HasRoom}
 use Rattle.book_core.specs.Indexes.{AreHeldIn, least_in, room_in}
 use Rattle.book_core.specs.Queues.{SeenQueue}
 use Rattle.book_core.specs.declared.live.WaitingPane.{WaitingPane}

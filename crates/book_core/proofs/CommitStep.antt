@@ -1,13 +1,13 @@
 -- A commit, as its parts are written, is the step, and what is kept of the book's indexes.
-use Rattle.std.proofs.Common.{◌≡◌, ℕ, suc, ◌+◌, ◌-◌, ◌≤◌, ◌<◌, ℤ, Bool, true, false, cond, List, [], ◌∷◌, ◌++◌, length, map, refl, sym, ap, subst, ◌∙◌, append_assoc, length-append, arith}
+use Rattle.std.proofs.Common.{◌≡◌, ℕ, suc, ◌+◌, ◌≤◌, ◌<◌, ℤ, Bool, true, false, cond, List, [], ◌∷◌, ◌++◌, length, map, refl, sym, ap, subst, ◌∙◌, append_assoc, length-append, arith}
 use Rattle.std.specs.Prelude.{Option, Some, None, nat_lt, slice_get, slice_set, unwrap_or, option_to_list}
 use Rattle.std.specs.Int.{int_min}
 use Rattle.std.specs.Option.{option_map}
-use Rattle.std.specs.List.{All, filter, flat_map, enumerate_from}
+use Rattle.std.specs.List.{All, filter, enumerate_from}
 use Rattle.std.proofs.lemmas.List.{length-map, length-set}
 use Rattle.std.proofs.lemmas.List.Elements.{All-weaker}
 use Rattle.beam_values.specs.Bags.{IsSameBag}
-use Rattle.beam_values.specs.Marks.{least_mark, AreMarks}
+use Rattle.beam_values.specs.Marks.{AreMarks}
 use Rattle.beam_values.specs.Nodes.{is_group, is_write}
 use Rattle.beam_values.specs.declared.arrival.Arrival.{Arrival}
 use Rattle.beam_values.specs.declared.cell.Cell.{Cell}
@@ -21,11 +21,11 @@ use Rattle.beam_values.specs.declared.piece.Piece.{Piece}
 use Rattle.beam_model.specs.Holds.{Hold, pane_hold, least_hold}
 use Rattle.beam_model.specs.Panes.{taken_by, ArePanesLegal}
 use Rattle.bundle_commit.specs.declared.job.Receipt.{Receipt}
-use Rattle.group_cells.specs.Commits.{as_commit, dropped_arrival, hold_with, is_at_group, is_dropped, is_taken, taken_arrival, HaveGaps, IsCommitted, KeepsLegal, NeverFalls, SeenGroups}
+use Rattle.group_cells.specs.Commits.{as_commit, dropped_arrival, hold_with, is_dropped, is_taken, taken_arrival, HaveGaps, IsCommitted, KeepsLegal, NeverFalls, SeenGroups}
 use Rattle.split_core.proofs.Ordered.{length-with_piece}
 use Rattle.watermarks.specs.Holds.{SeenHolds}
-use Rattle.book_core.specs.Book.{BookData, piece_of, batch_of, live_pieces, last_marks, AreMarksOfBook}
-use Rattle.book_core.specs.Changes.{with_slot, committed, done_after, pending_after, queues_after, residual_of, with_fired, with_residual, written_by, IsCommit}
+use Rattle.book_core.specs.Book.{BookData, piece_of, live_pieces, last_marks, AreMarksOfBook}
+use Rattle.book_core.specs.Changes.{committed, done_after, with_fired, with_residual, IsCommit}
 use Rattle.book_core.specs.Committing.{done_in, residual_in, with_done_in}
 use Rattle.book_core.specs.Indexes.{IsIndexed, AreHeldIn, least_in, all_holds}
 use Rattle.book_core.specs.Runs.{Reached}
@@ -45,7 +45,7 @@ use Rattle.book_core.proofs.HoldBags.{least_of_bag}
 use Rattle.book_core.proofs.Holding.{bag_held}
 use Rattle.book_core.proofs.Limits.{pieces_after, batches_after, reached_within}
 use Rattle.book_core.proofs.Reaching.{reached_more}
-use Rattle.book_core.proofs.RisingMarks.{IsMarked, last_is, reached_marked}
+use Rattle.book_core.proofs.RisingMarks.{last_is, reached_marked}
 
 -- what the Groups gave at a commit, while these marks were held
 pub record AreFired (b : BookData) (slot : ℕ) (job : Live) (receipt : Receipt) (old new : SeenGroups) (fired : List Pane) (marks : List StageMarks) (left : List Arrival) (held : List SeenHolds) : Type 0 where
@@ -159,13 +159,15 @@ module _ (strategies : StrategiesOfPlans) (b : BookData) (slot : ℕ) (job : Liv
   commits_after told can =
       let works = can.works in
       let mine = h.works in
-      let same : can.job ≡ job = cc in
-      (record {
-        job = job;
-        works = h.works;
-        given = subst (λ (j : Live). IsGiven told b.plan (job_of b.panes j) (attempted_of j) receipt) same can.given;
-        commit = is_commit;
-      }, within)
+      let same : can.job ≡ job = cc in (
+        record {
+          job = job;
+          works = h.works;
+          given = subst (λ (j : Live). IsGiven told b.plan (job_of b.panes j) (attempted_of j) receipt) same can.given;
+          commit = is_commit;
+        },
+        within,
+      )
 
   -- what is held then, and the room that is kept
   indexed_after : CanCommit None b slot receipt → (before after_held : List SeenHolds) (piece_room fewer batch_room : ℕ) → IsIndexed b before piece_room batch_room

@@ -1,6 +1,6 @@
 -- A job is taken: where what is due is found, and what is kept of the book's indexes.
 use Rattle.std.proofs.Common.{◌≡◌, ◌⊎◌, inl, inr, ℕ, zero, suc, ◌+◌, ◌≤◌, ◌<◌, Bool, true, false, cond, List, [], ◌∷◌, ◌++◌, length, take, drop, get_or, refl, sym, ap, subst, ◌∙◌, arith}
-use Rattle.std.specs.Prelude.{slice_get, slice_set, ◌==◌, not, nat_lt, unwrap_or, Option, Some, None}
+use Rattle.std.specs.Prelude.{slice_get, slice_set, ◌==◌, not, nat_lt, Option, Some, None}
 use Rattle.std.specs.List.{All, sum_by, flat_map, filter, fold, remove}
 use Rattle.std.proofs.lemmas.Bool.Decides.{nat_tests}
 use Rattle.std.proofs.lemmas.List.{take_more}

@@ -377,7 +377,8 @@ impl Book {
             panes.as_slice(),
         );
         put_back(&mut self.pieces, residual);
-        self.results.add(plan, done_of(&job), panes, arrivals, marks);
+        self.results
+            .add(plan, done_of(&job), panes, arrivals, marks);
         Ok(())
     }
 

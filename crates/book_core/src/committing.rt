@@ -393,7 +393,13 @@ pub fn wait_all(
     }
 }
 
-fn wait(queues: &mut Vec<Queue>, held: &mut NodeHolds, before: &[StageMarks], place: u32, pane: &Pane)
+fn wait(
+    queues: &mut Vec<Queue>,
+    held: &mut NodeHolds,
+    before: &[StageMarks],
+    place: u32,
+    pane: &Pane,
+)
     requires { HasRoom queues.old.items held.old pane.now.node 1 }
     ensures queues { (n : ℕ) → list_at queues.new.items n
         ≡ list_at queues.old.items n ++ (if pane.now.node == n then as_waiting before.now (place, pane.now) ∷ [] else []) }

@@ -1,8 +1,7 @@
-use Rattle.std.proofs.Common.{◌≡◌, List, length, arith, sym, subst, ap, ◌∙◌}
+use Rattle.std.proofs.Common.{List, sym, subst, ◌∙◌}
 use Rattle.beam_values.specs.declared.marks.StageMarks.{StageMarks}
-use Rattle.group_cells.specs.Commits.{IsCommitted, KeepsLegal, NoneFalls}
+use Rattle.group_cells.specs.Commits.{IsCommitted, KeepsLegal}
 use Rattle.watermarks.specs.Holds.{hold_at}
-use Rattle.book_core.specs.Indexes.{least_in}
 use Rattle.book_core.proofs.CommitFired.{all_written, fired_as, rises_as}
 use Rattle.book_core.proofs.committing.fire.Goals as goal
 

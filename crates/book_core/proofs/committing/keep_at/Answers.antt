@@ -1,6 +1,4 @@
-use Rattle.book_core.proofs.CommitRooms.{lists_stay, kept_at, room_at}
-use Rattle.std.proofs.Common.{◌≤◌, ◌≡◌, sym, subst, arith}
-use Rattle.book_core.specs.Queues.{SeenQueue}
+use Rattle.book_core.proofs.CommitRooms.{lists_stay}
 use Rattle.book_core.proofs.committing.keep_at.Goals as goal
 
 pub returns-clause-panes : goal.returns-clause-panes

@@ -1,5 +1,4 @@
-use Rattle.std.proofs.Common.{◌≡◌, ◌++◌, ◌∷◌, [], ℤ, arith, ap, ◌∙◌}
-use Rattle.book_core.specs.declared.live.WaitingPane.{WaitingPane}
+use Rattle.std.proofs.Common.{◌++◌, ◌∷◌, [], ℤ, arith, ap, ◌∙◌}
 use Rattle.book_core.proofs.CommitRooms.{list_set, one_less}
 use Rattle.book_core.proofs.committing.wait.Goals as goal
 

@@ -1,4 +1,4 @@
-use Rattle.std.proofs.Common.{◌∷◌, ◌+◌, ◌≤◌, arith, sym, subst}
+use Rattle.std.proofs.Common.{◌∷◌, ◌≤◌, sym, subst}
 use Rattle.beam_values.specs.Bags.{IsSameBag}
 use Rattle.watermarks.specs.Holds.{SeenHolds}
 use Rattle.book_core.proofs.HeldMarks.{removed, room_kept}

@@ -19,9 +19,9 @@ index_mut-requires c =
 
 pub invariant_of-self : goal.invariant_of-self
 invariant_of-self c = record {
-      indexed =
-    let works : slice_get c.self.inside.slots.items c.args.slot ≡ Some (Some (live.Span c.in-Some.piece c.in-Some.attempted)) = cc (c.in-Some.ensures, c.as_slice.ensures.value) in
-    claim_indexed (data_of c.self.inside) c.self.inside.held c.self.inside.pieces.room c.self.inside.returned.room c.args.slot c.args.p c.in-Some.piece c.in-Some.attempted _ works
-    (subst (λ (d : BookData). CanClaim d c.args.slot c.args.p) (sym c.self.view_is) c.requires) refl c.self.invariant.indexed;
-      grouped = c.self.invariant.grouped;
-    }
+  indexed =
+      let works : slice_get c.self.inside.slots.items c.args.slot ≡ Some (Some (live.Span c.in-Some.piece c.in-Some.attempted)) = cc (c.in-Some.ensures, c.as_slice.ensures.value) in
+      claim_indexed (data_of c.self.inside) c.self.inside.held c.self.inside.pieces.room c.self.inside.returned.room c.args.slot c.args.p c.in-Some.piece c.in-Some.attempted _ works
+      (subst (λ (d : BookData). CanClaim d c.args.slot c.args.p) (sym c.self.view_is) c.requires) refl c.self.invariant.indexed;
+  grouped = c.self.invariant.grouped;
+}

@@ -1,10 +1,9 @@
-use Rattle.std.proofs.Common.{◌≡◌, ℕ, ◌+◌, ◌-◌, ◌<◌, ◌≤◌, [], ◌∷◌, ◌++◌, List, length, arith, refl, sym, subst, ap, ◌∙◌}
-use Rattle.std.specs.Prelude.{slice_get, unwrap_or, option_to_list, Option, Some, None}
+use Rattle.std.proofs.Common.{◌≡◌, ◌-◌, ◌<◌, [], ◌∷◌, ◌++◌, List, length, arith, refl, sym, subst, ap, ◌∙◌}
+use Rattle.std.specs.Prelude.{slice_get, unwrap_or, option_to_list, Option, None}
 use Rattle.std.specs.List.{All, filter}
 use Rattle.std.specs.List.Sorted.{IsSorted}
 use Rattle.std.specs.Option.{ForSome, option_map}
 use Rattle.std.proofs.lemmas.List.{length-set}
-use Rattle.std.proofs.lemmas.Option.{slice_get_within}
 use Rattle.beam_values.specs.Nodes.{is_write}
 use Rattle.beam_values.specs.declared.arrival.Arrival.{Arrival}
 use Rattle.beam_values.specs.declared.cell.Pane.{Pane}
@@ -83,9 +82,11 @@ free_job-requires-clause-holds c =
       own = c.strategies_follow_kinds.ensures.own plan;
       onward = c.strategies_follow_kinds.ensures.onward plan;
     } in
-    let rest = all_holds (with_slot (data_of c.self.inside) c.args.slot None) in
-    (rest, subst (λ (plan : Plan). AreHeldIn c.keep_room.new.held (job_holds plan c.in-Some.job ++ rest)) (sym c.plan-plan.ensures.value)
-    (job_held strategies (data_of c.self.inside) c.args.slot c.in-Some.job c.args.receipt c.self.inside.held c.self.inside.pieces.room c.self.inside.returned.room c.in-Some.ensures.job c.self.invariant.indexed c.keep_room.new.held c.in-Ok.ensures.marks))
+    let rest = all_holds (with_slot (data_of c.self.inside) c.args.slot None) in (
+      rest,
+      subst (λ (plan : Plan). AreHeldIn c.keep_room.new.held (job_holds plan c.in-Some.job ++ rest)) (sym c.plan-plan.ensures.value)
+          (job_held strategies (data_of c.self.inside) c.args.slot c.in-Some.job c.args.receipt c.self.inside.held c.self.inside.pieces.room c.self.inside.returned.room c.in-Some.ensures.job c.self.invariant.indexed c.keep_room.new.held c.in-Ok.ensures.marks),
+    )
 
 pub hold_residual-requires-clause-within : goal.hold_residual-requires-clause-within
 hold_residual-requires-clause-within c =
@@ -251,7 +252,7 @@ invariant_of-self-2 c =
     c.last_marks-before.ensures ∙ ap (λ (l : List CommitMarks). unwrap_or (option_map (λ (m : CommitMarks). m.marks) (slice_get l (length l - 1))) []) c.in-Ok.ensures.commits in
     let number_is : c.len-number.result ≡ length c.self.inside.results.commits.items = c.len-number.ensures ∙ ap (λ (l : List CommitMarks). length l) c.in-Ok.ensures.commits in
     let fired : AreFired (data_of c.self.inside) c.args.slot c.in-Some.job c.args.receipt c.self.inside.groups c.fire-fired.new.groups c.in-Ok-fired.fired.panes c.in-Ok-fired.fired.marks
-      c.fire-fired.new.arrivals c.hold_residual.new.held =
+    c.fire-fired.new.arrivals c.hold_residual.new.held =
     are_fired (data_of c.self.inside) c.args.slot c.in-Some.job c.args.receipt c.self.inside.groups c.fire-fired.new.groups c.in-Ok-fired.fired.panes c.in-Ok-fired.fired.marks
     c.fire-fired.new.arrivals c.hold_residual.new.held c.plan-plan.result.now c.len-number.result c.last_marks-before.result.now
     c.plan-plan.ensures.value number_is before_is c.in-Some.ensures.job refl refl c.in-Ok-fired.ensures.committed c.in-Ok-fired.ensures.legal c.in-Ok-fired.ensures.few kept
@@ -304,7 +305,7 @@ returns-clause-ok c = λ told can.
     c.last_marks-before.ensures ∙ ap (λ (l : List CommitMarks). unwrap_or (option_map (λ (m : CommitMarks). m.marks) (slice_get l (length l - 1))) []) c.in-Ok.ensures.commits in
     let number_is : c.len-number.result ≡ length c.self.inside.results.commits.items = c.len-number.ensures ∙ ap (λ (l : List CommitMarks). length l) c.in-Ok.ensures.commits in
     let fired : AreFired (data_of c.self.inside) c.args.slot c.in-Some.job c.args.receipt c.self.inside.groups c.fire-fired.new.groups c.in-Ok-fired.fired.panes c.in-Ok-fired.fired.marks
-      c.fire-fired.new.arrivals c.hold_residual.new.held =
+    c.fire-fired.new.arrivals c.hold_residual.new.held =
     are_fired (data_of c.self.inside) c.args.slot c.in-Some.job c.args.receipt c.self.inside.groups c.fire-fired.new.groups c.in-Ok-fired.fired.panes c.in-Ok-fired.fired.marks
     c.fire-fired.new.arrivals c.hold_residual.new.held c.plan-plan.result.now c.len-number.result c.last_marks-before.result.now
     c.plan-plan.ensures.value number_is before_is c.in-Some.ensures.job refl refl c.in-Ok-fired.ensures.committed c.in-Ok-fired.ensures.legal c.in-Ok-fired.ensures.few kept

@@ -32,21 +32,21 @@ keep_room-requires c =
 
 pub invariant_of-self : goal.invariant_of-self
 invariant_of-self c = record {
-      indexed =
-    indexed_room (data_of c.self.inside) c.self.inside.held c.keep_room.new.self c.self.inside.pieces.room c.self.inside.returned.room c.self.inside.pieces.room
-    c.in_err-keep_room.ensures.marks c.in_err-keep_room.ensures.sized (omega arith) c.self.invariant.indexed;
-      grouped = c.self.invariant.grouped;
-    }
+  indexed =
+      indexed_room (data_of c.self.inside) c.self.inside.held c.keep_room.new.self c.self.inside.pieces.room c.self.inside.returned.room c.self.inside.pieces.room
+      c.in_err-keep_room.ensures.marks c.in_err-keep_room.ensures.sized (omega arith) c.self.invariant.indexed;
+  grouped = c.self.invariant.grouped;
+}
 
 pub invariant_of-self-in_err-add_residual : goal.invariant_of-self-in_err-add_residual
 invariant_of-self-in_err-add_residual c = record {
-      indexed =
-    indexed_pending (data_of c.self.inside) c.keep_room.new.self c.add_residual.new.self.room c.self.inside.returned.room c.add_residual.new.self.pending
-    (ap (λ p. p.pending) c.in_err-add_residual.ensures.err)
-    (indexed_room (data_of c.self.inside) c.self.inside.held c.keep_room.new.self c.self.inside.pieces.room c.self.inside.returned.room c.add_residual.new.self.room
-    c.in_ok-keep_room.ensures.marks c.in_ok-keep_room.ensures.sized c.in_err-add_residual.ensures.kept c.self.invariant.indexed);
-      grouped = c.self.invariant.grouped;
-    }
+  indexed =
+      indexed_pending (data_of c.self.inside) c.keep_room.new.self c.add_residual.new.self.room c.self.inside.returned.room c.add_residual.new.self.pending
+      (ap (λ p. p.pending) c.in_err-add_residual.ensures.err)
+      (indexed_room (data_of c.self.inside) c.self.inside.held c.keep_room.new.self c.self.inside.pieces.room c.self.inside.returned.room c.add_residual.new.self.room
+      c.in_ok-keep_room.ensures.marks c.in_ok-keep_room.ensures.sized c.in_err-add_residual.ensures.kept c.self.invariant.indexed);
+  grouped = c.self.invariant.grouped;
+}
 
 pub add_kept-requires-clause-within : goal.add_kept-requires-clause-within
 add_kept-requires-clause-within c =
@@ -64,25 +64,25 @@ index_mut-requires c =
 
 pub invariant_of-self-2 : goal.invariant_of-self-2
 invariant_of-self-2 c = record {
-      indexed =
-    let works : slice_get c.self.inside.slots.items c.args.slot ≡ Some (Some (live.Span c.in-Some.piece c.in-Some.attempted)) = cc (c.in-Some.ensures, c.as_slice.ensures.value) in
-    let cut : IsCut c.in-Some.piece (split_point_of (tracker_of c.in-Some.piece c.in-Some.attempted) c.args.num c.args.den) c.from.result c.in-Some-try_split.rest c.range.result =
-    is_cut c.in-Some.piece c.in-Some.attempted c.args.num c.args.den c.from.result c.in-Some-try_split.rest c.range.result c.try_split.new.self
-    (subst (λ (t : Tracked). Some c.in-Some-try_split.rest ≡ residual (split_point_of t c.args.num c.args.den) t.range.to) c.tracker_of-tracker.ensures c.in-Some-try_split.ensures.answer)
-    (subst (λ (t : Tracked). c.try_split.new.self ≡ primary t (split_point_of t c.args.num c.args.den)) c.tracker_of-tracker.ensures c.in-Some-try_split.ensures.after)
-    c.range.ensures c.from.ensures.value in
-    let less : length c.self.inside.pieces.pending + length (flat_map piece_of c.self.inside.slots.items) + 1 < 4294967295 =
-    omega (arith, c.if-len-count_pieces.false, c.count_pieces.ensures.exact, c.len.ensures, ap (λ (s : List (Option Live)). length (flat_map piece_of s)) c.as_slice-2.ensures.value) in
-    let mark_is : c.mark_of_piece-mark.result ≡ (piece_hold c.self.inside.graph c.in-Some.piece).mark =
-    c.mark_of_piece-mark.ensures ∙ ap (λ (plan : Plan). (piece_hold plan c.in-Some.piece).mark) c.plan.ensures.value in
-    let add : (holds : List Hold) → AreHeldIn c.keep_room.new.self holds → AreHeldIn c.add_kept.new.self (piece_hold c.self.inside.graph c.in-Some.piece ∷ holds) =
-    subst (λ (m : ℤ). (holds : List Hold) → AreHeldIn c.keep_room.new.self holds → AreHeldIn c.add_kept.new.self (record { node = c.in-Some.piece.node; mark = m } ∷ holds)) mark_is c.add_kept.ensures.added in
-    cut_indexed (data_of c.self.inside) c.self.inside.held c.keep_room.new.self c.add_kept.new.self c.self.inside.pieces.room c.add_residual.new.self.room c.self.inside.returned.room
-    c.args.slot c.args.num c.args.den c.from.result c.in-Some.piece c.in-Some.attempted c.in-Some-try_split.rest c.range.result _ _ works cut
-    c.in_ok-add_residual.ensures.ok refl less c.in_ok-keep_room.ensures.marks
-    add (c.add_kept.ensures.sized ∙ c.in_ok-keep_room.ensures.sized) c.in_ok-add_residual.ensures.kept c.self.invariant.indexed;
-      grouped = c.self.invariant.grouped;
-    }
+  indexed =
+      let works : slice_get c.self.inside.slots.items c.args.slot ≡ Some (Some (live.Span c.in-Some.piece c.in-Some.attempted)) = cc (c.in-Some.ensures, c.as_slice.ensures.value) in
+      let cut : IsCut c.in-Some.piece (split_point_of (tracker_of c.in-Some.piece c.in-Some.attempted) c.args.num c.args.den) c.from.result c.in-Some-try_split.rest c.range.result =
+      is_cut c.in-Some.piece c.in-Some.attempted c.args.num c.args.den c.from.result c.in-Some-try_split.rest c.range.result c.try_split.new.self
+      (subst (λ (t : Tracked). Some c.in-Some-try_split.rest ≡ residual (split_point_of t c.args.num c.args.den) t.range.to) c.tracker_of-tracker.ensures c.in-Some-try_split.ensures.answer)
+      (subst (λ (t : Tracked). c.try_split.new.self ≡ primary t (split_point_of t c.args.num c.args.den)) c.tracker_of-tracker.ensures c.in-Some-try_split.ensures.after)
+      c.range.ensures c.from.ensures.value in
+      let less : length c.self.inside.pieces.pending + length (flat_map piece_of c.self.inside.slots.items) + 1 < 4294967295 =
+      omega (arith, c.if-len-count_pieces.false, c.count_pieces.ensures.exact, c.len.ensures, ap (λ (s : List (Option Live)). length (flat_map piece_of s)) c.as_slice-2.ensures.value) in
+      let mark_is : c.mark_of_piece-mark.result ≡ (piece_hold c.self.inside.graph c.in-Some.piece).mark =
+      c.mark_of_piece-mark.ensures ∙ ap (λ (plan : Plan). (piece_hold plan c.in-Some.piece).mark) c.plan.ensures.value in
+      let add : (holds : List Hold) → AreHeldIn c.keep_room.new.self holds → AreHeldIn c.add_kept.new.self (piece_hold c.self.inside.graph c.in-Some.piece ∷ holds) =
+      subst (λ (m : ℤ). (holds : List Hold) → AreHeldIn c.keep_room.new.self holds → AreHeldIn c.add_kept.new.self (record { node = c.in-Some.piece.node; mark = m } ∷ holds)) mark_is c.add_kept.ensures.added in
+      cut_indexed (data_of c.self.inside) c.self.inside.held c.keep_room.new.self c.add_kept.new.self c.self.inside.pieces.room c.add_residual.new.self.room c.self.inside.returned.room
+      c.args.slot c.args.num c.args.den c.from.result c.in-Some.piece c.in-Some.attempted c.in-Some-try_split.rest c.range.result _ _ works cut
+      c.in_ok-add_residual.ensures.ok refl less c.in_ok-keep_room.ensures.marks
+      add (c.add_kept.ensures.sized ∙ c.in_ok-keep_room.ensures.sized) c.in_ok-add_residual.ensures.kept c.self.invariant.indexed;
+  grouped = c.self.invariant.grouped;
+}
 
 pub returns-clause-ok : goal.returns-clause-ok
 returns-clause-ok c =

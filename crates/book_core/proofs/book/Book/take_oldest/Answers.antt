@@ -34,30 +34,30 @@ index_mut-requires c =
 
 pub invariant_of-self-2 : goal.invariant_of-self-2
 invariant_of-self-2 c = record {
-      indexed =
-    let running = subst IsRunning (sym c.self.view_is) c.requires.running in
-    let free = subst (λ (b : BookData). IsFree b c.args.slot) (sym c.self.view_is) c.requires.free in
-    let due = subst (λ (b : BookData). IsDueAs b (first_due b) (Some (at.Oldest c.args.node))) (sym c.self.view_is) c.requires.due in
-    let within = oldest_within (data_of c.self.inside) c.args.node due in
-    let read : queue_at (data_of c.self.inside) c.args.node ≡ c.index-queue.result.now.panes =
-    queue_in (data_of c.self.inside) c.args.node c.self.inside.queues.items c.index-queue.result.now refl (omega (arith, within, lists_length c.self.inside.queues.items)) c.index-queue.ensures in
-    let lent : queue_at (data_of c.self.inside) c.args.node ≡ c.index_mut-queue.result.now.panes =
-    queue_in (data_of c.self.inside) c.args.node c.self.inside.queues.items c.index_mut-queue.result.now refl (omega (arith, within, lists_length c.self.inside.queues.items)) c.index_mut-queue.ensures.value in
-    let batch : record { node = c.args.node; panes = c.in_ok-panes.panes; attempts = 0 } ≡ oldest_batch (data_of c.self.inside) c.args.node =
-    batch_is (data_of c.self.inside) c.args.node c.in_ok-panes.panes c.index-queue.result.now.panes c.in_ok-panes.ensures read in
-    let queues : lists_of (slice_set c.self.inside.queues.items c.args.node c.remove_oldest.new.self)
-    ≡ slice_set (lists_of c.self.inside.queues.items) c.args.node (drop c.self.inside.options.bundle (queue_at (data_of c.self.inside) c.args.node)) =
-    lists_set c.self.inside.queues.items c.args.node c.remove_oldest.new.self ∙ ap (slice_set (lists_of c.self.inside.queues.items) c.args.node) (c.remove_oldest.ensures ∙ ap (drop c.self.inside.options.bundle) (sym lent)) in
-    let slots : slice_set c.self.inside.slots.items c.args.slot (Some (live.Batch (record { node = c.args.node; panes = c.in_ok-panes.panes; attempts = 0 })))
-    ≡ slice_set c.self.inside.slots.items c.args.slot (Some (live.Batch (oldest_batch (data_of c.self.inside) c.args.node))) =
-    ap (λ (x : Batch). slice_set c.self.inside.slots.items c.args.slot (Some (live.Batch x))) batch in
-    let room : length (flat_map batch_of c.self.inside.slots.items) + 1 ≤ c.reserve.new.self.room =
-    omega (arith, c.in_ok-reserve.ensures.ok, c.count_batches.ensures.exact, ap (λ (l : List (Option Live)). length (flat_map batch_of l)) c.as_slice-2.ensures.value) in
-    more_batches _ c.self.inside.held c.self.inside.pieces.room c.reserve.new.self.room c.reserve.new.self.room c.reserve.new.self.items c.in_ok-reserve.ensures.items (omega arith)
-    (oldest_indexed (data_of c.self.inside) c.args.slot c.args.node running free due c.self.inside.held c.self.inside.pieces.room c.self.inside.returned.room c.reserve.new.self.room
-    _ _ queues slots room c.self.invariant.indexed);
-      grouped = c.self.invariant.grouped;
-    }
+  indexed =
+      let running = subst IsRunning (sym c.self.view_is) c.requires.running in
+      let free = subst (λ (b : BookData). IsFree b c.args.slot) (sym c.self.view_is) c.requires.free in
+      let due = subst (λ (b : BookData). IsDueAs b (first_due b) (Some (at.Oldest c.args.node))) (sym c.self.view_is) c.requires.due in
+      let within = oldest_within (data_of c.self.inside) c.args.node due in
+      let read : queue_at (data_of c.self.inside) c.args.node ≡ c.index-queue.result.now.panes =
+      queue_in (data_of c.self.inside) c.args.node c.self.inside.queues.items c.index-queue.result.now refl (omega (arith, within, lists_length c.self.inside.queues.items)) c.index-queue.ensures in
+      let lent : queue_at (data_of c.self.inside) c.args.node ≡ c.index_mut-queue.result.now.panes =
+      queue_in (data_of c.self.inside) c.args.node c.self.inside.queues.items c.index_mut-queue.result.now refl (omega (arith, within, lists_length c.self.inside.queues.items)) c.index_mut-queue.ensures.value in
+      let batch : record { node = c.args.node; panes = c.in_ok-panes.panes; attempts = 0 } ≡ oldest_batch (data_of c.self.inside) c.args.node =
+      batch_is (data_of c.self.inside) c.args.node c.in_ok-panes.panes c.index-queue.result.now.panes c.in_ok-panes.ensures read in
+      let queues : lists_of (slice_set c.self.inside.queues.items c.args.node c.remove_oldest.new.self)
+      ≡ slice_set (lists_of c.self.inside.queues.items) c.args.node (drop c.self.inside.options.bundle (queue_at (data_of c.self.inside) c.args.node)) =
+      lists_set c.self.inside.queues.items c.args.node c.remove_oldest.new.self ∙ ap (slice_set (lists_of c.self.inside.queues.items) c.args.node) (c.remove_oldest.ensures ∙ ap (drop c.self.inside.options.bundle) (sym lent)) in
+      let slots : slice_set c.self.inside.slots.items c.args.slot (Some (live.Batch (record { node = c.args.node; panes = c.in_ok-panes.panes; attempts = 0 })))
+      ≡ slice_set c.self.inside.slots.items c.args.slot (Some (live.Batch (oldest_batch (data_of c.self.inside) c.args.node))) =
+      ap (λ (x : Batch). slice_set c.self.inside.slots.items c.args.slot (Some (live.Batch x))) batch in
+      let room : length (flat_map batch_of c.self.inside.slots.items) + 1 ≤ c.reserve.new.self.room =
+      omega (arith, c.in_ok-reserve.ensures.ok, c.count_batches.ensures.exact, ap (λ (l : List (Option Live)). length (flat_map batch_of l)) c.as_slice-2.ensures.value) in
+      more_batches _ c.self.inside.held c.self.inside.pieces.room c.reserve.new.self.room c.reserve.new.self.room c.reserve.new.self.items c.in_ok-reserve.ensures.items (omega arith)
+      (oldest_indexed (data_of c.self.inside) c.args.slot c.args.node running free due c.self.inside.held c.self.inside.pieces.room c.self.inside.returned.room c.reserve.new.self.room
+      _ _ queues slots room c.self.invariant.indexed);
+  grouped = c.self.invariant.grouped;
+}
 
 pub returns-clause-ok : goal.returns-clause-ok
 returns-clause-ok c =

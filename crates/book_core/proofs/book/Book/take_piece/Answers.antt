@@ -10,14 +10,14 @@ use Rattle.book_core.proofs.book.Book.take_piece.Goals as goal
 
 pub invariant_of-self : goal.invariant_of-self
 invariant_of-self c = record {
-      indexed =
-    piece_indexed (data_of c.self.inside) c.args.slot c.in-Some.piece c.take.new.self.pending _ (subst IsRunning (sym c.self.view_is) c.requires.running)
-    (subst (λ (b : BookData). IsFree b c.args.slot) (sym c.self.view_is) c.requires.free)
-    (subst (λ (b : BookData). first_due b ≡ None) (sym c.self.view_is) c.requires.none) c.in-Some.ensures.first
-    (ap (λ j. slice_set c.self.inside.slots.items c.args.slot (Some j)) c.started.ensures)
-    c.self.inside.held c.self.inside.pieces.room c.self.inside.returned.room c.take.new.self.room c.in-Some.ensures.kept c.self.invariant.indexed;
-      grouped = c.self.invariant.grouped;
-    }
+  indexed =
+      piece_indexed (data_of c.self.inside) c.args.slot c.in-Some.piece c.take.new.self.pending _ (subst IsRunning (sym c.self.view_is) c.requires.running)
+      (subst (λ (b : BookData). IsFree b c.args.slot) (sym c.self.view_is) c.requires.free)
+      (subst (λ (b : BookData). first_due b ≡ None) (sym c.self.view_is) c.requires.none) c.in-Some.ensures.first
+      (ap (λ j. slice_set c.self.inside.slots.items c.args.slot (Some j)) c.started.ensures)
+      c.self.inside.held c.self.inside.pieces.room c.self.inside.returned.room c.take.new.self.room c.in-Some.ensures.kept c.self.invariant.indexed;
+  grouped = c.self.invariant.grouped;
+}
 
 pub returns-in-Some : goal.returns-in-Some
 returns-in-Some c =

@@ -16,14 +16,14 @@ use Rattle.book_core.proofs.book.Book.take_returned.Goals as goal
 
 pub invariant_of-self : goal.invariant_of-self
 invariant_of-self c = record {
-      indexed =
-    returned_indexed (data_of c.self.inside) c.args.slot c.args.at (subst IsRunning (sym c.self.view_is) c.requires.running)
-    (subst (λ (b : BookData). IsFree b c.args.slot) (sym c.self.view_is) c.requires.free)
-    (subst (λ (b : BookData). IsDueAs b (first_due b) (Some (at.GivenBack c.args.at))) (sym c.self.view_is) c.requires.due) c.self.invariant.indexed.reached
-    c.self.inside.held c.self.inside.pieces.room c.self.inside.returned.room c.remove-batch.new.self.room c.remove-batch.result c.remove-batch.new.self.items _
-    c.remove-batch.ensures.item c.remove-batch.ensures.rest refl c.remove-batch.ensures.kept c.self.invariant.indexed;
-      grouped = c.self.invariant.grouped;
-    }
+  indexed =
+      returned_indexed (data_of c.self.inside) c.args.slot c.args.at (subst IsRunning (sym c.self.view_is) c.requires.running)
+      (subst (λ (b : BookData). IsFree b c.args.slot) (sym c.self.view_is) c.requires.free)
+      (subst (λ (b : BookData). IsDueAs b (first_due b) (Some (at.GivenBack c.args.at))) (sym c.self.view_is) c.requires.due) c.self.invariant.indexed.reached
+      c.self.inside.held c.self.inside.pieces.room c.self.inside.returned.room c.remove-batch.new.self.room c.remove-batch.result c.remove-batch.new.self.items _
+      c.remove-batch.ensures.item c.remove-batch.ensures.rest refl c.remove-batch.ensures.kept c.self.invariant.indexed;
+  grouped = c.self.invariant.grouped;
+}
 
 pub returns-clause-ok : goal.returns-clause-ok
 returns-clause-ok c =
