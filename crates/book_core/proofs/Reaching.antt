@@ -95,7 +95,7 @@ run_more : (told : Option (List FileText)) (steps : List MadeStep) (b mid end : 
 run_more told [] b mid end made run step = (end, subst (λ (x : BookData). Step told x made.slot made.action made.answer end) run step, refl)
 run_more told (first ∷ later) b mid end made run step = (run.0, run.1, run_more told later run.0 mid end made run.2 step)
 
-opening_of : (first b new : BookData) → HasSamePlan b new → IsOpening b.plan b.files b.options first → IsOpening new.plan new.files new.options first
+pub opening_of : (first b new : BookData) → HasSamePlan b new → IsOpening b.plan b.files b.options first → IsOpening new.plan new.files new.options first
 opening_of first b new same opening =
     subst (λ (p : Plan). IsOpening p new.files new.options first) (sym same.plan)
     (subst (λ (f : List FileLen). IsOpening b.plan f new.options first) (sym same.files)

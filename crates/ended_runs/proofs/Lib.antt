@@ -1,0 +1,4 @@
+mod Listed
+mod Ordered
+mod Stopped
+mod Ending
