@@ -1,5 +1,5 @@
 -- What stopped a run by a fault is found in the run.
-use Rattle.std.proofs.Common.{◌≡◌, ℕ, Bool, true, false, List, [], ◌∷◌, ◌++◌, refl, sym, subst, ap, ◌∙◌}
+use Rattle.std.proofs.Common.{◌≡◌, ◌⊎◌, inl, inr, ℕ, Bool, true, false, List, [], ◌∷◌, ◌++◌, refl, sym, subst, ap, ◌∙◌}
 use Rattle.std.specs.Prelude.{Option, Some, None}
 use Rattle.beam_values.specs.declared.fault.Cause.{Cause}
 use Rattle.beam_values.specs.declared.fault.Cause.TheVariants.{Call, Read}
@@ -23,6 +23,8 @@ use Rattle.ended_runs.specs.Stops.{IsHonestStop}
 record FoundStop (known : Known) (b : BookData) (note : FaultNote) : Type 0 where
   before : BookData
   reached : HonestlyReached known before
+  steps : List MadeStep
+  onward : HonestRun known before steps b
   plan : before.plan ≡ b.plan
   slot : ℕ
   job : Live
@@ -52,21 +54,20 @@ honest_more known b new made step honest reached = record {
 
 -- ---- one step
 
-found_later : (known : Known) (b new : BookData) (note : FaultNote) → new.plan ≡ b.plan → FoundStop known b note → FoundStop known new note
-found_later known b new note same found = record {
-  before = found.before;
-  reached = found.reached;
-  plan = found.plan ∙ sym same;
-  slot = found.slot;
-  job = found.job;
-  works = found.works;
-  tells = found.tells;
-  honest = found.honest;
-}
+-- a fail in this very step gave the note
+record GivesNote (known : Known) (b : BookData) (slot : ℕ) (note : FaultNote) : Type 0 where
+  job : Live
+  works : IsWorking b slot job
+  tells : note ≡ note_of job note.at note.cause
+  honest : IsHonest known b.plan (job_of b.panes job) (attempted_of job) note.at note.cause
+
+-- a note that stops the book after a step stopped it before, or comes of the step
+abbrev StopsBy : Known → BookData → ℕ → BookData → Type 0
+StopsBy known b slot new = (note : FaultNote) → new.stopped ≡ Some (stop.Spent note) → (b.stopped ≡ Some (stop.Spent note)) ⊎ GivesNote known b slot note
 
 -- a step that leaves the cause of a stop as it was
-finds_same : (known : Known) (b new : BookData) → new.plan ≡ b.plan → new.stopped ≡ b.stopped → Finds known b → Finds known new
-finds_same known b new plan same finds note is = found_later known b new note plan (finds note (sym same ∙ is))
+stops_same : (known : Known) (b : BookData) (slot : ℕ) (new : BookData) → new.stopped ≡ b.stopped → StopsBy known b slot new
+stops_same known b slot new same note is = inl (sym same ∙ is)
 
 take_stopped : (b : BookData) (due : Option Due) (pieces : List Piece) (next : Next) → b.pending ≡ pieces → due_or_piece b due ≡ Some next → next.rest.stopped ≡ b.stopped
 take_stopped b (Some (GivenBack batch)) pieces next is h = let e : without_due b (GivenBack batch) ≡ next = cc in sym (ap (λ (n : Next). n.rest.stopped) e)
@@ -85,12 +86,11 @@ back_stopped b slot (live.Span piece attempted) Read = refl
 back_stopped b slot (live.Batch batch) Call = refl
 back_stopped b slot (live.Batch batch) Read = refl
 
-none_by_memory : (known : Known) (b : BookData) → Finds known b → (stopped : Option StopCause) → b.stopped ≡ stopped → (note : FaultNote)
-    → or_stopped stopped stop.NoMemory ≡ Some (stop.Spent note) → FoundStop known b note
-none_by_memory known b finds None is note e = absurd (cc)
-none_by_memory known b finds (Some kept) is note e = finds note (is ∙ e)
+none_by_memory : (kept : Option StopCause) (note : FaultNote) → or_stopped kept stop.NoMemory ≡ Some (stop.Spent note) → kept ≡ Some (stop.Spent note)
+none_by_memory None note e = absurd (cc)
+none_by_memory (Some kept) note e = e
 
-module _ (known : Known) (b : BookData) (slot at : ℕ) (cause : Cause) (job : Live) (works : IsWorking b slot job) (reached : HonestlyReached known b) (finds : Finds known b)
+module _ (known : Known) (b : BookData) (slot at : ℕ) (cause : Cause) (job : Live) (works : IsWorking b slot job)
     (honest : IsHonest known b.plan (job_of b.panes job) (attempted_of job) at cause) where
   abbrev own_note : FaultNote
   own_note = note_of job at cause
@@ -109,12 +109,8 @@ module _ (known : Known) (b : BookData) (slot at : ℕ) (cause : Cause) (job : L
       by (live.Span piece attempted) = refl
       by (live.Batch batch) = refl
 
-  own_stop : FoundStop known b own_note
-  own_stop = record {
-    before = b;
-    reached = reached;
-    plan = refl;
-    slot = slot;
+  own_gives : GivesNote known b slot own_note
+  own_gives = record {
     job = job;
     works = works;
     tells = sym (λ i. note_of job (own_at i) (own_cause i));
@@ -122,41 +118,71 @@ module _ (known : Known) (b : BookData) (slot at : ℕ) (cause : Cause) (job : L
         (subst (λ (c : Cause). IsHonest known b.plan (job_of b.panes job) (attempted_of job) at c) (sym own_cause) honest);
   }
 
-  fail_found : (spent : Bool) (x : BookData) (stopped : Option StopCause) → x.stopped ≡ stopped → b.stopped ≡ stopped → (note : FaultNote)
-      → (stopped_where spent x own_note).stopped ≡ Some (stop.Spent note) → FoundStop known b note
-  fail_found false x stopped is was note e = finds note (was ∙ sym is ∙ e)
-  fail_found true x (Some kept) is was note e = finds note (was ∙ sym (ap (λ (s : Option StopCause). or_stopped s (stop.Spent own_note)) is) ∙ e)
-  fail_found true x None is was note e =
+  fail_stops : (spent : Bool) (x : BookData) (kept : Option StopCause) → x.stopped ≡ kept → b.stopped ≡ kept → (note : FaultNote)
+      → (stopped_where spent x own_note).stopped ≡ Some (stop.Spent note) → (b.stopped ≡ Some (stop.Spent note)) ⊎ GivesNote known b slot note
+  fail_stops false x kept is was note e = inl (was ∙ sym is ∙ e)
+  fail_stops true x (Some kept) is was note e = inl (was ∙ sym (ap (λ (s : Option StopCause). or_stopped s (stop.Spent own_note)) is) ∙ e)
+  fail_stops true x None is was note e =
       let same : Some (stop.Spent own_note) ≡ Some (stop.Spent note) = sym (ap (λ (s : Option StopCause). or_stopped s (stop.Spent own_note)) is) ∙ e in
       let own : own_note ≡ note = cc in
-      subst (FoundStop known b) own own_stop
+      inr (subst (GivesNote known b slot) own own_gives)
 
-step_finds : (known : Known) (b new : BookData) (slot : ℕ) (action : Action) (answer : Answer) → Step known.told b slot action answer new → IsHonestAction known b slot action
+step_stops : (known : Known) (b new : BookData) (slot : ℕ) (action : Action) (answer : Answer) → Step known.told b slot action answer new → IsHonestAction known b slot action
+    → StopsBy known b slot new
+step_stops known b new slot Enroll (Enrolled number) step honest = stops_same known b slot new (ap (λ (x : BookData). x.stopped) step.2)
+step_stops known b new slot Enroll NoMemory step honest = stops_same known b slot new (ap (λ (x : BookData). x.stopped) step)
+step_stops known b new slot Take (TakenJob job) step honest =
+    stops_same known b slot new (ap (λ (x : BookData). x.stopped) step.is ∙ take_stopped b (first_due b) b.pending step.next refl step.is_next)
+step_stops known b new slot Take Nothing step honest = stops_same known b slot new (ap (λ (x : BookData). x.stopped) step.4)
+step_stops known b new slot Take Finished step honest = stops_same known b slot new (ap (λ (x : BookData). x.stopped) step.4)
+step_stops known b new slot Take Stopped step honest = stops_same known b slot new (ap (λ (x : BookData). x.stopped) step.2)
+step_stops known b new slot Take NoMemory step honest = stops_same known b slot new (ap (λ (x : BookData). x.stopped) step.1)
+step_stops known b new slot (Claim p) (Claimed granted) step honest = stops_same known b slot new (ap (λ (x : BookData). x.stopped) step.is)
+step_stops known b new slot (Split num den) (SplitAt (Some at)) step honest = stops_same known b slot new (ap (λ (x : BookData). x.stopped) step.0.is)
+step_stops known b new slot (Split num den) (SplitAt None) step honest = stops_same known b slot new (ap (λ (x : BookData). x.stopped) step.1)
+step_stops known b new slot (Split num den) NoMemory step honest = stops_same known b slot new (ap (λ (x : BookData). x.stopped) step)
+step_stops known b new slot Commit Committed step honest = stops_same known b slot new (ap (λ (x : BookData). x.stopped) step.1.commit.is)
+step_stops known b new slot Commit NoMemory step honest = stops_same known b slot new (ap (λ (x : BookData). x.stopped) step.1)
+step_stops known b new slot (Fail at cause) answer step honest = λ note is.
+    fail_stops known b slot at cause step.job step.works (honest step.job step.works) (ends_run b step.job cause) (counted (given_back (with_slot b slot None) step.job) cause) b.stopped
+    (back_stopped b slot step.job cause) refl note (sym (ap (λ (x : BookData). x.stopped) step.is) ∙ is)
+step_stops known b new slot Stop Noted step honest = λ note is. inl (none_by_memory b.stopped note (sym (ap (λ (x : BookData). x.stopped) step) ∙ is))
+step_stops known b new slot _ _ step honest = absurd step
+
+step_finds : (known : Known) (b new : BookData) (made : MadeStep) → Step known.told b made.slot made.action made.answer new → IsHonestAction known b made.slot made.action
     → HonestlyReached known b → Finds known b → Finds known new
-step_finds known b new slot Enroll (Enrolled number) step honest reached finds = subst (Finds known) (sym step.2) (finds_same known b _ refl refl finds)
-step_finds known b new slot Enroll NoMemory step honest reached finds = subst (Finds known) (sym step) finds
-step_finds known b new slot Take (TakenJob job) step honest reached finds =
-    finds_same known b new (step_same known.told b new slot Take (TakenJob job) step).plan
-    (ap (λ (x : BookData). x.stopped) step.is ∙ take_stopped b (first_due b) b.pending step.next refl step.is_next) finds
-step_finds known b new slot Take Nothing step honest reached finds = subst (Finds known) (sym step.4) finds
-step_finds known b new slot Take Finished step honest reached finds = subst (Finds known) (sym step.4) finds
-step_finds known b new slot Take Stopped step honest reached finds = subst (Finds known) (sym step.2) finds
-step_finds known b new slot Take NoMemory step honest reached finds = subst (Finds known) (sym step.1) finds
-step_finds known b new slot (Claim p) (Claimed granted) step honest reached finds = subst (Finds known) (sym step.is) (finds_same known b _ refl refl finds)
-step_finds known b new slot (Split num den) (SplitAt (Some at)) step honest reached finds = subst (Finds known) (sym step.0.is) (finds_same known b _ refl refl finds)
-step_finds known b new slot (Split num den) (SplitAt None) step honest reached finds = subst (Finds known) (sym step.1) finds
-step_finds known b new slot (Split num den) NoMemory step honest reached finds = subst (Finds known) (sym step) finds
-step_finds known b new slot Commit Committed step honest reached finds = subst (Finds known) (sym step.1.commit.is) (finds_same known b _ refl refl finds)
-step_finds known b new slot Commit NoMemory step honest reached finds = subst (Finds known) (sym step.1) finds
-step_finds known b new slot (Fail at cause) answer step honest reached finds = λ note is.
-    let back = counted (given_back (with_slot b slot None) step.job) cause in
-    found_later known b new note (step_same known.told b new slot (Fail at cause) answer step).plan
-    (fail_found known b slot at cause step.job step.works reached finds (honest step.job step.works) (ends_run b step.job cause) back b.stopped
-    (back_stopped b slot step.job cause) refl note (sym (ap (λ (x : BookData). x.stopped) step.is) ∙ is))
-step_finds known b new slot Stop Noted step honest reached finds = λ note is.
-    found_later known b new note (ap (λ (x : BookData). x.plan) step)
-    (none_by_memory known b finds b.stopped refl note (sym (ap (λ (x : BookData). x.stopped) step) ∙ is))
-step_finds known b new slot _ _ step honest reached finds = absurd step
+step_finds known b new made step honest reached finds note is = by (step_stops known b new made.slot made.action made.answer step honest note is)
+  where
+    same : new.plan ≡ b.plan
+    same = (step_same known.told b new made.slot made.action made.answer step).plan
+
+    by : (b.stopped ≡ Some (stop.Spent note)) ⊎ GivesNote known b made.slot note → FoundStop known new note
+    by (inl before) =
+        let found = finds note before in
+        record {
+          before = found.before;
+          reached = found.reached;
+          steps = found.steps ++ made ∷ [];
+          onward = honest_run_more known found.steps found.before b new made found.onward step honest;
+          plan = found.plan ∙ sym same;
+          slot = found.slot;
+          job = found.job;
+          works = found.works;
+          tells = found.tells;
+          honest = found.honest;
+        }
+    by (inr gives) = record {
+      before = b;
+      reached = reached;
+      steps = made ∷ [];
+      onward = (new, step, honest, refl);
+      plan = sym same;
+      slot = made.slot;
+      job = gives.job;
+      works = gives.works;
+      tells = gives.tells;
+      honest = gives.honest;
+    }
 
 -- ---- all steps
 
@@ -164,7 +190,7 @@ run_finds : (known : Known) (steps : List MadeStep) (b end : BookData) → Hones
 run_finds known [] b end run reached finds = subst (Finds known) (sym run) finds
 run_finds known (made ∷ later) b end run reached finds =
     run_finds known later run.0 end run.3 (honest_more known b run.0 made run.1 run.2 reached)
-    (step_finds known b run.0 made.slot made.action made.answer run.1 run.2 reached finds)
+    (step_finds known b run.0 made run.1 run.2 reached finds)
 
 opening_reached : (known : Known) (b first : BookData) → IsOpening b.plan b.files b.options first → HonestlyReached known first
 opening_reached known b first opening = record {
@@ -181,6 +207,8 @@ honest_stop known b note noted reached is =
     record {
       before = found.before;
       reached = found.reached;
+      steps = found.steps;
+      onward = found.onward;
       plan = found.plan;
       slot = found.slot;
       job = found.job;

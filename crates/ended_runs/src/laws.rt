@@ -1,25 +1,37 @@
 //! What holds of the outcome of a run. Each function does nothing, but for calling the laws that its own
 //! rests on: its contract is the law.
 
-ghost use Rattle.std.specs.Prelude.{◌≡◌, List, Option, Some};
+ghost use Rattle.std.specs.Prelude.{◌≡◌, ℕ, List, Option, Some};
+ghost use Rattle.std.specs.List.Sorted.{IsSorted};
+ghost use Rattle.beam_values.specs.Cells.{cell_cmp, pane_cmp};
 ghost use Rattle.beam_values.specs.declared.fault.FaultNote.{FaultNote};
 ghost use Rattle.beam_values.specs.declared.file_text.FileText.{FileText};
 ghost use Rattle.beam_values.specs.declared.outcome.Outcome.{Outcome};
 ghost use Rattle.beam_values.specs.declared.outcome.StopCause.TheVariants as stop;
 ghost use Rattle.beam_model.specs.Account.{IsAccounted};
 ghost use Rattle.beam_model.specs.Covers.{IsCovered};
+ghost use Rattle.beam_model.specs.Estimators.{AreSoundAbove};
 ghost use Rattle.beam_model.specs.Panes.{ArePanesLegal};
+ghost use Rattle.beam_model.specs.Plain.{ArePlainlyWrittenWhere, HasDefaultTriggersAbove, NothingIsDroppedAbove};
 ghost use Rattle.beam_model.specs.Positions.{items};
 ghost use Rattle.book_core.specs.Book.{BookData};
 ghost use Rattle.book_core.specs.Calls.{IsOutcomeOf};
+ghost use Rattle.book_core.specs.Changes.{done_cmp};
 ghost use Rattle.book_core.specs.Runs.{AreTold, HonestlyReached, IsThrough, Reached};
 ghost use Rattle.book_core.specs.Work.{Known};
 ghost use Rattle.ended_runs.specs.Stops.{IsHonestStop};
+ghost use Rattle.ended_runs.specs.Storable.{ArePanesStorable};
 
 use book_core::laws::{
     attempts_are_counted, cells_are_kept, reached_books_are_partitioned,
     reached_books_are_well_formed, told_books_are_kept,
 };
+use pipeline_graph::laws::{
+    allowed_functions_go_forward, no_node_is_stateful,
+    nodes_have_inputs_and_settings_of_their_kind, nodes_take_elements_of_their_strategy,
+    strategies_follow_kinds,
+};
+use windowing::laws::windows_hold_their_time;
 
 /// Each offset of each source item lies in exactly one committed range, and no committed range has
 /// another offset: nothing is left out, and nothing is read twice.
@@ -49,6 +61,46 @@ pub fn outcomes_have_legal_panes()
         → ArePanesLegal o.plan o.commits o.cells o.dropped o.panes }
 {
     cells_are_kept();
+}
+
+/// The lists of an outcome are in order: done ranges by node, item and range, cells by node, key and
+/// window, and panes by commit, node, key and window.
+pub fn outcomes_are_in_order()
+    ensures done { (told : Option (List FileText)) (b : BookData) (o : Outcome) → Reached told b → IsOutcomeOf b o → IsSorted done_cmp o.done }
+    ensures cells { (told : Option (List FileText)) (b : BookData) (o : Outcome) → Reached told b → IsOutcomeOf b o → IsSorted cell_cmp o.cells }
+    ensures panes { (told : Option (List FileText)) (b : BookData) (o : Outcome) → Reached told b → IsOutcomeOf b o → IsSorted pane_cmp o.panes }
+{
+    reached_books_are_well_formed();
+    cells_are_kept();
+}
+
+/// Where the files are told, no Group above a node drops an element, also in a run that was given up, if
+/// each of these Groups has the default trigger and each estimator above the node is sound.
+pub fn sound_groups_drop_nothing()
+    ensures { (told : List FileText) (b : BookData) (o : Outcome) (node : ℕ) → Reached (Some told) b → IsOutcomeOf b o
+        → HasDefaultTriggersAbove o.plan node → AreSoundAbove o.plan (items told b.plan) node → NothingIsDroppedAbove o.plan node o.dropped }
+{
+    nodes_have_inputs_and_settings_of_their_kind();
+    nodes_take_elements_of_their_strategy();
+    strategies_follow_kinds();
+    allowed_functions_go_forward();
+    windows_hold_their_time();
+}
+
+/// Where the files are told: at each Write above which every Group has the default trigger and every
+/// estimator is sound, what was written is plain grouping of the whole input, and no Group above it
+/// dropped an element, whatever was split, bundled or tried again. Windows may be sessions, and Groups may
+/// stand one above another. The values of panes are ones that a program can hold.
+pub fn outcomes_are_plainly_written()
+    ensures { (told : List FileText) (b : BookData) (o : Outcome) → Reached (Some told) b → AreTold told b → IsThrough b → IsOutcomeOf b o
+        → ArePanesStorable o → ArePlainlyWrittenWhere (items told b.plan) o }
+{
+    no_node_is_stateful();
+    nodes_have_inputs_and_settings_of_their_kind();
+    nodes_take_elements_of_their_strategy();
+    strategies_follow_kinds();
+    allowed_functions_go_forward();
+    windows_hold_their_time();
 }
 
 /// A run that was given up by a fault met that fault: some job of it failed there honestly, as often as

@@ -1,0 +1,441 @@
+-- At the end of a run what was written at a barrier with sound estimators and default triggers above it is what plain grouping brings there.
+use Rattle.std.proofs.Common.{◌≡◌, ℕ, ◌-◌, ◌≤◌, ℤ, Bool, true, false, cond, List, [], ◌∷◌, ◌++◌, append-nil, length, get_or, map, refl, sym, ap, ap₂, subst, ◌∙◌, arith}
+use Rattle.std.specs.Prelude.{Option, Some, None, ◌==◌, ◌||◌, ◌≤ℤ◌, slice_get, unwrap_or}
+use Rattle.std.specs.List.{All, filter, flat_map, sum_by}
+use Rattle.std.specs.Option.{option_map}
+use Rattle.std.proofs.lemmas.Bool.{eqb-true, ne_eqb}
+use Rattle.std.proofs.lemmas.Int.{ints}
+use Rattle.std.proofs.lemmas.List.{map-append}
+use Rattle.std.proofs.lemmas.List.Elements.{All-append, All-filter, All-head, All-map, All-tail, All-weaker, filter-append, filter_passes}
+use Rattle.std.proofs.lemmas.List.Sums.{sum_by-append, sum_by-cons}
+use Rattle.beam_values.specs.Grouping.{IsPlainGrouping}
+use Rattle.beam_values.specs.Nodes.{HasNoStatefulAbove, has_kind, is_above, is_barrier_kind, is_group, is_group_kind, is_write, is_write_kind, strategy_of}
+use Rattle.beam_values.specs.Sessions.{IsNonEmpty}
+use Rattle.beam_values.specs.Storable.{IsStorable}
+use Rattle.beam_values.specs.Times.{final_mark}
+use Rattle.beam_values.specs.declared.arrival.Arrival.{Arrival}
+use Rattle.beam_values.specs.declared.cell.Cell.{Cell}
+use Rattle.beam_values.specs.declared.cell.Dropped.{Dropped}
+use Rattle.beam_values.specs.declared.cell.Entry.{Entry}
+use Rattle.beam_values.specs.declared.cell.Pane.{Pane}
+use Rattle.beam_values.specs.declared.element.Element.{Element}
+use Rattle.beam_values.specs.declared.file_text.FileText.{FileText}
+use Rattle.beam_values.specs.declared.marks.StageMarks.{StageMarks}
+use Rattle.beam_values.specs.declared.outcome.Outcome.{Outcome}
+use Rattle.beam_values.specs.declared.plan.Node.{Node}
+use Rattle.beam_values.specs.declared.plan.NodeKind.{NodeKind}
+use Rattle.beam_values.specs.declared.plan.NodeKind.TheVariants.{Source, ParDo, Flatten, WindowInto, Group, Stateful, Write}
+use Rattle.beam_values.specs.declared.plan.Plan.{Plan}
+use Rattle.beam_values.specs.declared.plan.Strategy.{Strategy}
+use Rattle.beam_values.specs.declared.plan.Strategy.TheVariants as strategy
+use Rattle.beam_values.specs.declared.value.Value.{Value}
+use Rattle.beam_values.proofs.Bags.{bag_from_same, sum_by-filter, sum_by-flat_map, sum_by-map}
+use Rattle.beam_model.specs.Account.{arrivals_of, cell_arrivals, dropped_arrival}
+use Rattle.beam_model.specs.Chains.{Output, Arrives, chain}
+use Rattle.beam_model.specs.Estimators.{AreSoundAbove}
+use Rattle.beam_model.specs.Flow.{elements_at, is_at, pane_chains}
+use Rattle.beam_model.specs.Panes.{IsLegalHistory, Taken, is_sessions, mark_after, panes_at, taken_at, taken_by, taken_drop, taken_entry}
+use Rattle.beam_model.specs.Plain.{ArePlainlyWrittenWhere, HasDefaultTriggersAbove, IsGroupAbove, IsGroupedBy, IsPlainAt, IsPlainRun, NothingIsDroppedAbove, is_met, node_of, plain_flow}
+use Rattle.beam_model.specs.Plans.{default_trigger}
+use Rattle.beam_model.specs.Positions.{items}
+use Rattle.beam_model.specs.Sessions.{in_session}
+use Rattle.beam_model.specs.Spread.{spread_all}
+use Rattle.beam_model.proofs.Above.{above_above, checked_inputs_lower}
+use Rattle.beam_model.proofs.Barriers.{outputs_below}
+use Rattle.group_cells.proofs.Counting.{filter_none}
+use Rattle.book_core.specs.Book.{BookData, held, last_marks}
+use Rattle.book_core.specs.Calls.{IsOutcomeOf}
+use Rattle.book_core.specs.Runs.{AreTold, IsThrough, Reached}
+use Rattle.book_core.proofs.BalancedAlways.{NoStateful, reached_balanced}
+use Rattle.book_core.proofs.CellsAlways.{reached_celled}
+use Rattle.book_core.proofs.EarlyAlways.{reached_early}
+use Rattle.book_core.proofs.Formed.{reached_formed}
+use Rattle.book_core.proofs.Partitioned.{reached_partitioned}
+use Rattle.book_core.proofs.RisingMarks.{reached_marks}
+use Rattle.book_core.proofs.Slots.{All-slice_get}
+use Rattle.book_core.proofs.Slotted.{All-flat_map}
+use Rattle.book_core.proofs.Through.{EndsEarly}
+use Rattle.ended_runs.specs.Storable.{ArePanesStorable}
+use Rattle.ended_runs.proofs.Above.{KnownLaws, StartsAbove}
+use Rattle.ended_runs.proofs.Ending.{book_flow}
+use Rattle.ended_runs.proofs.Grouped.{pane_elements, plainly_grouped, sum_alike, taken_elements}
+use Rattle.ended_runs.proofs.PanesWell.{default_history, marks_rise}
+use Rattle.ended_runs.proofs.SessionsGrouped.{merged_of, merging, placed, sessions_grouped}
+use Rattle.ended_runs.proofs.SoFar.{IsTakenAbove, IsTakenWell}
+use Rattle.ended_runs.proofs.SoFarAlways.{IsSoFarOf, IsSoundFor, reached_so_far, some_commit}
+
+-- ---- nodes
+
+-- a node isn't of two kinds
+group_or_write : (plan : Plan) (n : ℕ) → is_group plan n ≡ true → is_write plan n ≡ true → ⊥
+group_or_write plan n group write = by (slice_get plan.nodes n) group write
+  where
+    of_kind : (kind : NodeKind) → is_group_kind kind ≡ true → is_write_kind kind ≡ true → ⊥
+    of_kind (Group trigger) g w = absurd (cc)
+    of_kind (Source work args files estimator) g w = absurd (cc)
+    of_kind (ParDo work args) g w = absurd (cc)
+    of_kind Flatten g w = absurd (cc)
+    of_kind (WindowInto s) g w = absurd (cc)
+    of_kind (Stateful work args log) g w = absurd (cc)
+    of_kind (Write label) g w = absurd (cc)
+
+    by : (found : Option Node) → unwrap_or (option_map (λ x. is_group_kind x.kind) found) false ≡ true → unwrap_or (option_map (λ x. is_write_kind x.kind) found) false ≡ true → ⊥
+    by None g w = absurd (cc)
+    by (Some node) g w = of_kind node.kind g w
+
+write_ends : (plan : Plan) (n : ℕ) → is_write plan n ≡ true → has_kind is_barrier_kind plan n ≡ true
+write_ends plan n write = by (slice_get plan.nodes n) write
+  where
+    of_kind : (kind : NodeKind) → is_write_kind kind ≡ true → is_barrier_kind kind ≡ true
+    of_kind (Group trigger) w = absurd (cc)
+    of_kind (Source work args files estimator) w = absurd (cc)
+    of_kind (ParDo work args) w = absurd (cc)
+    of_kind Flatten w = absurd (cc)
+    of_kind (WindowInto s) w = absurd (cc)
+    of_kind (Stateful work args log) w = absurd (cc)
+    of_kind (Write label) w = refl
+
+    by : (found : Option Node) → unwrap_or (option_map (λ x. is_write_kind x.kind) found) false ≡ true → unwrap_or (option_map (λ x. is_barrier_kind x.kind) found) false ≡ true
+    by None w = absurd (cc)
+    by (Some node) w = of_kind node.kind w
+
+never : (t : Bool) → t ≡ true → t ≡ false → ⊥
+never true e f = absurd (cc)
+never false e f = absurd (cc)
+
+or_second : (t u : Bool) → u ≡ true → (t || u) ≡ true
+or_second true u e = refl
+or_second false u e = e
+
+or_first : (t u : Bool) → t ≡ true → (t || u) ≡ true
+or_first true u e = refl
+or_first false u e = absurd (cc)
+
+-- ---- lists
+
+-- what a wider test kept already is kept again
+filter_twice : {X : Type 0} (p q : X → Bool) → ((x : X) → p x ≡ true → q x ≡ true) → (xs : List X) → filter p (filter q xs) ≡ filter p xs
+filter_twice p q wider [] = refl
+filter_twice p q wider (x ∷ xs) = by (p x) (q x) refl (wider x) (filter_twice p q wider xs)
+  where
+    by : (a b : Bool) → p x ≡ a → (a ≡ true → b ≡ true) → filter p (filter q xs) ≡ filter p xs
+        → filter p (cond b (x ∷ filter q xs) (filter q xs)) ≡ cond a (x ∷ filter p xs) (filter p xs)
+    by true true e h same = ap (λ (c : Bool). cond c (x ∷ filter p (filter q xs)) (filter p (filter q xs))) e ∙ ap (λ (l : List _). x ∷ l) same
+    by true false e h same = absurd (no (h refl))
+      where
+        no : false ≡ true → ⊥
+        no f = absurd (cc)
+    by false true e h same = ap (λ (c : Bool). cond c (x ∷ filter p (filter q xs)) (filter p (filter q xs))) e ∙ same
+    by false false e h same = same
+
+taken_as : Taken → Arrival
+taken_as t = record { node = t.node; element = t.element }
+
+pane_as_arrival : Pane → Arrival
+pane_as_arrival p = record { node = p.node; element = p.element }
+
+cell_taken : (node : ℕ) (entries : List Entry) → map (λ entry. record { node = node; element = entry.element }) entries ≡ map taken_as (map (taken_entry node) entries)
+unfolding taken_as
+cell_taken node [] = refl
+cell_taken node (e ∷ es) = ap (λ (l : List Arrival). record { node = node; element = e.element } ∷ l) (cell_taken node es)
+
+cells_taken : (cells : List Cell) → flat_map cell_arrivals cells ≡ map taken_as (taken_by cells)
+cells_taken [] = refl
+cells_taken (cell ∷ cells) =
+    ap₂ (λ (a b : List Arrival). a ++ b) (cell_taken cell.node cell.entries) (cells_taken cells)
+    ∙ sym (map-append taken_as (map (taken_entry cell.node) cell.entries) (taken_by cells))
+
+taken_at_node : (node : ℕ) (ts : List Taken) → map (λ a. a.element) (filter (is_at node) (map taken_as ts)) ≡ taken_elements node ts
+unfolding taken_as
+taken_at_node node [] = refl
+taken_at_node node (t ∷ ts) = by (t.node == node) (taken_at_node node ts)
+  where
+    by : (b : Bool) → map (λ a. a.element) (filter (is_at node) (map taken_as ts)) ≡ taken_elements node ts
+        → map (λ (a : Arrival). a.element) (cond b (taken_as t ∷ filter (is_at node) (map taken_as ts)) (filter (is_at node) (map taken_as ts)))
+        ≡ map (λ (x : Taken). x.element) (cond b (t ∷ filter (λ x. x.node == node) ts) (filter (λ x. x.node == node) ts))
+    by true same = ap (λ (l : List Element). t.element ∷ l) same
+    by false same = same
+
+panes_at_node : (node : ℕ) (ps : List Pane) → map (λ a. a.element) (filter (is_at node) (map pane_as_arrival ps)) ≡ pane_elements node ps
+unfolding pane_as_arrival
+panes_at_node node [] = refl
+panes_at_node node (p ∷ ps) = by (p.node == node) (panes_at_node node ps)
+  where
+    by : (b : Bool) → map (λ a. a.element) (filter (is_at node) (map pane_as_arrival ps)) ≡ pane_elements node ps
+        → map (λ (a : Arrival). a.element) (cond b (pane_as_arrival p ∷ filter (is_at node) (map pane_as_arrival ps)) (filter (is_at node) (map pane_as_arrival ps)))
+        ≡ map (λ (x : Pane). x.element) (cond b (p ∷ filter (λ x. x.node == node) ps) (filter (λ x. x.node == node) ps))
+    by true same = ap (λ (l : List Element). p.element ∷ l) same
+    by false same = same
+
+sum_where : {X : Type 0} (f g : X → ℕ) (P : X → Type 0) → ((x : X) → P x → f x ≡ g x) → (xs : List X) → All P xs → sum_by f xs ≡ sum_by g xs
+sum_where f g P same [] all = refl
+sum_where f g P same (x ∷ xs) all = omega (arith, sum_by-cons f x xs, sum_by-cons g x xs, same x (All-head P x xs all), sum_where f g P same xs (All-tail P x xs all))
+
+sum_zero : {X : Type 0} (f : X → ℕ) (P : X → Type 0) → ((x : X) → P x → f x ≡ 0) → (xs : List X) → All P xs → sum_by f xs ≡ 0
+sum_zero f P none [] all = refl
+sum_zero f P none (x ∷ xs) all = omega (arith, sum_by-cons f x xs, none x (All-head P x xs all), sum_zero f P none xs (All-tail P x xs all))
+
+-- ---- a book that is through
+
+module _ (laws : KnownLaws) (no_stateful : NoStateful) (told : List FileText) (b : BookData) (reached : Reached (Some told) b) (lengths : AreTold told b) (through : IsThrough b)
+    (storable : All (λ p. IsStorable p.element.value) b.panes) (to : ℕ) (write : is_write b.plan to ≡ true) (stateless : HasNoStatefulAbove b.plan to)
+    (sound : IsSoundFor laws told to b.plan) where
+  abbrev is_met_at : Arrival → Bool
+  is_met_at a = a.node == to || is_above b.plan a.node to
+
+  abbrev came : List Arrival
+  came = map taken_as (taken_by b.cells) ++ b.written
+
+  -- what plain grouping meets, and the panes from the Groups above
+  abbrev met : List Arrival
+  met = filter is_met_at (map taken_as (taken_by b.cells) ++ b.written)
+
+  abbrev fired : List Arrival
+  fired = filter (λ a. is_above b.plan a.node to) (map pane_as_arrival b.panes)
+
+  so_far : IsSoFarOf laws told to b.plan b.commits b.cells b.dropped b.panes b.written (held b)
+  so_far = reached_so_far laws told to b reached sound
+
+  taken_groups : All (λ t. is_group b.plan t.node ≡ true) (taken_by b.cells)
+  taken_groups =
+      All-flat_map (λ (t : Taken). is_group b.plan t.node ≡ true) (λ (cell : Cell). map (taken_entry cell.node) cell.entries) b.cells
+      (λ k d inside. All-map (λ (t : Taken). is_group b.plan t.node ≡ true) (taken_entry (get_or b.cells k d).node) (get_or b.cells k d).entries
+      (λ j e within. (reached_celled laws.strategies (Some told) b reached).legal.cells_at k d inside))
+
+  not_write : (n : ℕ) → is_group b.plan n ≡ true → (n == to) ≡ false
+  not_write n group = ne_eqb n to (λ same. group_or_write b.plan to (subst (λ (m : ℕ). is_group b.plan m ≡ true) same group) write)
+
+  -- ---- sums over what is met
+
+  module _ (w : Output → ℕ) where
+    abbrev met_weight : Output → ℕ
+    met_weight output = cond (is_met b.plan to output) (w output) 0
+
+    abbrev arrival_weight : Arrival → ℕ
+    arrival_weight a = cond (is_met_at a) (w (Arrives a)) 0
+
+    met_above : (n m : ℕ) → is_above b.plan n m ≡ true → (m == to || is_above b.plan m to) ≡ true → is_above b.plan n to ≡ true
+    met_above n m above is = by (m == to) refl is
+      where
+        by : (t : Bool) → (m == to) ≡ t → (t || is_above b.plan m to) ≡ true → is_above b.plan n to ≡ true
+        by true e h = subst (λ (k : ℕ). is_above b.plan n k ≡ true) (eqb-true m to e) above
+        by false e h = above_above b.plan (checked_inputs_lower b.plan (reached_formed (Some told) b reached).checked) n m above to h
+
+    -- what comes of a node that isn't above isn't met
+    none_beside : (n : ℕ) (e : Element) → is_above b.plan n to ≡ false → sum_by met_weight (chain b.plan n e) ≡ 0
+    none_beside n e away =
+        sum_zero met_weight (λ output. is_above b.plan n (node_of output) ≡ true)
+        (λ output below. by output (is_met b.plan to output) refl below) (chain b.plan n e) (outputs_below b.plan n e)
+      where
+        by : (output : Output) (t : Bool) → is_met b.plan to output ≡ t → is_above b.plan n (node_of output) ≡ true → cond t (w output) 0 ≡ 0
+        by output true is below = absurd (never (is_above b.plan n to) (met_above n (node_of output) below is) away)
+        by output false is below = refl
+
+    panes_weigh : sum_by met_weight (flat_map (λ pane. chain b.plan pane.node pane.element) fired) ≡ sum_by met_weight (pane_chains b.plan b.panes)
+    unfolding pane_as_arrival
+    panes_weigh =
+        sum_by-flat_map met_weight (λ (pane : Arrival). chain b.plan pane.node pane.element) fired
+        ∙ sum_by-filter (λ (pane : Arrival). sum_by met_weight (chain b.plan pane.node pane.element)) (λ a. is_above b.plan a.node to) (map pane_as_arrival b.panes)
+        ∙ sum_by-map (λ (pane : Arrival). cond (is_above b.plan pane.node to) (sum_by met_weight (chain b.plan pane.node pane.element)) 0) pane_as_arrival b.panes
+        ∙ sum_alike (λ (p : Pane). cond (is_above b.plan p.node to) (sum_by met_weight (chain b.plan p.node p.element)) 0) (λ p. sum_by met_weight (chain b.plan p.node p.element))
+        (λ p. by p (is_above b.plan p.node to) refl) b.panes
+        ∙ sym (sum_by-flat_map met_weight (λ (p : Pane). chain b.plan p.node p.element) b.panes)
+      where
+        by : (p : Pane) (t : Bool) → is_above b.plan p.node to ≡ t → cond t (sum_by met_weight (chain b.plan p.node p.element)) 0 ≡ sum_by met_weight (chain b.plan p.node p.element)
+        by p true e = refl
+        by p false e = sym (none_beside p.node p.element e)
+
+    dropped_weigh : sum_by arrival_weight (map dropped_arrival b.dropped) ≡ 0
+    dropped_weigh =
+        sum_by-map arrival_weight dropped_arrival b.dropped
+        ∙ sum_zero (λ (d : Dropped). arrival_weight (dropped_arrival d)) (λ d. (d.node == to || is_above b.plan d.node to) ≡ false)
+        (λ d away. ap (λ (t : Bool). cond t (w (Arrives (dropped_arrival d))) 0) away) b.dropped
+        (λ k d inside. neither ((get_or b.dropped k d).node == to) (is_above b.plan (get_or b.dropped k d).node to)
+        (not_write (get_or b.dropped k d).node ((reached_celled laws.strategies (Some told) b reached).legal.dropped_at k d inside)) (so_far.none_dropped k d inside))
+      where
+        neither : (t u : Bool) → t ≡ false → u ≡ false → (t || u) ≡ false
+        neither true u e f = absurd (cc)
+        neither false u e f = f
+
+    arrivals_weigh : sum_by arrival_weight (arrivals_of b.cells b.dropped [] b.written) ≡ sum_by arrival_weight came
+    arrivals_weigh =
+        let one = sum_by-append arrival_weight (flat_map cell_arrivals b.cells) (map dropped_arrival b.dropped ++ b.written) in
+        let two = sum_by-append arrival_weight (map dropped_arrival b.dropped) b.written in
+        let three = sum_by-append arrival_weight (map taken_as (taken_by b.cells)) b.written in
+        let four = ap (sum_by arrival_weight) (cells_taken b.cells) in
+        omega (arith, one, two, three, four, dropped_weigh)
+
+    met_weighs : sum_by w (filter (is_met b.plan to) (plain_flow b.plan (items told b.plan) fired)) ≡ sum_by w (map Arrives met)
+    met_weighs =
+        let spread = spread_all b.plan (items told b.plan) in
+        let chains = flat_map (λ (pane : Arrival). chain b.plan pane.node pane.element) fired in
+        let first = sum_by-filter w (is_met b.plan to) (spread ++ chains) in
+        let second = sum_by-append met_weight spread chains in
+        let flows = (book_flow told b lengths (reached_partitioned (Some told) b reached) (reached_formed (Some told) b reached) through (reached_balanced no_stateful told b reached)).weighs met_weight in
+        let third = sum_by-append met_weight spread (pane_chains b.plan b.panes ++ []) in
+        let fourth = ap (sum_by met_weight) (append-nil (pane_chains b.plan b.panes)) in
+        let fifth = sum_by-map met_weight Arrives (arrivals_of b.cells b.dropped [] b.written) in
+        let sixth = sum_by-map w Arrives met in
+        let seventh = sum_by-filter (λ (a : Arrival). w (Arrives a)) is_met_at came in
+        omega (arith, first, second, panes_weigh, flows, third, fourth, fifth, sixth, seventh, arrivals_weigh)
+
+  -- ---- at the nodes
+
+  met_groups : (g : ℕ) → IsGroupAbove b.plan to g → elements_at g met ≡ taken_elements g (taken_by b.cells)
+  met_groups g above =
+      ap (map (λ (a : Arrival). a.element))
+      (filter_twice (is_at g) is_met_at
+      (λ a at. or_second (a.node == to) (is_above b.plan a.node to) (subst (λ (n : ℕ). is_above b.plan n to ≡ true) (sym (eqb-true a.node g at)) above.1)) came
+      ∙ filter-append (is_at g) (map taken_as (taken_by b.cells)) b.written
+      ∙ ap (λ (l : List Arrival). filter (is_at g) (map taken_as (taken_by b.cells)) ++ l) (filter_none (is_at g) b.written none_written)
+      ∙ append-nil (filter (is_at g) (map taken_as (taken_by b.cells))))
+      ∙ taken_at_node g (taken_by b.cells)
+    where
+      none_written : All (λ a. is_at g a ≡ false) b.written
+      none_written k d inside =
+          ne_eqb (get_or b.written k d).node g
+          (λ same. group_or_write b.plan g above.0 (subst (λ (n : ℕ). is_write b.plan n ≡ true) same ((reached_celled laws.strategies (Some told) b reached).written k d inside)))
+
+  fired_groups : (g : ℕ) → IsGroupAbove b.plan to g → elements_at g fired ≡ pane_elements g b.panes
+  fired_groups g above =
+      ap (map (λ (a : Arrival). a.element))
+      (filter_twice (is_at g) (λ a. is_above b.plan a.node to) (λ a at. subst (λ (n : ℕ). is_above b.plan n to ≡ true) (sym (eqb-true a.node g at)) above.1) (map pane_as_arrival b.panes))
+      ∙ panes_at_node g b.panes
+
+  met_here : elements_at to met ≡ elements_at to b.written
+  unfolding taken_as
+  met_here =
+      ap (map (λ (a : Arrival). a.element))
+      (filter_twice (is_at to) is_met_at (λ a at. or_first (a.node == to) (is_above b.plan a.node to) at) came
+      ∙ filter-append (is_at to) (map taken_as (taken_by b.cells)) b.written
+      ∙ ap (λ (l : List Arrival). l ++ filter (is_at to) b.written)
+      (filter_none (is_at to) (map taken_as (taken_by b.cells))
+      (All-map (λ a. is_at to a ≡ false) taken_as (taken_by b.cells) (λ k d inside. not_write (get_or (taken_by b.cells) k d).node (taken_groups k d inside)))))
+
+  -- ---- what each Group put out
+
+  some_commits : 1 ≤ length b.commits
+  some_commits = some_commit (Some told) b reached
+
+  rises : (g : ℕ) (c d : ℕ) → c ≤ d → d ≤ length b.commits - 1 → mark_after b.commits g c ≤ℤ mark_after b.commits g d
+  rises g c d low high = let first = some_commits in marks_rise b.commits (reached_marks (Some told) b reached).never_fall g c d low (omega (arith, high, first))
+
+  final : (g : ℕ) → mark_after b.commits g (length b.commits - 1) ≡ final_mark
+  final g = by (slice_get (last_marks b) g) refl
+    where
+      by : (found : Option StageMarks) → slice_get (last_marks b) g ≡ found → (unwrap_or (slice_get (last_marks b) g) (record { mark_in = final_mark; mark_out = final_mark })).mark_in ≡ final_mark
+      by None at = ap (λ (f : Option StageMarks). (unwrap_or f (record { mark_in = final_mark; mark_out = final_mark })).mark_in) at
+      by (Some s) at =
+          ap (λ (f : Option StageMarks). (unwrap_or f (record { mark_in = final_mark; mark_out = final_mark })).mark_in) at
+          ∙ (All-slice_get (λ (m : StageMarks). (m.mark_in ≡ final_mark) × (m.mark_out ≡ final_mark)) (last_marks b) g s at through.final).0
+
+  ends_early : All (λ t. t.element.span.end ≤ℤ final_mark) (taken_by b.cells)
+  ends_early =
+      All-weaker EndsEarly (λ t. t.element.span.end ≤ℤ final_mark) (λ t early. omega (arith, ints, early)) (taken_by b.cells) (reached_early laws.windows laws.settings (Some told) b reached).taken
+
+  module _ (g : ℕ) (above : IsGroupAbove b.plan to g) where
+    taken_of : (t : Taken) → IsTakenAbove to b.plan b.commits t → (t.node == g) ≡ true → IsTakenWell to b.plan b.commits t
+    taken_of t well at = well (subst (λ (n : ℕ). is_above b.plan n to ≡ true) (sym (eqb-true t.node g at)) above.1)
+
+    history : (s : Strategy) → strategy_of b.plan g ≡ s → (key : Value)
+        → IsLegalHistory (record { merges = is_sessions s; trigger = default_trigger }) g key (mark_after b.commits g) (length b.commits - 1)
+        (taken_at g key (taken_by b.cells)) (taken_at g key (map taken_drop b.dropped)) (panes_at g key b.panes)
+    history s is key =
+        subst (λ (r : Strategy). IsLegalHistory (record { merges = is_sessions r; trigger = default_trigger }) g key (mark_after b.commits g) (length b.commits - 1)
+        (taken_at g key (taken_by b.cells)) (taken_at g key (map taken_drop b.dropped)) (panes_at g key b.panes)) is
+        (default_history b.plan to sound.triggers b.commits b.cells b.dropped b.panes (reached_celled laws.strategies (Some told) b reached).legal g key above.0 above.1)
+
+    plain : (s : Strategy) → strategy_of b.plan g ≡ s → is_sessions s ≡ false → IsPlainGrouping (taken_elements g (taken_by b.cells)) (pane_elements g b.panes)
+    plain s is none =
+        plainly_grouped g (mark_after b.commits g) (length b.commits - 1) (taken_by b.cells) (map taken_drop b.dropped) b.panes
+        (λ key. subst (λ (m : Bool). IsLegalHistory (record { merges = m; trigger = default_trigger }) g key (mark_after b.commits g) (length b.commits - 1)
+        (taken_at g key (taken_by b.cells)) (taken_at g key (map taken_drop b.dropped)) (panes_at g key b.panes)) none (history s is key))
+        (rises g) (final g) ends_early
+
+    grouped_as : (s : Strategy) → strategy_of b.plan g ≡ s → IsGroupedBy s (taken_elements g (taken_by b.cells)) (pane_elements g b.panes)
+    grouped_as strategy.Global is = plain strategy.Global is refl
+    grouped_as (strategy.Fixed size) is = plain (strategy.Fixed size) is refl
+    grouped_as (strategy.Sliding size period) is = plain (strategy.Sliding size period) is refl
+    grouped_as strategy.Kept is = plain strategy.Kept is refl
+    grouped_as (strategy.Sessions gap) is =
+        let histories = history (strategy.Sessions gap) is in
+        let timely : All (λ t. (t.node == g) ≡ true → mark_after b.commits g (t.commit - 1) ≤ℤ t.element.span.start) (taken_by b.cells) = begins gap is in
+        let some : All (λ t. (t.node == g) ≡ true → IsNonEmpty t.element.span) (taken_by b.cells) =
+        (λ k d inside at. (taken_of (get_or (taken_by b.cells) k d) (so_far.taken k d inside) at).some) in (
+          map in_session (merged_of g (mark_after b.commits g) (length b.commits - 1) (taken_by b.cells) (map taken_drop b.dropped) b.panes histories (rises g) (final g) ends_early timely some
+              (filter (λ t. t.node == g) (taken_by b.cells))
+              (placed g (mark_after b.commits g) (length b.commits - 1) (taken_by b.cells) (map taken_drop b.dropped) b.panes histories (rises g) (final g) ends_early timely some)),
+          merging g (mark_after b.commits g) (length b.commits - 1) (taken_by b.cells) (map taken_drop b.dropped) b.panes histories (rises g) (final g) ends_early timely some,
+          sessions_grouped g (mark_after b.commits g) (length b.commits - 1) (taken_by b.cells) (map taken_drop b.dropped) b.panes histories (rises g) (final g) ends_early timely some,
+        )
+      where
+        begins : (gap : ℤ) → strategy_of b.plan g ≡ strategy.Sessions gap → All (λ t. (t.node == g) ≡ true → mark_after b.commits g (t.commit - 1) ≤ℤ t.element.span.start) (taken_by b.cells)
+        begins gap is k d inside at =
+            let t = get_or (taken_by b.cells) k d in
+            let same : t.node ≡ g = eqb-true t.node g at in
+            subst (λ (s : Strategy). StartsAbove s (mark_after b.commits g (t.commit - 1)) t.element.span) is
+            (subst (λ (n : ℕ). StartsAbove (strategy_of b.plan n) (mark_after b.commits n (t.commit - 1)) t.element.span) same (taken_of t (so_far.taken k d inside) at).starts)
+
+  -- ---- the run
+
+  met_some : All (λ a. IsNonEmpty a.element.span) met
+  unfolding taken_as
+  met_some k d inside =
+      All-filter is_met_at (λ a. is_met_at a ≡ true → IsNonEmpty a.element.span) came
+      (All-append (λ a. is_met_at a ≡ true → IsNonEmpty a.element.span) (map taken_as (taken_by b.cells)) b.written
+      (All-map (λ a. is_met_at a ≡ true → IsNonEmpty a.element.span) taken_as (taken_by b.cells)
+      (λ j e within is. (so_far.taken j e within (not_here (get_or (taken_by b.cells) j e).node (taken_groups j e within) is)).some))
+      so_far.some_written) k d inside (filter_passes is_met_at came k d inside)
+    where
+      not_here : (n : ℕ) → is_group b.plan n ≡ true → (n == to || is_above b.plan n to) ≡ true → is_above b.plan n to ≡ true
+      not_here n group is = subst (λ (t : Bool). (t || is_above b.plan n to) ≡ true) (not_write n group) is
+
+  plain_run : IsPlainRun b.plan (items told b.plan) to met fired
+  unfolding pane_as_arrival
+  plain_run = record {
+    ends_here = write_ends b.plan to write;
+    stateless = stateless;
+    clean = record { weighs = met_weighs };
+    from_groups = λ k d inside. (
+      All-filter (λ a. is_above b.plan a.node to) (λ a. is_group b.plan a.node ≡ true) (map pane_as_arrival b.panes)
+          (All-map (λ a. is_group b.plan a.node ≡ true) pane_as_arrival b.panes (reached_celled laws.strategies (Some told) b reached).legal.panes_at) k d inside,
+      filter_passes (λ a. is_above b.plan a.node to) (map pane_as_arrival b.panes) k d inside,
+    );
+    grouped = λ g above.
+        subst (λ (l : List Element). IsGroupedBy (strategy_of b.plan g) l (elements_at g fired)) (sym (met_groups g above))
+        (subst (λ (l : List Element). IsGroupedBy (strategy_of b.plan g) (taken_elements g (taken_by b.cells)) l) (sym (fired_groups g above)) (grouped_as g above (strategy_of b.plan g) refl));
+    storable = All-filter (λ a. is_above b.plan a.node to) (λ a. IsStorable a.element.value) (map pane_as_arrival b.panes)
+        (All-map (λ a. IsStorable a.element.value) pane_as_arrival b.panes storable);
+    held = met_some;
+  }
+
+  pub book_plain : IsPlainAt b.plan (items told b.plan) to (elements_at to b.written) × NothingIsDroppedAbove b.plan to b.dropped
+  book_plain = ((met, fired, plain_run, bag_from_same (elements_at to b.written) (elements_at to met) (sym met_here)), so_far.none_dropped)
+
+-- what an outcome has written
+pub outcome_plain : KnownLaws → NoStateful → (told : List FileText) (b : BookData) (o : Outcome) → Reached (Some told) b → AreTold told b → IsThrough b → IsOutcomeOf b o → ArePanesStorable o
+    → ArePlainlyWrittenWhere (items told b.plan) o
+outcome_plain laws no_stateful told b o reached lengths through of storable to write stateless triggers sound =
+    let same = of.plan in
+    let found = book_plain laws no_stateful told b reached lengths through (subst (λ (l : List Pane). All (λ p. IsStorable p.element.value) l) of.panes storable) to
+    (subst (λ (p : Plan). is_write p to ≡ true) same write) (subst (λ (p : Plan). HasNoStatefulAbove p to) same stateless)
+    (record {
+      sound = subst (λ (p : Plan). AreSoundAbove p (items told b.plan) to) same sound;
+      triggers = subst (λ (p : Plan). HasDefaultTriggersAbove p to) same triggers;
+    }) in
+    record {
+      plain = subst (λ (p : Plan). IsPlainAt p (items told b.plan) to (elements_at to o.written)) (sym same)
+          (subst (λ (l : List Arrival). IsPlainAt b.plan (items told b.plan) to (elements_at to l)) (sym of.written) found.0);
+      undropped = subst (λ (p : Plan). NothingIsDroppedAbove p to o.dropped) (sym same) (subst (NothingIsDroppedAbove b.plan to) (sym of.dropped) found.1);
+    }
+
+-- where nothing is asked of the end of a run: nothing is dropped
+pub outcome_undropped : KnownLaws → (told : List FileText) (b : BookData) (o : Outcome) (to : ℕ) → Reached (Some told) b → IsOutcomeOf b o → HasDefaultTriggersAbove o.plan to
+    → AreSoundAbove o.plan (items told b.plan) to → NothingIsDroppedAbove o.plan to o.dropped
+outcome_undropped laws told b o to reached of triggers sound =
+    let same = of.plan in
+    let kept = reached_so_far laws told to b reached (record {
+      sound = subst (λ (p : Plan). AreSoundAbove p (items told b.plan) to) same sound;
+      triggers = subst (λ (p : Plan). HasDefaultTriggersAbove p to) same triggers;
+    }) in
+    subst (λ (p : Plan). NothingIsDroppedAbove p to o.dropped) (sym same) (subst (NothingIsDroppedAbove b.plan to) (sym of.dropped) kept.none_dropped)

@@ -1,0 +1,15 @@
+use Rattle.ended_runs.proofs.Written.{outcome_plain}
+use Rattle.ended_runs.proofs.laws.outcomes_are_plainly_written.Goals as goal
+
+pub returns : goal.returns
+returns c told b o reached lengths through of storable =
+    outcome_plain (record {
+      windows = λ s time allowed. c.windows_hold_their_time.ensures.of_the_kind s time allowed;
+      settings = λ plan n node checked at. c.nodes_have_inputs_and_settings_of_their_kind.ensures.settings plan n node checked at;
+      strategies = λ plan checked. record {
+        inputs = λ n node at. c.nodes_take_elements_of_their_strategy.ensures.inputs plan n node checked at;
+        own = c.strategies_follow_kinds.ensures.own plan;
+        onward = c.strategies_follow_kinds.ensures.onward plan;
+      };
+      forward = c.allowed_functions_go_forward.ensures;
+    }) (λ plan n checked. c.no_node_is_stateful.ensures.none plan n checked) told b o reached lengths through of storable
