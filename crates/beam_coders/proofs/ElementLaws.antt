@@ -45,7 +45,8 @@ element_takes bytes x fits e =
     subst (λ (t : List ℕ). Takes time.1 t value.1) (append_assoc from to (tag ++ text)) (Takes-then time.1 (from ++ to) span.1 (tag ++ text) value.1 t1.takes last) in
     let whole = Takes-then bytes at time.1 (from ++ (to ++ (tag ++ text))) value.1 t0.takes windowed in
     let places : FitsPlaces (element_of time.0 span.0 pane.0 value.0) = record { time = t0.within; start = t1.start; end = t1.end; ordered = t1.ordered; index = t2.index; words = t3.words } in
-    subst (ElementReadSo bytes) (ok_is (element_of time.0 span.0 pane.0 value.0, value.1) x d.2)
+    let read : Element × List ℕ = (element_of time.0 span.0 pane.0 value.0, value.1) in
+    subst (ElementReadSo bytes) {x = read} (ok_is read x d.2)
     record { takes = whole; readable = record { within = t3.within; places = places } }
 
 element_again : (e : Element) (rest : List ℕ) → IsReadableElement e → length (spelling e.value) < 2 ^ 64 → element_at (element_spelling e ++ rest) ≡ Ok (e, rest)

@@ -5,6 +5,8 @@ use Rattle.std.specs.Option.{option_map, option_and_then}
 use Rattle.std.specs.Str.Parse.{IsNumeral, without_leading_plus}
 use Rattle.std.proofs.lemmas.Bool.Decides.{Decides-eqb, eqb_tells, nat_tests}
 use Rattle.std.proofs.lemmas.Slice.Eq.{bytes_eq-Decides}
+use Rattle.beam_values.specs.Strategies.{greatest_length}
+use Rattle.beam_values.specs.Windows.{or_zero}
 use Rattle.command_words.specs.Commands.{Asked, Panes, command_of, is_file_name, size_of}
 use Rattle.command_words.specs.Numbers.{IsNumberWithin, number_of_text, number_within}
 use Rattle.command_words.specs.PanesAlone.{IsPanesAlone, IsPlainFileName, default_options}
@@ -69,18 +71,18 @@ undashed_is_plain text name undashed = record {
   positional = elim (eqb_tells (slice_index text 0) 45) [ inl same ↦ inr (grind (arith, nat_tests)) | inr other ↦ inl other.1 ];
 }
 
-by_default_some : (file size : List ℕ) → IsPlainFileName file → IsNumberWithin 1 31536000000000 size
+by_default_some : (file size : List ℕ) → IsPlainFileName file → IsNumberWithin 1 (or_zero greatest_length) size
     → by_default file size ≡ Some (Panes file (pos (number_of_text size)) default_options)
 by_default_some file size plain number =
     let name = plain_is_file_name file plain in
-    let some = number_within-some 1 31536000000000 size (number.numeral, (number.least, number.greatest)) in
+    let some = number_within-some 1 (or_zero greatest_length) size (number.numeral, (number.least, number.greatest)) in
     rw (name, some) refl
 
 by_default_none : (file size : List ℕ) (b : Bool) → is_file_name file ≡ b → is_dashed file ≡ false
-    → (IsPlainFileName file → IsNumberWithin 1 31536000000000 size → ⊥) → by_default file size ≡ None
+    → (IsPlainFileName file → IsNumberWithin 1 (or_zero greatest_length) size → ⊥) → by_default file size ≡ None
 by_default_none file size false no_name undashed nothing = rw no_name refl
 by_default_none file size true name undashed nothing =
-    let none : number_within 1 31536000000000 size ≡ None = number_within-none 1 31536000000000 size
+    let none : number_within 1 (or_zero greatest_length) size ≡ None = number_within-none 1 (or_zero greatest_length) size
     (λ within. nothing (undashed_is_plain file name undashed) (record { numeral = within.0; least = within.1.0; greatest = within.1.1 })) in
     rw (name, none) refl
 

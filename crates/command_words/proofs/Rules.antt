@@ -4,6 +4,8 @@ use Rattle.std.specs.Option.{option_map, option_and_then}
 use Rattle.std.specs.Str.{bytes_eq}
 use Rattle.std.proofs.lemmas.Bool.Decides.{nat_tests}
 use Rattle.std.proofs.lemmas.Slice.Eq.{bytes_eq-Decides}
+use Rattle.beam_values.specs.Strategies.{greatest_length}
+use Rattle.beam_values.specs.Windows.{or_zero}
 use Rattle.beam_values.specs.declared.options.Options.{Options}
 use Rattle.command_words.specs.Commands.{Asked, Help, Panes, Run, AsksHelp, asks_help, command_of, greatest_of, is_file_name, options_of, panes_of, run_of, value_of, value_of_texts}
 use Rattle.command_words.specs.Grammar.{AreParts}
@@ -105,7 +107,7 @@ rules_are_followed _ _ (ForPanes program words parts file size options are two g
     let read = grammar_is_read words parts are in
     let by = are_options parts options given in
     let name = names_file file some short in
-    let ms = numbered 1 31536000000000 size number in
+    let ms = numbered 1 (or_zero greatest_length) size number in
     rw (read, two, by, name, ms) refl
 rules_are_followed _ _ (ForRun program words parts plan options are one given) =
     let read = grammar_is_read words parts are in
@@ -126,7 +128,7 @@ file_named : (file : List ℕ) → is_file_name file ≡ true → (1 ≤ length 
 file_named file h = (grind (arith, nat_tests), grind (arith, nat_tests))
 
 panes_by : (program : List ℕ) (words : List (List ℕ)) (parts : List Part) (asked : Asked) (file size : List ℕ) (name number : Bool) (options : Option Options)
-    → AreParts words parts → positional_words parts ≡ file ∷ (size ∷ []) → is_file_name file ≡ name → is_number_within 1 31536000000000 size ≡ number → options_of parts ≡ options
+    → AreParts words parts → positional_words parts ≡ file ∷ (size ∷ []) → is_file_name file ≡ name → is_number_within 1 (or_zero greatest_length) size ≡ number → options_of parts ≡ options
     → (if name then option_and_then (λ size. option_map (λ options. Panes file size options) options)
     (option_map pos (if number then Some (number_of_text size) else None)) else None) ≡ Some asked
     → Asks (program ∷ (codes "panes" ∷ words)) asked
@@ -136,7 +138,7 @@ panes_by program words parts asked file size true true None are two named within
 panes_by program words parts asked file size true true (Some options) are two named within by h =
     let is : Panes file (pos (number_of_text size)) options ≡ asked = cc in
     let bounds = file_named file named in
-    let fits = (is_number_within-Decides 1 31536000000000 size).0 within in
+    let fits = (is_number_within-Decides 1 (or_zero greatest_length) size).0 within in
     subst (Asks (program ∷ (codes "panes" ∷ words))) is
     (ForPanes program words parts file size options are two (options_are parts options by) bounds.0 bounds.1
     (record { numeral = fits.0; least = fits.1.0; greatest = fits.1.1 }))

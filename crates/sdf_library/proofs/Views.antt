@@ -147,7 +147,7 @@ within_seen TimedLines args file bytes base len p view of whole =
 within_seen Count args file bytes base len p view of whole = (refl, refl)
 within_seen Made args file bytes base len p view of whole = (refl, refl)
 
--- what is seen of a position is what the model says of it
+-- a view of a position shows the emission that the model gives it
 pub emission_is_seen : (kind : SourceKind) (args : Args) (file bytes : List ℕ) (base len p : ℕ) → IsView kind args bytes base len p → IsViewOf file kind args bytes base len
     → is_cut_short kind bytes base len p ≡ false → emission kind args file p ≡ emission_seen kind args bytes base p
 emission_is_seen kind args file bytes base len p view of whole =
