@@ -5,3 +5,5 @@ pub mod Statuses
 pub mod Working
 pub mod Written
 pub mod Outside
+pub mod Openings
+pub mod PlanRun
