@@ -1,10 +1,13 @@
 -- What positions emit, and refusals of work on them.
-use Rattle.std.proofs.Common.{◌≡◌, ℕ, ◌+◌, ◌<◌, Bool, true, false, List, [], ◌∷◌, ◌++◌, length, get_or, map, fold, take, Option, None, refl, sym, ap, ◌∙◌, arith}
+use Rattle.std.proofs.Common.{◌≡◌, ℕ, ◌+◌, ◌<◌, Bool, true, false, List, [], ◌∷◌, ◌++◌, length, get_or, map, fold, take, Option, None, refl, sym, ap, subst, ◌∙◌, arith}
 use Rattle.std.specs.Prelude.{ℤ, ◌==◌, ◌↔◌, IsTrue, not}
+use Rattle.std.specs.List.{All}
 use Rattle.std.proofs.lemmas.List.{take_more, map-append}
+use Rattle.std.proofs.lemmas.List.Elements.{All-nil, All-cons, All-append}
 use Rattle.std.proofs.lemmas.Bool.{false≢true}
 use Rattle.std.proofs.lemmas.Bool.Decides.{nat_tests}
 use Rattle.beam_values.specs.Marks.{seen_after}
+use Rattle.beam_values.specs.Times.{IsTime}
 use Rattle.beam_values.specs.declared.plan.Estimator.{Estimator}
 use Rattle.beam_values.specs.declared.plan.Plan.{Plan}
 use Rattle.beam_model.specs.Chains.{Arrives}
@@ -30,6 +33,16 @@ latest-push items i timed inside is =
     ∙ ap (λ (t : Timed). latest_time (map timed_value (take i items ++ t ∷ []))) is
     ∙ ap (λ (l : List Timed). latest_time (map timed_value l)) (sym (take_more items i timed inside))
 
+pub timely-push : (items : List Timed) (i : ℕ) (timed : Timed) → i < length items → timed ≡ get_or items i timed → IsTime timed.time
+    → All (λ v. IsTime v.time) (map timed_value (take i items)) → All (λ v. IsTime v.time) (map timed_value (take (i + 1) items))
+timely-push items i timed inside is within before =
+    let P = λ (v : TimedValue). IsTime v.time in
+    let same : map timed_value (take i items) ++ timed_value timed ∷ [] ≡ map timed_value (take (i + 1) items) =
+    sym (map-append timed_value (take i items) (timed ∷ []))
+    ∙ ap (λ (t : Timed). map timed_value (take i items ++ t ∷ [])) is
+    ∙ ap (map timed_value) (sym (take_more items i timed inside)) in
+    subst (All P) same (All-append P (map timed_value (take i items)) (timed_value timed ∷ []) before (All-cons P (timed_value timed) [] within (All-nil P)))
+
 -- it has a value where its list isn't empty
 has_value : (items : List Timed) (declared : Option ℤ) (empty : Bool) → empty ≡ (length items == 0) → IsTrue (not empty) ↔ HasValue (Emits (map timed_value items) declared)
 has_value [] declared empty is = (λ some. both_ways empty is some, λ none. absurd none)
@@ -44,14 +57,16 @@ has_value (timed ∷ items) declared empty is = (λ some. tt, λ some. ap not (i
 
 pub worked : (plan : Plan) (node next : ℕ) (estimator : Estimator) (out : calls.Emission) (values : List Timed) (latest : Option ℤ) (empty : Bool) (old observed new : Receipt)
     → estimator ≡ estimator_of plan node → values ≡ out.items → latest ≡ latest_time (map timed_value values) → empty ≡ (length values == 0)
+    → All (λ v. IsTime v.time) (map timed_value values)
     → observed ≡ record old { seen = seen_after estimator old.seen latest out.declared } → new ≡ record observed { arrivals = new.arrivals }
     → map Arrives new.arrivals ≡ map Arrives observed.arrivals ++ emission_outputs plan node (emission_of out)
     → IsWorked plan node (emission_of out) old new (record { next = next; emitted = not empty })
-worked plan node next estimator out values latest empty old observed new its same time some seen only staged = record {
+worked plan node next estimator out values latest empty old observed new its same time some timely seen only staged = record {
   arrivals = staged ∙ ap (λ (r : Receipt). map Arrives r.arrivals ++ emission_outputs plan node (emission_of out)) seen;
   seen = ap (λ (r : Receipt). r.seen) only ∙ ap (λ (r : Receipt). r.seen) seen
       ∙ ap (λ (t : Option ℤ). seen_after estimator old.seen t out.declared) (time ∙ ap (λ (l : List Timed). latest_time (map timed_value l)) same)
       ∙ ap (λ (e : Estimator). seen_after e old.seen (latest_time (map timed_value out.items)) out.declared) its;
   logged = ap (λ (r : Receipt). r.logged) only ∙ ap (λ (r : Receipt). r.logged) seen;
+  timely = subst (λ (l : List Timed). All (λ v. IsTime v.time) (map timed_value l)) same timely;
   emits = has_value out.items out.declared empty (some ∙ ap (λ (l : List Timed). length l == 0) same);
 }

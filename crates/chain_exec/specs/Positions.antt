@@ -1,8 +1,10 @@
 -- What a position of a source brings to the barriers, and why work on it was refused.
 use Rattle.std.specs.Prelude.{◌≡◌, ◌↔◌, ℕ, ◌<◌, ◌≤◌, true, ℤ, IsTrue, List, [], ◌∷◌, ◌++◌, map, fold, Option, Some, None}
 use Rattle.std.specs.Int.{int_max}
+use Rattle.std.specs.List.{All}
 use Rattle.beam_values.specs.Checked.{reads_file}
 use Rattle.beam_values.specs.Marks.{seen_after}
+use Rattle.beam_values.specs.Times.{IsTime}
 use Rattle.beam_values.specs.declared.fault.Cause.TheVariants.{Call, Read}
 use Rattle.beam_values.specs.declared.plan.Estimator.{Estimator}
 use Rattle.beam_values.specs.declared.plan.Plan.{Plan}
@@ -52,12 +54,18 @@ IsEmissionAt source opening len p emitted next =
     (text : List ℕ) → IsText source.work opening len text
     → (emitted ≡ emission source.work source.args text p) × (next ≡ next_position source.work text p)
 
+-- the times of its values are times
+abbrev pub IsTimely : Emission → Type 0
+IsTimely (Emits values declared) = All (λ value. IsTime value.time) values
+IsTimely Poison = Unit {0}
+
 -- What the position emitted was staged where it arrives, so it is no poison, and the estimator has looked at it.
 pub record IsWorked (plan : Plan) (node : ℕ) (emitted : Emission) (old new : Receipt) (step : Step) : Type 0 where
   pub arrivals : map Arrives new.arrivals ≡ map Arrives old.arrivals ++ emission_outputs plan node emitted
   pub seen : new.seen ≡ seen_with (estimator_of plan node) old.seen emitted
   pub logged : new.logged ≡ old.logged
   pub emits : IsTrue step.emitted ↔ HasValue emitted
+  pub timely : IsTimely emitted
 
 -- what the position brings, where the item's text is this
 abbrev pub outputs_in : Plan → ℕ → SourceWork → List ℕ → ℕ → List Output

@@ -1,5 +1,7 @@
 ghost use Rattle.std.specs.Prelude.{◌≡◌, ◌≤◌, ◌<◌, ℕ, List, None, true, map, IsSome, IfErr, IfOk};
+ghost use Rattle.std.specs.List.{All};
 ghost use Rattle.std.specs.Option.{ForSome};
+ghost use Rattle.beam_values.specs.Times.{IsTime};
 ghost use Rattle.beam_model.specs.Positions as model;
 ghost use Rattle.beam_ports.specs.Files.{KeepsOpenings};
 ghost use Rattle.dofn_traits.specs.Calls.{timed_value};
@@ -91,7 +93,8 @@ pub fn run_position<F: Shelf, S: Store>(
 
 // The greatest time of some values.
 fn latest_time(values: &[Timed]) -> Option<Time>
-    ensures { result ≡ latest_time (map timed_value values.now) }
+    ensures latest { result ≡ latest_time (map timed_value values.now) }
+    ensures timely { All (λ value. IsTime value.time) (map timed_value values.now) }
 {
     let mut latest = None;
     for timed in values {
@@ -101,8 +104,10 @@ fn latest_time(values: &[Timed]) -> Option<Time>
 }
 
 fn later_time(latest: Option<Time>, time: Time) -> Option<Time>
-    ensures { (timed : model.TimedValue) → timed.time ≡ time → result ≡ later_time latest timed }
+    ensures later { (timed : model.TimedValue) → timed.time ≡ time → result ≡ later_time latest timed }
+    ensures within { IsTime time }
 {
+    let _ms = time.ms();
     match latest {
         Some(other) if other > time => Some(other),
         _ => Some(time),
