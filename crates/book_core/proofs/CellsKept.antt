@@ -98,7 +98,7 @@ found_has p P (y ∷ ys) x all e = by (p y) e (found_has p P ys x (All-tail P y 
 -- ---- what a receipt brings has its gaps
 
 module _ (plan : Plan) (known : AreStrategies plan) where
-  values_gapped : (n : ℕ) (node : Node) → slice_get plan.nodes n ≡ Some node → is_source_kind node.kind ≡ true → (values : List TimedValue)
+  pub values_gapped : (n : ℕ) (node : Node) → slice_get plan.nodes n ≡ Some node → is_source_kind node.kind ≡ true → (values : List TimedValue)
       → All (IsGapped plan) (flat_map (λ v. chain plan n (from_source v)) values)
   values_gapped n node here is [] = All-nil (IsGapped plan)
   values_gapped n node here is (v ∷ values) =

@@ -138,7 +138,7 @@ module _ (windows : WindowsOfKind) where
         (outputs_early n (from_source v) (All-head (λ (x : TimedValue). x.time ≤ℤ greatest_time) v values all, omega (arith, ints)))
         (values_early n values (All-tail (λ (x : TimedValue). x.time ≤ℤ greatest_time) v values all))
 
-    emitted_early : (n : ℕ) (e : Emission) → IsEarlyEmission e → All IsEarlyOutput (emission_outputs plan n e)
+    pub emitted_early : (n : ℕ) (e : Emission) → IsEarlyEmission e → All IsEarlyOutput (emission_outputs plan n e)
     emitted_early n (Emits values declared) all = values_early n values all
     emitted_early n Poison all = All-cons IsEarlyOutput (PoisonAt n) [] tt (All-nil IsEarlyOutput)
 

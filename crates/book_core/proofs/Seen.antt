@@ -15,7 +15,7 @@ use Rattle.bundle_commit.specs.declared.job.Receipt.{Receipt}
 use Rattle.watermarks.proofs.Rising.{seen_rises}
 use Rattle.book_core.specs.Work.{latest_time, seen_with, seen_over, items_told, IsWorkOnItem, IsWorkOnRange}
 
-with_rises : (e : Estimator) (seen : ℤ) (emission : Emission) → seen ≤ℤ seen_with e seen emission
+pub with_rises : (e : Estimator) (seen : ℤ) (emission : Emission) → seen ≤ℤ seen_with e seen emission
 with_rises e seen (Emits values declared) = seen_rises e seen (latest_time values) declared
 with_rises e seen Poison = omega (arith, ints)
 

@@ -8,3 +8,11 @@ pub mod Keeping
 pub mod Outcomes
 pub mod Pipelines
 pub mod Working
+mod Opens
+mod Readers
+mod Brought
+mod PieceWork
+mod Honest
+mod Claims
+mod PieceReads
+mod Jobs

@@ -7,3 +7,6 @@ pub mod Written
 pub mod Outside
 pub mod Openings
 pub mod PlanRun
+pub mod Kits
+pub mod Reading
+pub mod Bundles

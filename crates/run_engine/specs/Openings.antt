@@ -34,11 +34,26 @@ AreOpened files opened [] [] = Unit {0}
 AreOpened files opened (name ∷ names) (file ∷ later) = IsOpenedAs files opened name file × AreOpened files opened names later
 AreOpened files opened _ _ = ⊥
 
--- Why not every file of a plan was opened: a name isn't there, and those before it are; or opening failed as often as it may, with the failures before counted; or there was no memory.
+-- Why not every file of these names was opened: a name isn't there, and those before it are; or opening failed as often as it may; or there was no memory.
+abbrev pub AreNamesRefused : Option (List FileText) → List (List ℕ) → ℕ → ℕ → Status → Type 0
+AreNamesRefused files names attempts failures (status.NoSource name) =
+    (before : List (List ℕ)) × (after : List (List ℕ)) × (names ≡ before ++ name ∷ after)
+    × WhereTold files (λ told. All (λ earlier. IsSome (first_named earlier told)) before × (first_named name told ≡ None))
+AreNamesRefused files names attempts failures (status.SourceFault kit) = (kit ≡ 0) × (attempts ≤ failures)
+AreNamesRefused files names attempts failures status.NoMemory = Unit {0}
+AreNamesRefused files names attempts failures _ = ⊥
+
+-- the same of the files of a plan, with `failed` failures before counted
 abbrev pub IsOpeningRefused : ObservedStore → Plan → ℕ → ℕ → Status → Type 0
-IsOpeningRefused store plan attempts failed (status.NoSource name) =
-    (before : List (List ℕ)) × (after : List (List ℕ)) × (file_names plan ≡ before ++ name ∷ after)
-    × WhereTold store.files (λ told. All (λ earlier. IsSome (first_named earlier told)) before × (first_named name told ≡ None))
-IsOpeningRefused store plan attempts failed (status.SourceFault kit) = (kit ≡ 0) × (attempts ≤ failed + rise store.before store.after)
-IsOpeningRefused store plan attempts failed status.NoMemory = Unit {0}
-IsOpeningRefused store plan attempts failed _ = ⊥
+IsOpeningRefused store plan attempts failed status = AreNamesRefused store.files (file_names plan) attempts (failed + rise store.before store.after) status
+
+-- why the file of one name was not opened
+abbrev pub IsNameRefused : Option (List FileText) → List ℕ → ℕ → ℕ → Status → Type 0
+IsNameRefused files name attempts failures (status.NoSource absent) = (absent ≡ name) × WhereTold files (λ told. first_named name told ≡ None)
+IsNameRefused files name attempts failures (status.SourceFault kit) = (kit ≡ 0) × (attempts ≤ failures)
+IsNameRefused files name attempts failures status.NoMemory = Unit {0}
+IsNameRefused files name attempts failures _ = ⊥
+
+-- failures that were counted before a call and after it: where the first were at most what the count of the store had risen by, so are the later
+abbrev pub AreCounted : ℕ → ℕ → ℕ → ℕ → Type 0
+AreCounted failures later before after = (base first : ℕ) → first ≤ before → failures ≤ base + rise first before → later ≤ base + rise first after

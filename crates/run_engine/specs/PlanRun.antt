@@ -29,7 +29,7 @@ pub record IsOutcomeWhere (known : Known) (plan : Plan) (options : Options) (P :
   pub with_options : book.options ≡ options
   pub lengths : WhereTold known.told (λ told. AreTold told book)
   pub is : P book
-  pub data : IsOutcomeOf book o
+  pub of_book : IsOutcomeOf book o
 
 -- the book was stopped by a fail with this note
 abbrev pub IsStoppedBy : FaultNote → BookData → Type 0

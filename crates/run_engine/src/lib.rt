@@ -9,16 +9,20 @@
 #![tactic(auto)]
 
 mod batches;
+mod bundles;
 mod committing;
 mod grouping;
 mod kit;
+mod opening;
 mod plan;
 mod positions;
+mod reading;
 mod run;
 mod status;
 mod writing;
 
 pub use kit::Kit;
+pub use opening::open_sources;
 pub use run::run_panes;
 pub use status::{RunEnd, Status};
 pub use writing::put;

@@ -6,7 +6,7 @@ ghost use Rattle.chain_exec.specs.Causes.{observed_shelf};
 ghost use Rattle.chain_exec.specs.Sources.{IsPagerOf};
 ghost use Rattle.run_engine.specs.Committing.{IsCommitted, file_len};
 ghost use Rattle.run_engine.specs.Outside.{IsKept};
-ghost use Rattle.run_engine.specs.PanesRun.{IsPanesOutcome, IsPanesRun, IsRunEnd, Prevents, fault_at, status_of, IsNoSourceOrNoMemory};
+ghost use Rattle.run_engine.specs.PanesRun.{IsPanesOutcome, IsPanesRun, IsRunEnd, Prevents, fault_at, status_of};
 ghost use Rattle.run_engine.specs.Working.{spread_of, IsPanesPlan, IsWorkRefused};
 
 use crate::batches::written;
@@ -14,9 +14,9 @@ use crate::committing::{Committed, work_pieces};
 use crate::grouping::{Grouped, group};
 use crate::kit::Kit;
 use crate::plan::panes_plan;
-use crate::status::{RunEnd, Status};
+use crate::status::{RunEnd, Status, no_source};
 use beam_ports::{OpenRefusal, Store};
-use beam_values::{Bytes, Cause, FaultNote, FileLen, List, NoMemory, Options, Outcome};
+use beam_values::{Cause, FaultNote, FileLen, List, NoMemory, Options, Outcome};
 use chain_exec::ExecRefusal;
 use dofn_traits::Shelf;
 use pipeline_graph::{CheckRefusal, Graph};
@@ -91,15 +91,6 @@ fn status_of(refusal: ExecRefusal) -> Status
     match refusal {
         ExecRefusal::Faulted { at, cause } => Status::WorkFault(fault_at(at, cause)),
         ExecRefusal::NoMemory => Status::NoMemory,
-    }
-}
-
-fn no_source(alloc: Global, name: &[u8]) -> Status
-    ensures { IsNoSourceOrNoMemory name.now result }
-{
-    match Bytes::from_slice(alloc, name) {
-        Ok(name) => Status::NoSource(name),
-        Err(_refused) => Status::NoMemory,
     }
 }
 

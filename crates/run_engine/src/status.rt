@@ -1,7 +1,9 @@
 ghost use Rattle.std.specs.Prelude.{◌≡◌};
 ghost use Rattle.run_engine.specs.Statuses.{number_of};
+ghost use Rattle.run_engine.specs.PanesRun.{IsNoSourceOrNoMemory};
 
-use beam_values::{Bytes, FaultNote, Outcome};
+use beam_values::{Bytes, FaultNote, NoMemory, Outcome};
+use std::alloc::Global;
 
 /// How a command ended.
 #[derive(Debug, Drop)]
@@ -36,6 +38,27 @@ impl Status {
             Status::SinkFault => 7,
             Status::NoMemory => 8,
         }
+    }
+}
+
+impl From<NoMemory> for Status {
+    ghost use Rattle.std.specs.Prelude.{◌≡◌};
+    ghost use Rattle.run_engine.specs.declared.status.Status.TheVariants as status;
+
+    ghost from_gives = { λ _ s. s ≡ status.NoMemory };
+
+    fn from(_e: NoMemory) -> Status {
+        Status::NoMemory
+    }
+}
+
+/// That no file of this name is there.
+pub(crate) fn no_source(alloc: Global, name: &[u8]) -> Status
+    ensures { IsNoSourceOrNoMemory name.now result }
+{
+    match Bytes::from_slice(alloc, name) {
+        Ok(name) => Status::NoSource(name),
+        Err(_refused) => Status::NoMemory,
     }
 }
 
