@@ -16,3 +16,4 @@ mod Honest
 mod Claims
 mod PieceReads
 mod Jobs
+mod PlanRuns

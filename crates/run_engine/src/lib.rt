@@ -15,6 +15,7 @@ mod grouping;
 mod kit;
 mod opening;
 mod plan;
+mod plan_run;
 mod positions;
 mod reading;
 mod run;
@@ -23,6 +24,7 @@ mod writing;
 
 pub use kit::Kit;
 pub use opening::open_sources;
+pub use plan_run::run_plan;
 pub use run::run_panes;
 pub use status::{RunEnd, Status};
 pub use writing::put;
