@@ -32,6 +32,7 @@ mod PlainPlacing
 mod WindowSessions
 mod FiredFew
 mod FiredPanes
+mod DueFirst
 mod DueKeys
 mod DueRanges
 mod DueSteps

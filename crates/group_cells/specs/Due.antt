@@ -1,8 +1,10 @@
 -- When cells are due: an ordered set has each cell that has a moment, by its node, that moment and its place.
-use Rattle.std.specs.Prelude.{◌≡◌, ℕ, ◌≤◌, ◌^◌, ◌==◌, ℤ, Bool, false, ◌&&◌, List, length, map, slice_get, Option, Some, None}
-use Rattle.std.specs.BTreeSet.{contains}
-use Rattle.std.specs.Ordering.{int_cmp, int_eq, nat_cmp, on, then_cmp}
+use Rattle.std.specs.Prelude.{◌≡◌, ℕ, ◌≤◌, ◌^◌, ◌==◌, ℤ, Bool, true, false, ◌&&◌, List, length, map, slice_get, Option, Some, None}
+use Rattle.std.specs.BTreeMap.Range.{IsInRange}
+use Rattle.std.specs.BTreeSet.{BTreeSet, contains}
+use Rattle.std.specs.Ordering.{int_cmp, int_eq, is_gt, nat_cmp, on, then_cmp}
 use Rattle.std.specs.declared.cmp.Ordering.{Ordering}
+use Rattle.std.specs.declared.ops.Bound.TheVariants.{Included}
 use Rattle.beam_values.specs.declared.cell.Cell.{Cell}
 use Rattle.beam_values.specs.declared.plan.Plan.{Plan}
 use Rattle.beam_model.specs.Panes.{trigger_of}
@@ -37,3 +39,10 @@ pub record IsDueOf (plan : Plan) (due : DueCells) (cells : List Cell) : Type 0 w
   pub moments : (q : DueKey) → contains due_cmp due.moments q ≡ is_due_as plan q (slice_get cells q.place)
   -- each place is a number of 32 bits
   pub small : length cells ≤ 2 ^ 32
+
+-- the first key from one on and up to another, if there is one
+abbrev pub IsFirstBetween : BTreeSet DueKey → DueKey → DueKey → Option DueKey → Type 0
+IsFirstBetween moments low high None = (q : DueKey) → IsInRange due_cmp (Included low) (Included high) q → contains due_cmp moments q ≡ false
+IsFirstBetween moments low high (Some key) =
+    IsInRange due_cmp (Included low) (Included high) key × (contains due_cmp moments key ≡ true)
+    × ((q : DueKey) → IsInRange due_cmp (Included low) (Included high) q → contains due_cmp moments q ≡ true → is_gt (due_cmp key q) ≡ false)

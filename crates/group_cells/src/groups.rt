@@ -148,6 +148,9 @@ impl Groups {
     pub fn next_due(&self, node: u32) -> Option<i64>
         ensures { IsNextDue self.now.plan node self.now.cells result }
     {
+        if self.indexed {
+            return self.draft.due.next(node);
+        }
         next_due(&self.plan, node, self.draft.cells.as_slice())
     }
 

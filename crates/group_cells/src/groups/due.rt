@@ -1,5 +1,6 @@
 ghost use Rattle.std.specs.Prelude.{◌≡◌, ◌+◌, ◌<◌, ◌^◌, ◌≤ℤ◌, ◌∷◌, [], ◌++◌, ℤ, true, false, Contains, List as ListOf, Some, length, map, if◌then◌else◌, slice_get, slice_set, IfOk, OnOk};
 ghost use Rattle.std.specs.BTreeSet.{contains, keys_between};
+ghost use Rattle.std.specs.Option.{option_map};
 ghost use Rattle.std.specs.Ordering.{as_partial_cmp, eq_by_cmp, int_cmp, is_gt, nat_cmp, on, then_cmp};
 ghost use Rattle.std.specs.declared.ops.Bound.TheVariants.{Included};
 ghost use Rattle.std.specs.Cmp.{partial_order_from_own_ties};
@@ -9,12 +10,14 @@ ghost use Rattle.beam_values.specs.declared.cell.Cell.{Cell as CellOf};
 ghost use Rattle.beam_values.specs.Times.{least_time};
 ghost use Rattle.beam_values.specs.declared.plan.Plan.{Plan as PlanOf};
 ghost use Rattle.group_cells.specs.Cells.{unseen_in};
-ghost use Rattle.group_cells.specs.Due.{due_cmp, has_moment, is_key_of, own_moment, IsDueOf};
+ghost use Rattle.group_cells.specs.Due.{due_cmp, has_moment, is_key_of, own_moment, IsDueOf, IsFirstBetween};
+ghost use Rattle.group_cells.specs.Looking.{IsNextDue};
 ghost use Rattle.group_cells.specs.declared.groups.due.DueKey.{DueKey as DueKeyOf};
 
 use crate::firing::unseen;
 use crate::rules::trigger_of;
 use beam_values::{Cell, Mark, NoMemory, Plan, Time};
+use pane_triggers::laws::the_next_mark_is_the_least;
 use pane_triggers::next_mark;
 use std::alloc::Global;
 use std::cmp::Ordering;
@@ -215,6 +218,24 @@ impl DueCells {
         self.places_between(alloc, DueKey::first(node), DueKey::last(node, mark))
     }
 
+    /// The least moment of the cells of a node.
+    pub fn next(&self, node: u32) -> Option<i64>
+        ensures { (plan : PlanOf) (cells : ListOf CellOf) → IsDueOf plan self.now cells → IsNextDue plan node cells result }
+    {
+        the_next_mark_is_the_least();
+        moment_in(self.first_between(DueKey::first(node), DueKey::last(node, Mark::FINAL)))
+    }
+
+    fn first_between(&self, first: DueKey, last: DueKey) -> Option<DueKey>
+        requires { is_gt (due_cmp first last) ≡ false }
+        ensures { IsFirstBetween self.now.moments first last result }
+    {
+        match self.moments.range(first..=last).next() {
+            Some(key) => Some(*key),
+            None => None,
+        }
+    }
+
     fn places_between(
         &self,
         alloc: Global,
@@ -229,6 +250,15 @@ impl DueCells {
             places.push(key.place)?;
         }
         Ok(places)
+    }
+}
+
+fn moment_in(key: Option<DueKey>) -> Option<i64>
+    ensures { result ≡ option_map (λ key. key.moment) key }
+{
+    match key {
+        Some(key) => Some(key.moment),
+        None => None,
     }
 }
 
