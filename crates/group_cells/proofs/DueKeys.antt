@@ -121,6 +121,23 @@ due_changed plan old new cells place before cell was now count left h found were
         ∙ sym (ap (is_due_as plan q) (ap (slice_get (set cells place cell)) (sym (eqb-true place q.place e)) ∙ read_written cells place cell (slice_get_within cells place before found)))
     by q false e = h.moments q ∙ sym (ap (is_due_as plan q) (read_other cells place q.place cell e))
 
+-- the same where its moment stays
+pub due_kept : (plan : Plan) (old new : DueCells) (cells : List Cell) (place : ℕ) (before cell : Cell) (was now : Option ℤ) (count : ℕ)
+    → IsDueOf plan old cells → slice_get cells place ≡ Some before → was ≡ own_moment plan before → now ≡ own_moment plan cell → was ≡ now → cell.node ≡ before.node → count ≡ unseen_in cell.entries
+    → new.unseen.items ≡ slice_set old.unseen.items place count → new.moments ≡ old.moments → IsDueOf plan new (slice_set cells place cell)
+due_kept plan old new cells place before cell was now count h found were are same nodes counted counts kept = record {
+  counts = counts ∙ (λ i. set (h.counts i) place (counted i)) ∙ set_mapped (λ c. unseen_in c.entries) cells place cell;
+  moments = λ q. ap (λ m. contains due_cmp m q) kept ∙ by q (place == q.place) refl;
+  small = omega (arith, h.small, length-set cells place cell);
+}
+  where
+    by : (q : DueKey) (t : Bool) → (place == q.place) ≡ t → contains due_cmp old.moments q ≡ is_due_as plan q (slice_get (set cells place cell) q.place)
+    by q true e =
+        own_key plan old cells place before q h found e
+        ∙ (λ i. (sym nodes i == q.node) && has_moment ((sym were ∙ same ∙ are) i) q.moment)
+        ∙ sym (ap (is_due_as plan q) (ap (slice_get (set cells place cell)) (sym (eqb-true place q.place e)) ∙ read_written cells place cell (slice_get_within cells place before found)))
+    by q false e = h.moments q ∙ sym (ap (is_due_as plan q) (read_other cells place q.place cell e))
+
 -- one more cell
 read_before : (cells : List Cell) (cell : Cell) (i : ℕ) → i < length cells → slice_get (cells ++ cell ∷ []) i ≡ slice_get cells i
 read_before cells cell i within =

@@ -179,6 +179,9 @@ impl DueCells {
     {
         let now = moment_with(plan, cell, count);
         self.unseen[place as usize] = count;
+        if is_same_moment(was, now) {
+            return Ok(());
+        }
         self.leave(cell.node, place, was);
         self.enter(cell.node, place, now)
     }
@@ -250,6 +253,16 @@ impl DueCells {
             places.push(key.place)?;
         }
         Ok(places)
+    }
+}
+
+fn is_same_moment(a: Option<i64>, b: Option<i64>) -> bool
+    ensures { result ≡ true → a ≡ b }
+{
+    match (a, b) {
+        (None, None) => true,
+        (Some(first), Some(second)) => first == second,
+        _ => false,
     }
 }
 
