@@ -1,5 +1,5 @@
--- The set of the due once a cell took an entry, or became another.
-use Rattle.std.proofs.Common.{◌≡◌, ℕ, ◌+◌, ◌<◌, ℤ, Bool, false, cond, not, List, [], ◌∷◌, ◌++◌, length, get_or, Option, Some, sym, ap, subst, ◌∙◌, arith}
+-- The set of the due once a cell took an entry, or fired.
+use Rattle.std.proofs.Common.{◌≡◌, ℕ, ◌+◌, ◌<◌, ℤ, Bool, false, cond, not, List, [], ◌∷◌, ◌++◌, length, map, get_or, Option, Some, refl, sym, ap, subst, ◌∙◌, arith}
 use Rattle.std.proofs.Math.ListN.{set, length-set}
 use Rattle.std.specs.Prelude.{slice_get, slice_set}
 use Rattle.std.specs.List.{count_by}
@@ -7,8 +7,9 @@ use Rattle.std.proofs.lemmas.List.{get_or-set_same, length-map}
 use Rattle.std.proofs.lemmas.List.Sums.{sum_by-cons}
 use Rattle.beam_values.specs.declared.cell.Cell.{Cell}
 use Rattle.beam_values.specs.declared.cell.Entry.{Entry}
+use Rattle.beam_values.specs.declared.element.Timing.{Timing}
 use Rattle.beam_values.specs.declared.plan.Plan.{Plan}
-use Rattle.group_cells.specs.Cells.{unseen_in}
+use Rattle.group_cells.specs.Cells.{once_fired, shown, unseen_in}
 use Rattle.group_cells.specs.Due.{IsDueOf, own_moment}
 use Rattle.group_cells.specs.Placing.{with_entry}
 use Rattle.group_cells.specs.declared.groups.due.DueCells.{DueCells}
@@ -47,16 +48,28 @@ put_due plan old new cells after place entry was count first last_ within h put 
     (changed cells cell h found (moment cells h (found ∙ ap (λ (x : Cell). Some x) (sym here)) ∙ ap (own_moment plan) here) (ap (λ (x : Cell). x.node) made)
     (counted plan cells cell h found ∙ sym (unseen_more cell.entries entry unshown) ∙ ap (λ (x : Cell). unseen_in x.entries) (sym made))))
 
-pub replaced_due : (plan : Plan) (old new : DueCells) (cells after : List Cell) (place : ℕ) (cell : Cell) (was : Option ℤ) (count : ℕ) (first last_ : Cell) → place < length cells
-    → IsDueOf plan old cells → ((x : Cell) → slice_get cells place ≡ Some x → cell.node ≡ x.node) → after ≡ slice_set cells place cell
-    → first ≡ get_or cells place first → IsMomentAt plan old place first was → count ≡ unseen_in cell.entries
-    → last_ ≡ get_or after place last_ → IsChanged plan old new place was last_ count → IsDueOf plan new after
-replaced_due plan old new cells after place cell was count first last_ within h nodes is read moment counted again changed = with_cell cells place within (λ x found.
-    let here : first ≡ x = read_is cells place first x read found in
-    let made : last_ ≡ cell = again ∙ ap (λ l. get_or l place last_) is ∙ get_or-set_same cells place cell last_ within in
-    subst (λ (l : List Cell). IsDueOf plan new l) (ap (set cells place) made ∙ sym is)
-    (changed cells x h found (moment cells h (found ∙ ap (λ (y : Cell). Some y) (sym here)) ∙ ap (own_moment plan) here) (ap (λ (y : Cell). y.node) made ∙ nodes x found)
-    (counted ∙ ap (λ (y : Cell). unseen_in y.entries) (sym made))))
+none_unseen : (entries : List Entry) → unseen_in (map shown entries) ≡ 0
+none_unseen [] = refl
+none_unseen (entry ∷ entries) =
+    let more : count_by (λ (x : Entry). not x.shown) (shown entry ∷ map shown entries) ≡ 0 + count_by (λ (x : Entry). not x.shown) (map shown entries) =
+    sum_by-cons (λ (x : Entry). cond {A = ℕ} (not x.shown) 1 0) (shown entry) (map shown entries) in
+    omega (arith, more, none_unseen entries)
+
+pub fired_due : (plan : Plan) (old new : DueCells) (cells after : List Cell) (place : ℕ) (timing : Timing) (was : Option ℤ) (first last_ : Cell) → place < length cells
+    → IsDueOf plan old cells → ((cell : Cell) → slice_get cells place ≡ Some cell → after ≡ slice_set cells place (once_fired (Some timing) cell))
+    → first ≡ get_or cells place first → IsMomentAt plan old place first was
+    → last_ ≡ get_or after place last_ → IsChanged plan old new place was last_ 0 → IsDueOf plan new after
+fired_due plan old new cells after place timing was first last_ within h fired read moment again changed = with_cell cells place within (λ cell found.
+    let once : Cell = once_fired (Some timing) cell in
+    let here : first ≡ cell = read_is cells place first cell read found in
+    let made : last_ ≡ once = again ∙ ap (λ l. get_or l place last_) (fired cell found) ∙ get_or-set_same cells place once last_ within in
+    subst (λ (l : List Cell). IsDueOf plan new l) (ap (set cells place) made ∙ sym (fired cell found))
+    (changed cells cell h found (moment cells h (found ∙ ap (λ (x : Cell). Some x) (sym here)) ∙ ap (own_moment plan) here) (ap (λ (x : Cell). x.node) made)
+    (sym (none_unseen cell.entries) ∙ ap (λ (x : Cell). unseen_in x.entries) (sym made))))
+
+pub fired_length : (cells after : List Cell) (place : ℕ) (timing : Timing) → place < length cells
+    → ((cell : Cell) → slice_get cells place ≡ Some cell → after ≡ slice_set cells place (once_fired (Some timing) cell)) → length after ≡ length cells
+fired_length cells after place timing within fired = with_cell cells place within (λ cell found. ap length (fired cell found) ∙ length-set cells place (once_fired (Some timing) cell))
 
 pub put_length : (cells after : List Cell) (place : ℕ) (entry : Entry) → place < length cells
     → ((cell : Cell) → slice_get cells place ≡ Some cell → after ≡ slice_set cells place (with_entry entry cell)) → length after ≡ length cells

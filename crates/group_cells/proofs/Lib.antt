@@ -46,5 +46,6 @@ mod LoopSteps
 mod Projecting
 mod Taking
 mod Undoing
+mod Unfiring
 mod Unmerged
 mod Writes

@@ -1,5 +1,5 @@
 -- A change and its undoing.
-use Rattle.std.proofs.Common.{◌≡◌, ℕ, suc, ◌-◌, ◌<◌, List, [], ◌∷◌, ◌++◌, length, take, get_or, Some, None, refl, sym, ap, ◌∙◌, arith, Option, zero}
+use Rattle.std.proofs.Common.{◌≡◌, ℕ, suc, ◌-◌, ◌<◌, List, [], ◌∷◌, ◌++◌, length, take, Some, None, refl, sym, ap, ◌∙◌, arith, Option, zero}
 use Rattle.std.proofs.Math.ListN.{set, length-set}
 use Rattle.std.specs.List.{slice_get, slice_set}
 use Rattle.std.specs.Option.{option_map, unwrap_or}
@@ -8,10 +8,14 @@ use Rattle.std.proofs.lemmas.List.{get_or-set_same, set-get_or}
 use Rattle.std.proofs.lemmas.Grind.{common_steps}
 use Rattle.beam_values.specs.declared.cell.Cell.{Cell}
 use Rattle.beam_values.specs.declared.cell.Entry.{Entry}
+use Rattle.beam_values.specs.declared.element.Timing.{Timing}
 use Rattle.group_cells.specs.Placing.{with_entry}
+use Rattle.group_cells.specs.Cells.{once_fired}
 use Rattle.group_cells.specs.Undoing.{undone, undone_all, without_last}
+use Rattle.group_cells.specs.Unfiring.{unfired}
+use Rattle.group_cells.specs.declared.groups.fired.Unfired.{Unfired}
 use Rattle.group_cells.specs.declared.groups.draft.Change.{Change}
-use Rattle.group_cells.specs.declared.groups.draft.Change.TheVariants.{Opened, Put, Replaced}
+use Rattle.group_cells.specs.declared.groups.draft.Change.TheVariants.{Opened, Put, Fired}
 
 pub undone_more : (changes : List Change) (change : Change) (cells : List Cell) → undone_all (changes ++ change ∷ []) cells ≡ undone_all changes (undone change cells)
 undone_more [] change cells = refl
@@ -65,15 +69,20 @@ put_step changes cells new place entry within is =
 pub open_step : (changes : List Change) (cells : List Cell) (cell : Cell) → undone_all (changes ++ Opened ∷ []) (cells ++ cell ∷ []) ≡ undone_all changes cells
 open_step changes cells cell = undone_more changes Opened (cells ++ cell ∷ []) ∙ ap (undone_all changes) (opened_undone cells cell)
 
-pub replaced_step : (changes : List Change) (cells : List Cell) (place : ℕ) (was cell : Cell) → slice_get cells place ≡ Some was
-    → undone_all (changes ++ Replaced place was ∷ []) (slice_set cells place cell) ≡ undone_all changes cells
-replaced_step changes cells place was cell found =
-    undone_more changes (Replaced place was) (set cells place cell)
-    ∙ ap (undone_all changes) (set_again cells place cell was ∙ set_back cells place was found)
-
-pub replaced_over : (changes : List Change) (cells : List Cell) (at place : ℕ) (was read cell : Cell) → at ≡ place → was ≡ read → read ≡ get_or cells place read
-    → undone_all (changes ++ Replaced at was ∷ []) (set cells place cell) ≡ undone_all changes cells
-replaced_over changes cells at place was read cell same is found =
-    undone_more changes (Replaced at was) (set cells place cell)
-    ∙ ap (undone_all changes)
-    (ap (λ p. set (set cells place cell) p was) same ∙ set_again cells place cell was ∙ ap (set cells place) (is ∙ found) ∙ set-get_or cells place read)
+pub unfired_step : (changes : List Change) (cells new : List Cell) (at place : ℕ) (before : Unfired) (timing : Timing) → place < length cells → at ≡ place
+    → ((cell : Cell) → slice_get cells place ≡ Some cell → new ≡ slice_set cells place (once_fired (Some timing) cell))
+    → ((cell : Cell) → slice_get cells place ≡ Some cell → unfired before (once_fired (Some timing) cell) ≡ cell)
+    → undone_all (changes ++ Fired at before ∷ []) new ≡ undone_all changes cells
+unfired_step changes cells new at place before timing within same is back =
+    undone_more changes (Fired at before) new
+    ∙ ap (undone_all changes) (ap (λ p. undone (Fired p before) new) same ∙ by_read (slice_get cells place) refl)
+  where
+    by_read : (o : Option Cell) → slice_get cells place ≡ o → undone (Fired place before) new ≡ cells
+    by_read None e = absurd (none_within cells place within e)
+    by_read (Some cell) e =
+        let fired : Cell = once_fired (Some timing) cell in
+        ap (undone (Fired place before)) (is cell e)
+        ∙ ap (λ o. unwrap_or (option_map (λ c. set (set cells place fired) place (unfired before c)) o) (set cells place fired)) (read_written cells place fired within)
+        ∙ set_again cells place fired (unfired before fired)
+        ∙ ap (set cells place) (back cell e)
+        ∙ set_back cells place cell e

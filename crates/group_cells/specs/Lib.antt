@@ -7,9 +7,9 @@ pub mod Due
 pub mod Looking
 pub mod Indexes
 pub mod Arrivals
+pub mod Unfiring
 pub mod Undoing
 pub mod Plain
-pub mod FiredCopies
 pub mod FiredUpTo
 pub mod Drafts
 pub mod NextDue

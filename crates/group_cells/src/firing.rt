@@ -1,13 +1,13 @@
 //! What one cell fires. A pane is built before anything is changed, so want of memory leaves a cell
 //! as it was.
 
-ghost use Rattle.std.specs.Prelude.{◌≡◌, ◌+◌, ◌<◌, ◌^◌, map, option_to_list, IsSome, IfOk, OnOk, OnErr};
+ghost use Rattle.std.specs.Prelude.{◌≡◌, ◌+◌, ◌<◌, ◌^◌, map, option_to_list, Some, IsSome, IfOk, OnOk, OnErr};
 ghost use Rattle.std.specs.List.Sorted.{IsSorted};
 ghost use Rattle.beam_values.specs.Bags.{IsSameBag};
 ghost use Rattle.beam_values.specs.Grouping.{part_of, pane_as};
 ghost use Rattle.beam_values.specs.Orders.{value_cmp};
 ghost use Rattle.beam_model.specs.Panes.{is_on_time, taken_entry, IsFiredAs, IsPaneOf};
-ghost use Rattle.group_cells.specs.Cells.{after_firing, entries_held, firing_of, shown, unseen_in};
+ghost use Rattle.group_cells.specs.Cells.{after_firing, entries_held, firing_of, once_fired, shown, unseen_in};
 ghost use Rattle.group_cells.specs.Firings.{is_held};
 ghost use Rattle.pane_triggers.specs.Fires.{timing_of};
 
@@ -85,10 +85,18 @@ pub fn set_fired(alloc: Global, rules: &Rules, mark: Mark, cell: &mut Cell)
     ensures { cell.new ≡ after_firing rules.now mark cell.old }
 {
     if let Some(timing) = firing_of(rules, mark, cell) {
-        show_all(alloc, &mut cell.entries);
-        cell.next_index += 1;
-        cell.on_time = cell.on_time || is_on_time(timing);
+        set_timed(alloc, timing, cell);
     }
+}
+
+/// The same of a pane of this timing. Takes no memory.
+pub fn set_timed(alloc: Global, timing: Timing, cell: &mut Cell)
+    requires { cell.old.next_index + 1 < 2 ^ 32 }
+    ensures { cell.new ≡ once_fired (Some timing) cell.old }
+{
+    show_all(alloc, &mut cell.entries);
+    cell.next_index += 1;
+    cell.on_time = cell.on_time || is_on_time(timing);
 }
 
 /// A cell fires at a mark, or doesn't.
@@ -109,8 +117,8 @@ pub fn fire_cell(
     Ok(pane)
 }
 
-// The next pane of a cell.
-fn pane_with(
+/// The next pane of a cell. The cell isn't changed.
+pub fn pane_with(
     alloc: Global,
     mode: Mode,
     commit: u32,

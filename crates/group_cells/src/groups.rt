@@ -10,6 +10,7 @@ ghost use Rattle.watermarks.specs.Holds.{hold_at};
 mod advance;
 mod draft;
 mod due;
+mod fired;
 mod firing;
 mod index;
 mod looking;

@@ -66,7 +66,7 @@ impl Draft {
                 Ok(next)
             }
             Err(refusal) => {
-                self.undo_all(kept);
+                self.undo_all(alloc, kept);
                 Err(refusal)
             }
         }

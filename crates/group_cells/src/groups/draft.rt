@@ -7,8 +7,10 @@ ghost use Rattle.group_cells.specs.Indexes.{IsIndexOf};
 ghost use Rattle.group_cells.specs.Looking.{place_of};
 ghost use Rattle.group_cells.specs.Placing.{fresh_cell, with_entry};
 ghost use Rattle.group_cells.specs.Undoing.{undone, undone_all, without_last};
+ghost use Rattle.group_cells.specs.Unfiring.{unfired};
 
 use crate::groups::due::DueCells;
+use crate::groups::fired::{Unfired, unfire};
 use crate::groups::index::{CellIndex, CellKey};
 use beam_values::{Cell, Dropped, Entry, List, NoMemory, Plan, copy_key};
 use std::alloc::Global;
@@ -20,8 +22,8 @@ pub enum Change {
     Opened,
     /// The cell at this place took an entry.
     Put(u32),
-    /// The cell at this place was this one.
-    Replaced(u32, Cell),
+    /// The cell at this place fired, and was this before.
+    Fired(u32, Unfired),
     /// All cells were these.
     Whole(Vec<Cell>),
 }
@@ -59,7 +61,15 @@ fn take_last(cells: &mut Vec<Cell>, place: u32)
     cell.entries.truncate(kept);
 }
 
-fn undo(cells: &mut Vec<Cell>, change: Change)
+/// The cell at a place becomes again what it was before it fired.
+fn unfire_at(alloc: Global, cells: &mut Vec<Cell>, place: u32, before: &Unfired)
+    requires { place < length cells.old.items }
+    ensures { (cell : CellOf) → slice_get cells.old.items place ≡ Some cell → cells.new.items ≡ slice_set cells.old.items place (unfired before.now cell) }
+{
+    unfire(alloc, before, &mut cells[place as usize]);
+}
+
+fn undo(alloc: Global, cells: &mut Vec<Cell>, change: Change)
     ensures { cells.new.items ≡ undone change cells.old.items }
 {
     match change {
@@ -71,9 +81,9 @@ fn undo(cells: &mut Vec<Cell>, change: Change)
                 take_last(cells, place);
             }
         }
-        Change::Replaced(place, cell) => {
+        Change::Fired(place, before) => {
             if (place as usize) < cells.len() {
-                cells[place as usize] = cell;
+                unfire_at(alloc, cells, place, &before);
             }
         }
         Change::Whole(was) => {
@@ -84,13 +94,13 @@ fn undo(cells: &mut Vec<Cell>, change: Change)
 
 impl Draft {
     /// Undoes all changes, the last one first.
-    pub fn undo_all(&mut self, dropped: usize)
+    pub fn undo_all(&mut self, alloc: Global, dropped: usize)
         ensures cells { self.new.cells.items ≡ undone_all self.old.changes.items self.old.cells.items }
         ensures dropped { self.new.dropped.items ≡ take dropped self.old.dropped.items }
         ensures changes { self.new.changes.items ≡ [] }
     {
         while let Some(change) = self.changes.pop() {
-            undo(&mut self.cells, change);
+            undo(alloc, &mut self.cells, change);
         }
         self.dropped.truncate(dropped);
     }

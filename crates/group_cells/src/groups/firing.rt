@@ -1,25 +1,25 @@
-ghost use Rattle.std.specs.Prelude.{◌≡◌, ◌<◌, ◌≤◌, List as ListOf, Some, None, [], true, false, length, map, option_to_list, slice_get, slice_set, IfOk, OnOk};
+ghost use Rattle.std.specs.Prelude.{◌≡◌, ◌+◌, ◌<◌, ◌≤◌, ◌^◌, List as ListOf, Some, None, [], true, false, length, map, option_to_list, slice_get, slice_set, IfOk, OnErr, OnOk};
 ghost use Rattle.std.specs.List.Sorted.{IsNonDecreasing};
-ghost use Rattle.std.specs.Option.{is_some};
 ghost use Rattle.beam_values.specs.Checked.{IsChecked};
 ghost use Rattle.beam_values.specs.Nodes.{facts_of, is_group};
 ghost use Rattle.beam_values.specs.declared.cell.Cell.{Cell as CellOf};
 ghost use Rattle.beam_model.specs.Panes.{rules_of, trigger_of};
+ghost use Rattle.group_cells.specs.Cells.{once_fired};
 ghost use Rattle.group_cells.specs.Plain.{after_node, AreFired, AreGroupFired, AreNodesFired, FiresAs, firing_at, IsNodeDone};
 ghost use Rattle.group_cells.specs.Due.{IsDueOf};
-ghost use Rattle.group_cells.specs.FiredCopies.{IsFiredCopy};
 ghost use Rattle.group_cells.specs.FiredUpTo.{AreAllDue, AreFiredUpTo, IsFiredPast, IsNoneDue};
 ghost use Rattle.group_cells.specs.Undoing.{undone_all};
+ghost use Rattle.group_cells.specs.Unfiring.{unfired};
 ghost use Rattle.watermarks.specs.Holds.{hold_at};
 
-use crate::firing::{firing_of, unseen};
+use crate::firing::{firing_of, pane_with};
 use crate::groups::draft::{Change, Draft};
-use crate::plain::nodes::{cmp_panes, fire_at, least_with, push_if};
+use crate::groups::fired::{Unfired, set_fired};
+use crate::plain::nodes::{cmp_panes, least_with, push_if};
 use crate::rules::{Rules, is_group, rules_of};
-use beam_values::{Cell, Duplicate, List, Mark, NoMemory, Pane, Plan, StageMarks};
+use beam_values::{Cell, List, Mark, NoMemory, Pane, Plan, StageMarks, Timing};
 use pane_triggers::laws::{cells_are_due_from_their_next_mark_on, the_next_mark_is_the_least};
 use std::alloc::Global;
-use std::mem;
 use watermarks::marks_of_node;
 use windowing::NodeFacts;
 
@@ -247,75 +247,85 @@ impl Draft {
         ensures others { (self.new.index ≡ self.old.index) × (self.new.dropped ≡ self.old.dropped) }
         ensures undo { undone_all self.new.changes.items self.new.cells.items ≡ undone_all self.old.changes.items self.old.cells.items }
     {
-        let cell = &self.cells[place];
-        match fired_copy(alloc, rules, node, commit, mark, cell)? {
+        match timing_at(rules, node, mark, &self.cells[place]) {
             None => Ok(None),
-            Some(fired) => {
-                let Fired { cell, pane } = fired;
-                self.replace_due(plan, place, cell)?;
-                Ok(pane)
+            Some(timing) => {
+                let cell = &self.cells[place];
+                let pane = pane_with(alloc, rules.trigger.mode, commit, timing, cell)?;
+                self.set_fired_due(alloc, plan, timing, place)?;
+                Ok(Some(pane))
             }
         }
     }
 
-    /// The cell at a place, which keeps its node, becomes another.
-    fn replace_due(&mut self, plan: &Plan, place: usize, cell: Cell) -> Result<(), NoMemory>
+    /// The cell at a place keeps that it fired a pane of this timing, and is due anew.
+    fn set_fired_due(
+        &mut self,
+        alloc: Global,
+        plan: &Plan,
+        timing: Timing,
+        place: usize,
+    ) -> Result<(), NoMemory>
         requires within { place < length self.old.cells.items }
         requires due { IsDueOf plan.now self.old.due self.old.cells.items }
-        requires node { (was : CellOf) → slice_get self.old.cells.items place ≡ Some was → cell.node ≡ was.node }
-        ensures ok { OnOk result (self.new.cells.items ≡ slice_set self.old.cells.items place cell) }
+        requires counted { (cell : CellOf) → slice_get self.old.cells.items place ≡ Some cell → cell.next_index + 1 < 2 ^ 32 }
+        ensures ok { OnOk result ((cell : CellOf) → slice_get self.old.cells.items place ≡ Some cell
+            → self.new.cells.items ≡ slice_set self.old.cells.items place (once_fired (Some timing) cell)) }
         ensures due { OnOk result (IsDueOf plan.now self.new.due self.new.cells.items) }
         ensures others { (self.new.index ≡ self.old.index) × (self.new.dropped ≡ self.old.dropped) }
         ensures undo { undone_all self.new.changes.items self.new.cells.items ≡ undone_all self.old.changes.items self.old.cells.items }
     {
         let at = u32::try_from(place).map_err(|_| NoMemory)?;
         let was = self.due.moment_at(plan, at, &self.cells[place]);
-        let count = unseen(cell.entries.as_slice());
-        self.replace(place, at, cell)?;
-        self.due.change(plan, at, was, &self.cells[place], count)
+        self.set_fired(alloc, timing, place, at)?;
+        self.due.change(plan, at, was, &self.cells[place], 0)
     }
 
-    fn replace(&mut self, place: usize, at: u32, cell: Cell) -> Result<(), NoMemory>
+    fn set_fired(
+        &mut self,
+        alloc: Global,
+        timing: Timing,
+        place: usize,
+        at: u32,
+    ) -> Result<(), NoMemory>
         requires within { place < length self.old.cells.items }
         requires at { at ≡ place }
-        ensures ok { OnOk result (self.new.cells.items ≡ slice_set self.old.cells.items place cell) }
+        requires counted { (cell : CellOf) → slice_get self.old.cells.items place ≡ Some cell → cell.next_index + 1 < 2 ^ 32 }
+        ensures ok { OnOk result ((cell : CellOf) → slice_get self.old.cells.items place ≡ Some cell
+            → self.new.cells.items ≡ slice_set self.old.cells.items place (once_fired (Some timing) cell)) }
         ensures others { (self.new.index ≡ self.old.index) × (self.new.dropped ≡ self.old.dropped) × (self.new.due ≡ self.old.due) }
         ensures undo { undone_all self.new.changes.items self.new.cells.items ≡ undone_all self.old.changes.items self.old.cells.items }
     {
         self.changes.reserve(1)?;
-        let was = mem::replace(&mut self.cells[place], cell);
-        self.changes.push_reserved(Change::Replaced(at, was));
+        let before = set_fired_at(alloc, timing, &mut self.cells, place)?;
+        self.changes.push_reserved(Change::Fired(at, before));
         Ok(())
     }
 }
 
-fn is_due(rules: &Rules, node: u32, mark: Mark, cell: &Cell) -> bool
-    ensures { result ≡ is_some (firing_at rules.now node mark cell.now) }
+fn timing_at(rules: &Rules, node: u32, mark: Mark, cell: &Cell) -> Option<Timing>
+    ensures { result ≡ firing_at rules.now node mark cell.now }
 {
-    cell.node == node && firing_of(rules, mark, cell).is_some()
-}
-
-/// A cell once it fired, and its pane.
-#[derive(Debug, Drop)]
-struct Fired {
-    cell: Cell,
-    pane: Option<Pane>,
-}
-
-fn fired_copy(
-    alloc: Global,
-    rules: &Rules,
-    node: u32,
-    commit: u32,
-    mark: Mark,
-    cell: &Cell,
-) -> Result<Option<Fired>, NoMemory>
-    ensures { IfOk result (λ fired. IsFiredCopy rules.now node commit mark cell.now fired) }
-{
-    if !is_due(rules, node, mark, cell) {
-        return Ok(None);
+    if cell.node == node {
+        firing_of(rules, mark, cell)
+    } else {
+        None
     }
-    let mut copy = cell.duplicate(alloc)?;
-    let pane = fire_at(alloc, rules, node, commit, mark, &mut copy)?;
-    Ok(Some(Fired { cell: copy, pane }))
+}
+
+fn set_fired_at(
+    alloc: Global,
+    timing: Timing,
+    cells: &mut Vec<Cell>,
+    place: usize,
+) -> Result<Unfired, NoMemory>
+    requires within { place < length cells.old.items }
+    requires counted { (cell : CellOf) → slice_get cells.old.items place ≡ Some cell → cell.next_index + 1 < 2 ^ 32 }
+    ensures cell { OnOk result ((cell : CellOf) → slice_get cells.old.items place ≡ Some cell
+        → cells.new.items ≡ slice_set cells.old.items place (once_fired (Some timing) cell)) }
+    ensures before { IfOk result (λ before. (cell : CellOf) → slice_get cells.old.items place ≡ Some cell → unfired before (once_fired (Some timing) cell) ≡ cell) }
+    ensures err { OnErr result (cells.new.items ≡ cells.old.items) }
+{
+    let before = set_fired(alloc, timing, &mut cells[place])?;
+    Ok(before)
 }

@@ -167,7 +167,7 @@ fn fire_cells(
 }
 
 // A cell of the node fires, or doesn't; one of another node doesn't.
-pub fn fire_at(
+fn fire_at(
     alloc: Global,
     rules: &Rules,
     node: u32,

@@ -1,0 +1,115 @@
+//! A cell fires where it lies, and keeps by what it is undone where memory is refused later.
+
+ghost use Rattle.std.specs.Prelude.{◌≡◌, ◌+◌, ◌<◌, ◌^◌, Some, length, map, IfOk, IfSome, OnErr, OnOk};
+ghost use Rattle.group_cells.specs.Cells.{once_fired};
+ghost use Rattle.group_cells.specs.Unfiring.{shown_as, unfired, was_first, was_shown, AreShownAs};
+
+use crate::firing::set_timed;
+use beam_values::{Cell, Entry, List, NoMemory, Timing};
+use std::alloc::Global;
+use std::mem;
+
+/// What a cell was before it fired.
+#[derive(Debug, Drop)]
+pub struct Unfired {
+    pub next_index: u32,
+    pub on_time: bool,
+    pub shown: Shown,
+}
+
+/// Which entries of a cell a pane had held.
+#[derive(Debug, Drop)]
+pub enum Shown {
+    /// So many first ones, and no other.
+    First(usize),
+    /// One by one.
+    Each(Vec<bool>),
+}
+
+impl Shown {
+    /// Takes memory only where one that was shown lies behind one that wasn't, as in a merged session.
+    fn of(alloc: Global, entries: &[Entry]) -> Result<Shown, NoMemory>
+        ensures { IfOk result (λ shown. AreShownAs (was_shown shown) entries.now) }
+    {
+        match shown_first(entries) {
+            Some(count) => Ok(Shown::First(count)),
+            None => Ok(Shown::Each(flags_of(alloc, entries)?)),
+        }
+    }
+
+    fn was_shown(&self, at: usize) -> bool
+        ensures { result ≡ was_shown self.now at }
+    {
+        match self {
+            Shown::First(count) => at < *count,
+            Shown::Each(each) => match each.get(at) {
+                None => false,
+                Some(was) => *was,
+            },
+        }
+    }
+
+    /// Shows the entries, where they lie, as they were shown.
+    fn put_back(&self, alloc: Global, entries: &mut List<Entry>)
+        ensures { entries.new ≡ shown_as (was_shown self.now) 0 entries.old }
+    {
+        let mut items = mem::replace(entries, List::new(alloc)).into_vec();
+        let mut at = 0;
+        for entry in items.iter_mut() {
+            entry.shown = self.was_shown(at);
+            at += 1;
+        }
+        *entries = List::from_vec(items);
+    }
+}
+
+/// How many entries were shown, where they lie before all others.
+fn shown_first(entries: &[Entry]) -> Option<usize>
+    ensures { IfSome result (λ count. AreShownAs (was_first count) entries.now) }
+{
+    let mut count = 0;
+    for (at, entry) in entries.iter().enumerate() {
+        if entry.shown {
+            if count < at {
+                return None;
+            }
+            count = at + 1;
+        }
+    }
+    Some(count)
+}
+
+fn flags_of(alloc: Global, entries: &[Entry]) -> Result<Vec<bool>, NoMemory>
+    ensures { IfOk result (λ flags. flags.items ≡ map (λ entry. entry.shown) entries.now) }
+{
+    let mut flags = Vec::with_capacity(alloc, entries.len())?;
+    for entry in entries {
+        flags.push(entry.shown)?;
+    }
+    Ok(flags)
+}
+
+/// A cell keeps that it fired a pane of this timing. Answers what it was before.
+pub fn set_fired(alloc: Global, timing: Timing, cell: &mut Cell) -> Result<Unfired, NoMemory>
+    requires { cell.old.next_index + 1 < 2 ^ 32 }
+    ensures cell { OnOk result (cell.new ≡ once_fired (Some timing) cell.old) }
+    ensures before { IfOk result (λ before. unfired before cell.new ≡ cell.old) }
+    ensures err { OnErr result (cell.new ≡ cell.old) }
+{
+    let before = Unfired {
+        next_index: cell.next_index,
+        on_time: cell.on_time,
+        shown: Shown::of(alloc, cell.entries.as_slice())?,
+    };
+    set_timed(alloc, timing, cell);
+    Ok(before)
+}
+
+/// A cell becomes again what it was before it fired. Takes no memory.
+pub fn unfire(alloc: Global, before: &Unfired, cell: &mut Cell)
+    ensures { cell.new ≡ unfired before.now cell.old }
+{
+    before.shown.put_back(alloc, &mut cell.entries);
+    cell.next_index = before.next_index;
+    cell.on_time = before.on_time;
+}
