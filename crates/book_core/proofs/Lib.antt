@@ -54,3 +54,4 @@ pub mod CommitFired
 pub mod CommitHolds
 pub mod CommitStep
 pub mod CommitCalls
+pub mod Worked

@@ -18,6 +18,8 @@ mod opening;
 mod outcome;
 mod queue;
 mod results;
+#[cfg(test)]
+mod tests;
 mod working;
 
 pub use book::Book;
