@@ -9,8 +9,8 @@ ghost use Rattle.book_core.specs.Runs.{AreOptions, AreLengthsOf, IsOpening, Reac
 ghost use Rattle.book_core.specs.Steps.{Enroll, Take, Claim, Split, Fail, Stop, Enrolled, Claimed, SplitAt, Noted, IsFree, IsRunning, IsNextFor, CanCommit, IsCommitting, IsWithinLimits};
 
 use crate::committing::{
-    Fired, done_of, fire, free_job, free_residual, has_numbers, hold_job, hold_residual, keep_room,
-    own_in, put_back, residual_of, wait_all,
+    Fired, GREATEST_COUNT, done_of, fire, free_job, free_residual, has_numbers, hold_job,
+    hold_residual, keep_room, own_in, put_back, residual_of, wait_all,
 };
 use crate::due::{DueAt, batch_job, first_due, piece_job, started};
 use crate::failing::{failure_where, give_back, is_spent, note_of, stopped_after, take_out};
@@ -34,9 +34,6 @@ use retry_core::FaultShare;
 use split_core::Pieces;
 use std::alloc::Global;
 use std::marker::Model;
-
-// Lists whose places are numbered with 32 bits are shorter than this.
-const GREATEST_COUNT: usize = 4_294_967_295;
 
 /// The book of a run. Contracts see it as plain data.
 #[derive(Debug, Drop)]

@@ -27,8 +27,8 @@ use group_cells::Groups;
 use split_core::Pieces;
 use std::alloc::Global;
 
-// Lists whose places are numbered with 32 bits are shorter than this.
-const GREATEST_COUNT: usize = 4_294_967_295;
+/// Lists whose places are numbered with 32 bits are shorter than this.
+pub const GREATEST_COUNT: usize = 4_294_967_295;
 
 /// Whether all places that a commit of so many arrivals may add have numbers of 32 bits. At most the
 /// cells and the arrivals fire.
