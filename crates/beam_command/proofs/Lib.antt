@@ -1,2 +1,8 @@
-pub mod Causes
-pub mod Reading
+pub mod Graphs
+pub mod Asked
+pub mod Promises
+mod Completeness
+mod PanesPoison
+mod PanesStops
+mod PanesTakes
+mod PanesEnds

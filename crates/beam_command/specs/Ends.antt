@@ -1,23 +1,27 @@
 -- How a command may end, and what each end means.
-use Rattle.std.specs.Prelude.{◌≡◌, ◌⊎◌, true, ℕ, ◌<◌, ◌≤◌, ℤ, pos, List, Option, Some, None, length, take}
-use Rattle.beam_values.specs.declared.fault.Cause.TheVariants.{Call}
+use Rattle.std.specs.Prelude.{◌≡◌, ◌⊎◌, true, ℕ, ◌<◌, ◌≤◌, List, Option, Some, None, Err, IsSome, length, take}
+use Rattle.std.specs.List.{All}
+use Rattle.beam_values.specs.Files.{first_named}
 use Rattle.beam_values.specs.declared.file_text.FileText.{FileText}
+use Rattle.beam_values.specs.declared.options.Options.{Options}
 use Rattle.beam_values.specs.declared.outcome.Outcome.{Outcome}
 use Rattle.beam_values.specs.declared.plan.Plan.{Plan}
-use Rattle.beam_model.specs.Plans.{panes_plan}
-use Rattle.beam_model.specs.Positions.{items}
-use Rattle.beam_model.specs.Spread.{HasPoison}
-use Rattle.beam_ports.specs.Counts.{Rose}
-use Rattle.beam_ports.specs.Observed.{ObservedStore, ObservedSink}
-use Rattle.chain_exec.specs.Causes.{ObservedShelf}
-use Rattle.beam_ports.specs.Sinks.{then_taken}
 use Rattle.beam_model.specs.Rendering.{IsRendering}
-use Rattle.run_engine.specs.PanesRun.{Prevents, first_fault}
+use Rattle.beam_ports.specs.Counts.{Rose, rise}
+use Rattle.beam_ports.specs.Observed.{ObservedStore, ObservedSink, WhereTold}
+use Rattle.beam_ports.specs.Sinks.{then_taken}
+use Rattle.book_core.specs.Book.{BookData}
+use Rattle.book_core.specs.Runs.{IsEnded}
+use Rattle.chain_exec.specs.Causes.{ObservedShelf}
+use Rattle.command_words.specs.Commands.{Asked, Help, Panes, Run}
+use Rattle.command_words.specs.HelpText.{help_text}
+use Rattle.run_engine.specs.Openings.{IsOpeningRefused, file_names}
+use Rattle.run_engine.specs.PlanRun.{IsOutcomeWhere, IsSpent, IsStoppedBy, known_of}
 use Rattle.run_engine.specs.declared.status.RunEnd.{RunEnd}
 use Rattle.run_engine.specs.declared.status.Status.{Status}
 use Rattle.run_engine.specs.declared.status.Status.TheVariants as status
+use Rattle.beam_command.specs.Asking.{IsMeaningOf, IsPlanOf}
 use Rattle.beam_command.specs.Notes.{note_line}
-use Rattle.beam_command.specs.Words.{TakesPanes, file_word, size_word, number_of_text}
 
 -- what a command observed at its kit and at its output
 pub record Observed : Type 0 where
@@ -25,52 +29,100 @@ pub record Observed : Type 0 where
   pub store : ObservedStore
   pub out : ObservedSink
 
--- the size that the words name, in milliseconds
-abbrev pub size_of : List (List ℕ) → ℤ
-size_of words = pos (number_of_text (size_word words))
-
--- the plan of the command
-abbrev pub plan_of : List (List ℕ) → Plan
-plan_of words = panes_plan (file_word words) (size_of words)
-
--- of these files, a line that the command reads is poison
-abbrev pub FindsPoisonIn : List (List ℕ) → List FileText → Type 0
-FindsPoisonIn words told = HasPoison (plan_of words) (items told (plan_of words))
-
 -- nothing was written
 abbrev pub IsUnwritten : Observed → Type 0
 IsUnwritten observed = observed.out.taken_after ≡ observed.out.taken_before
 
--- an end comes only so
-abbrev pub HasCause : List (List ℕ) → Observed → Status → Type 0
--- the run came to its end, and its text was written
-HasCause words observed status.Ok = TakesPanes words
--- the same, and the sink failed
-HasCause words observed status.SinkFault = TakesPanes words × Rose observed.out.before observed.out.after
--- the words are no command
-HasCause words observed status.Usage = (TakesPanes words → ⊥) × IsUnwritten observed
--- the run did not come to its end
-HasCause words observed s = TakesPanes words × IsUnwritten observed × Prevents observed.shelf observed.store (file_word words) (size_of words) s
+-- ---- what is written
 
--- at these ends there is an outcome, of which this holds; at another one there is none
+-- a text was written whole, or less of it where the sink failed as often as it may
+abbrev pub IsWritten : ObservedSink → ℕ → List ℕ → Status → Type 0
+IsWritten out attempts text status.SinkFault =
+    (attempts ≤ rise out.before out.after) × ((n : ℕ) × (n < length text) × (out.taken_after ≡ then_taken out.taken_before (take n text)))
+IsWritten out attempts text s = out.taken_after ≡ then_taken out.taken_before text
+
+-- the rendering of an outcome was written so
+abbrev pub IsPrinted : ObservedSink → ℕ → Status → Outcome → Type 0
+IsPrinted out attempts s o = (text : List ℕ) × IsRendering o text × IsWritten out attempts text s
+
+-- ---- why a command did not come to its end
+
+-- The plan's file was not read: where the files are told it isn't there, or it has no plan; or opening and reading failed as often as they may; or there was
+-- no memory.
+abbrev pub IsPlanRefused : ObservedStore → List ℕ → ℕ → Status → Type 0
+IsPlanRefused store name attempts (status.NoSource absent) = (absent ≡ name) × WhereTold store.files (λ told. first_named name told ≡ None)
+IsPlanRefused store name attempts (status.SourceFault kit) = (kit ≡ 0) × (attempts ≤ rise store.before store.after)
+IsPlanRefused store name attempts (status.BadPlan refusal) = WhereTold store.files (λ told. IsMeaningOf told name (Err refusal))
+IsPlanRefused store name attempts status.NoMemory = Unit {0}
+IsPlanRefused store name attempts _ = ⊥
+
+-- so it is where the command reads a plan
+abbrev pub IsDocumentRefused : ObservedStore → Asked → ℕ → Status → Type 0
+IsDocumentRefused store (Run name options) attempts s = IsPlanRefused store name attempts s
+IsDocumentRefused store _ attempts s = ⊥
+
+-- the plan is there, and a file that it reads could not be opened
+abbrev pub AreSourcesRefused : ObservedStore → Asked → ℕ → Status → Type 0
+AreSourcesRefused store asked attempts s = (plan : Plan) × IsPlanOf store.files asked plan × IsOpeningRefused store plan attempts 0 s
+
+-- ---- the ends of a pipeline that is run
+
+-- every file that a plan reads is there
+abbrev pub AreFound : Option (List FileText) → Plan → Type 0
+AreFound files plan = WhereTold files (λ told. All (λ name. IsSome (first_named name told)) (file_names plan))
+
+-- the outcome is that of the plan that was asked for, of a book of which this holds
+abbrev pub IsOutcomeOfAsked : Observed → Asked → Options → (BookData → Type 0) → Outcome → Type 0
+IsOutcomeOfAsked observed asked options P o =
+    (plan : Plan) × IsPlanOf observed.store.files asked plan × AreFound observed.store.files plan
+    × IsOutcomeWhere (known_of observed.shelf observed.store) plan options P o
+
+-- the run came to its end, and its rendering was written
+abbrev pub IsRunThrough : Observed → Asked → Options → Status → Option Outcome → Type 0
+IsRunThrough observed asked options s outcome =
+    (o : Outcome) × (outcome ≡ Some o) × IsOutcomeOfAsked observed asked options IsEnded o × IsPrinted observed.out options.attempts s o
+
+abbrev pub IsPipelineEnd : Observed → Asked → Options → Status → Option Outcome → Type 0
+IsPipelineEnd observed asked options status.Ok outcome = IsRunThrough observed asked options status.Ok outcome
+-- the same, and the sink failed
+IsPipelineEnd observed asked options status.SinkFault outcome = IsRunThrough observed asked options status.SinkFault outcome
+-- work failed as often as it may, and what was committed before is handed out
+IsPipelineEnd observed asked options (status.WorkFault note) outcome =
+    IsUnwritten observed × ((o : Outcome) × (outcome ≡ Some o) × IsOutcomeOfAsked observed asked options (IsStoppedBy observed.store note) o)
+    × IsSpent observed.shelf observed.store options.attempts note
+-- the run did not begin, or there was no memory
+IsPipelineEnd observed asked options s outcome =
+    IsUnwritten observed × (outcome ≡ None)
+    × (IsDocumentRefused observed.store asked options.attempts s ⊎ AreSourcesRefused observed.store asked options.attempts s ⊎ (s ≡ status.NoMemory))
+
+-- ---- the ends of a command
+
+-- how often a write of the help may fail
+abbrev pub help_attempts : ℕ
+help_attempts = 3
+
+abbrev pub IsHelpEnd : ObservedSink → Status → Type 0
+IsHelpEnd out status.Help = IsWritten out help_attempts help_text status.Help
+IsHelpEnd out status.SinkFault = IsWritten out help_attempts help_text status.SinkFault
+IsHelpEnd out _ = ⊥
+
+-- By what the words ask for: the words are no command exactly where the end says so.
+abbrev pub IsEndOf : Option Asked → Observed → Status → Option Outcome → Type 0
+IsEndOf None observed s outcome = (s ≡ status.Usage) × IsUnwritten observed × (outcome ≡ None)
+IsEndOf (Some Help) observed s outcome = IsHelpEnd observed.out s × (outcome ≡ None)
+IsEndOf (Some (Panes file size options)) observed s outcome = IsPipelineEnd observed (Panes file size options) options s outcome
+IsEndOf (Some (Run name options)) observed s outcome = IsPipelineEnd observed (Run name options) options s outcome
+
+-- the run came to its end, or only its text was not written whole, and this holds of its outcome
 abbrev pub HasRun : Status → Option Outcome → (Outcome → Type 0) → Type 0
 HasRun status.Ok outcome P = (o : Outcome) × (outcome ≡ Some o) × P o
-HasRun status.SinkFault outcome P = (o : Outcome) × (outcome ≡ Some o) × P o
-HasRun s outcome P = outcome ≡ None
+HasRun status.SinkFault outcome P = (o : Outcome) → outcome ≡ Some o → P o
+HasRun s outcome P = Unit {0}
 
--- the run ended Ok, or only its text was not written whole, and this holds of its outcome; at another end there is no outcome
 abbrev pub IsRun : RunEnd → (Outcome → Type 0) → Type 0
 IsRun end P = HasRun end.status end.outcome P
 
--- a text was written whole, or less of it where the sink failed
-abbrev pub IsWritten : ObservedSink → List ℕ → Status → Type 0
-IsWritten out text status.Ok = out.taken_after ≡ then_taken out.taken_before text
-IsWritten out text status.SinkFault = Rose out.before out.after × ((n : ℕ) × (n < length text) × (out.taken_after ≡ then_taken out.taken_before (take n text)))
-IsWritten out text _ = ⊥
-
--- the rendering of an outcome was written so
-abbrev pub IsPrinted : ObservedSink → Status → Outcome → Type 0
-IsPrinted out s o = (text : List ℕ) × IsRendering o text × IsWritten out text s
+-- ---- notes
 
 -- a line was taken, or its first n bytes where the sink failed
 pub record IsNotedUpTo (line : List ℕ) (notes : ObservedSink) (n : ℕ) : Type 0 where
@@ -78,13 +130,15 @@ pub record IsNotedUpTo (line : List ℕ) (notes : ObservedSink) (n : ℕ) : Type
   pub taken : notes.taken_after ≡ then_taken notes.taken_before (take n line)
   pub cut_short : n < length line → Rose notes.before notes.after
 
--- what the notes took: nothing where the end is Ok, and else its line, or the front of it where the notes failed
+-- what the notes took: nothing where the end is Ok or Help, and else its line, or the front of it where the notes failed
 abbrev pub IsNoted : Status → ObservedSink → Type 0
 IsNoted status.Ok notes = notes.taken_after ≡ notes.taken_before
+IsNoted status.Help notes = notes.taken_after ≡ notes.taken_before
 IsNoted s notes = (n : ℕ) × IsNotedUpTo (note_line s) notes n
 
 -- only for these ends is memory taken to write the note
 abbrev pub IsLongNoted : Status → Type 0
+IsLongNoted (status.BadPlan refusal) = Unit {0}
 IsLongNoted (status.NoSource name) = Unit {0}
 IsLongNoted (status.SourceFault kit) = Unit {0}
 IsLongNoted (status.WorkFault note) = Unit {0}
@@ -93,21 +147,3 @@ IsLongNoted _ = ⊥
 -- the end after its note was written: the same, or want of memory for the note
 abbrev pub StaysOrNoMemory : Status → Status → Type 0
 StaysOrNoMemory before after = (after ≡ before) ⊎ ((after ≡ status.NoMemory) × IsLongNoted before)
-
--- the ends of a file with a poison line, of a clean one, and of a name that isn't there, where nothing outside failed
-abbrev pub IsEndOfPoison : Status → Type 0
-IsEndOfPoison s = (s ≡ status.WorkFault (first_fault Call)) ⊎ (s ≡ status.NoMemory)
-
-abbrev pub IsEndOfClean : Status → Type 0
-IsEndOfClean s = (s ≡ status.Ok) ⊎ (s ≡ status.NoMemory)
-
-abbrev pub IsEndOfAbsent : List ℕ → Status → Type 0
-IsEndOfAbsent name s = (s ≡ status.NoSource name) ⊎ (s ≡ status.NoMemory)
-
--- a store that did not fail
-abbrev pub HasNotFailed : ObservedStore → Type 0
-HasNotFailed store = Rose store.before store.after → ⊥
-
--- a shelf that fails on poison alone, or that did not fail
-abbrev pub FailsOnPoison : ObservedShelf → Type 0
-FailsOnPoison shelf = (shelf.strict ≡ true) ⊎ (Rose shelf.before shelf.after → ⊥)

@@ -1,4 +1,8 @@
 pub mod Ends
 pub mod Notes
-pub mod Words
+pub mod Asking
 pub mod Kits
+pub mod PlanFiles
+pub mod Pipelines
+pub mod Promises
+pub mod Completeness

@@ -4,6 +4,7 @@ use Rattle.beam_values.specs.Texts.{blob_text}
 use Rattle.beam_values.specs.declared.fault.Cause.{Cause}
 use Rattle.beam_values.specs.declared.fault.Cause.TheVariants.{Call, Read}
 use Rattle.beam_values.specs.declared.fault.FaultNote.{FaultNote}
+use Rattle.plan_reader.specs.Texts.{refusal_text}
 use Rattle.run_engine.specs.declared.status.Status.{Status}
 use Rattle.run_engine.specs.declared.status.Status.TheVariants as status
 
@@ -23,7 +24,9 @@ work_text note = place_text note ++ attempt_text note
 -- without the LF at its end
 abbrev pub note_text : Status → List ℕ
 note_text status.Ok = []
+note_text status.Help = []
 note_text status.Usage = codes "usage: see beam_run help"
+note_text (status.BadPlan refusal) = codes "bad plan: " ++ refusal_text refusal
 note_text (status.NoSource name) = codes "no source: " ++ blob_text name
 note_text (status.SourceFault kit) = codes "source fault: kit " ++ decimal kit
 note_text (status.WorkFault note) = work_text note

@@ -1,15 +1,15 @@
-//! The top call: what the words of a command line ask for is run over any store and sinks.
+//! The top call: what the words of a command line ask for is run over any kits and sinks.
 //!
 //! [`beam_main`] is the whole program but for the system's files and streams, and its contract is the
-//! promise of the program: what was printed, what each other end means, and that it comes only so. The
-//! layer above may rely on that alone. Read `top.rt` first, then `specs/Ends.antt`.
+//! promise of the program: what was printed, what each other end means, that it comes only so, and which
+//! end must come where little or nothing outside fails. The layer above may rely on that alone. Read
+//! `top.rt` first, then `specs/Ends.antt` and `specs/Completeness.antt`.
 #![tactic(auto)]
 
 mod notes;
+mod pipeline;
+mod plan_file;
+mod plans;
 mod top;
-mod words;
 
 pub use top::beam_main;
-
-#[cfg(test)]
-mod tests;

@@ -5,13 +5,14 @@ ghost use Rattle.beam_command.specs.Ends.{IsLongNoted};
 use beam_text::push_blob;
 use beam_values::{Bytes, Cause, FaultNote, NoMemory};
 use itoa::Buffer;
+use plan_reader::refusal_text;
 use run_engine::Status;
 use std::alloc::Global;
 
 /// The line of a status whose line has no part of its own, so that it needs no memory.
 pub fn fixed_line(status: &Status) -> Option<&'static [u8]>
     ensures some { IfSome result (λ line. line.now ≡ note_line status.now) }
-    ensures none { IfNone result ((status.now ≡ Status.Ok) ⊎ IsLongNoted status.now) }
+    ensures none { IfNone result ((status.now ≡ Status.Ok) ⊎ ((status.now ≡ Status.Help) ⊎ IsLongNoted status.now)) }
 {
     match status {
         Status::Usage => Some(b"usage: see beam_run help\n"),
@@ -28,7 +29,12 @@ pub fn note_line(alloc: Global, status: &Status) -> Result<Bytes, NoMemory>
     let mut line = Bytes::new(alloc);
     match status {
         Status::Ok => {}
+        Status::Help => {}
         Status::Usage => line.extend_from_slice(b"usage: see beam_run help")?,
+        Status::BadPlan(refusal) => {
+            line.extend_from_slice(b"bad plan: ")?;
+            line.extend_from_slice(refusal_text(alloc, refusal)?.as_slice())?;
+        }
         Status::NoSource(name) => {
             line.extend_from_slice(b"no source: ")?;
             push_blob(name.as_slice(), &mut line)?;

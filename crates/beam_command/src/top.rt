@@ -1,40 +1,46 @@
-ghost use Rattle.std.specs.Prelude.{◌≡◌, ◌↔◌, ◌<◌, ℕ, Some, None, true, length, IsSome, map};
+ghost use Rattle.std.specs.Prelude.{◌≡◌, ◌<◌, ℕ, None, IsSome, length, map};
 ghost use Rattle.beam_values.specs.Files.{first_named};
-ghost use Rattle.beam_ports.specs.Counts.{Rose};
-ghost use Rattle.beam_ports.specs.Observed.{observed_store, observed_sink, WhereTold};
+ghost use Rattle.beam_ports.specs.Observed.{observed_sink, observed_store, WhereTold};
 ghost use Rattle.beam_model.specs.Account.{IsAccounted};
 ghost use Rattle.beam_model.specs.Covers.{IsCovered};
-ghost use Rattle.beam_model.specs.Plain.{ArePlainlyWritten};
+ghost use Rattle.beam_model.specs.Plain.{ArePlainlyWritten, ArePlainlyWrittenWhere};
 ghost use Rattle.beam_model.specs.Positions.{items, item_len};
-ghost use Rattle.run_engine.specs.PanesRun.{IsPanesRun, AreCommitsCounted, IsInOrder};
 ghost use Rattle.chain_exec.specs.Causes.{observed_shelf};
-ghost use Rattle.beam_command.specs.Kits.{kit_files, kit_shelf, kit_store};
-ghost use Rattle.beam_command.specs.Words.{words_of, TakesPanes, file_word};
-ghost use Rattle.beam_command.specs.Ends.{HasCause, IsRun, IsPrinted, IsNoted, IsNotedUpTo, IsWritten, StaysOrNoMemory, HasNotFailed, FailsOnPoison, IsEndOfPoison, IsEndOfClean, IsEndOfAbsent, FindsPoisonIn, plan_of, size_of};
+ghost use Rattle.command_words.specs.Commands.{command_of, words_of, Run as RunOf};
+ghost use Rattle.book_core.specs.Runs.{AreOptions};
+ghost use Rattle.beam_command.specs.Promises.{AsksPanes, HasLegalPanes, IsPlanAsked};
+ghost use Rattle.beam_command.specs.Ends.{AreFound, IsRun, IsEndOf, IsHelpEnd, IsNoted, IsNotedUpTo, IsPipelineEnd, StaysOrNoMemory};
+ghost use Rattle.beam_command.specs.Kits.{kit_files, kit_shelf, kit_store, observed_first};
+ghost use Rattle.beam_command.specs.Completeness.{AreFaultsFew, AsksForPoison, AreReadFaultsFew, FailsOnPoison, HasCleanInputs, HasInputs, HasNotFailed, IsEndOfAbsent, IsEndOfClean, IsEndOfPoison, IsStrict, WherePanes, WherePipeline};
 
 use crate::notes::{fixed_line, note_line};
-use crate::words::panes_command;
-use beam_ports::{Failed, Sink, Store};
-use beam_text::render;
-use beam_values::Options;
+use crate::pipeline::{ended, run_graph, written};
+use crate::plan_file::read_plan_file;
+use crate::plans::panes_graph;
+use beam_ports::{Sink, Store};
+use beam_values::{NoMemory, Options, Outcome};
+use book_core::laws::{honest_runs_are_runs, reached_books_are_kept};
+use command_words::laws::words_ask_by_the_rules;
+use command_words::{Command, Usage, help_text, read_words};
 use dofn_traits::Shelf;
-use run_engine::{Kit, RunEnd, Status, put, run_panes};
+use ended_runs::laws::{
+    outcomes_are_accounted, outcomes_are_covered, outcomes_are_plainly_written,
+    outcomes_have_legal_panes, runs_without_poison_fail_by_reads, stops_are_honest,
+};
+use run_engine::{Kit, RunEnd, Status, put};
 use std::alloc::Global;
 
-/// How a run works its pieces, and that each job and each write is tried once.
-const OPTIONS: Options = Options {
-    workers: 4,
-    bundle: 64,
-    chunk: 65_536,
-    attempts: 1,
-};
+/// How often a write of the help may fail.
+const HELP_ATTEMPTS: u32 = 3;
 
-/// Runs the command that the words name, the name of the program first, with the first of the kits: a
-/// file is read from its store and worked by its functions, the text goes to `out` and, where the end
-/// isn't Ok, one line goes to `notes`.
+/// Runs the command that the words name, the name of the program first, with the first of the kits:
+/// files are read from its store and worked by its functions, the text goes to `out` and, where the end
+/// isn't Ok or Help, one line goes to `notes`.
 ///
-/// The clauses from `plan` to `printed` are the promise of a run that came to its end. Those that say
-/// what the file has speak of told files: of a store that tells its files, as the one in memory does.
+/// `ends` says of each end what it means and why it comes: at Ok the outcome is the data of the run's own
+/// final book, which is ended, and its rendering was written. The clauses from `plan` to `panes_plain` say
+/// what that outcome is, whatever was split, bundled or tried again. Those that say what a file has speak
+/// of told files: of a store that tells its files, as the one in memory does.
 pub fn beam_main<F: Shelf, S: Store, W: Sink, N: Sink>(
     alloc: Global,
     words: &[String],
@@ -43,55 +49,88 @@ pub fn beam_main<F: Shelf, S: Store, W: Sink, N: Sink>(
     notes: &mut N,
 ) -> RunEnd
     requires { 0 < length kits.old.items }
-    // The outcome is of the plan of the command and of the items that it names, which are there.
-    ensures plan { IsRun result (λ o. o.plan ≡ plan_of (words_of words.now)) }
-    ensures found { IsRun result (λ o. WhereTold (kit_files S.files kits.old.items) (λ told. IsSome (first_named (file_word (words_of words.now)) told))) }
+    ensures ends { IsEndOf (command_of (words_of words.now)) (observed_first F.strict F.faults S.files S.faults W.faults W.taken kits.old.items kits.new.items out.old out.new)
+        result.status result.outcome }
+
+    // The outcome is of the plan that is asked for and of the files that it names, which are there.
+    ensures plan { IsRun result (λ o. IsPlanAsked (kit_files S.files kits.old.items) (command_of (words_of words.now)) o.plan) }
+    ensures found { IsRun result (λ o. AreFound (kit_files S.files kits.old.items) o.plan) }
     ensures lengths { IsRun result (λ o. WhereTold (kit_files S.files kits.old.items) (λ told. o.files ≡ map item_len (items told o.plan))) }
 
     // The committed ranges partition each item.
     ensures cover { IsRun result IsCovered }
 
-    // The outputs of every position arrived at each barrier exactly once.
+    // The outputs of every position, and every pane, arrived at each barrier that they reach exactly once.
     ensures account { IsRun result (λ o. WhereTold (kit_files S.files kits.old.items) (λ told. IsAccounted (items told o.plan) o)) }
 
-    // What was written is plain grouping of the whole input, and nothing was dropped.
-    ensures plain { IsRun result (λ o. WhereTold (kit_files S.files kits.old.items) (λ told. ArePlainlyWritten (items told o.plan) o)) }
+    // The panes are legal under the trigger of each Group, commit by commit.
+    ensures legal_panes { IsRun result HasLegalPanes }
 
-    // Each commit commits one range, and the panes fire in the last; cells and panes stand in their orders.
-    ensures commits { IsRun result AreCommitsCounted }
-    ensures order { IsRun result IsInOrder }
+    // At each Write with the default trigger and sound estimators above it: what was written is plain
+    // grouping of the whole input, and nothing was dropped. So it is always for `panes`.
+    ensures plain { IsRun result (λ o. WhereTold (kit_files S.files kits.old.items) (λ told. ArePlainlyWrittenWhere (items told o.plan) o)) }
+    ensures panes_plain { AsksPanes (command_of (words_of words.now))
+        → IsRun result (λ o. WhereTold (kit_files S.files kits.old.items) (λ told. ArePlainlyWritten (items told o.plan) o)) }
 
-    // The output is the rendering of the outcome: all of it, or less where the sink failed.
-    ensures printed { IsRun result (IsPrinted (observed_sink W.faults W.taken out.old out.new) result.status) }
+    // Where the store does not fail and tells its files, the file decides how `panes` ends: it isn't there;
+    // or a line is poison, over a shelf that fails on poison alone.
+    ensures absent { WherePanes (command_of (words_of words.now)) (λ file size options. HasNotFailed (kit_store S.files S.faults kits.old.items kits.new.items)
+        → WhereTold (kit_files S.files kits.old.items) (λ told. first_named file told ≡ None → IsEndOfAbsent file result.status)) }
+    ensures poison { WherePanes (command_of (words_of words.now)) (λ file size options. HasNotFailed (kit_store S.files S.faults kits.old.items kits.new.items)
+        → IsStrict (kit_shelf F.strict F.faults kits.old.items kits.new.items)
+        → WhereTold (kit_files S.files kits.old.items) (λ told. IsSome (first_named file told)
+        → AsksForPoison told (command_of (words_of words.now)) → IsEndOfPoison options result.status)) }
 
-    // Each end comes only so.
-    ensures cause { HasCause (words_of words.now)
-        (record { shelf = kit_shelf F.strict F.faults kits.old.items kits.new.items; store = kit_store S.files S.faults kits.old.items kits.new.items; out = observed_sink W.faults W.taken out.old out.new })
-        result.status }
-    ensures usage { (result.status ≡ Status.Usage) ↔ (TakesPanes (words_of words.now) → ⊥) }
+    // A file without poison comes to its end, over a shelf that fails on poison alone or does not fail, where
+    // fewer faults of the store and of `out` are counted than a job has attempts.
+    ensures clean { WherePanes (command_of (words_of words.now)) (λ file size options.
+        AreReadFaultsFew options.attempts (observed_first F.strict F.faults S.files S.faults W.faults W.taken kits.old.items kits.new.items out.old out.new)
+        → FailsOnPoison (kit_shelf F.strict F.faults kits.old.items kits.new.items)
+        → WhereTold (kit_files S.files kits.old.items) (λ told. IsSome (first_named file told)
+        → (AsksForPoison told (command_of (words_of words.now)) → ⊥) → IsEndOfClean result.status)) }
+
+    // No pipeline ends Ok of which a position is poison.
+    ensures not_ok { WhereTold (kit_files S.files kits.old.items) (λ told. AsksForPoison told (command_of (words_of words.now)) → result.status ≡ Status.Ok → ⊥) }
+
+    // Where all its files are there and fewer faults are counted than a job has attempts, a pipeline comes
+    // to its end, unless there is no memory.
+    ensures complete { WherePipeline (command_of (words_of words.now)) (λ asked options. WhereTold (kit_files S.files kits.old.items) (λ told. HasInputs told asked
+        → AreFaultsFew options.attempts (observed_first F.strict F.faults S.files S.faults W.faults W.taken kits.old.items kits.new.items out.old out.new)
+        → IsEndOfClean result.status)) }
+
+    // So it does over a shelf that fails on poison alone, however often it fails, where no run of the plan
+    // takes a job that is poison and fewer faults of the store and of `out` are counted.
+    ensures complete_strict { WherePipeline (command_of (words_of words.now)) (λ asked options. IsStrict (kit_shelf F.strict F.faults kits.old.items kits.new.items)
+        → WhereTold (kit_files S.files kits.old.items) (λ told. HasCleanInputs told asked options
+        → AreReadFaultsFew options.attempts (observed_first F.strict F.faults S.files S.faults W.faults W.taken kits.old.items kits.new.items out.old out.new)
+        → IsEndOfClean result.status)) }
+
     ensures noted { IsNoted result.status (observed_sink N.faults N.taken notes.old notes.new) }
     ensures kits { length kits.new.items ≡ length kits.old.items }
-
-    // Where the words are taken, the files are told and the store does not fail, the file decides: over a
-    // strict shelf, and over any shelf that does not fail.
-    ensures absent { TakesPanes (words_of words.now) → HasNotFailed (kit_store S.files S.faults kits.old.items kits.new.items)
-        → WhereTold (kit_files S.files kits.old.items) (λ told. first_named (file_word (words_of words.now)) told ≡ None
-        → IsEndOfAbsent (file_word (words_of words.now)) result.status) }
-    ensures poison { TakesPanes (words_of words.now) → HasNotFailed (kit_store S.files S.faults kits.old.items kits.new.items)
-        → (kit_shelf F.strict F.faults kits.old.items kits.new.items).strict ≡ true
-        → WhereTold (kit_files S.files kits.old.items) (λ told. IsSome (first_named (file_word (words_of words.now)) told)
-        → FindsPoisonIn (words_of words.now) told → IsEndOfPoison result.status) }
-    ensures clean { TakesPanes (words_of words.now) → HasNotFailed (kit_store S.files S.faults kits.old.items kits.new.items)
-        → FailsOnPoison (kit_shelf F.strict F.faults kits.old.items kits.new.items)
-        → (Rose (W.faults out.old) (W.faults out.new) → ⊥)
-        → WhereTold (kit_files S.files kits.old.items) (λ told. IsSome (first_named (file_word (words_of words.now)) told)
-        → (FindsPoisonIn (words_of words.now) told → ⊥) → IsEndOfClean result.status) }
-    ensures not_ok { WhereTold (kit_files S.files kits.old.items) (λ told. FindsPoisonIn (words_of words.now) told → result.status ≡ Status.Ok → ⊥) }
 {
+    honest_runs_are_runs();
+    outcomes_are_covered();
+    outcomes_are_accounted();
+    outcomes_have_legal_panes();
+    outcomes_are_plainly_written();
+    words_ask_by_the_rules();
+    reached_books_are_kept();
+    stops_are_honest();
+    runs_without_poison_fail_by_reads();
     let RunEnd { status, outcome } = run(alloc, words, &mut kits[0], out);
-    RunEnd {
-        status: noted(alloc, status, notes),
-        outcome,
+    let status = noted(alloc, status, notes);
+    let outcome = unless_no_memory(&status, outcome);
+    RunEnd { status, outcome }
+}
+
+// Where there is no memory for its note, a run has no outcome.
+fn unless_no_memory(status: &Status, outcome: Option<Outcome>) -> Option<Outcome>
+    ensures none { status.now ≡ Status.NoMemory → result ≡ None }
+    ensures stays { (status.now ≡ Status.NoMemory → ⊥) → result ≡ outcome }
+{
+    match status {
+        Status::NoMemory => None,
+        _ => outcome,
     }
 }
 
@@ -102,44 +141,58 @@ fn run<F: Shelf, S: Store, W: Sink>(
     kit: &mut Kit<F, S>,
     out: &mut W,
 ) -> RunEnd
-    ensures cause { HasCause (words_of words.now)
-        (record { shelf = observed_shelf F.strict F.faults kit.old.shelf kit.new.shelf; store = observed_store S.files S.faults kit.old.store kit.new.store; out = observed_sink W.faults W.taken out.old out.new })
-        result.status }
-    ensures ran { IsRun result (IsPanesRun (S.files kit.old.store) (file_word (words_of words.now)) (size_of (words_of words.now))) }
-    ensures printed { IsRun result (IsPrinted (observed_sink W.faults W.taken out.old out.new) result.status) }
+    ensures { IsEndOf (command_of (words_of words.now)) (record {
+      shelf = observed_shelf F.strict F.faults kit.old.shelf kit.new.shelf;
+      store = observed_store S.files S.faults kit.old.store kit.new.store;
+      out = observed_sink W.faults W.taken out.old out.new;
+    })
+        result.status result.outcome }
 {
-    let Some(command) = panes_command(words) else {
-        return RunEnd {
-            status: Status::Usage,
-            outcome: None,
-        };
-    };
-    let RunEnd { status, outcome } = run_panes(alloc, command.file, command.size, &OPTIONS, kit);
-    let Some(outcome) = outcome else {
-        return RunEnd {
-            status,
-            outcome: None,
-        };
-    };
-    match render(alloc, &outcome) {
-        Ok(text) => RunEnd {
-            status: written(out, text.as_slice()),
-            outcome: Some(outcome),
+    match read_words(words) {
+        Err(Usage) => ended(Status::Usage),
+        Ok(Command::Help) => ended(help(out)),
+        Ok(
+            Command::Panes {
+                file,
+                size,
+                options,
+            },
+        ) => match panes_graph(alloc, file, size) {
+            Ok(graph) => run_graph(alloc, graph, &options, 0, kit, out),
+            Err(NoMemory) => ended(Status::NoMemory),
         },
-        Err(_refused) => RunEnd {
-            status: Status::NoMemory,
-            outcome: None,
-        },
+        Ok(Command::Run { plan, options }) => run_file(alloc, plan, &options, kit, out),
     }
 }
 
-// Writes the whole text.
-fn written<W: Sink>(out: &mut W, text: &[u8]) -> Status
-    ensures { IsWritten (observed_sink W.faults W.taken out.old out.new) text.now result }
+fn help<W: Sink>(out: &mut W) -> Status
+    ensures { IsHelpEnd (observed_sink W.faults W.taken out.old out.new) result }
 {
-    match put(out, text, OPTIONS.attempts) {
-        Ok(()) => Status::Ok,
-        Err(Failed) => Status::SinkFault,
+    match written(out, help_text(), HELP_ATTEMPTS) {
+        Status::Ok => Status::Help,
+        status => status,
+    }
+}
+
+// Runs the pipeline of a plan document.
+fn run_file<F: Shelf, S: Store, W: Sink>(
+    alloc: Global,
+    plan: &[u8],
+    options: &Options,
+    kit: &mut Kit<F, S>,
+    out: &mut W,
+) -> RunEnd
+    requires { AreOptions options.now }
+    ensures { IsPipelineEnd (record {
+      shelf = observed_shelf F.strict F.faults kit.old.shelf kit.new.shelf;
+      store = observed_store S.files S.faults kit.old.store kit.new.store;
+      out = observed_sink W.faults W.taken out.old out.new;
+    })
+        (RunOf plan.now options.now) options.now result.status result.outcome }
+{
+    match read_plan_file(alloc, &mut kit.store, plan, options.attempts) {
+        Ok(read) => run_graph(alloc, read.graph, options, read.failed, kit, out),
+        Err(status) => ended(status),
     }
 }
 
@@ -148,7 +201,7 @@ fn noted<N: Sink>(alloc: Global, status: Status, notes: &mut N) -> Status
     ensures stays { StaysOrNoMemory status result }
     ensures noted { IsNoted result (observed_sink N.faults N.taken notes.old notes.new) }
 {
-    if let Status::Ok = status {
+    if let Status::Ok | Status::Help = status {
         return status;
     }
     if let Some(line) = fixed_line(&status) {

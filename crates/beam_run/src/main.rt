@@ -1,9 +1,10 @@
 //! `beam_run`: runs Beam pipelines on one machine.
 //!
 //! `beam_run panes FILE SIZE` groups a file of timed lines by the field after the time in fixed
-//! windows of SIZE milliseconds, and prints the panes. The whole program over any store and sinks is
-//! `beam_command::beam_main`, whose contract is the promise of the program; `main` runs it over the
-//! system's files and streams, the adapters in `fs_store.rt` and `sinks.rt`.
+//! windows of SIZE milliseconds, and prints the panes; `beam_run run PLAN` runs the pipeline of a plan
+//! document. The whole program over any store and sinks is `beam_command::beam_main`, whose contract is
+//! the promise of the program; `main` runs it over the system's files and streams, the adapters in
+//! `fs_store.rt` and `sinks.rt`.
 #![tactic(auto)]
 
 mod fs_store;

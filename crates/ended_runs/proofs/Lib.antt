@@ -1,6 +1,9 @@
 mod Listed
 mod Ordered
-mod Stopped
+pub mod Stopped
+pub mod Poisons
+pub mod Unpoisoned
+mod TakesUnpoisoned
 mod Ending
 mod Passing
 mod Bounds

@@ -43,7 +43,7 @@ honest_run_more known [] b mid end made run step honest =
     (end, subst (λ (x : BookData). Step known.told x made.slot made.action made.answer end) run step, subst (λ (x : BookData). IsHonestAction known x made.slot made.action) run honest, refl)
 honest_run_more known (first ∷ later) b mid end made run step honest = (run.0, run.1, run.2, honest_run_more known later run.0 mid end made run.3 step honest)
 
-honest_more : (known : Known) (b new : BookData) (made : MadeStep) → Step known.told b made.slot made.action made.answer new → IsHonestAction known b made.slot made.action
+pub honest_more : (known : Known) (b new : BookData) (made : MadeStep) → Step known.told b made.slot made.action made.answer new → IsHonestAction known b made.slot made.action
     → HonestlyReached known b → HonestlyReached known new
 honest_more known b new made step honest reached = record {
   first = reached.first;
@@ -86,7 +86,7 @@ back_stopped b slot (live.Span piece attempted) Read = refl
 back_stopped b slot (live.Batch batch) Call = refl
 back_stopped b slot (live.Batch batch) Read = refl
 
-none_by_memory : (kept : Option StopCause) (note : FaultNote) → or_stopped kept stop.NoMemory ≡ Some (stop.Spent note) → kept ≡ Some (stop.Spent note)
+pub none_by_memory : (kept : Option StopCause) (note : FaultNote) → or_stopped kept stop.NoMemory ≡ Some (stop.Spent note) → kept ≡ Some (stop.Spent note)
 none_by_memory None note e = absurd (cc)
 none_by_memory (Some kept) note e = e
 
@@ -192,7 +192,7 @@ run_finds known (made ∷ later) b end run reached finds =
     run_finds known later run.0 end run.3 (honest_more known b run.0 made run.1 run.2 reached)
     (step_finds known b run.0 made run.1 run.2 reached finds)
 
-opening_reached : (known : Known) (b first : BookData) → IsOpening b.plan b.files b.options first → HonestlyReached known first
+pub opening_reached : (known : Known) (b first : BookData) → IsOpening b.plan b.files b.options first → HonestlyReached known first
 opening_reached known b first opening = record {
   first = first;
   opening = opening_of first b first (subst (HasSamePlan b) (sym opening.is) (record { plan = refl; files = refl; options = refl })) opening;

@@ -1,7 +1,7 @@
 //! What holds of the outcome of a run. Each function does nothing, but for calling the laws that its own
 //! rests on: its contract is the law.
 
-ghost use Rattle.std.specs.Prelude.{◌≡◌, ℕ, List, Option, Some};
+ghost use Rattle.std.specs.Prelude.{◌≡◌, ◌≤◌, ℕ, true, List, Option, Some};
 ghost use Rattle.std.specs.List.Sorted.{IsSorted};
 ghost use Rattle.beam_values.specs.Cells.{cell_cmp, pane_cmp};
 ghost use Rattle.beam_values.specs.declared.fault.FaultNote.{FaultNote};
@@ -21,9 +21,10 @@ ghost use Rattle.book_core.specs.Runs.{AreTold, HonestlyReached, IsThrough, Reac
 ghost use Rattle.book_core.specs.Work.{Known};
 ghost use Rattle.ended_runs.specs.Stops.{IsHonestStop};
 ghost use Rattle.ended_runs.specs.Storable.{ArePanesStorable};
+ghost use Rattle.ended_runs.specs.Unpoisoned.{TakesNoPoison};
 
 use book_core::laws::{
-    attempts_are_counted, cells_are_kept, reached_books_are_partitioned,
+    attempts_are_counted, cells_are_kept, reached_books_are_kept, reached_books_are_partitioned,
     reached_books_are_well_formed, told_books_are_kept,
 };
 use pipeline_graph::laws::{
@@ -110,4 +111,15 @@ pub fn stops_are_honest()
         → IsHonestStop known b note }
 {
     attempts_are_counted();
+}
+
+/// Where the files are told and calls fail on poison alone, no call fails in a run that takes no poison.
+/// So it is given up only by reads, of which at least as many failed as a job has attempts.
+pub fn runs_without_poison_fail_by_reads()
+    ensures calls { (known : Known) (told : List FileText) (b : BookData) → known.told ≡ Some told → known.strict ≡ true → AreTold told b
+        → TakesNoPoison known b.plan b.options → HonestlyReached known b → b.calls ≡ 0 }
+    ensures reads { (known : Known) (told : List FileText) (b : BookData) (note : FaultNote) → known.told ≡ Some told → known.strict ≡ true → AreTold told b
+        → TakesNoPoison known b.plan b.options → HonestlyReached known b → b.stopped ≡ Some (stop.Spent note) → b.options.attempts ≤ b.reads }
+{
+    reached_books_are_kept();
 }

@@ -1,12 +1,3 @@
-pub mod Commits
-mod Ascents
-mod Cells
-mod Members
-mod PlainPanes
-mod Texts
-pub mod Keeping
-pub mod Outcomes
-pub mod Pipelines
 pub mod Working
 mod Opens
 mod Readers

@@ -93,7 +93,8 @@ module _ (files : Option (List FileText)) (opened : ℕ → Option Opening) wher
   pub name_refused : (before after : List (List ℕ)) (opens : List Opened) (name : List ℕ) (attempts failures : ℕ) → AreOpened files opened before opens → (refusal : Status)
       → IsNameRefused files name attempts failures refusal → AreNamesRefused files (before ++ name ∷ after) attempts failures refusal
   name_refused before after opens name attempts failures are (status.NoSource absent) is = (
-    before, after,
+    before,
+    after,
     ap (λ (n : List ℕ). before ++ n ∷ after) (sym is.0),
     λ told tells. (opened_found before opens are told tells, ap (λ (n : List ℕ). first_named n told) is.0 ∙ is.1 told tells),
   )

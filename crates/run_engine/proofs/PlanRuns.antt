@@ -7,6 +7,7 @@ use Rattle.std.proofs.lemmas.List.Elements.{All-head}
 use Rattle.beam_values.specs.declared.cell.Pane.{Pane}
 use Rattle.beam_values.specs.declared.fault.Cause.{Cause}
 use Rattle.beam_values.specs.declared.fault.Cause.TheVariants.{Call, Read}
+use Rattle.beam_values.specs.Storable.{IsStorable}
 use Rattle.beam_values.specs.declared.fault.FaultNote.{FaultNote}
 use Rattle.beam_values.specs.declared.file_text.FileText.{FileText}
 use Rattle.beam_values.specs.declared.options.Options.{Options}
@@ -238,14 +239,14 @@ tried_seldom : (b : BookData) (slot : ℕ) (job : Live) → AreAttemptsCounted b
 tried_seldom b slot (live.Span piece attempted) counts works = (
   All-head (λ (p : Piece). p.attempts < b.options.attempts) piece [] (All-flat_at piece_of b.slots slot (λ (p : Piece). p.attempts < b.options.attempts) (Some (live.Span piece attempted)) works counts.worked_pieces),
   All-head (λ (p : Piece). p.attempts ≤ b.calls + b.reads) piece []
-  (All-flat_at piece_of b.slots slot (λ (p : Piece). p.attempts ≤ b.calls + b.reads) (Some (live.Span piece attempted)) works
-  (All-append_right (λ (p : Piece). p.attempts ≤ b.calls + b.reads) b.pending (live_pieces b) counts.pieces)),
+      (All-flat_at piece_of b.slots slot (λ (p : Piece). p.attempts ≤ b.calls + b.reads) (Some (live.Span piece attempted)) works
+      (All-append_right (λ (p : Piece). p.attempts ≤ b.calls + b.reads) b.pending (live_pieces b) counts.pieces)),
 )
 tried_seldom b slot (live.Batch batch) counts works = (
   All-head (λ (x : _). x.attempts < b.options.attempts) batch [] (All-flat_at batch_of b.slots slot (λ x. x.attempts < b.options.attempts) (Some (live.Batch batch)) works counts.worked_batches),
   All-head (λ (x : _). x.attempts ≤ b.calls + b.reads) batch []
-  (All-flat_at batch_of b.slots slot (λ x. x.attempts ≤ b.calls + b.reads) (Some (live.Batch batch)) works
-  (All-append_right (λ x. x.attempts ≤ b.calls + b.reads) b.returned (live_batches b) counts.batches)),
+      (All-flat_at batch_of b.slots slot (λ x. x.attempts ≤ b.calls + b.reads) (Some (live.Batch batch)) works
+      (All-append_right (λ x. x.attempts ≤ b.calls + b.reads) b.returned (live_batches b) counts.batches)),
 )
 
 -- ---- what was counted
@@ -419,8 +420,9 @@ ThroughLaw = (told : Option (List FileText)) (b : BookData) → Reached told b �
 module _ (law : ThroughLaw) (shelf : ObservedShelf) (store : ObservedStore) (plan : Plan) (files : List FileLen) (options : Options) (begun b : BookData)
     (lengths : WhereTold store.files (λ told. files ≡ map item_len (items told plan))) (calls : begun.calls ≡ 0) (reads : begun.reads ≡ 0)
     (run : IsRunOf (known_of shelf store) plan files options b) (counts : AreFaultsCounted shelf store begun b) where
-  outcome_where : (P : BookData → Type 0) → P b → (o : Outcome) → IsOutcomeOf b o → IsOutcomeWhere (known_of shelf store) plan options P o
-  outcome_where P holds o is = record {
+  outcome_where : (P : BookData → Type 0) → P b → (o : Outcome) → IsOutcomeOf b o → All (λ pane. IsStorable pane.element.value) o.panes
+      → IsOutcomeWhere (known_of shelf store) plan options P o
+  outcome_where P holds o is storable = record {
     book = b;
     reached = run.reached;
     of_plan = run.of_plan;
@@ -428,16 +430,18 @@ module _ (law : ThroughLaw) (shelf : ObservedShelf) (store : ObservedStore) (pla
     lengths = λ told tells. run.of_files ∙ lengths told tells ∙ ap (λ (p : Plan). map item_len (items told p)) (sym run.of_plan);
     is = holds;
     of_book = is;
+    storable = storable;
   }
 
   pub plan_end : (spent : Option FaultNote) (end : RunEnd) → IsWorkEnd shelf store b spent → IsEndOf b spent end → IsPlanEnd shelf store plan options end.status end.outcome
   plan_end None end ended is =
       subst (λ (s : Status). IsPlanEnd shelf store plan options s end.outcome) (sym is.tells)
-      (is.outcome, is.some, outcome_where IsEnded (record { running = ended.0; through = law store.files b (honest_reached (known_of shelf store) b run.reached) ended.1 ended.2 }) is.outcome is.of_book)
+      (is.outcome, is.some, outcome_where IsEnded (record { running = ended.0; through = law store.files b (honest_reached (known_of shelf store) b run.reached) ended.1 ended.2 }) is.outcome is.of_book is.storable)
   plan_end (Some note) end ended is =
       let low = counts.calls shelf.before (omega arith) (omega (arith, calls)) in
       let low' = counts.reads store.before (omega arith) (omega (arith, reads)) in
       let attempt : note.attempt ≡ options.attempts = ended.attempt ∙ ap (λ (o : Options). o.attempts) run.with_options in
-      subst (λ (s : Status). IsPlanEnd shelf store plan options s end.outcome) (sym is.tells)
-      ((is.outcome, is.some, outcome_where (IsStoppedBy note) ended.stopped is.outcome is.of_book),
-      record { attempt = attempt; counted = omega (arith, sym attempt, ended.counted, low, low'); cause = ended.cause })
+      subst (λ (s : Status). IsPlanEnd shelf store plan options s end.outcome) (sym is.tells) (
+        (is.outcome, is.some, outcome_where (IsStoppedBy store note) (record { noted = ended.stopped; reads = low' }) is.outcome is.of_book is.storable),
+        record { attempt = attempt; counted = omega (arith, sym attempt, ended.counted, low, low'); cause = ended.cause },
+      )

@@ -128,12 +128,14 @@ module _ (told : Option (List FileText)) (opened : ℕ → Option Opening) (plan
       → Reads node (Source work args names estimator) later opens
   source_reads node Lines args names later estimator opens here files are = files_read node Lines args here refl 0 names later opens are
   source_reads node TimedLines args names later estimator opens here files are = files_read node TimedLines args here refl 0 names later opens are
-  source_reads node Count args names later estimator opens here files are =
-      ((one_counted node Count args here refl refl, tt),
-      subst (λ (l : List (List ℕ)). AreOpened told opened later (drop (length l) opens)) (sym files) (subst (λ (l : List (List ℕ)). AreOpened told opened (l ++ later) opens) files are))
-  source_reads node Made args names later estimator opens here files are =
-      ((one_counted node Made args here refl refl, tt),
-      subst (λ (l : List (List ℕ)). AreOpened told opened later (drop (length l) opens)) (sym files) (subst (λ (l : List (List ℕ)). AreOpened told opened (l ++ later) opens) files are))
+  source_reads node Count args names later estimator opens here files are = (
+    (one_counted node Count args here refl refl, tt),
+    subst (λ (l : List (List ℕ)). AreOpened told opened later (drop (length l) opens)) (sym files) (subst (λ (l : List (List ℕ)). AreOpened told opened (l ++ later) opens) files are),
+  )
+  source_reads node Made args names later estimator opens here files are = (
+    (one_counted node Made args here refl refl, tt),
+    subst (λ (l : List (List ℕ)). AreOpened told opened later (drop (length l) opens)) (sym files) (subst (λ (l : List (List ℕ)). AreOpened told opened (l ++ later) opens) files are),
+  )
 
   kind_reads : (node : ℕ) (kind : NodeKind) (later : List (List ℕ)) (opens : List Opened) → ((work : SourceKind) (args : Args) → source_in kind ≡ Some (record { work = work; args = args })
       → source_at plan node ≡ Some (record { work = work; args = args })) → HasSettings kind → AreOpened told opened (names_in kind ++ later) opens → Reads node kind later opens

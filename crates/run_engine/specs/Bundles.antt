@@ -1,11 +1,14 @@
 -- What a worker's work on one job leaves of the book, and what it brings or why it was refused.
 use Rattle.std.specs.Prelude.{◌≡◌, ℕ, ◌+◌, ◌<◌, ◌≤◌, ℤ, ◌≤ℤ◌, ◌+ℤ◌, true, List, [], length, Option, Some, None, IsSome}
+use Rattle.std.specs.List.{All}
 use Rattle.std.specs.Option.{ForSome}
+use Rattle.beam_values.specs.Storable.{IsStorable}
 use Rattle.beam_values.specs.Strategies.{greatest_length}
 use Rattle.beam_values.specs.Times.{greatest_time}
 use Rattle.beam_values.specs.declared.fault.FaultNote.{FaultNote}
 use Rattle.beam_values.specs.declared.options.Options.{Options}
 use Rattle.beam_values.specs.declared.outcome.Outcome.{Outcome}
+use Rattle.beam_values.specs.declared.outcome.StopCause.TheVariants as stop
 use Rattle.beam_values.specs.declared.piece.FileLen.{FileLen}
 use Rattle.beam_values.specs.declared.piece.Piece.{Piece}
 use Rattle.beam_values.specs.declared.plan.Plan.{Plan}
@@ -37,7 +40,7 @@ use Rattle.sdf_library.specs.Paging.{Paged}
 use Rattle.run_engine.specs.declared.status.RunEnd.{RunEnd}
 use Rattle.run_engine.specs.declared.status.Status.{Status}
 use Rattle.run_engine.specs.declared.status.Status.TheVariants as status
-use Rattle.run_engine.specs.PlanRun.{IsCountedAs, IsStoppedBy, known_of}
+use Rattle.run_engine.specs.PlanRun.{IsCountedAs, known_of}
 
 -- ---- a piece
 
@@ -142,7 +145,7 @@ pub record AreFaultsCounted (shelf : ObservedShelf) (store : ObservedStore) (b n
 
 -- a fail with this note stopped the book, and was counted
 pub record IsSpentBy (shelf : ObservedShelf) (store : ObservedStore) (note : FaultNote) (b : BookData) : Type 0 where
-  pub stopped : IsStoppedBy note b
+  pub stopped : b.stopped ≡ Some (stop.Spent note)
   pub attempt : note.attempt ≡ b.options.attempts
   pub counted : note.attempt ≤ b.calls + b.reads
   pub cause : IsCountedAs shelf store note.cause
@@ -168,4 +171,5 @@ pub record IsEndOf (b : BookData) (spent : Option FaultNote) (end : RunEnd) : Ty
   pub outcome : Outcome
   pub some : end.outcome ≡ Some outcome
   pub of_book : IsOutcomeOf b outcome
+  pub storable : All (λ pane. IsStorable pane.element.value) outcome.panes
   pub tells : end.status ≡ status_after spent

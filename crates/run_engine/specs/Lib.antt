@@ -1,9 +1,4 @@
-pub mod Committing
-pub mod PanesRun
-pub mod Grouped
 pub mod Statuses
-pub mod Working
-pub mod Written
 pub mod Outside
 pub mod Openings
 pub mod PlanRun

@@ -1,5 +1,5 @@
 -- The files of a plan as a kit has opened them.
-use Rattle.std.specs.Prelude.{◌≡◌, ℕ, ◌+◌, ◌≤◌, List, [], ◌∷◌, ◌++◌, Option, None, IsSome, IsSomeAnd}
+use Rattle.std.specs.Prelude.{◌≡◌, ◌⊎◌, ℕ, ◌+◌, ◌≤◌, List, [], ◌∷◌, ◌++◌, Option, None, IsSome, IsSomeAnd}
 use Rattle.std.specs.List.{All, flat_map}
 use Rattle.beam_values.specs.Files.{first_named}
 use Rattle.beam_values.specs.declared.file_text.FileText.{FileText}
@@ -57,3 +57,6 @@ IsNameRefused files name attempts failures _ = ⊥
 -- failures that were counted before a call and after it: where the first were at most what the count of the store had risen by, so are the later
 abbrev pub AreCounted : ℕ → ℕ → ℕ → ℕ → Type 0
 AreCounted failures later before after = (base first : ℕ) → first ≤ before → failures ≤ base + rise first before → later ≤ base + rise first after
+
+abbrev pub IsNoSourceOrNoMemory : List ℕ → Status → Type 0
+IsNoSourceOrNoMemory name s = (s ≡ status.NoSource name) ⊎ (s ≡ status.NoMemory)

@@ -1,5 +1,7 @@
 -- How a run of a plan ends: the outcome is the data of the run's own final book.
 use Rattle.std.specs.Prelude.{◌≡◌, ℕ, ◌+◌, ◌≤◌, List, Option, Some, None}
+use Rattle.std.specs.List.{All}
+use Rattle.beam_values.specs.Storable.{IsStorable}
 use Rattle.beam_values.specs.declared.fault.Cause.{Cause}
 use Rattle.beam_values.specs.declared.fault.Cause.TheVariants.{Call, Read}
 use Rattle.beam_values.specs.declared.fault.FaultNote.{FaultNote}
@@ -30,10 +32,13 @@ pub record IsOutcomeWhere (known : Known) (plan : Plan) (options : Options) (P :
   pub lengths : WhereTold known.told (λ told. AreTold told book)
   pub is : P book
   pub of_book : IsOutcomeOf book o
+  -- as a program can hold them
+  pub storable : All (λ pane. IsStorable pane.element.value) o.panes
 
--- the book was stopped by a fail with this note
-abbrev pub IsStoppedBy : FaultNote → BookData → Type 0
-IsStoppedBy note b = b.stopped ≡ Some (stop.Spent note)
+-- the book was stopped by a fail with this note, and the store counted each read that failed
+pub record IsStoppedBy (store : ObservedStore) (note : FaultNote) (b : BookData) : Type 0 where
+  pub noted : b.stopped ≡ Some (stop.Spent note)
+  pub reads : b.reads ≤ rise store.before store.after
 
 -- what failed last was counted: a read at the store, a call at the shelf
 abbrev pub IsCountedAs : ObservedShelf → ObservedStore → Cause → Type 0
@@ -51,7 +56,7 @@ abbrev pub IsPlanEnd : ObservedShelf → ObservedStore → Plan → Options → 
 IsPlanEnd shelf store plan options status.Ok outcome =
     (o : Outcome) × (outcome ≡ Some o) × IsOutcomeWhere (known_of shelf store) plan options IsEnded o
 IsPlanEnd shelf store plan options (status.WorkFault note) outcome =
-    ((o : Outcome) × (outcome ≡ Some o) × IsOutcomeWhere (known_of shelf store) plan options (IsStoppedBy note) o)
+    ((o : Outcome) × (outcome ≡ Some o) × IsOutcomeWhere (known_of shelf store) plan options (IsStoppedBy store note) o)
     × IsSpent shelf store options.attempts note
 IsPlanEnd shelf store plan options status.NoMemory outcome = outcome ≡ None
 IsPlanEnd shelf store plan options _ outcome = ⊥

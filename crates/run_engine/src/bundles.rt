@@ -68,7 +68,14 @@ pub fn work_job<F: Shelf, S: Store>(
         Job::Span { piece } => work_span(alloc, book, slot, piece, shelf, store, bench),
         Job::Batch { node, panes, .. } => {
             batches_are_of_groups(book);
-            work_batch(alloc, book, *node, panes.as_slice(), shelf, &mut bench.buffers)
+            work_batch(
+                alloc,
+                book,
+                *node,
+                panes.as_slice(),
+                shelf,
+                &mut bench.buffers,
+            )
         }
         Job::Key { .. } => unreachable!(),
     }
@@ -100,7 +107,15 @@ fn work_batch<F: Shelf>(
     ensures strict { F.strict shelf.new ≡ F.strict shelf.old }
 {
     let mut staging = Staging::new(alloc, Time::LEAST);
-    run_batch(alloc, book.graph(), shelf, node, panes, buffers, &mut staging)?;
+    run_batch(
+        alloc,
+        book.graph(),
+        shelf,
+        node,
+        panes,
+        buffers,
+        &mut staging,
+    )?;
     Ok(staging.seal())
 }
 
@@ -124,6 +139,7 @@ fn work_span<F: Shelf, S: Store>(
 {
     let mut staging = Staging::new(alloc, piece.seen);
     let Some(place) = place_of(bench.readers.as_slice(), bench.last, piece) else {
+        // Nothing of the piece is worked.
         return Ok(sealed(staging));
     };
     bench.last = place;
@@ -175,7 +191,7 @@ fn work_positions<F: Shelf, S: Store>(
     ensures claimed { (attempted : OptionOf ℕ) × HasClaimed book.old slot piece.now attempted book.new
         × OnOk result (IsPieceWorked book.old.plan (S.opened store.old pager.old.file) pager.old.len piece.now attempted staging.new)
         × IfErr result (IsPieceRefused (observed_shelf F.strict F.faults shelf.old shelf.new) (record { before = S.faults store.old; after = S.faults store.new })
-            book.old.plan (S.opened store.old pager.old.file) pager.old.len piece.now attempted) }
+        book.old.plan (S.opened store.old pager.old.file) pager.old.len piece.now attempted) }
     ensures able { CanRead book.old.plan piece.now.node (S.opened store.new pager.new.file) pager.new }
     ensures file { pager.new.file ≡ pager.old.file }
     ensures len { pager.new.len ≡ pager.old.len }
@@ -186,7 +202,9 @@ fn work_positions<F: Shelf, S: Store>(
     let mut p = piece.range.from();
     let mut emitted = 0;
     'positions: while emitted < bundle && book.claim(slot, p) {
-        match work_position(alloc, book, piece.node, shelf, store, pager, p, buffers, staging) {
+        match work_position(
+            alloc, book, piece.node, shelf, store, pager, p, buffers, staging,
+        ) {
             Ok(step) => {
                 p = step.next;
                 if step.emitted {

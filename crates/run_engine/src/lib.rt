@@ -1,33 +1,23 @@
-//! A run on one thread: a source is read, its pieces are worked in bundles and committed, the entries
-//! of the Group become cells and panes, and these are written.
+//! The run of a checked plan over its book, on one thread: files are opened, jobs are taken from the book,
+//! worked and committed or given back, until none is left or one has failed as often as it may.
 //!
-//! [`run_panes`] ends with an outcome of which the layer above may rely on what `specs/PanesRun.antt`
-//! says: the committed ranges partition the file, every position's outputs arrived at each barrier
-//! exactly once, and what was written is plain grouping of the whole file; or with a status that has
-//! its cause. [`put`] writes a text whole, or says how far. Nothing depends on how large pieces and
-//! bundles are. Read `run.rt` first, then `committing.rt` and `positions.rt`.
+//! [`run_plan`] ends with the data of the run's own book (`specs/PlanRun.antt`): one that is ended, or one
+//! that an honest fail stopped; what such an outcome is, `ended_runs` says. [`open_sources`] opens the
+//! files before. [`put`] writes a text whole, or says how far. Nothing that is promised depends on how large
+//! pieces and bundles are. Read `plan_run.rt` first, then `bundles.rt` and `reading.rt`.
 #![tactic(auto)]
 
-mod batches;
 mod bundles;
-mod committing;
-mod grouping;
 mod kit;
 mod opening;
-mod plan;
 mod plan_run;
-mod positions;
 mod reading;
-mod run;
 mod status;
+mod storable;
 mod writing;
 
 pub use kit::Kit;
-pub use opening::open_sources;
-pub use plan_run::run_plan;
-pub use run::run_panes;
+pub use opening::{open_kit, open_sources};
+pub use plan_run::{run_kit, run_plan};
 pub use status::{RunEnd, Status};
 pub use writing::put;
-
-#[cfg(test)]
-mod tests;

@@ -33,10 +33,11 @@ pub fn open_sources<F: Shelf, S: Store>(
     ensures kept { FirstBecomes kits.old kits.new (λ old new. IsStoreKept S.faults S.files S.opened old.store new.store) }
     ensures others { OthersStay kits.old kits.new }
 {
-    open_with(alloc, graph, options.attempts, &mut kits[0], failed)
+    open_kit(alloc, graph, options.attempts, &mut kits[0], failed)
 }
 
-fn open_with<F: Shelf, S: Store>(
+/// [`open_sources`] with one kit.
+pub fn open_kit<F: Shelf, S: Store>(
     alloc: Global,
     graph: &Graph,
     attempts: u32,

@@ -16,6 +16,7 @@ use crate::bundles::{Workbench, work_job};
 use crate::kit::Kit;
 use crate::reading::{lengths_of, readers_of};
 use crate::status::{RunEnd, Status};
+use crate::storable::look_at_panes;
 use beam_ports::{Opened, Store};
 use beam_values::{FaultNote, NoMemory, Options};
 use book_core::laws::books_with_no_job_left_are_through;
@@ -47,10 +48,11 @@ pub fn run_plan<F: Shelf, S: Store>(
     ensures files { FirstBecomes kits.old kits.new (λ old new. new.files ≡ old.files) }
     ensures others { OthersStay kits.old kits.new }
 {
-    run_with(alloc, graph, options, &mut kits[0])
+    run_kit(alloc, graph, options, &mut kits[0])
 }
 
-fn run_with<F: Shelf, S: Store>(
+/// [`run_plan`] with one kit.
+pub fn run_kit<F: Shelf, S: Store>(
     alloc: Global,
     graph: Graph,
     options: &Options,
@@ -64,14 +66,7 @@ fn run_with<F: Shelf, S: Store>(
     ensures files { kit.new.files ≡ kit.old.files }
 {
     let files = kit.files.as_slice();
-    match run_book(
-        alloc,
-        graph,
-        options,
-        files,
-        &mut kit.shelf,
-        &mut kit.store,
-    ) {
+    match run_book(alloc, graph, options, files, &mut kit.shelf, &mut kit.store) {
         Ok(end) => end,
         Err(NoMemory) => RunEnd {
             status: Status::NoMemory,
@@ -100,6 +95,8 @@ fn run_book<F: Shelf, S: Store>(
     let mut book = Book::opening(alloc, graph, lengths, *options)?;
     let slot = book.enroll()?;
     let spent = work(alloc, &mut book, slot, shelf, store, &mut bench)?;
+    // The bytes of the files are let go before the outcome is put in order.
+    drop(bench);
     end_of(book, spent)
 }
 
@@ -202,6 +199,7 @@ fn end_of(book: Book, spent: Option<FaultNote>) -> Result<RunEnd, NoMemory>
     ensures { IfOk result (IsEndOf book spent) }
 {
     let outcome = book.outcome()?;
+    look_at_panes(outcome.panes.as_slice());
     let status = match spent {
         None => Status::Ok,
         Some(note) => Status::WorkFault(note),

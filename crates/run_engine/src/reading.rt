@@ -21,11 +21,7 @@ pub struct Reader {
 }
 
 /// A reader for each item of the sources, by node and item. The files are those of the plan, in this order.
-pub fn readers_of(
-    alloc: Global,
-    nodes: &[Node],
-    files: &[Opened],
-) -> Result<Vec<Reader>, NoMemory>
+pub fn readers_of(alloc: Global, nodes: &[Node], files: &[Opened]) -> Result<Vec<Reader>, NoMemory>
     requires nodes { length nodes.now ≤ 64 }
     requires files { file_count nodes.now ≤ 256 }
     ensures { IfOk result (λ readers. readers.items ≡ readers_from 0 nodes.now files.now) }
@@ -51,7 +47,10 @@ fn add_readers(
     ensures { OnOk result (readers.new.items ≡ readers.old.items ++ readers_of_kind node kind.now opened.now) }
 {
     let NodeKind::Source {
-        work, args, files, ..
+        work,
+        args,
+        files,
+        ..
     } = kind
     else {
         return Ok(());

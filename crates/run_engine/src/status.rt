@@ -1,8 +1,9 @@
 ghost use Rattle.std.specs.Prelude.{◌≡◌};
 ghost use Rattle.run_engine.specs.Statuses.{number_of};
-ghost use Rattle.run_engine.specs.PanesRun.{IsNoSourceOrNoMemory};
+ghost use Rattle.run_engine.specs.Openings.{IsNoSourceOrNoMemory};
 
 use beam_values::{Bytes, FaultNote, NoMemory, Outcome};
+use plan_reader::PlanRefusal;
 use std::alloc::Global;
 
 /// How a command ended.
@@ -10,8 +11,12 @@ use std::alloc::Global;
 pub enum Status {
     /// The whole text was written.
     Ok,
+    /// The whole help text was written.
+    Help,
     /// The words are no command.
     Usage,
+    /// The plan's file has no plan.
+    BadPlan(PlanRefusal),
     /// There is no file of this name.
     NoSource(Bytes),
     /// Opening a source failed too often, at the kit of this number.
@@ -31,7 +36,9 @@ impl Status {
     {
         match self {
             Status::Ok => 0,
+            Status::Help => 0,
             Status::Usage => 2,
+            Status::BadPlan(_) => 3,
             Status::NoSource(_) => 4,
             Status::SourceFault(_) => 5,
             Status::WorkFault(_) => 6,
@@ -66,6 +73,6 @@ pub(crate) fn no_source(alloc: Global, name: &[u8]) -> Status
 #[derive(Debug, Drop)]
 pub struct RunEnd {
     pub status: Status,
-    /// What was committed; `None` where no run came to its end.
+    /// What was committed; `None` where no run began, or there was no memory.
     pub outcome: Option<Outcome>,
 }

@@ -1,6 +1,7 @@
 use crate::case::Case;
 use crate::coders::{answer_coder, answer_element, answer_order, answer_write};
 use crate::commands::answer_command;
+use crate::documents::{answer_document, answer_words};
 use crate::elements::answer_row;
 use crate::functions::answer_function;
 use crate::graphs::answer_graph;
@@ -52,6 +53,8 @@ pub fn answer(case: &mut Case<'_>) {
         "stateful" => answer_stateful(case),
         "seen" => answer_seen(case),
         "attempt" => answer_attempt(case),
+        "document" => answer_document(case),
+        "words" => answer_words(case),
         kind => answer_calls(kind, case),
     }
 }

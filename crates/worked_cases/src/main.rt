@@ -13,6 +13,7 @@ mod answer;
 mod case;
 mod coders;
 mod commands;
+mod documents;
 mod elements;
 mod expanded;
 mod functions;

@@ -150,7 +150,7 @@ returns-else-claim-clause-claimed g c =
       Some p,
       made.0,
       under_done first c.args.slot first.plan (g.S.Store.opened c.args.store.now c.args.pager.now.file) c.args.pager.now.len piece c.positions.book p c.positions.staging under (Some p)
-      (omega (arith, under.claims.within, under.claims.ordered, past)) (omega (arith, past)),
+          (omega (arith, under.claims.within, under.claims.ordered, past)) (omega (arith, past)),
       tt,
     )
 
@@ -162,6 +162,6 @@ returns-after-positions-clause-claimed g c =
       under.attempted,
       under.claimed,
       under_done first c.args.slot first.plan (g.S.Store.opened c.args.store.now c.args.pager.now.file) c.args.pager.now.len piece c.positions.book c.positions.p c.positions.staging under under.attempted
-      (omega (arith, under.claims.within)) (omega (arith, under.claims.ordered)),
+          (omega (arith, under.claims.within)) (omega (arith, under.claims.ordered)),
       tt,
     )

@@ -87,7 +87,7 @@ returns-in-Err-clause-claimed g c =
       done.1,
       tt,
       piece_honest files opened plan items c.requires.readers.told c.in-Some.place r here.0 piece here.1 (observed_shelf g.F.Shelf.strict g.F.Shelf.faults c.args.shelf.now c.work_positions.new.shelf)
-      (observed_store g.S.Store.files g.S.Store.faults c.args.store.now c.work_positions.new.store) refl done.0 c.in-Err.refusal done.3,
+          (observed_store g.S.Store.files g.S.Store.faults c.args.store.now c.work_positions.new.store) refl done.0 c.in-Err.refusal done.3,
     )
 
 pub returns-in-Err-clause-readers : goal.returns-in-Err-clause-readers

@@ -15,9 +15,9 @@ returns-in-Err-clause-refused g c =
       failures,
       counted_more c.args.failed c.loop-node.failures failures (faults c.args.store.now) (faults c.loop-node.store) (faults c.open_names.new.store) known.kept.counts known.counted c.open_names.ensures.counted,
       subst (λ (f : _). AreNamesRefused f (names_of nodes) c.args.attempts failures c.in-Err.refusal) known.kept.files
-      (subst (λ (l : List (List ℕ)). AreNamesRefused (g.S.Store.files c.loop-node.store) l c.args.attempts failures c.in-Err.refusal)
-      (ap (λ (n : List (List ℕ)). front ++ (n ++ after)) c.names_in-names.ensures ∙ names_whole nodes i c.node-item.result c.loop-node-test.true c.node-item.is)
-      (c.in-Err.ensures.refused front after known.opened)),
+          (subst (λ (l : List (List ℕ)). AreNamesRefused (g.S.Store.files c.loop-node.store) l c.args.attempts failures c.in-Err.refusal)
+          (ap (λ (n : List (List ℕ)). front ++ (n ++ after)) c.names_in-names.ensures ∙ names_whole nodes i c.node-item.result c.loop-node-test.true c.node-item.is)
+          (c.in-Err.ensures.refused front after known.opened)),
     )
 
 pub loop-node-preserved : goal.loop-node-preserved

@@ -1,0 +1,184 @@
+-- How a command ends where little or nothing outside fails.
+use Rattle.std.proofs.Common.{◌≡◌, ◌⊎◌, inl, inr, ℕ, ◌<◌, ◌≤◌, List, [], ◌∷◌, ◌++◌, Option, Some, None, IsSome, true, refl, sym, ap, subst, ◌∙◌, arith}
+use Rattle.std.specs.List.{All}
+use Rattle.std.proofs.lemmas.Bool.{false≢true}
+use Rattle.std.proofs.lemmas.List.Elements.{All-head, All-tail}
+use Rattle.beam_values.specs.Files.{first_named}
+use Rattle.beam_values.specs.declared.fault.FaultNote.{FaultNote}
+use Rattle.beam_values.specs.declared.file_text.FileText.{FileText}
+use Rattle.beam_values.specs.declared.options.Options.{Options}
+use Rattle.beam_values.specs.declared.outcome.Outcome.{Outcome}
+use Rattle.beam_values.specs.declared.outcome.StopCause.TheVariants as stop
+use Rattle.beam_values.specs.declared.plan.Plan.{Plan}
+use Rattle.beam_ports.specs.Counts.{rise}
+use Rattle.beam_ports.specs.Observed.{ObservedStore, WhereTold}
+use Rattle.book_core.specs.Book.{BookData}
+use Rattle.book_core.specs.Runs.{AreTold, HonestlyReached}
+use Rattle.book_core.specs.Work.{Known}
+use Rattle.ended_runs.specs.Unpoisoned.{TakesNoPoison}
+use Rattle.command_words.specs.Commands.{Asked, Help, Panes, Run}
+use Rattle.run_engine.specs.Openings.{IsOpeningRefused, file_names}
+use Rattle.run_engine.specs.PlanRun.{IsStoppedBy, known_of}
+use Rattle.run_engine.specs.declared.status.Status.{Status}
+use Rattle.run_engine.specs.declared.status.Status.TheVariants as status
+use Rattle.beam_command.specs.Asking.{IsPlanOf}
+use Rattle.beam_command.specs.Completeness.{AreFaultsFew, AreReadFaultsFew, HasCleanInputs, HasInputs, IsEndOfClean, IsStrict, WherePipeline}
+use Rattle.beam_command.specs.Ends.{Observed, AreFound, AreSourcesRefused, IsDocumentRefused, IsEndOf, IsOutcomeOfAsked, IsPipelineEnd, IsPlanRefused}
+
+-- ---- what is there can't be refused
+
+pub named_not_none : (found : Option (List ℕ)) → found ≡ None → IsSome found → ⊥
+named_not_none None none some = absurd (false≢true some)
+named_not_none (Some text) none some = absurd cc
+
+-- a name that stands among others has what all of them have
+pub among : (P : List ℕ → Type 0) (before after names : List (List ℕ)) (name : List ℕ) → names ≡ before ++ name ∷ after → All P names → P name
+among P before after names name are all = by before (subst (All P) are all)
+  where
+    by : (earlier : List (List ℕ)) → All P (earlier ++ name ∷ after) → P name
+    by [] held = All-head P name after held
+    by (first ∷ later) held = by later (All-tail P first (later ++ name ∷ after) held)
+
+module _ (store : ObservedStore) (told : List FileText) (tells : store.files ≡ Some told) where
+  -- the plan that is asked for is one
+  pub plan_is : (asked : Asked) (plan other : Plan) → IsPlanOf (Some told) asked plan → IsPlanOf store.files asked other → other ≡ plan
+  plan_is Help plan other of own = absurd of
+  plan_is (Panes file size options) plan other of own = own ∙ sym of
+  plan_is (Run name options) plan other of own =
+      let meant = of told refl in
+      let also = own told tells in
+      let text : also.0 ≡ meant.0 = cc (meant.1, also.1) in
+      cc (text, meant.2, also.2)
+
+  module _ (attempts : ℕ) (few : rise store.before store.after < attempts) where
+    plan_read : (name : List ℕ) (options : Options) (plan : Plan) → IsPlanOf (Some told) (Run name options) plan → (s : Status) → IsPlanRefused store name attempts s
+        → s ≡ status.NoMemory
+    plan_read name options plan of (status.NoSource absent) refused =
+        let meant = of told refl in
+        absurd (cc (meant.1, refused.1 told tells))
+    plan_read name options plan of (status.SourceFault kit) refused = absurd (omega (arith, refused.1, few))
+    plan_read name options plan of (status.BadPlan refusal) refused =
+        let meant = of told refl in
+        let also = refused told tells in
+        let text : also.0 ≡ meant.0 = cc (meant.1, also.1) in
+        absurd (cc (text, meant.2, also.2))
+    plan_read name options plan of status.NoMemory refused = refl
+    plan_read name options plan of status.Ok refused = absurd refused
+    plan_read name options plan of status.Help refused = absurd refused
+    plan_read name options plan of status.Usage refused = absurd refused
+    plan_read name options plan of (status.WorkFault note) refused = absurd refused
+    plan_read name options plan of status.SinkFault refused = absurd refused
+
+    document_read : (asked : Asked) (plan : Plan) → IsPlanOf (Some told) asked plan → (s : Status) → IsDocumentRefused store asked attempts s → s ≡ status.NoMemory
+    document_read Help plan of s refused = absurd refused
+    document_read (Panes file size options) plan of s refused = absurd refused
+    document_read (Run name options) plan of s refused = plan_read name options plan of s refused
+
+    opened : (plan : Plan) → AreFound (Some told) plan → (s : Status) → IsOpeningRefused store plan attempts 0 s → s ≡ status.NoMemory
+    opened plan found (status.NoSource name) refused =
+        absurd (named_not_none (first_named name told) (refused.3 told tells).1
+        (among (λ (n : List ℕ). IsSome (first_named n told)) refused.0 refused.1 (file_names plan) name refused.2 (found told refl)))
+    opened plan found (status.SourceFault kit) refused = absurd (omega (arith, refused.1, few))
+    opened plan found status.NoMemory refused = refl
+    opened plan found (status.BadPlan refusal) refused = absurd refused
+    opened plan found status.Ok refused = absurd refused
+    opened plan found status.Help refused = absurd refused
+    opened plan found status.Usage refused = absurd refused
+    opened plan found (status.WorkFault note) refused = absurd refused
+    opened plan found status.SinkFault refused = absurd refused
+
+    -- with all inputs there, a run that did not begin had no memory
+    pub began : (asked : Asked) → HasInputs told asked → (s : Status)
+        → (IsDocumentRefused store asked attempts s ⊎ AreSourcesRefused store asked attempts s ⊎ (s ≡ status.NoMemory)) → s ≡ status.NoMemory
+    began asked inputs s why = elim why [
+      | inl refused ↦ document_read asked inputs.0 inputs.1 s refused
+      | inr other ↦ elim other [
+        | inl refused ↦
+            opened inputs.0 inputs.2 s
+            (subst (λ (p : Plan). IsOpeningRefused store p attempts 0 s) (plan_is asked inputs.0 refused.0 inputs.1 refused.1) refused.2)
+        | inr none ↦ none
+      ]
+    ]
+
+-- ---- few faults
+
+module _ (observed : Observed) (told : List FileText) (tells : observed.store.files ≡ Some told) where
+  module _ (own : Asked) (options : Options) (inputs : HasInputs told own) (few : AreFaultsFew options.attempts observed) where
+    few_in_store : rise observed.store.before observed.store.after < options.attempts
+    few_in_store = omega (arith, few.kit)
+
+    unbegun : (s : Status)
+        → (IsDocumentRefused observed.store own options.attempts s ⊎ AreSourcesRefused observed.store own options.attempts s ⊎ (s ≡ status.NoMemory)) → IsEndOfClean s
+    unbegun s why = inr (began observed.store told tells options.attempts few_in_store own inputs s why)
+
+    completes : (s : Status) (outcome : Option Outcome) → IsPipelineEnd observed own options s outcome → IsEndOfClean s
+    completes status.Ok outcome end = inl refl
+    completes status.SinkFault outcome end = absurd (omega (arith, end.3.2.0, few.out))
+    completes (status.WorkFault note) outcome end = absurd (omega (arith, end.2.counted, few.kit))
+    completes (status.NoSource name) outcome end = unbegun (status.NoSource name) end.2
+    completes (status.SourceFault kit) outcome end = unbegun (status.SourceFault kit) end.2
+    completes (status.BadPlan refusal) outcome end = unbegun (status.BadPlan refusal) end.2
+    completes status.NoMemory outcome end = unbegun status.NoMemory end.2
+    completes status.Help outcome end = unbegun status.Help end.2
+    completes status.Usage outcome end = unbegun status.Usage end.2
+
+-- with all inputs there and few faults a pipeline comes to its end
+pub complete : (asked : Option Asked) (files : Option (List FileText)) (observed : Observed) → files ≡ observed.store.files → (s : Status) (outcome : Option Outcome)
+    → IsEndOf asked observed s outcome
+    → WherePipeline asked (λ own options. WhereTold files (λ told. HasInputs told own → AreFaultsFew options.attempts observed → IsEndOfClean s))
+complete None files observed are s outcome end = tt
+complete (Some Help) files observed are s outcome end = tt
+complete (Some (Panes file size options)) files observed are s outcome end = λ told tells inputs few.
+    completes observed told (sym are ∙ tells) (Panes file size options) options inputs few s outcome end
+complete (Some (Run name options)) files observed are s outcome end = λ told tells inputs few.
+    completes observed told (sym are ∙ tells) (Run name options) options inputs few s outcome end
+
+-- ---- a shelf that fails on poison alone
+
+module _ (files : Option (List FileText)) (observed : Observed) (are : files ≡ observed.store.files) (s : Status) (outcome : Option Outcome)
+    (by_reads : (known : Known) (told : List FileText) (b : BookData) (note : FaultNote) → known.told ≡ Some told → known.strict ≡ true → AreTold told b
+    → TakesNoPoison known b.plan b.options → HonestlyReached known b → b.stopped ≡ Some (stop.Spent note) → b.options.attempts ≤ b.reads) where
+  module _ (told : List FileText) (tells : observed.store.files ≡ Some told) (own : Asked) (options : Options) (strict : observed.shelf.strict ≡ true)
+      (inputs : HasCleanInputs told own options) (few : AreReadFaultsFew options.attempts observed) where
+    takes_none : (plan : Plan) (own_options : Options) → plan ≡ inputs.0 → own_options ≡ options → TakesNoPoison (known_of observed.shelf observed.store) plan own_options
+    takes_none plan own_options same with_options =
+        let known : record { told = Some told; strict = true } ≡ known_of observed.shelf observed.store = λ i. record { told = sym tells i; strict = sym strict i } in
+        subst (λ (k : Known). TakesNoPoison k plan own_options) known
+        (subst (λ (p : Plan). TakesNoPoison (record { told = Some told; strict = true }) p own_options) (sym same)
+        (subst (λ (o : Options). TakesNoPoison (record { told = Some told; strict = true }) inputs.0 o) (sym with_options) inputs.3))
+
+    -- what was given up failed by reads, and the store counted them
+    not_given_up : (note : FaultNote) (o : Outcome) → IsOutcomeOfAsked observed own options (IsStoppedBy observed.store note) o → ⊥
+    not_given_up note o run =
+        let book = run.3.book in
+        let plan = run.3.of_plan ∙ plan_is observed.store told tells own inputs.0 run.0 inputs.1 run.1 in
+        let many = by_reads (known_of observed.shelf observed.store) told book note tells strict (run.3.lengths told tells)
+        (takes_none book.plan book.options plan run.3.with_options) run.3.reached run.3.is.noted in
+        let limit : book.options.attempts ≡ options.attempts = ap (λ (o : Options). o.attempts) run.3.with_options in
+        absurd (omega (arith, many, limit, run.3.is.reads, few.store))
+
+    unstarted : (it : Status)
+        → (IsDocumentRefused observed.store own options.attempts it ⊎ AreSourcesRefused observed.store own options.attempts it ⊎ (it ≡ status.NoMemory)) → IsEndOfClean it
+    unstarted it why = inr (began observed.store told tells options.attempts few.store own (inputs.0, inputs.1, inputs.2) it why)
+
+    strictly_completes : (it : Status) → IsPipelineEnd observed own options it outcome → IsEndOfClean it
+    strictly_completes status.Ok end = inl refl
+    strictly_completes status.SinkFault end = absurd (omega (arith, end.3.2.0, few.out))
+    strictly_completes (status.WorkFault note) end = absurd (not_given_up note end.1.0 end.1.2)
+    strictly_completes (status.NoSource name) end = unstarted (status.NoSource name) end.2
+    strictly_completes (status.SourceFault kit) end = unstarted (status.SourceFault kit) end.2
+    strictly_completes (status.BadPlan refusal) end = unstarted (status.BadPlan refusal) end.2
+    strictly_completes status.NoMemory end = unstarted status.NoMemory end.2
+    strictly_completes status.Help end = unstarted status.Help end.2
+    strictly_completes status.Usage end = unstarted status.Usage end.2
+
+  -- so it comes to its end where it takes no poison and few faults of the store were counted
+  pub complete_strict : (asked : Option Asked) → IsEndOf asked observed s outcome
+      → WherePipeline asked (λ own options. IsStrict observed.shelf
+      → WhereTold files (λ told. HasCleanInputs told own options → AreReadFaultsFew options.attempts observed → IsEndOfClean s))
+  complete_strict None end = tt
+  complete_strict (Some Help) end = tt
+  complete_strict (Some (Panes file size options)) end = λ strict told tells inputs few.
+      strictly_completes told (sym are ∙ tells) (Panes file size options) options strict inputs few s end
+  complete_strict (Some (Run name options)) end = λ strict told tells inputs few.
+      strictly_completes told (sym are ∙ tells) (Run name options) options strict inputs few s end

@@ -1,0 +1,261 @@
+-- How `panes` ends where little or nothing outside fails, and that no run over poison ends Ok.
+use Rattle.std.proofs.Common.{◌≡◌, ◌⊎◌, inl, inr, ℕ, zero, suc, ◌+◌, ◌<◌, ◌≤◌, ℤ, true, cond, List, [], ◌∷◌, ◌++◌, map, Option, Some, None, IsSome, refl, sym, ap, subst, ◌∙◌, arith}
+use Rattle.std.specs.List.{All, list_any, count_by}
+use Rattle.std.proofs.lemmas.Bool.{false≢true}
+use Rattle.std.proofs.lemmas.List.Elements.{All-cons, All-head, All-nil}
+use Rattle.std.proofs.lemmas.List.Sums.{sum_by-cons, sum_by-append}
+use Rattle.beam_values.proofs.Bags.{bag_count}
+use Rattle.beam_values.specs.Files.{first_named}
+use Rattle.beam_values.specs.declared.arrival.Arrival.{Arrival}
+use Rattle.beam_values.specs.declared.fault.Cause.{Cause}
+use Rattle.beam_values.specs.declared.fault.Cause.TheVariants.{Call, Read}
+use Rattle.beam_values.specs.declared.fault.FaultNote.{FaultNote}
+use Rattle.beam_values.specs.declared.file_text.FileText.{FileText}
+use Rattle.beam_values.specs.declared.options.Options.{Options}
+use Rattle.beam_values.specs.declared.outcome.Outcome.{Outcome}
+use Rattle.beam_values.specs.declared.outcome.StopCause.TheVariants as stop
+use Rattle.beam_values.specs.declared.plan.Plan.{Plan}
+use Rattle.beam_model.specs.Account.{IsAccounted, arrivals}
+use Rattle.beam_model.specs.Chains.{Output, Arrives, PoisonAt}
+use Rattle.beam_model.specs.Flow.{flow, log_chains, pane_chains}
+use Rattle.beam_model.specs.Plans.{panes_plan}
+use Rattle.beam_model.specs.Positions.{SourceItem, items}
+use Rattle.beam_model.specs.Spread.{HasPoison, is_poison, spread_all}
+use Rattle.beam_ports.specs.Counts.{Rose, rise}
+use Rattle.beam_ports.specs.Observed.{WhereTold}
+use Rattle.book_core.specs.Book.{BookData}
+use Rattle.book_core.specs.Facts.{AreKept}
+use Rattle.book_core.specs.Runs.{AreTold, HonestlyReached, IsEnded, Reached}
+use Rattle.book_core.specs.Work.{Known}
+use Rattle.command_words.specs.Commands.{Asked, Help, Panes, Run}
+use Rattle.command_words.specs.Rules.{Asks, ByDefault, ForHelp, ForPanes, ForRun, Given, IsValue}
+use Rattle.command_words.specs.Parts.{Part}
+use Rattle.command_words.specs.declared.setting.Setting.TheVariants.{Attempts}
+use Rattle.ended_runs.specs.Stops.{IsHonestStop}
+use Rattle.ended_runs.specs.Unpoisoned.{TakesNoPoison}
+use Rattle.run_engine.specs.Openings.{IsOpeningRefused, file_names}
+use Rattle.run_engine.specs.PlanRun.{IsCountedAs, IsStoppedBy, known_of}
+use Rattle.run_engine.specs.declared.status.Status.{Status}
+use Rattle.run_engine.specs.declared.status.Status.TheVariants as status
+use Rattle.beam_command.specs.Asking.{IsPlanOf}
+use Rattle.beam_command.specs.Completeness.{AreReadFaultsFew, AsksForPoison, FailsOnPoison, HasInputs, HasNotFailed, IsEndOfAbsent, IsEndOfClean, IsEndOfPoison, IsStrict, WherePanes, first_fault}
+use Rattle.beam_command.specs.Ends.{Observed, AreFound, AreSourcesRefused, HasRun, IsDocumentRefused, IsEndOf, IsOutcomeOfAsked, IsPipelineEnd}
+use Rattle.beam_command.specs.Promises.{IsPlanAsked}
+use Rattle.beam_command.proofs.Completeness.{among, began, complete, complete_strict, named_not_none, plan_is}
+use Rattle.beam_command.proofs.PanesStops.{stop_is_poison}
+use Rattle.beam_command.proofs.PanesTakes.{takes_none}
+use Rattle.beam_command.proofs.Promises.{plan_kept, promised}
+
+-- ---- what is accounted for is no poison
+
+none_of_arrivals : (arrivals : List Arrival) → count_by is_poison (map Arrives arrivals) ≡ 0
+none_of_arrivals [] = refl
+none_of_arrivals (a ∷ more) = omega (arith, none_of_arrivals more, sum_by-cons (λ b. cond (is_poison b) 1 0) (Arrives a) (map Arrives more))
+
+poison_counts : (outputs : List Output) → list_any is_poison outputs ≡ true → 0 < count_by is_poison outputs
+poison_counts [] any = absurd (false≢true any)
+poison_counts (Arrives a ∷ rest) any = omega (arith, poison_counts rest any, sum_by-cons (λ b. cond (is_poison b) 1 0) (Arrives a) rest)
+poison_counts (PoisonAt n ∷ rest) any = omega (arith, sum_by-cons (λ b. cond (is_poison b) 1 0) (PoisonAt n) rest)
+
+accounted-no_poison : (items : List SourceItem) (o : Outcome) → IsAccounted items o → HasPoison o.plan items → ⊥
+accounted-no_poison items o account poison =
+    let rest = pane_chains o.plan o.panes ++ log_chains o.plan o.logs in
+    let some = poison_counts (spread_all o.plan items) poison in
+    let none : count_by is_poison (flow o.plan items o.panes o.logs) ≡ 0 = bag_count is_poison _ _ account.flow ∙ none_of_arrivals (arrivals o) in
+    let both : count_by is_poison (flow o.plan items o.panes o.logs) ≡ count_by is_poison (spread_all o.plan items) + count_by is_poison rest =
+    sum_by-append (λ b. cond (is_poison b) 1 0) (spread_all o.plan items) rest in
+    absurd (omega (arith, some, none, both))
+
+-- ---- small facts
+
+none_rose : (before after attempts : ℕ) → (Rose before after → ⊥) → 1 ≤ attempts → rise before after < attempts
+none_rose before after attempts never some = by (rise before after) refl
+  where
+    by : (n : ℕ) → rise before after ≡ n → rise before after < attempts
+    by zero is = omega (arith, is, some)
+    by (suc n) is = absurd (never (omega (arith, is)))
+
+some_value : (parts : List Part) (value : ℕ) → IsValue Attempts parts value → 1 ≤ value
+some_value parts value (ByDefault none is) = omega (arith, is)
+some_value parts value (Given text one within is) = omega (arith, is, within.least)
+
+abbrev pub HasAttempts : Asked → Type 0
+HasAttempts Help = Unit {0}
+HasAttempts (Panes file size options) = 1 ≤ options.attempts
+HasAttempts (Run name options) = 1 ≤ options.attempts
+
+-- words ask for one attempt at least
+pub some_attempts : (words : List (List ℕ)) (asked : Asked) → Asks words asked → HasAttempts asked
+some_attempts _ _ (ForHelp words asks) = tt
+some_attempts _ _ (ForPanes program words parts file size options are two given some short number) = some_value parts options.attempts given.attempts
+some_attempts _ _ (ForRun program words parts plan options are one given) = some_value parts options.attempts given.attempts
+
+-- ---- the ends of any pipeline over poison
+
+module _ (asked : Option Asked) (observed : Observed) (told : List FileText) (tells : observed.store.files ≡ Some told) where
+  -- an outcome of a run that came to its end is of a plan without poison
+  pub unpoisoned : (own : Asked) (options : Options) (o : Outcome) → asked ≡ Some own → IsOutcomeOfAsked observed own options IsEnded o
+      → WhereTold observed.store.files (λ told. IsAccounted (items told o.plan) o) → AsksForPoison told asked → ⊥
+  unpoisoned own options o is run account poison =
+      let kept = subst (λ (a : Option Asked). IsPlanAsked observed.store.files a o.plan) is (plan_kept asked observed own options o is run) in
+      let asks = subst (λ (a : Option Asked). IsPlanAsked (Some told) a poison.0) is poison.1 in
+      let same = plan_is observed.store told tells own poison.0 o.plan asks kept in
+      accounted-no_poison (items told o.plan) o (account told tells) (subst (λ (p : Plan). HasPoison p (items told p)) (sym same) poison.2)
+
+-- so no run over poison ends Ok
+pub not_ok : (asked : Option Asked) (files : Option (List FileText)) (observed : Observed) → files ≡ observed.store.files
+    → ((own : Asked) (options : Options) (o : Outcome) → asked ≡ Some own → IsOutcomeOfAsked observed own options IsEnded o → WhereTold observed.store.files (λ told. IsAccounted (items told o.plan) o))
+    → (s : Status) (outcome : Option Outcome) → IsEndOf asked observed s outcome → WhereTold files (λ told. AsksForPoison told asked → s ≡ status.Ok → ⊥)
+not_ok asked files observed are account s outcome end = λ told tells poison is.
+    let run = promised asked observed (λ o. AsksForPoison told asked → ⊥) (λ own options o same run. unpoisoned asked observed told (sym are ∙ tells) own options o same run (account own options o same run)) s outcome end in
+    (subst (λ (st : Status). HasRun st outcome (λ o. AsksForPoison told asked → ⊥)) is run).2 poison
+
+-- ---- the ends of `panes`
+
+found_all : (file : List ℕ) (size : ℤ) (told : List FileText) → IsSome (first_named file told) → AreFound (Some told) (panes_plan file size)
+found_all file size told found = λ files same.
+    let is : told ≡ files = cc in
+    subst (λ (t : List FileText). All (λ name. IsSome (first_named name t)) (file ∷ [])) is (All-cons (λ (name : List ℕ). IsSome (first_named name told)) file [] found (All-nil _))
+
+module _ (observed : Observed) (told : List FileText) (tells : observed.store.files ≡ Some told) (file : List ℕ) (size : ℤ) (options : Options)
+    (some : 1 ≤ options.attempts) (whole : HasNotFailed observed.store) where
+  abbrev own : Asked
+  own = Panes file size options
+
+  few : rise observed.store.before observed.store.after < options.attempts
+  few = none_rose observed.store.before observed.store.after options.attempts whole some
+
+  abbrev Begins : Status → Type 0
+  Begins s = IsDocumentRefused observed.store own options.attempts s ⊎ AreSourcesRefused observed.store own options.attempts s ⊎ (s ≡ status.NoMemory)
+
+  -- ---- a file that isn't there
+
+  file_found : (plan : Plan) → IsPlanOf observed.store.files own plan → AreFound observed.store.files plan → IsSome (first_named file told)
+  file_found plan is found =
+      All-head (λ (name : List ℕ). IsSome (first_named name told)) file []
+      (subst (λ (p : Plan). All (λ name. IsSome (first_named name told)) (file_names p)) is (found told tells))
+
+  module _ (absent : first_named file told ≡ None) where
+    never_found : (plan : Plan) → IsPlanOf observed.store.files own plan → AreFound observed.store.files plan → ⊥
+    never_found plan is found = named_not_none (first_named file told) absent (file_found plan is found)
+
+    not_opened : (s : Status) → IsOpeningRefused observed.store (panes_plan file size) options.attempts 0 s → IsEndOfAbsent file s
+    not_opened (status.NoSource name) refused =
+        inl (ap (λ (n : List ℕ). status.NoSource n)
+        (among (λ (n : List ℕ). n ≡ file) refused.0 refused.1 (file ∷ []) name refused.2 (All-cons (λ (n : List ℕ). n ≡ file) file [] refl (All-nil (λ (n : List ℕ). n ≡ file)))))
+    not_opened (status.SourceFault kit) refused = absurd (omega (arith, refused.1, few))
+    not_opened status.NoMemory refused = inr refl
+    not_opened (status.BadPlan refusal) refused = absurd refused
+    not_opened status.Ok refused = absurd refused
+    not_opened status.Help refused = absurd refused
+    not_opened status.Usage refused = absurd refused
+    not_opened (status.WorkFault note) refused = absurd refused
+    not_opened status.SinkFault refused = absurd refused
+
+    absent_unbegun : (s : Status) → Begins s → IsEndOfAbsent file s
+    absent_unbegun s why = elim why [
+      | inl refused ↦ absurd refused
+      | inr other ↦ elim other [
+        | inl refused ↦ not_opened s (subst (λ (p : Plan). IsOpeningRefused observed.store p options.attempts 0 s) refused.1 refused.2)
+        | inr none ↦ inr none
+      ]
+    ]
+
+    absent_ends : (s : Status) (outcome : Option Outcome) → IsPipelineEnd observed own options s outcome → IsEndOfAbsent file s
+    absent_ends status.Ok outcome end = absurd (never_found end.2.0 end.2.1 end.2.2)
+    absent_ends status.SinkFault outcome end = absurd (never_found end.2.0 end.2.1 end.2.2)
+    absent_ends (status.WorkFault note) outcome end = absurd (never_found end.1.2.0 end.1.2.1 end.1.2.2)
+    absent_ends (status.NoSource name) outcome end = absent_unbegun (status.NoSource name) end.2
+    absent_ends (status.SourceFault kit) outcome end = absent_unbegun (status.SourceFault kit) end.2
+    absent_ends (status.BadPlan refusal) outcome end = absent_unbegun (status.BadPlan refusal) end.2
+    absent_ends status.NoMemory outcome end = absent_unbegun status.NoMemory end.2
+    absent_ends status.Help outcome end = absent_unbegun status.Help end.2
+    absent_ends status.Usage outcome end = absent_unbegun status.Usage end.2
+
+  -- ---- a file that is there
+
+  module _ (found : IsSome (first_named file told))
+      (stops : observed.shelf.strict ≡ true → (note : FaultNote) (o : Outcome) → IsOutcomeOfAsked observed own options (IsStoppedBy observed.store note) o → note.cause ≡ Call
+      → (note ≡ first_fault options) × HasPoison (panes_plan file size) (items told (panes_plan file size))) where
+    inputs : HasInputs told own
+    inputs = (panes_plan file size, refl, found_all file size told found)
+
+    unbegun : (s : Status) → Begins s → s ≡ status.NoMemory
+    unbegun s why = began observed.store told tells options.attempts few own inputs s why
+
+    module _ (strict : observed.shelf.strict ≡ true) (never : (o : Outcome) → IsOutcomeOfAsked observed own options IsEnded o → ⊥) where
+      faulted : (note : FaultNote) (o : Outcome) → IsOutcomeOfAsked observed own options (IsStoppedBy observed.store note) o → (cause : Cause) → note.cause ≡ cause
+          → IsCountedAs observed.shelf observed.store cause → IsEndOfPoison options (status.WorkFault note)
+      faulted note o run Call is counted = inl (ap (λ (n : FaultNote). status.WorkFault n) (stops strict note o run is).0)
+      faulted note o run Read is counted = absurd (whole counted)
+
+      poison_ends : (s : Status) (outcome : Option Outcome) → IsPipelineEnd observed own options s outcome → IsEndOfPoison options s
+      poison_ends status.Ok outcome end = absurd (never end.0 end.2)
+      poison_ends status.SinkFault outcome end = absurd (never end.0 end.2)
+      poison_ends (status.WorkFault note) outcome end = faulted note end.1.0 end.1.2 note.cause refl end.2.cause
+      poison_ends (status.NoSource name) outcome end = inr (unbegun (status.NoSource name) end.2)
+      poison_ends (status.SourceFault kit) outcome end = inr (unbegun (status.SourceFault kit) end.2)
+      poison_ends (status.BadPlan refusal) outcome end = inr (unbegun (status.BadPlan refusal) end.2)
+      poison_ends status.NoMemory outcome end = inr (unbegun status.NoMemory end.2)
+      poison_ends status.Help outcome end = inr (unbegun status.Help end.2)
+      poison_ends status.Usage outcome end = inr (unbegun status.Usage end.2)
+
+-- ---- by what is asked for
+
+module _ (files : Option (List FileText)) (observed : Observed) (are : files ≡ observed.store.files) (s : Status) (outcome : Option Outcome) where
+  pub absent : (asked : Option Asked) → ((own : Asked) → asked ≡ Some own → HasAttempts own) → IsEndOf asked observed s outcome
+      → WherePanes asked (λ file size options. HasNotFailed observed.store → WhereTold files (λ told. first_named file told ≡ None → IsEndOfAbsent file s))
+  absent None tried end = tt
+  absent (Some Help) tried end = tt
+  absent (Some (Run name options)) tried end = tt
+  absent (Some (Panes file size options)) tried end = λ whole told tells none.
+      absent_ends observed told (sym are ∙ tells) file size options (tried (Panes file size options) refl) whole none s outcome end
+
+  module _ (runs : (known : Known) (b : BookData) → HonestlyReached known b → Reached known.told b)
+      (kept : (told : Option (List FileText)) (b : BookData) → Reached told b → AreKept b)
+      (honest : (known : Known) (b : BookData) (note : FaultNote) → HonestlyReached known b → b.stopped ≡ Some (stop.Spent note) → IsHonestStop known b note) where
+    stopped : (told : List FileText) → observed.store.files ≡ Some told → (file : List ℕ) (size : ℤ) (options : Options) → observed.shelf.strict ≡ true → (note : FaultNote) (o : Outcome)
+        → IsOutcomeOfAsked observed (Panes file size options) options (IsStoppedBy observed.store note) o → note.cause ≡ Call
+        → (note ≡ first_fault options) × HasPoison (panes_plan file size) (items told (panes_plan file size))
+    stopped told tells file size options strict note o run is =
+        let known = known_of observed.shelf observed.store in
+        let stop = honest known run.3.book note run.3.reached run.3.is.noted in
+        let found = stop_is_poison file size known told run.3.book note tells strict (run.3.of_plan ∙ run.1) is stop (kept known.told stop.before (runs known stop.before stop.reached)) in
+        (found.0 ∙ ap first_fault run.3.with_options, found.1)
+
+    pub poison : (asked : Option Asked) → ((own : Asked) → asked ≡ Some own → HasAttempts own)
+        → ((own : Asked) (options : Options) (o : Outcome) → asked ≡ Some own → IsOutcomeOfAsked observed own options IsEnded o → WhereTold observed.store.files (λ told. IsAccounted (items told o.plan) o))
+        → IsEndOf asked observed s outcome
+        → WherePanes asked (λ file size options. HasNotFailed observed.store → IsStrict observed.shelf
+        → WhereTold files (λ told. IsSome (first_named file told) → AsksForPoison told asked → IsEndOfPoison options s))
+    poison None tried account end = tt
+    poison (Some Help) tried account end = tt
+    poison (Some (Run name options)) tried account end = tt
+    poison (Some (Panes file size options)) tried account end = λ whole strict told tells found asks.
+        let here = sym are ∙ tells in
+        let own = Panes file size options in
+        poison_ends observed told here file size options (tried own refl) whole found (stopped told here file size options) strict
+        (λ o run. unpoisoned (Some own) observed told here own options o refl run (account own options o refl run) asks) s outcome end
+
+    pub clean : ((known : Known) (told : List FileText) (b : BookData) (note : FaultNote) → known.told ≡ Some told → known.strict ≡ true → AreTold told b
+        → TakesNoPoison known b.plan b.options → HonestlyReached known b → b.stopped ≡ Some (stop.Spent note) → b.options.attempts ≤ b.reads)
+        → (asked : Option Asked) → IsEndOf asked observed s outcome
+        → WherePanes asked (λ file size options. AreReadFaultsFew options.attempts observed → FailsOnPoison observed.shelf
+        → WhereTold files (λ told. IsSome (first_named file told) → (AsksForPoison told asked → ⊥) → IsEndOfClean s))
+    clean by_reads None end = tt
+    clean by_reads (Some Help) end = tt
+    clean by_reads (Some (Run name options)) end = tt
+    clean by_reads (Some (Panes file size options)) end = λ few shelf told tells found never.
+        let own = Panes file size options in
+        let seen : Known = record { told = Some told; strict = true } in
+        let none = takes_none file size told (λ poison. never (panes_plan file size, refl, poison)) options (λ b reached. kept (Some told) b (runs seen b reached)) in
+        elim shelf [
+          | inl strict ↦
+              complete_strict files observed are s outcome by_reads (Some own) end strict told tells
+              (panes_plan file size, refl, found_all file size told found, none) few
+          | inr quiet ↦
+              complete (Some own) files observed are s outcome end told tells (panes_plan file size, refl, found_all file size told found) (record {
+                kit = omega (arith, few.store, none_rose observed.shelf.before observed.shelf.after 1 quiet (omega arith));
+                out = few.out;
+              })
+        ]

@@ -1,0 +1,138 @@
+-- What the ends of a command say of its outcome.
+use Rattle.std.proofs.Common.{◌≡◌, ℕ, zero, suc, ℤ, true, List, [], ◌∷◌, map, Option, Some, None, refl, sym, ap, subst, ◌∙◌}
+use Rattle.std.specs.List.{All}
+use Rattle.std.proofs.lemmas.List.Elements.{All-nil, All-cons}
+use Rattle.beam_values.specs.Nodes.{is_above}
+use Rattle.beam_values.specs.declared.file_text.FileText.{FileText}
+use Rattle.beam_values.specs.declared.options.Options.{Options}
+use Rattle.beam_values.specs.declared.outcome.Outcome.{Outcome}
+use Rattle.beam_values.specs.declared.plan.Plan.{Plan}
+use Rattle.beam_model.specs.Account.{IsAccounted}
+use Rattle.beam_model.specs.Covers.{IsCovered}
+use Rattle.beam_model.specs.Estimators.{AreSoundAbove, IsSoundItem}
+use Rattle.beam_model.specs.Holds.{estimator_of}
+use Rattle.beam_model.specs.Panes.{ArePanesLegal, trigger_of}
+use Rattle.beam_model.specs.Plain.{ArePlainlyWritten, ArePlainlyWrittenWhere}
+use Rattle.beam_model.specs.Plans.{default_trigger, panes_plan}
+use Rattle.beam_model.specs.Positions.{SourceItem, items, item_len}
+use Rattle.beam_ports.specs.Observed.{WhereTold}
+use Rattle.book_core.specs.Book.{BookData}
+use Rattle.book_core.specs.Calls.{IsOutcomeOf}
+use Rattle.book_core.specs.Runs.{AreTold, HonestlyReached, IsEnded, IsThrough, Reached}
+use Rattle.book_core.specs.Work.{Known}
+use Rattle.command_words.specs.Commands.{Asked, Help, Panes, Run}
+use Rattle.ended_runs.specs.Storable.{ArePanesStorable}
+use Rattle.run_engine.specs.declared.status.Status.{Status}
+use Rattle.run_engine.specs.declared.status.Status.TheVariants as status
+use Rattle.beam_command.specs.Asking.{IsPlanOf}
+use Rattle.beam_command.specs.Ends.{Observed, AreFound, HasRun, IsEndOf, IsHelpEnd, IsOutcomeOfAsked, IsPipelineEnd}
+use Rattle.beam_command.specs.Promises.{AsksPanes, HasLegalPanes, IsPlanAsked}
+
+-- ---- from the end of a command to what holds of its outcome
+
+module _ (asked : Option Asked) (observed : Observed) (P : Outcome → Type 0)
+    (holds : (own : Asked) (options : Options) (o : Outcome) → asked ≡ Some own → IsOutcomeOfAsked observed own options IsEnded o → P o) where
+  of_pipeline : (own : Asked) (options : Options) → asked ≡ Some own → (s : Status) (outcome : Option Outcome) → IsPipelineEnd observed own options s outcome → HasRun s outcome P
+  of_pipeline own options is status.Ok outcome end = (end.0, end.1, holds own options end.0 is end.2)
+  of_pipeline own options is status.SinkFault outcome end = λ o has.
+      let same : end.0 ≡ o = cc (end.1, has) in
+      subst P same (holds own options end.0 is end.2)
+  of_pipeline own options is status.Help outcome end = tt
+  of_pipeline own options is status.Usage outcome end = tt
+  of_pipeline own options is (status.BadPlan refusal) outcome end = tt
+  of_pipeline own options is (status.NoSource name) outcome end = tt
+  of_pipeline own options is (status.SourceFault kit) outcome end = tt
+  of_pipeline own options is (status.WorkFault note) outcome end = tt
+  of_pipeline own options is status.NoMemory outcome end = tt
+
+  of_help : (s : Status) (outcome : Option Outcome) → IsHelpEnd observed.out s → outcome ≡ None → HasRun s outcome P
+  of_help status.Ok outcome end none = absurd end
+  of_help status.SinkFault outcome end none = λ o has. cc (none, has)
+  of_help status.Help outcome end none = tt
+  of_help status.Usage outcome end none = tt
+  of_help (status.BadPlan refusal) outcome end none = tt
+  of_help (status.NoSource name) outcome end none = tt
+  of_help (status.SourceFault kit) outcome end none = tt
+  of_help (status.WorkFault note) outcome end none = tt
+  of_help status.NoMemory outcome end none = tt
+
+  of_asked : (a : Option Asked) → asked ≡ a → (s : Status) (outcome : Option Outcome) → IsEndOf a observed s outcome → HasRun s outcome P
+  of_asked None is s outcome end = subst (λ (st : Status). HasRun st outcome P) (sym end.0) tt
+  of_asked (Some Help) is s outcome end = of_help s outcome end.0 end.1
+  of_asked (Some (Panes file size options)) is s outcome end = of_pipeline (Panes file size options) options is s outcome end
+  of_asked (Some (Run name options)) is s outcome end = of_pipeline (Run name options) options is s outcome end
+
+  pub promised : (s : Status) (outcome : Option Outcome) → IsEndOf asked observed s outcome → HasRun s outcome P
+  promised s outcome end = of_asked asked refl s outcome end
+
+-- ---- what holds of it
+
+module _ (asked : Option Asked) (observed : Observed) (own : Asked) (options : Options) (o : Outcome) (is : asked ≡ Some own) (run : IsOutcomeOfAsked observed own options IsEnded o) where
+  plan_is : o.plan ≡ run.0
+  plan_is = run.3.of_book.plan ∙ run.3.of_plan
+
+  pub plan_kept : IsPlanAsked observed.store.files asked o.plan
+  plan_kept =
+      subst (λ (a : Option Asked). IsPlanAsked observed.store.files a o.plan) (sym is)
+      (subst (λ (p : Plan). IsPlanOf observed.store.files own p) (sym plan_is) run.1)
+
+  pub files_found : AreFound observed.store.files o.plan
+  files_found = subst (λ (p : Plan). AreFound observed.store.files p) (sym plan_is) run.2
+
+  pub lengths_kept : WhereTold observed.store.files (λ told. o.files ≡ map item_len (items told o.plan))
+  lengths_kept = λ told tells. run.3.of_book.files ∙ run.3.lengths told tells ∙ ap (λ (p : Plan). map item_len (items told p)) (sym run.3.of_book.plan)
+
+  module _ (runs : (known : Known) (b : BookData) → HonestlyReached known b → Reached known.told b) where
+    reached : Reached observed.store.files run.3.book
+    reached = runs _ run.3.book run.3.reached
+
+    reached_told : (told : List FileText) → observed.store.files ≡ Some told → Reached (Some told) run.3.book
+    reached_told told tells = subst (λ (files : Option (List FileText)). Reached files run.3.book) tells reached
+
+    pub covered : ((told : Option (List FileText)) (b : BookData) (o : Outcome) → Reached told b → IsThrough b → IsOutcomeOf b o → IsCovered o) → IsCovered o
+    covered law = law observed.store.files run.3.book o reached run.3.is.through run.3.of_book
+
+    pub legal : ((told : Option (List FileText)) (b : BookData) (o : Outcome) → Reached told b → IsOutcomeOf b o → ArePanesLegal o.plan o.commits o.cells o.dropped o.panes)
+        → HasLegalPanes o
+    legal law = law observed.store.files run.3.book o reached run.3.of_book
+
+    pub accounted : ((told : List FileText) (b : BookData) (o : Outcome) → Reached (Some told) b → AreTold told b → IsThrough b → IsOutcomeOf b o → IsAccounted (items told b.plan) o)
+        → WhereTold observed.store.files (λ told. IsAccounted (items told o.plan) o)
+    accounted law = λ told tells.
+        subst (λ (p : Plan). IsAccounted (items told p) o) (sym run.3.of_book.plan)
+        (law told run.3.book o (reached_told told tells) (run.3.lengths told tells) run.3.is.through run.3.of_book)
+
+    pub plainly : ((told : List FileText) (b : BookData) (o : Outcome) → Reached (Some told) b → AreTold told b → IsThrough b → IsOutcomeOf b o → ArePanesStorable o
+        → ArePlainlyWrittenWhere (items told b.plan) o) → WhereTold observed.store.files (λ told. ArePlainlyWrittenWhere (items told o.plan) o)
+    plainly law = λ told tells.
+        subst (λ (p : Plan). ArePlainlyWrittenWhere (items told p) o) (sym run.3.of_book.plan)
+        (law told run.3.book o (reached_told told tells) (run.3.lengths told tells) run.3.is.through run.3.of_book run.3.storable)
+
+-- ---- the plan of `panes` has the default trigger and no estimator
+
+trigger_is : (file : List ℕ) (size : ℤ) (node : ℕ) → trigger_of (panes_plan file size) node ≡ default_trigger
+trigger_is file size zero = refl
+trigger_is file size (suc zero) = refl
+trigger_is file size (suc (suc zero)) = refl
+trigger_is file size (suc (suc (suc zero))) = refl
+trigger_is file size (suc (suc (suc (suc zero)))) = refl
+trigger_is file size (suc (suc (suc (suc (suc node))))) = refl
+
+sound_above : (told : List FileText) (file : List ℕ) (size : ℤ) (node : ℕ) → AreSoundAbove (panes_plan file size) (items told (panes_plan file size)) node
+sound_above told file size node =
+    All-cons (λ (item : SourceItem). is_above (panes_plan file size) item.node node ≡ true → IsSoundItem (estimator_of (panes_plan file size) item.node) item) _ []
+    (λ above p q before inside. All-nil _) (All-nil _)
+
+plain_at : (told : List FileText) (file : List ℕ) (size : ℤ) (o : Outcome) → o.plan ≡ panes_plan file size → ArePlainlyWrittenWhere (items told o.plan) o
+    → ArePlainlyWritten (items told o.plan) o
+plain_at told file size o is plain = λ node write stateless.
+    plain node write stateless (λ group above. ap (λ (p : Plan). trigger_of p group) is ∙ trigger_is file size group)
+    (subst (λ (p : Plan). AreSoundAbove p (items told p) node) (sym is) (sound_above told file size node))
+
+-- what `panes` writes is plain grouping
+pub panes_plainly : (asked : Option Asked) (files : Option (List FileText)) (o : Outcome) → AsksPanes asked → IsPlanAsked files asked o.plan
+    → WhereTold files (λ told. ArePlainlyWrittenWhere (items told o.plan) o) → WhereTold files (λ told. ArePlainlyWritten (items told o.plan) o)
+panes_plainly None files o asks plan plain = absurd asks
+panes_plainly (Some Help) files o asks plan plain = absurd asks
+panes_plainly (Some (Run name options)) files o asks plan plain = absurd asks
+panes_plainly (Some (Panes file size options)) files o asks plan plain = λ told tells. plain_at told file size o plan (plain told tells)

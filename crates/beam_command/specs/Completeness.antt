@@ -1,0 +1,86 @@
+-- How a command must end where little or nothing outside fails: then the files decide.
+use Rattle.std.specs.Prelude.{◌≡◌, ◌⊎◌, true, ℕ, ◌+◌, ◌<◌, ℤ, List, Option, Some}
+use Rattle.beam_values.specs.declared.fault.Cause.TheVariants.{Call}
+use Rattle.beam_values.specs.declared.fault.FaultNote.{FaultNote}
+use Rattle.beam_values.specs.declared.file_text.FileText.{FileText}
+use Rattle.beam_values.specs.declared.options.Options.{Options}
+use Rattle.beam_values.specs.declared.plan.Plan.{Plan}
+use Rattle.beam_model.specs.Positions.{items}
+use Rattle.beam_model.specs.Spread.{HasPoison}
+use Rattle.beam_ports.specs.Counts.{Rose, rise}
+use Rattle.beam_ports.specs.Observed.{ObservedStore}
+use Rattle.chain_exec.specs.Causes.{ObservedShelf}
+use Rattle.ended_runs.specs.Unpoisoned.{TakesNoPoison}
+use Rattle.command_words.specs.Commands.{Asked, Panes, Run}
+use Rattle.run_engine.specs.declared.status.Status.{Status}
+use Rattle.run_engine.specs.declared.status.Status.TheVariants as status
+use Rattle.beam_command.specs.Asking.{IsPlanOf}
+use Rattle.beam_command.specs.Ends.{Observed, AreFound}
+use Rattle.beam_command.specs.Promises.{IsPlanAsked}
+
+-- ---- what is asked for
+
+-- this holds of the file, the size and the options, where `panes` is asked for
+abbrev pub WherePanes : Option Asked → (List ℕ → ℤ → Options → Type 0) → Type 0
+WherePanes (Some (Panes file size options)) P = P file size options
+WherePanes _ P = Unit {0}
+
+-- this holds of what is asked for and of its options, where it is a pipeline
+abbrev pub WherePipeline : Option Asked → (Asked → Options → Type 0) → Type 0
+WherePipeline (Some (Panes file size options)) P = P (Panes file size options) options
+WherePipeline (Some (Run name options)) P = P (Run name options) options
+WherePipeline _ P = Unit {0}
+
+-- of these files, a position that the plan reads is poison
+abbrev pub AsksForPoison : List FileText → Option Asked → Type 0
+AsksForPoison told asked = (plan : Plan) × IsPlanAsked (Some told) asked plan × HasPoison plan (items told plan)
+
+-- the plan is there, and so is each file that it reads
+abbrev pub HasInputs : List FileText → Asked → Type 0
+HasInputs told asked = (plan : Plan) × IsPlanOf (Some told) asked plan × AreFound (Some told) plan
+
+-- the same, and no run of the plan takes a job that is poison
+abbrev pub HasCleanInputs : List FileText → Asked → Options → Type 0
+HasCleanInputs told asked options =
+    (plan : Plan) × IsPlanOf (Some told) asked plan × AreFound (Some told) plan × TakesNoPoison (record { told = Some told; strict = true }) plan options
+
+-- ---- what doesn't fail, or seldom
+
+-- a store that did not fail in this call
+abbrev pub HasNotFailed : ObservedStore → Type 0
+HasNotFailed store = Rose store.before store.after → ⊥
+
+-- a shelf that fails on poison alone
+abbrev pub IsStrict : ObservedShelf → Type 0
+IsStrict shelf = shelf.strict ≡ true
+
+-- or that did not fail in this call
+abbrev pub FailsOnPoison : ObservedShelf → Type 0
+FailsOnPoison shelf = IsStrict shelf ⊎ (Rose shelf.before shelf.after → ⊥)
+
+-- fewer faults than a job has attempts, in the kit and in the sink
+pub record AreFaultsFew (attempts : ℕ) (observed : Observed) : Type 0 where
+  pub kit : rise observed.shelf.before observed.shelf.after + rise observed.store.before observed.store.after < attempts
+  pub out : rise observed.out.before observed.out.after < attempts
+
+-- fewer faults than a job has attempts, in the store and in the sink, however many the shelf counted
+pub record AreReadFaultsFew (attempts : ℕ) (observed : Observed) : Type 0 where
+  pub store : rise observed.store.before observed.store.after < attempts
+  pub out : rise observed.out.before observed.out.after < attempts
+
+-- ---- the ends
+
+-- the file isn't there
+abbrev pub IsEndOfAbsent : List ℕ → Status → Type 0
+IsEndOfAbsent name s = (s ≡ status.NoSource name) ⊎ (s ≡ status.NoMemory)
+
+-- the source's function failed on a position of its first file, as often as it may
+abbrev pub first_fault : Options → FaultNote
+first_fault options = record { node = 0; item = 0; at = 0; attempt = options.attempts; cause = Call }
+
+abbrev pub IsEndOfPoison : Options → Status → Type 0
+IsEndOfPoison options s = (s ≡ status.WorkFault (first_fault options)) ⊎ (s ≡ status.NoMemory)
+
+-- the run came to its end, and its text was written
+abbrev pub IsEndOfClean : Status → Type 0
+IsEndOfClean s = (s ≡ status.Ok) ⊎ (s ≡ status.NoMemory)

@@ -1,0 +1,41 @@
+-- How a pipeline ends that is run with a kit.
+use Rattle.std.specs.Prelude.{◌≡◌, ◌⊎◌, ℕ, List, Option, Some, None}
+use Rattle.beam_ports.specs.Observed.{ObservedSink}
+use Rattle.beam_values.specs.declared.options.Options.{Options}
+use Rattle.beam_values.specs.declared.outcome.Outcome.{Outcome}
+use Rattle.beam_values.specs.declared.plan.Plan.{Plan}
+use Rattle.book_core.specs.Runs.{IsEnded}
+use Rattle.run_engine.specs.Openings.{IsOpeningRefused}
+use Rattle.run_engine.specs.PlanRun.{IsOutcomeWhere, IsSpent, IsStoppedBy, known_of}
+use Rattle.run_engine.specs.declared.status.Status.{Status}
+use Rattle.run_engine.specs.declared.status.Status.TheVariants as status
+use Rattle.beam_command.specs.Ends.{Observed, AreFound, IsUnwritten, IsPrinted, IsWritten}
+
+-- a text was written, or its writing failed
+abbrev pub IsTextEnd : ObservedSink → ℕ → List ℕ → Status → Type 0
+IsTextEnd out attempts text status.Ok = IsWritten out attempts text status.Ok
+IsTextEnd out attempts text status.SinkFault = IsWritten out attempts text status.SinkFault
+IsTextEnd out attempts text _ = ⊥
+
+-- the rendering of an outcome was written, or its writing failed, or there was no memory for it
+abbrev pub IsRunPrinted : ObservedSink → ℕ → Outcome → Status → Option Outcome → Type 0
+IsRunPrinted out attempts o status.Ok outcome = (outcome ≡ Some o) × IsPrinted out attempts status.Ok o
+IsRunPrinted out attempts o status.SinkFault outcome = (outcome ≡ Some o) × IsPrinted out attempts status.SinkFault o
+IsRunPrinted out attempts o status.NoMemory outcome = (outcome ≡ None) × (out.taken_after ≡ out.taken_before)
+IsRunPrinted out attempts o _ outcome = ⊥
+
+-- the run of this plan came to its end, and its rendering was written
+abbrev pub IsGraphThrough : Observed → Plan → Options → Status → Option Outcome → Type 0
+IsGraphThrough observed plan options s outcome =
+    AreFound observed.store.files plan
+    × ((o : Outcome) × (outcome ≡ Some o) × IsOutcomeWhere (known_of observed.shelf observed.store) plan options IsEnded o × IsPrinted observed.out options.attempts s o)
+
+abbrev pub IsGraphEnd : Observed → Plan → Options → ℕ → Status → Option Outcome → Type 0
+IsGraphEnd observed plan options failed status.Ok outcome = IsGraphThrough observed plan options status.Ok outcome
+IsGraphEnd observed plan options failed status.SinkFault outcome = IsGraphThrough observed plan options status.SinkFault outcome
+IsGraphEnd observed plan options failed (status.WorkFault note) outcome =
+    IsUnwritten observed × AreFound observed.store.files plan
+    × ((o : Outcome) × (outcome ≡ Some o) × IsOutcomeWhere (known_of observed.shelf observed.store) plan options (IsStoppedBy observed.store note) o)
+    × IsSpent observed.shelf observed.store options.attempts note
+IsGraphEnd observed plan options failed s outcome =
+    IsUnwritten observed × (outcome ≡ None) × (IsOpeningRefused observed.store plan options.attempts failed s ⊎ (s ≡ status.NoMemory))

@@ -1,0 +1,23 @@
+-- What the outcome of a run that came to its end is, beside its plan.
+use Rattle.std.specs.Prelude.{◌≡◌, List, Option, Some, None}
+use Rattle.beam_values.specs.declared.file_text.FileText.{FileText}
+use Rattle.beam_values.specs.declared.outcome.Outcome.{Outcome}
+use Rattle.beam_values.specs.declared.plan.Plan.{Plan}
+use Rattle.beam_model.specs.Panes.{ArePanesLegal}
+use Rattle.command_words.specs.Commands.{Asked, Help, Panes, Run}
+use Rattle.beam_command.specs.Asking.{IsPlanOf}
+
+-- the plan of what is asked for, if anything is
+abbrev pub IsPlanAsked : Option (List FileText) → Option Asked → Plan → Type 0
+IsPlanAsked files None plan = ⊥
+IsPlanAsked files (Some asked) plan = IsPlanOf files asked plan
+
+abbrev pub HasLegalPanes : Outcome → Type 0
+HasLegalPanes o = ArePanesLegal o.plan o.commits o.cells o.dropped o.panes
+
+-- `panes` is asked for
+abbrev pub AsksPanes : Option Asked → Type 0
+AsksPanes None = ⊥
+AsksPanes (Some Help) = ⊥
+AsksPanes (Some (Panes file size options)) = Unit {0}
+AsksPanes (Some (Run name options)) = ⊥

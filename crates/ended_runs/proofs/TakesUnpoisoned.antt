@@ -1,0 +1,198 @@
+-- A run that takes no poison works none: splits only shorten what was taken, and panes stay what they are.
+use Rattle.std.proofs.Common.{◌≡◌, inl, inr, ℕ, ◌<◌, Bool, true, false, List, [], ◌∷◌, ◌++◌, map, refl, sym, subst, ap, ◌∙◌, arith}
+use Rattle.std.specs.Prelude.{Option, Some, None, slice_set}
+use Rattle.std.specs.List.{All, flat_map, list_any}
+use Rattle.std.proofs.lemmas.Bool.{cases_lt, false≢true}
+use Rattle.std.proofs.lemmas.List.Elements.{All-cons, All-head, All-nil, All-push, All-set, All-tail}
+use Rattle.beam_values.proofs.Spreads.{spread-empty}
+use Rattle.beam_values.specs.declared.cell.Pane.{Pane}
+use Rattle.beam_values.specs.declared.fault.Cause.{Cause}
+use Rattle.beam_values.specs.declared.fault.Cause.TheVariants.{Call, Read}
+use Rattle.beam_values.specs.declared.fault.FaultNote.{FaultNote}
+use Rattle.beam_values.specs.declared.file_text.FileText.{FileText}
+use Rattle.beam_values.specs.declared.piece.Piece.{Piece}
+use Rattle.beam_values.specs.declared.plan.Plan.{Plan}
+use Rattle.beam_model.specs.Coverings.{item_at}
+use Rattle.beam_model.specs.Positions.{SourceItem, item_len, items}
+use Rattle.beam_model.specs.Spread.{is_poison, outputs_at}
+use Rattle.bundle_commit.specs.declared.job.Job.{Job}
+use Rattle.book_core.specs.Book.{BookData, batch_of, held_at, held_in, live_batches, pane_at, panes_of, queued}
+use Rattle.book_core.specs.Changes.{counted, cut_to, ends_run, given_back, note_of, stopped_where, with_slot}
+use Rattle.book_core.specs.Facts.{AreKept, IsHeldPane}
+use Rattle.book_core.specs.Jobs.{Due, GivenBack, Oldest, first_due, job_of, without_due}
+use Rattle.book_core.specs.Runs.{AreTold, HonestRun, HonestlyReached, MadeStep}
+use Rattle.book_core.specs.Steps.{Action, Enroll, Take, Claim, Split, Commit, Fail, Stop, Answer, Enrolled, TakenJob, Nothing, Finished, Stopped, Claimed, SplitAt, Committed, Noted, NoMemory, IsTaking, IsWorking, Step}
+use Rattle.book_core.specs.Work.{IsPoisonJob, Known, batch_outputs, items_told, outputs_of_item}
+use Rattle.book_core.specs.declared.live.Batch.{Batch}
+use Rattle.book_core.specs.declared.live.Live.{Live}
+use Rattle.book_core.specs.declared.live.Live.TheVariants as live
+use Rattle.book_core.specs.declared.live.WaitingPane.{WaitingPane}
+use Rattle.book_core.proofs.HeldOnce.{get_front}
+use Rattle.book_core.proofs.Reaching.{HasSamePlan, step_same}
+use Rattle.book_core.proofs.Slots.{All-slice_get}
+use Rattle.book_core.proofs.Slotted.{All-append_right, All-of_flat_map}
+use Rattle.ended_runs.specs.Unpoisoned.{TakesNoPoison}
+use Rattle.ended_runs.proofs.Poisons.{any_in_front}
+use Rattle.ended_runs.proofs.Stopped.{honest_more, opening_reached}
+use Rattle.ended_runs.proofs.Unpoisoned.{IsUnpoisoned, take_keeps}
+
+all_both : {X : Type 0} (P Q R : X → Type 0) → ((x : X) → P x → Q x → R x) → (xs : List X) → All P xs → All Q xs → All R xs
+all_both P Q R holds [] ps qs = All-nil R
+all_both P Q R holds (x ∷ xs) ps qs = All-cons R x xs (holds x (All-head P x xs ps) (All-head Q x xs qs)) (all_both P Q R holds xs (All-tail P x xs ps) (All-tail Q x xs qs))
+
+-- ---- what of a book says which jobs are poison
+
+abbrev Shape : Type 0
+Shape = Plan × (List Pane × List (Option Live))
+
+abbrev shape_of : BookData → Shape
+shape_of b = (b.plan, (b.panes, b.slots))
+
+due_shape : (b : BookData) (d : Due) → shape_of (without_due b d).rest ≡ shape_of b
+due_shape b (GivenBack batch) = refl
+due_shape b (Oldest batch) = refl
+
+counted_shape : (b : BookData) (slot : ℕ) (job : Live) (cause : Cause) → shape_of (counted (given_back (with_slot b slot None) job) cause) ≡ (b.plan, (b.panes, slice_set b.slots slot None))
+counted_shape b slot (live.Span piece attempted) Call = refl
+counted_shape b slot (live.Span piece attempted) Read = refl
+counted_shape b slot (live.Batch batch) Call = refl
+counted_shape b slot (live.Batch batch) Read = refl
+
+stopped_shape : (spent : Bool) (b : BookData) (note : FaultNote) → shape_of (stopped_where spent b note) ≡ shape_of b
+stopped_shape true b note = refl
+stopped_shape false b note = refl
+
+module _ (known : Known) (told : List FileText) (tells : known.told ≡ Some told) (strict : known.strict ≡ true) where
+  -- what a slot works is no poison
+  abbrev IsCleanJob : Plan → List Pane → Live → Type 0
+  IsCleanJob plan panes job = IsPoisonJob known.told plan (job_of panes job) → ⊥
+
+  abbrev IsClean : Plan → List Pane → Option Live → Type 0
+  IsClean plan panes None = Unit {0}
+  IsClean plan panes (Some job) = IsCleanJob plan panes job
+
+  abbrev AreClean : Shape → Type 0
+  AreClean (plan, (panes, slots)) = All (IsClean plan panes) slots
+
+  -- ---- a range that is cut
+
+  cut_poison : (plan : Plan) (from at to : ℕ) (item : Option SourceItem) → at < to → list_any is_poison (outputs_of_item plan (record { from = from; to = at }) item) ≡ true
+      → list_any is_poison (outputs_of_item plan (record { from = from; to = to }) item) ≡ true
+  cut_poison plan from at to None inside any = any
+  cut_poison plan from at to (Some item) inside any = elim (cases_lt at from) [
+    | inl before ↦ absurd (false≢true (sym (ap (list_any is_poison) (spread-empty (outputs_at plan item) from at (omega (arith, before)))) ∙ any))
+    | inr behind ↦ any_in_front (outputs_at plan item) from at to behind (omega (arith, inside)) any
+  ]
+
+  cut_clean : (plan : Plan) (panes : List Pane) (piece : Piece) (attempted : Option ℕ) (at : ℕ) → at < piece.range.to → IsCleanJob plan panes (live.Span piece attempted)
+      → IsCleanJob plan panes (live.Span (cut_to piece (record { from = piece.range.from; to = at })) attempted)
+  cut_clean plan panes piece attempted at inside clean = λ poison.
+      clean (cut_poison plan piece.range.from at piece.range.to (item_at (items_told known.told plan) piece.node piece.item) inside poison)
+
+  -- ---- panes that fire later
+
+  module _ (b : BookData) (fired : List Pane) where
+    panes_stay : (waiting : List WaitingPane) (node : ℕ) → All (IsHeldPane b) (held_at node waiting) → panes_of (b.panes ++ fired) waiting ≡ panes_of b.panes waiting
+    panes_stay [] node held = refl
+    panes_stay (first ∷ later) node held =
+        let own = All-head (IsHeldPane b) _ _ held in
+        let there = get_front b.panes fired first.pane own.0 own.1 ∙ sym own.1 in
+        let here : pane_at (b.panes ++ fired) first ≡ pane_at b.panes first = ap (λ (found : Option Pane). elim found [ Some pane ↦ pane ∷ [] | None ↦ [] ]) there in
+        ap (λ (front : List Pane). front ++ panes_of (b.panes ++ fired) later) here
+        ∙ ap (λ (rest : List Pane). pane_at b.panes first ++ rest) (panes_stay later node (All-tail (IsHeldPane b) _ _ held))
+
+    slot_stays : (job : Option Live) → All (λ (batch : Batch). All (IsHeldPane b) (held_in batch)) (batch_of job) → IsClean b.plan b.panes job → IsClean b.plan (b.panes ++ fired) job
+    slot_stays None held clean = tt
+    slot_stays (Some (live.Span piece attempted)) held clean = clean
+    slot_stays (Some (live.Batch batch)) held clean = λ poison.
+        let same = panes_stay batch.panes batch.node (All-head (λ (x : Batch). All (IsHeldPane b) (held_in x)) batch [] held) in
+        clean (subst (λ (panes : List Pane). list_any is_poison (batch_outputs b.plan batch.node panes) ≡ true) same poison)
+
+    fired_clean : AreKept b → AreClean (shape_of b) → AreClean (b.plan, (b.panes ++ fired, b.slots))
+    fired_clean kept clean =
+        let lives = All-append_right (IsHeldPane b) (flat_map held_in b.returned) (flat_map held_in (live_batches b)) (All-append_right (IsHeldPane b) (queued b) _ kept.held.panes) in
+        all_both (λ (job : Option Live). All (λ (batch : Batch). All (IsHeldPane b) (held_in batch)) (batch_of job)) (IsClean b.plan b.panes) (IsClean b.plan (b.panes ++ fired)) slot_stays b.slots
+        (All-of_flat_map (λ (batch : Batch). All (IsHeldPane b) (held_in batch)) batch_of b.slots (All-of_flat_map (IsHeldPane b) held_in (live_batches b) lives)) clean
+
+  -- ---- one step
+
+  set_clean : (plan : Plan) (panes : List Pane) (slots : List (Option Live)) (slot : ℕ) (job : Option Live) → IsClean plan panes job → AreClean (plan, (panes, slots))
+      → AreClean (plan, (panes, slice_set slots slot job))
+  set_clean plan panes slots slot job one clean = All-set (IsClean plan panes) slots slot job one clean
+
+  shaped : (new : BookData) (shape : Shape) → shape_of new ≡ shape → AreClean shape → AreClean (shape_of new)
+  shaped new shape is clean = subst AreClean (sym is) clean
+
+  working : (b : BookData) (slot : ℕ) (job : Live) → AreClean (shape_of b) → IsWorking b slot job → IsCleanJob b.plan b.panes job
+  working b slot job clean works = All-slice_get (IsClean b.plan b.panes) b.slots slot (Some job) works clean
+
+  step_clean : (b new : BookData) (slot : ℕ) (action : Action) (answer : Answer) → Step known.told b slot action answer new → AreKept b
+      → ((new : BookData) (slot : ℕ) (job : Job) → IsTaking b slot job new → IsPoisonJob known.told b.plan job → ⊥) → AreClean (shape_of b) → AreClean (shape_of new)
+  step_clean b new slot Enroll (Enrolled number) step kept takes clean =
+      shaped new (b.plan, (b.panes, b.slots ++ None ∷ [])) (ap shape_of step.2) (All-push (IsClean b.plan b.panes) b.slots None clean tt)
+  step_clean b new slot Enroll NoMemory step kept takes clean = shaped new (shape_of b) (ap shape_of step) clean
+  step_clean b new slot Take (TakenJob job) step kept takes clean =
+      let rest = take_keeps shape_of b (λ ps. refl) (due_shape b) (first_due b) b.pending step.next refl step.is_next in
+      let one : IsCleanJob b.plan b.panes step.next.job = λ poison. takes new slot job step (subst (IsPoisonJob known.told b.plan) (sym step.handed) poison) in
+      shaped new (b.plan, (b.panes, slice_set b.slots slot (Some step.next.job)))
+      (ap shape_of step.is ∙ ap (λ (shape : Shape). (shape.0, (shape.1.0, slice_set shape.1.1 slot (Some step.next.job)))) rest)
+      (set_clean b.plan b.panes b.slots slot (Some step.next.job) one clean)
+  step_clean b new slot Take Nothing step kept takes clean = shaped new (shape_of b) (ap shape_of step.4) clean
+  step_clean b new slot Take Finished step kept takes clean = shaped new (shape_of b) (ap shape_of step.4) clean
+  step_clean b new slot Take Stopped step kept takes clean = shaped new (shape_of b) (ap shape_of step.2) clean
+  step_clean b new slot Take NoMemory step kept takes clean = shaped new (shape_of b) (ap shape_of step.1) clean
+  step_clean b new slot (Claim p) (Claimed granted) step kept takes clean =
+      shaped new (b.plan, (b.panes, slice_set b.slots slot (Some (live.Span step.piece (Some p))))) (ap shape_of step.is)
+      (set_clean b.plan b.panes b.slots slot (Some (live.Span step.piece (Some p))) (working b slot (live.Span step.piece step.attempted) clean step.works) clean)
+  step_clean b new slot (Split num den) (SplitAt (Some at)) step kept takes clean =
+      let split = step.0 in
+      let front = live.Span (cut_to split.piece (record { from = split.piece.range.from; to = at })) split.attempted in
+      shaped new (b.plan, (b.panes, slice_set b.slots slot (Some front))) (ap shape_of split.is)
+      (set_clean b.plan b.panes b.slots slot (Some front)
+      (cut_clean b.plan b.panes split.piece split.attempted at split.inside (working b slot (live.Span split.piece split.attempted) clean split.works)) clean)
+  step_clean b new slot (Split num den) (SplitAt None) step kept takes clean = shaped new (shape_of b) (ap shape_of step.1) clean
+  step_clean b new slot (Split num den) NoMemory step kept takes clean = shaped new (shape_of b) (ap shape_of step) clean
+  step_clean b new slot Commit Committed step kept takes clean =
+      let commit = step.1.commit in
+      shaped new (b.plan, (b.panes ++ commit.fired, slice_set b.slots slot None)) (ap shape_of commit.is)
+      (set_clean b.plan (b.panes ++ commit.fired) b.slots slot None tt (fired_clean b commit.fired kept clean))
+  step_clean b new slot Commit NoMemory step kept takes clean = shaped new (shape_of b) (ap shape_of step.1) clean
+  step_clean b new slot (Fail at cause) answer step kept takes clean =
+      let given = counted (given_back (with_slot b slot None) step.job) cause in
+      shaped new (b.plan, (b.panes, slice_set b.slots slot None))
+      (ap shape_of step.is ∙ stopped_shape (ends_run b step.job cause) given (note_of step.job at cause) ∙ counted_shape b slot step.job cause)
+      (set_clean b.plan b.panes b.slots slot None tt clean)
+  step_clean b new slot Stop Noted step kept takes clean = shaped new (shape_of b) (ap shape_of step) clean
+  step_clean b new slot _ _ step kept takes clean = absurd step
+
+  -- ---- all steps
+
+  module _ (kept : (b : BookData) → HonestlyReached known b → AreKept b) (end : BookData)
+      (takes : (b new : BookData) (slot : ℕ) (job : Job) → HonestlyReached known b → HasSamePlan end b → IsTaking b slot job new → IsPoisonJob known.told b.plan job → ⊥) where
+    run_clean : (steps : List MadeStep) (b last : BookData) → HonestRun known b steps last → HonestlyReached known b → HasSamePlan end b → AreClean (shape_of b) → AreClean (shape_of last)
+    run_clean [] b last run reached same clean = shaped last (shape_of b) (ap shape_of run) clean
+    run_clean (made ∷ later) b last run reached same clean =
+        let onward = step_same known.told b run.0 made.slot made.action made.answer run.1 in
+        run_clean later run.0 last run.3 (honest_more known b run.0 made run.1 run.2 reached)
+        (record { plan = onward.plan ∙ same.plan; files = onward.files ∙ same.files; options = onward.options ∙ same.options })
+        (step_clean b run.0 made.slot made.action made.answer run.1 (kept b reached) (λ new slot job. takes b new slot job reached same) clean)
+
+    pub works_no_poison : (b : BookData) → HonestlyReached known b → HasSamePlan end b → IsUnpoisoned known told tells strict b
+    works_no_poison b reached same slot job works =
+        let first = reached.opening.is in
+        let own = subst (HasSamePlan end) (sym first) (record { plan = same.plan; files = same.files; options = same.options }) in
+        let none : AreClean (shape_of reached.first) = shaped reached.first _ (ap shape_of first) (All-nil _) in
+        working b slot job (run_clean reached.steps reached.first b reached.run (opening_reached known b reached.first reached.opening) own none) works
+
+-- ---- from what is taken
+
+module _ (known : Known) (told : List FileText) (tells : known.told ≡ Some told) (end : BookData) (lengths : AreTold told end) (none : TakesNoPoison known end.plan end.options) where
+  -- each book of a run to this one is of its plan, its options and its files
+  pub takes_none : (b new : BookData) (slot : ℕ) (job : Job) → HonestlyReached known b → HasSamePlan end b → IsTaking b slot job new → IsPoisonJob known.told b.plan job → ⊥
+  takes_none b new slot job reached same step poison =
+      none b new slot job reached same.plan same.options (λ files is. of files (cc (tells, is))) step (subst (λ (p : Plan). IsPoisonJob known.told p job) same.plan poison)
+    where
+      of : (files : List FileText) → told ≡ files → AreTold files b
+      of files is =
+          subst (λ (t : List FileText). AreTold t b) is
+          (same.files ∙ lengths ∙ ap (λ (p : Plan). map item_len (items told p)) (sym same.plan))

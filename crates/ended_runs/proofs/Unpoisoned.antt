@@ -1,0 +1,210 @@
+-- A run that works no poison has no failed call, if calls fail on poison alone: what stops it are reads.
+use Rattle.std.proofs.Common.{◌≡◌, inl, inr, ℕ, ◌+◌, ◌<◌, ◌≤◌, Bool, true, false, List, [], ◌∷◌, refl, sym, subst, ap, ◌∙◌, arith}
+use Rattle.std.specs.Prelude.{Option, Some, None}
+use Rattle.std.specs.List.{flat_map, list_any}
+use Rattle.std.proofs.lemmas.Bool.{false≢true}
+use Rattle.std.proofs.lemmas.List.Elements.{All-head}
+use Rattle.beam_values.specs.declared.cell.Pane.{Pane}
+use Rattle.beam_values.specs.declared.fault.Cause.TheVariants.{Call, Read}
+use Rattle.beam_values.specs.declared.fault.FaultNote.{FaultNote}
+use Rattle.beam_values.specs.declared.file_text.FileText.{FileText}
+use Rattle.beam_values.specs.declared.outcome.StopCause.{StopCause}
+use Rattle.beam_values.specs.declared.outcome.StopCause.TheVariants as stop
+use Rattle.beam_values.specs.declared.piece.Piece.{Piece}
+use Rattle.beam_values.specs.declared.plan.Plan.{Plan}
+use Rattle.beam_values.proofs.Spreads.{spread-single}
+use Rattle.beam_model.specs.Coverings.{item_at}
+use Rattle.beam_model.specs.Positions.{SourceItem}
+use Rattle.beam_model.specs.Spread.{is_poison, outputs_at}
+use Rattle.beam_ports.specs.Counts.{raised}
+use Rattle.book_core.specs.Book.{BookData, batch_of, panes_of, piece_of}
+use Rattle.book_core.specs.Changes.{attempts_of, counted, ends_run, given_back, note_of, or_stopped, stopped_where, with_slot}
+use Rattle.book_core.specs.Facts.{AreAttemptsCounted, AreKept, IsBelowLimit, IsStopNoted}
+use Rattle.book_core.specs.Jobs.{Due, GivenBack, Oldest, Next, attempted_of, due_or_piece, first_due, job_of, without_due, without_first}
+use Rattle.book_core.specs.Runs.{HonestRun, HonestlyReached, IsHonestAction, MadeStep}
+use Rattle.book_core.specs.Steps.{Action, Enroll, Take, Claim, Split, Commit, Fail, Stop, Answer, Enrolled, TakenJob, Nothing, Finished, Stopped, Claimed, SplitAt, Committed, Noted, NoMemory, IsWorking, Step}
+use Rattle.book_core.specs.Work.{IsHonestCall, IsPoisonAttempt, IsPoisonJob, Known, batch_outputs, is_known, items_told, outputs_of_item, first_poison}
+use Rattle.book_core.specs.declared.live.Batch.{Batch}
+use Rattle.book_core.specs.declared.live.Live.{Live}
+use Rattle.book_core.specs.declared.live.Live.TheVariants as live
+use Rattle.book_core.proofs.Reaching.{HasSamePlan, step_same}
+use Rattle.book_core.proofs.Slotted.{All-append_right, All-flat_at}
+use Rattle.ended_runs.proofs.Poisons.{any_at, first_is_poison}
+use Rattle.ended_runs.proofs.Stopped.{honest_more, none_by_memory, opening_reached}
+
+-- ---- what fails on poison is poison
+
+module _ (known : Known) (told : List FileText) (tells : known.told ≡ Some told) (plan : Plan) (panes : List Pane) where
+  attempt_poison : (piece : Piece) (p at : ℕ) (item : Option SourceItem) → piece.range.from ≤ p → p < piece.range.to
+      → first_poison (outputs_of_item plan (record { from = p; to = p + 1 }) item) ≡ Some at → list_any is_poison (outputs_of_item plan piece.range item) ≡ true
+  attempt_poison piece p at None low high first = absurd cc
+  attempt_poison piece p at (Some item) low high first =
+      let here = spread-single (outputs_at plan item) p in
+      any_at (outputs_at plan item) piece.range.from p piece.range.to low high
+      (first_is_poison (outputs_at plan item p) at (ap first_poison (sym here) ∙ first))
+
+  pub call_is_poison : (job : Live) (at : ℕ) → IsHonestCall known plan (job_of panes job) (attempted_of job) at → IsPoisonJob known.told plan (job_of panes job)
+  call_is_poison (live.Span piece attempted) at honest = elim honest [
+    | inl unknown ↦ absurd (false≢true (sym (subst (λ (t : Option (List FileText)). is_known t plan piece.node ≡ false) tells unknown)))
+    | inr attempt ↦ of attempted attempt
+  ]
+    where
+      of : (a : Option ℕ) → IsPoisonAttempt known.told plan piece a at → IsPoisonJob known.told plan (job_of panes (live.Span piece a))
+      of None attempt = absurd attempt
+      of (Some p) attempt = attempt_poison piece p at (item_at (items_told known.told plan) piece.node piece.item) attempt.0 attempt.1 attempt.2
+  call_is_poison (live.Batch batch) at honest = first_is_poison (batch_outputs plan batch.node (panes_of panes batch.panes)) at honest
+
+-- ---- the counts of a book
+
+abbrev Counts : Type 0
+Counts = ℕ × (ℕ × Option StopCause)
+
+abbrev counts_of : BookData → Counts
+counts_of b = (b.calls, (b.reads, b.stopped))
+
+-- No call has failed, and what stopped the book failed no more often than reads did.
+abbrev AreReads : Counts → Type 0
+AreReads (calls, (reads, stopped)) = (calls ≡ 0) × ((note : FaultNote) → stopped ≡ Some (stop.Spent note) → (note.attempt ≤ reads) × (note.attempt ≤ 1000))
+
+-- a take changes nothing of the rest but what waits
+module _ {X : Type 0} (of : BookData → X) (b : BookData) (pending : (ps : List Piece) → of (record b { pending = ps }) ≡ of b)
+    (due : (d : Due) → of (without_due b d).rest ≡ of b) where
+  pub take_keeps : (d : Option Due) (pieces : List Piece) (next : Next) → b.pending ≡ pieces → due_or_piece b d ≡ Some next → of next.rest ≡ of b
+  take_keeps (Some d) pieces next is h = let e : without_due b d ≡ next = cc in sym (ap (λ (n : Next). of n.rest) e) ∙ due d
+  take_keeps None pieces next is h = by pieces (sym (ap (without_first b) is) ∙ h)
+    where
+      by : (ps : List Piece) → without_first b ps ≡ Some next → of next.rest ≡ of b
+      by [] g = absurd (cc)
+      by (piece ∷ later) g =
+          let e : record { job = live.Span piece None; rest = record b { pending = later } } ≡ next = cc in
+          sym (ap (λ (n : Next). of n.rest) e) ∙ pending later
+
+due_counts : (b : BookData) (d : Due) → counts_of (without_due b d).rest ≡ counts_of b
+due_counts b (GivenBack batch) = refl
+due_counts b (Oldest batch) = refl
+
+read_counts : (b : BookData) (slot : ℕ) (job : Live) → counts_of (counted (given_back (with_slot b slot None) job) Read) ≡ (b.calls, (raised b.reads, b.stopped))
+read_counts b slot (live.Span piece attempted) = refl
+read_counts b slot (live.Batch batch) = refl
+
+same_counts : (b new : BookData) → counts_of new ≡ counts_of b → AreReads (counts_of b) → AreReads (counts_of new)
+same_counts b new same reads = subst AreReads (sym same) reads
+
+-- ---- a fail by a read
+
+once_more : (attempts reads : ℕ) → attempts ≤ reads → attempts < 1000 → attempts + 1 ≤ raised reads
+once_more attempts reads most few = omega arith
+
+kept_under : (attempt reads : ℕ) → attempt ≤ reads → attempt ≤ 1000 → attempt ≤ raised reads
+kept_under attempt reads most few = omega arith
+
+module _ (b : BookData) (slot at : ℕ) (job : Live) (works : IsWorking b slot job) (kept : AreKept b) (h : AreReads (counts_of b)) where
+  job_tried : (attempts_of job < b.options.attempts) × (attempts_of job ≤ b.calls + b.reads)
+  job_tried = by job works
+    where
+      counts : AreAttemptsCounted b
+      counts = kept.attempts
+
+      by : (j : Live) → IsWorking b slot j → (attempts_of j < b.options.attempts) × (attempts_of j ≤ b.calls + b.reads)
+      by (live.Span piece attempted) is = (
+        All-head (λ (x : Piece). IsBelowLimit b x.attempts) piece [] (All-flat_at piece_of b.slots slot (λ (x : Piece). IsBelowLimit b x.attempts) (Some (live.Span piece attempted)) is counts.worked_pieces),
+        All-head (λ (x : Piece). x.attempts ≤ b.calls + b.reads) piece []
+            (All-flat_at piece_of b.slots slot (λ (x : Piece). x.attempts ≤ b.calls + b.reads) (Some (live.Span piece attempted)) is
+            (All-append_right (λ (x : Piece). x.attempts ≤ b.calls + b.reads) b.pending (flat_map piece_of b.slots) counts.pieces)),
+      )
+      by (live.Batch batch) is = (
+        All-head (λ (x : Batch). IsBelowLimit b x.attempts) batch [] (All-flat_at batch_of b.slots slot (λ (x : Batch). IsBelowLimit b x.attempts) (Some (live.Batch batch)) is counts.worked_batches),
+        All-head (λ (x : Batch). x.attempts ≤ b.calls + b.reads) batch []
+            (All-flat_at batch_of b.slots slot (λ (x : Batch). x.attempts ≤ b.calls + b.reads) (Some (live.Batch batch)) is
+            (All-append_right (λ (x : Batch). x.attempts ≤ b.calls + b.reads) b.returned (flat_map batch_of b.slots) counts.batches)),
+      )
+
+  own_attempt : (note_of job at Read).attempt ≡ attempts_of job + 1
+  own_attempt = by job
+    where
+      by : (j : Live) → (note_of j at Read).attempt ≡ attempts_of j + 1
+      by (live.Span piece attempted) = refl
+      by (live.Batch batch) = refl
+
+  few_tries : attempts_of job < 1000
+  few_tries = omega (arith, job_tried.0, kept.formed.allowed.attempts.1)
+
+  still : (note : FaultNote) → b.stopped ≡ Some (stop.Spent note) → (note.attempt ≤ raised b.reads) × (note.attempt ≤ 1000)
+  still note is = let was = h.1 note is in (kept_under note.attempt b.reads was.0 was.1, was.1)
+
+  new_note : (note_of job at Read).attempt ≤ raised b.reads
+  new_note = subst (λ (n : ℕ). n ≤ raised b.reads) (sym own_attempt) (once_more (attempts_of job) b.reads (omega (arith, job_tried.1, h.0)) few_tries)
+
+  stopped_then : (kept : Option StopCause) → b.stopped ≡ kept → (note : FaultNote) → or_stopped kept (stop.Spent (note_of job at Read)) ≡ Some (stop.Spent note)
+      → (note.attempt ≤ raised b.reads) × (note.attempt ≤ 1000)
+  stopped_then (Some cause) is note e = still note (is ∙ e)
+  stopped_then None is note e =
+      let same : note_of job at Read ≡ note = cc in (
+        subst (λ (n : FaultNote). n.attempt ≤ raised b.reads) same new_note,
+        subst (λ (n : FaultNote). n.attempt ≤ 1000) same (omega (arith, own_attempt, few_tries)),
+      )
+
+  read_fails : (spent : Bool) (x : BookData) → counts_of x ≡ (b.calls, (raised b.reads, b.stopped)) → AreReads (counts_of (stopped_where spent x (note_of job at Read)))
+  read_fails false x is = subst AreReads (sym is) (h.0, still)
+  read_fails true x is =
+      subst AreReads (sym (ap (λ (t : Counts). (t.0, (t.1.0, or_stopped t.1.1 (stop.Spent (note_of job at Read))))) is)) (h.0, stopped_then b.stopped refl)
+
+-- ---- one step
+
+module _ (known : Known) (told : List FileText) (tells : known.told ≡ Some told) (strict : known.strict ≡ true) where
+  -- no slot works a poison job
+  abbrev pub IsUnpoisoned : BookData → Type 0
+  IsUnpoisoned b = (slot : ℕ) (job : Live) → IsWorking b slot job → IsPoisonJob known.told b.plan (job_of b.panes job) → ⊥
+
+  step_reads : (b new : BookData) (slot : ℕ) (action : Action) (answer : Answer) → Step known.told b slot action answer new → IsHonestAction known b slot action
+      → AreKept b → IsUnpoisoned b → AreReads (counts_of b) → AreReads (counts_of new)
+  step_reads b new slot Enroll (Enrolled number) step honest kept never h = same_counts b new (ap counts_of step.2) h
+  step_reads b new slot Enroll NoMemory step honest kept never h = same_counts b new (ap counts_of step) h
+  step_reads b new slot Take (TakenJob job) step honest kept never h =
+      same_counts b new (ap counts_of step.is ∙ take_keeps counts_of b (λ ps. refl) (due_counts b) (first_due b) b.pending step.next refl step.is_next) h
+  step_reads b new slot Take Nothing step honest kept never h = same_counts b new (ap counts_of step.4) h
+  step_reads b new slot Take Finished step honest kept never h = same_counts b new (ap counts_of step.4) h
+  step_reads b new slot Take Stopped step honest kept never h = same_counts b new (ap counts_of step.2) h
+  step_reads b new slot Take NoMemory step honest kept never h = same_counts b new (ap counts_of step.1) h
+  step_reads b new slot (Claim p) (Claimed granted) step honest kept never h = same_counts b new (ap counts_of step.is) h
+  step_reads b new slot (Split num den) (SplitAt (Some at)) step honest kept never h = same_counts b new (ap counts_of step.0.is) h
+  step_reads b new slot (Split num den) (SplitAt None) step honest kept never h = same_counts b new (ap counts_of step.1) h
+  step_reads b new slot (Split num den) NoMemory step honest kept never h = same_counts b new (ap counts_of step) h
+  step_reads b new slot Commit Committed step honest kept never h = same_counts b new (ap counts_of step.1.commit.is) h
+  step_reads b new slot Commit NoMemory step honest kept never h = same_counts b new (ap counts_of step.1) h
+  step_reads b new slot (Fail at Call) answer step honest kept never h = absurd (elim (honest step.job step.works) [
+    | inl loose ↦ absurd (false≢true (sym loose ∙ strict))
+    | inr called ↦ never slot step.job step.works (call_is_poison known told tells b.plan b.panes step.job at called)
+  ])
+  step_reads b new slot (Fail at Read) answer step honest kept never h =
+      subst (λ (x : BookData). AreReads (counts_of x)) (sym step.is)
+      (read_fails b slot at step.job step.works kept h (ends_run b step.job Read) (counted (given_back (with_slot b slot None) step.job) Read) (read_counts b slot step.job))
+  step_reads b new slot Stop Noted step honest kept never h =
+      subst (λ (x : BookData). AreReads (counts_of x)) (sym step) (h.0, λ note is. h.1 note (none_by_memory b.stopped note is))
+  step_reads b new slot _ _ step honest kept never h = absurd step
+
+  -- ---- all steps
+
+  module _ (kept : (b : BookData) → HonestlyReached known b → AreKept b) (end : BookData) (never : (b : BookData) → HonestlyReached known b → HasSamePlan end b → IsUnpoisoned b) where
+    run_reads : (steps : List MadeStep) (b last : BookData) → HonestRun known b steps last → HonestlyReached known b → HasSamePlan end b → AreReads (counts_of b) → AreReads (counts_of last)
+    run_reads [] b last run reached same h = subst (λ (x : BookData). AreReads (counts_of x)) (sym run) h
+    run_reads (made ∷ later) b last run reached same h =
+        let onward = step_same known.told b run.0 made.slot made.action made.answer run.1 in
+        run_reads later run.0 last run.3 (honest_more known b run.0 made run.1 run.2 reached)
+        (record { plan = onward.plan ∙ same.plan; files = onward.files ∙ same.files; options = onward.options ∙ same.options })
+        (step_reads b run.0 made.slot made.action made.answer run.1 run.2 (kept b reached) (never b reached same) h)
+
+    counts_kept : HonestlyReached known end → AreReads (counts_of end)
+    counts_kept reached =
+        let first = reached.opening.is in
+        let same = subst (HasSamePlan end) (sym first) (record { plan = refl; files = refl; options = refl }) in
+        let none : AreReads (counts_of reached.first) = subst (λ (x : BookData). AreReads (counts_of x)) (sym first) (refl, λ other e. absurd cc) in
+        run_reads reached.steps reached.first end reached.run (opening_reached known end reached.first reached.opening) same none
+
+    pub no_calls : HonestlyReached known end → end.calls ≡ 0
+    no_calls reached = (counts_kept reached).0
+
+    pub fails_by_reads : (note : FaultNote) → HonestlyReached known end → end.stopped ≡ Some (stop.Spent note) → end.options.attempts ≤ end.reads
+    fails_by_reads note reached is =
+        let tried = subst (IsStopNoted end) is (kept end reached).stop in
+        subst (λ (n : ℕ). n ≤ end.reads) tried ((counts_kept reached).1 note is).0
