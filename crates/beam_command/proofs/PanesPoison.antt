@@ -20,10 +20,11 @@ use Rattle.beam_model.specs.Chains.{Output, Arrives, PoisonAt, chain}
 use Rattle.beam_model.specs.Coverings.{item_at}
 use Rattle.beam_model.specs.Plans.{panes_plan}
 use Rattle.beam_model.specs.Positions.{Emission, Emits, Poison, SourceItem, TimedValue, emission, items, len_of, line_emission, told_bytes}
-use Rattle.beam_model.specs.Spread.{is_poison, HasPoison, emission_outputs, from_source, outputs_at}
+use Rattle.beam_model.specs.Spread.{is_poison, HasPoison, emission_outputs, from_source, outputs_at, first_poison}
 use Rattle.beam_model.specs.Values.{blob}
+use Rattle.beam_model.specs.Flow.{batch_outputs}
 use Rattle.ended_runs.proofs.Poisons.{any_at, any_left, first_holds, first_is_poison}
-use Rattle.book_core.specs.Work.{batch_outputs, first_poison, outputs_of_item}
+use Rattle.book_core.specs.Work.{outputs_of_item}
 
 each_of : {X Y : Type 0} (P : Y → Type 0) (f : X → List Y) (xs : List X) → ((x : X) → All P (f x)) → All P (flat_map f xs)
 each_of P f [] holds = All-nil P

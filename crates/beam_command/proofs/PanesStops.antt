@@ -13,13 +13,14 @@ use Rattle.beam_values.specs.declared.piece.Piece.{Piece}
 use Rattle.beam_values.specs.declared.plan.Plan.{Plan}
 use Rattle.beam_model.specs.Plans.{panes_plan}
 use Rattle.beam_model.specs.Positions.{items}
-use Rattle.beam_model.specs.Spread.{HasPoison}
+use Rattle.beam_model.specs.Spread.{HasPoison, first_poison}
+use Rattle.beam_model.specs.Flow.{batch_outputs}
 use Rattle.book_core.specs.Book.{BookData, batch_of, held_at, held_in, live_batches, panes_of, queued}
 use Rattle.book_core.specs.Changes.{note_of}
 use Rattle.book_core.specs.Facts.{AreKept, IsHeldPane}
 use Rattle.book_core.specs.Jobs.{attempted_of, job_of}
 use Rattle.book_core.specs.Steps.{IsWorking}
-use Rattle.book_core.specs.Work.{IsHonest, IsPoisonAttempt, Known, batch_outputs, first_poison, is_known}
+use Rattle.book_core.specs.Work.{IsHonest, IsPoisonAttempt, Known, is_known}
 use Rattle.book_core.specs.declared.live.Batch.{Batch}
 use Rattle.book_core.specs.declared.live.Live.{Live}
 use Rattle.book_core.specs.declared.live.Live.TheVariants as live

@@ -8,12 +8,13 @@ use Rattle.beam_values.specs.declared.plan.Plan.{Plan}
 use Rattle.beam_model.specs.Plans.{panes_plan}
 use Rattle.beam_model.specs.Positions.{items}
 use Rattle.beam_model.specs.Spread.{HasPoison}
+use Rattle.beam_model.specs.Flow.{batch_outputs}
 use Rattle.book_core.specs.Book.{BookData, panes_of}
 use Rattle.book_core.specs.Facts.{AreKept}
 use Rattle.book_core.specs.Jobs.{Due, GivenBack, Oldest, first_due, job_of, without_due}
 use Rattle.book_core.specs.Runs.{HonestlyReached}
 use Rattle.book_core.specs.Steps.{IsWorking, Take, TakenJob}
-use Rattle.book_core.specs.Work.{IsPoisonJob, Known, batch_outputs}
+use Rattle.book_core.specs.Work.{IsPoisonJob, Known}
 use Rattle.book_core.specs.declared.live.Live.{Live}
 use Rattle.book_core.specs.declared.live.Live.TheVariants as live
 use Rattle.ended_runs.proofs.Stopped.{honest_more}

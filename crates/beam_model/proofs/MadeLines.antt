@@ -1,4 +1,4 @@
--- Made-up lines, read: the time is what its digits say, and the text is what stands after the TAB.
+-- A made-up line is read as its number: the digits before the TAB are its time, the bytes after it its text.
 use Rattle.std.proofs.Common.{◌≡◌, ℕ, ◌+◌, ◌*◌, ◌%◌, ◌-◌, ◌<◌, ◌≤◌, ℤ, pos, ◌-ℤ◌, Bool, true, false, cond, eqb, ltb, not, List, [], ◌∷◌, ◌++◌, ◌&&◌, length, take, drop, Some, None, codes, decimal, refl, sym, ap, ◌∙◌, rules, arith, append_assoc, if◌then◌else◌}
 use Rattle.std.specs.List.{fold, list_all, position_or_len, before_first, after_first}
 use Rattle.std.specs.Char.{is_ascii_digit}

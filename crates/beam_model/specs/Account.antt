@@ -1,4 +1,4 @@
--- The account: what arrived at the barriers of a run is what flows to them, each once.
+-- The account: each output that flows to a barrier arrived there once, and no other element did.
 use Rattle.std.specs.Prelude.{◌≡◌, ℕ, true, List, [], ◌∷◌, ◌++◌, map}
 use Rattle.std.specs.List.{All, flat_map}
 use Rattle.beam_values.specs.Bags.{IsSameBag}
@@ -37,9 +37,9 @@ arrivals_of cells dropped logs written =
 abbrev pub arrivals : Outcome → List Arrival
 arrivals o = arrivals_of o.cells o.dropped o.logs o.written
 
--- What arrived is one bag with the flow of the outcome, and nothing of that is poison: every position's outputs, every pane and every stateful output
--- came to each barrier that it reaches exactly once, and nothing else did. Each part of the record is of nodes of its kind, so what a Group took is in
--- its cells or dropped, what a Stateful node took in its logs, and what a Write took is written.
+-- The arrivals are one bag with the flow of the outcome, and none of the flow is poison: every position's outputs, every pane and every stateful output
+-- came to each barrier that it reaches exactly once, and nothing else did. Each part of the record is of nodes of its kind, so the arrivals of a Group are
+-- in its cells or dropped, those of a Stateful node in its logs, and those of a Write are written.
 pub record IsAccounted (items : List SourceItem) (o : Outcome) : Type 0 where
   pub cells : All (λ cell. is_group o.plan cell.node ≡ true) o.cells
   pub dropped : All (λ dropped. is_group o.plan dropped.node ≡ true) o.dropped

@@ -1,14 +1,15 @@
 -- Sound estimators: no element that a source still emits lies before the mark that its estimator made of what was read (Splittable DoFn, watermark
 -- estimators).
-use Rattle.std.specs.Prelude.{◌≡◌, ℕ, ◌<◌, ℤ, ◌≤ℤ◌, true, if◌then◌else◌, List, [], ◌∷◌, map, Option, Some, None}
+use Rattle.std.specs.Prelude.{◌≡◌, ℕ, ◌<◌, ℤ, ◌≤ℤ◌, true, if◌then◌else◌, List, [], ◌∷◌, map, fold, Option, Some, None}
+use Rattle.std.specs.Int.{int_max}
 use Rattle.std.specs.List.{All}
-use Rattle.beam_values.specs.Marks.{mark_of}
+use Rattle.beam_values.specs.Marks.{mark_of, seen_after}
 use Rattle.beam_values.specs.Nodes.{is_above}
 use Rattle.beam_values.specs.declared.plan.Estimator.{Estimator}
 use Rattle.beam_values.specs.declared.plan.Estimator.TheVariants as estimator
 use Rattle.beam_values.specs.declared.plan.Plan.{Plan}
 use Rattle.beam_model.specs.Holds.{estimator_of}
-use Rattle.beam_model.specs.Positions.{Emission, Emits, Poison, nothing, emission, SourceItem, len_of}
+use Rattle.beam_model.specs.Positions.{Emission, Emits, Poison, TimedValue, nothing, emission, SourceItem, len_of}
 use Rattle.beam_model.specs.Spread.{is_left_out}
 
 -- what a position of an item emits; one that is left out emits nothing
@@ -19,6 +20,20 @@ emission_at item p = if is_left_out item p then nothing else emission item.work 
 abbrev pub output_times : Emission → List ℤ
 output_times (Emits values declared) = map (λ v. v.time) values
 output_times Poison = []
+
+-- the later one of a time and that of a value
+abbrev pub later_time : Option ℤ → TimedValue → Option ℤ
+later_time None value = Some value.time
+later_time (Some time) value = Some (int_max time value.time)
+
+-- the greatest time of some values, if there is one
+abbrev pub latest_time : List TimedValue → Option ℤ
+latest_time values = fold later_time None values
+
+-- what an estimator has seen after a position with this emission
+abbrev pub seen_with : Estimator → ℤ → Emission → ℤ
+seen_with estimator seen (Emits values declared) = seen_after estimator seen (latest_time values) declared
+seen_with estimator seen Poison = seen
 
 abbrev pub declared_marks : Option ℤ → List ℤ
 declared_marks None = []

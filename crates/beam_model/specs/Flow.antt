@@ -14,6 +14,10 @@ use Rattle.beam_model.specs.Spread.{spread_all}
 abbrev pub pane_chains : Plan → List Pane → List Output
 pane_chains plan panes = flat_map (λ pane. chain plan pane.node pane.element) panes
 
+-- what panes of one Group bring from it
+abbrev pub batch_outputs : Plan → ℕ → List Pane → List Output
+batch_outputs plan node panes = flat_map (λ pane. chain plan node pane.element) panes
+
 -- what the outputs of stateful calls bring from their nodes
 abbrev pub log_chains : Plan → List KeyLog → List Output
 log_chains plan logs = flat_map (λ log. flat_map (λ entry. flat_map (chain plan log.node) entry.outputs) log.entries) logs

@@ -1,5 +1,5 @@
 -- Spreads: what ranges of source items bring to the barriers.
-use Rattle.std.specs.Prelude.{◌≡◌, ℕ, ◌==◌, Bool, true, false, if◌then◌else◌, List, [], ◌∷◌}
+use Rattle.std.specs.Prelude.{◌≡◌, ℕ, ◌==◌, Bool, true, false, if◌then◌else◌, List, [], ◌∷◌, Option, Some, None}
 use Rattle.std.specs.List.{flat_map, list_any}
 use Rattle.beam_values.specs.Lines.{spread}
 use Rattle.beam_values.specs.Windows.{global_window}
@@ -39,3 +39,9 @@ is_poison (PoisonAt node) = true
 
 abbrev pub HasPoison : Plan → List SourceItem → Type 0
 HasPoison plan items = list_any is_poison (spread_all plan items) ≡ true
+
+-- the node of the first poison of some outputs
+abbrev pub first_poison : List Output → Option ℕ
+first_poison [] = None
+first_poison (Arrives arrival ∷ outputs) = first_poison outputs
+first_poison (PoisonAt node ∷ outputs) = Some node

@@ -1,4 +1,5 @@
--- Where the files are told, what arrived and what flows from panes that aren't through is what flows from the done ranges and the panes: a commit keeps it.
+-- Where the files are told, a commit keeps the balance: the arrivals and the chains of the panes that aren't through are the outputs of the done ranges and
+-- the chains of all panes.
 use Rattle.std.proofs.Common.{◌≡◌, ℕ, ◌+◌, ◌-◌, Bool, true, false, cond, List, [], ◌∷◌, ◌++◌, length, map, refl, sym, ap, subst, ◌∙◌, append_assoc, length-append, arith}
 use Rattle.std.specs.Prelude.{Option, Some, None, slice_get}
 use Rattle.std.specs.List.{All, flat_map, sum_by, enumerate_from}
@@ -20,7 +21,7 @@ use Rattle.beam_values.specs.declared.plan.Plan.{Plan}
 use Rattle.beam_model.specs.Account.{arrivals_of}
 use Rattle.beam_model.specs.Chains.{Output, Arrives, chain}
 use Rattle.beam_model.specs.Coverings.{item_at, spread_done, spread_dones, spread_of}
-use Rattle.beam_model.specs.Flow.{pane_chains}
+use Rattle.beam_model.specs.Flow.{pane_chains, batch_outputs}
 use Rattle.beam_model.specs.Positions.{SourceItem, items}
 use Rattle.beam_model.specs.Spread.{spread_range}
 use Rattle.bundle_commit.specs.declared.job.Receipt.{Receipt}
@@ -30,7 +31,7 @@ use Rattle.book_core.specs.Changes.{committed, done_after, done_cmp, done_of, wi
 use Rattle.book_core.specs.Facts.{AreHeldOnce, IsBalanced, IsHeldPane, IsWellFormed, held_chains}
 use Rattle.book_core.specs.Jobs.{attempted_of, job_of}
 use Rattle.book_core.specs.Steps.{IsWorking}
-use Rattle.book_core.specs.Work.{IsGiven, IsWorkOnItem, batch_outputs, worked_to}
+use Rattle.book_core.specs.Work.{IsGiven, IsWorkOnItem, worked_to}
 use Rattle.book_core.specs.declared.live.Batch.{Batch}
 use Rattle.book_core.specs.declared.live.Live.{Live}
 use Rattle.book_core.specs.declared.live.Live.TheVariants as live
@@ -108,7 +109,7 @@ module _ (plan : Plan) (w : Output → ℕ) where
         sum_by-append w (chain plan p.node p.element) (pane_chains plan ps),
       )
 
-  -- what a batch brings is what flows from its panes
+  -- the outputs of a batch are the chains of its panes
   batch_flow : (b : BookData) (node : ℕ) (panes : List WaitingPane) → All (IsHeldPane b) (map (λ waiting. record { node = node; waiting = waiting }) panes)
       → sum_by (held_weight b.panes) (map (λ waiting. record { node = node; waiting = waiting }) panes) ≡ sum_by w (batch_outputs plan node (panes_of b.panes panes))
   batch_flow b node [] all = refl

@@ -1,4 +1,4 @@
--- What came to the Groups is legal, own windows of sessions have the gap's length, and what was written is at Writes: every step keeps it.
+-- Every step keeps that the arrivals at the Groups are legal, own windows of sessions have the gap's length, and written elements are at Writes.
 use Rattle.std.proofs.Common.{◌≡◌, ℕ, ◌+◌, ◌-◌, ◌≤◌, Bool, true, false, cond, List, [], ◌∷◌, ◌++◌, length, map, refl, sym, ap, subst, ◌∙◌, append_assoc, length-append, arith}
 use Rattle.std.specs.Prelude.{Option, Some, None, slice_get, unwrap_or}
 use Rattle.std.specs.List.{All, flat_map, find, enumerate_from}
@@ -20,6 +20,7 @@ use Rattle.beam_model.specs.Chains.{Output, Arrives, PoisonAt, chain}
 use Rattle.beam_model.specs.Coverings.{is_item, item_at}
 use Rattle.beam_model.specs.Positions.{Emission, Emits, Poison, SourceItem, TimedValue, emission, file_item, items, items_of_kind, items_of_node, items_of_source}
 use Rattle.beam_model.specs.Spread.{emission_outputs, from_source, is_left_out, outputs_at, spread_range}
+use Rattle.beam_model.specs.Flow.{batch_outputs}
 use Rattle.bundle_commit.specs.declared.job.Receipt.{Receipt}
 use Rattle.group_cells.specs.Commits.{HasGap}
 use Rattle.group_cells.proofs.Counting.{All-unmap}
@@ -27,7 +28,7 @@ use Rattle.book_core.specs.Book.{BookData, batch_of, held_in, live_batches, pane
 use Rattle.book_core.specs.Facts.{AreHeldOnce, IsHeldPane}
 use Rattle.book_core.specs.Jobs.{job_of, attempted_of}
 use Rattle.book_core.specs.Steps.{IsWorking}
-use Rattle.book_core.specs.Work.{IsGiven, IsWorkOnItem, IsWorkOnRange, batch_outputs, is_known, items_told, worked_to}
+use Rattle.book_core.specs.Work.{IsGiven, IsWorkOnItem, IsWorkOnRange, is_known, items_told, worked_to}
 use Rattle.book_core.specs.declared.live.Batch.{Batch}
 use Rattle.book_core.specs.declared.live.Live.{Live}
 use Rattle.book_core.specs.declared.live.Live.TheVariants as live

@@ -31,6 +31,7 @@ use Rattle.beam_model.specs.Coverings.{is_item, item_at}
 use Rattle.beam_model.specs.Panes.{GroupRules, IsFiredAs, IsLegalHistory, Taken, is_at_key, is_of_window, is_pane_at_key, mark_after, panes_at, panes_in, rules_of, taken_at, taken_by, taken_drop}
 use Rattle.beam_model.specs.Positions.{SourceItem}
 use Rattle.beam_model.specs.Spread.{spread_range}
+use Rattle.beam_model.specs.Flow.{batch_outputs}
 use Rattle.bundle_commit.specs.declared.job.Receipt.{Receipt}
 use Rattle.group_cells.specs.Commits.{is_taken, taken_arrival}
 use Rattle.group_cells.proofs.Counting.{All-unmap}
@@ -40,7 +41,7 @@ use Rattle.book_core.specs.Changes.{with_slot, committed, failed}
 use Rattle.book_core.specs.Facts.{IsWellFormed}
 use Rattle.book_core.specs.Jobs.{attempted_of, job_of}
 use Rattle.book_core.specs.Runs.{Reached}
-use Rattle.book_core.specs.Work.{IsGiven, IsWorkOnItem, IsWorkOnRange, batch_outputs, is_known, items_told, worked_to}
+use Rattle.book_core.specs.Work.{IsGiven, IsWorkOnItem, IsWorkOnRange, is_known, items_told, worked_to}
 use Rattle.book_core.specs.declared.live.Live.{Live}
 use Rattle.book_core.specs.declared.live.Live.TheVariants as live
 use Rattle.book_core.specs.declared.live.WaitingPane.{WaitingPane}

@@ -28,8 +28,8 @@ use Rattle.beam_model.specs.Chains.{Output, Arrives, PoisonAt, carried, through,
 use Rattle.beam_model.specs.Functions.{emits}
 use Rattle.beam_model.specs.Positions.{Emission, Emits, Poison, SourceItem, TimedValue, emission, file_item, items, items_of_kind, items_of_source}
 use Rattle.beam_model.specs.Spread.{emission_outputs, from_source, is_left_out, outputs_at}
+use Rattle.beam_model.specs.Flow.{batch_outputs}
 use Rattle.pipeline_graph.specs.Rules.{HasSettings}
-use Rattle.book_core.specs.Work.{batch_outputs}
 use Rattle.book_core.proofs.EarlyTimes.{IsEarlyEmission, emission_early, items_have}
 use Rattle.book_core.proofs.Gaps.{emits_given}
 use Rattle.book_core.proofs.Through.{greatest_end}

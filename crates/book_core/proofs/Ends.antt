@@ -27,8 +27,8 @@ use Rattle.beam_model.specs.Positions.{Emission, Emits, Poison, SourceItem, Time
 use Rattle.beam_model.specs.Premises.{EndsAfter}
 use Rattle.beam_model.specs.Spread.{emission_outputs, from_source, is_left_out, outputs_at}
 use Rattle.beam_model.proofs.Barriers.{chains_end}
+use Rattle.beam_model.specs.Flow.{batch_outputs}
 use Rattle.group_cells.specs.Commits.{arrives_in_time, dropped_arrival, is_dropped, is_taken, taken_arrival}
-use Rattle.book_core.specs.Work.{batch_outputs}
 
 -- ---- ends
 

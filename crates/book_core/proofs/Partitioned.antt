@@ -190,7 +190,7 @@ residual_weighs piece attempted receipt pending place false e =
     let past : piece.range.to ≤ worked_to piece attempted = ltb-false (worked_to piece attempted) piece.range.to e in
     omega (arith, empty_weighs piece.node piece.item (worked_to piece attempted) piece.range.to place past)
 
--- of a job that is committed: what it was is what it does and leaves
+-- a committed job parts its positions into the done range and the residual
 commit_weighs : (job : Live) (pending : List Piece) (done : List Done) (receipt : Receipt) (place : Place) → IsAttemptedWithin (Some job)
     → times_pending (pending_after pending job receipt) place + times_done (done_after done job) place
     ≡ times_pending pending place + times_done done place + slot_weight place (Some job)

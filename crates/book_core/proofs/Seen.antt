@@ -8,12 +8,12 @@ use Rattle.beam_values.specs.declared.piece.Piece.{Piece}
 use Rattle.beam_values.specs.declared.plan.Estimator.{Estimator}
 use Rattle.beam_values.specs.declared.plan.Plan.{Plan}
 use Rattle.beam_model.specs.Coverings.{item_at}
-use Rattle.beam_model.specs.Estimators.{emission_at}
+use Rattle.beam_model.specs.Estimators.{emission_at, latest_time, seen_with}
 use Rattle.beam_model.specs.Holds.{estimator_of}
 use Rattle.beam_model.specs.Positions.{Emission, Emits, Poison, SourceItem}
 use Rattle.bundle_commit.specs.declared.job.Receipt.{Receipt}
 use Rattle.watermarks.proofs.Rising.{seen_rises}
-use Rattle.book_core.specs.Work.{latest_time, seen_with, seen_over, items_told, IsWorkOnItem, IsWorkOnRange}
+use Rattle.book_core.specs.Work.{seen_over, items_told, IsWorkOnItem, IsWorkOnRange}
 
 pub with_rises : (e : Estimator) (seen : ℤ) (emission : Emission) → seen ≤ℤ seen_with e seen emission
 with_rises e seen (Emits values declared) = seen_rises e seen (latest_time values) declared

@@ -10,15 +10,15 @@ use Rattle.beam_values.specs.Times.{least_time}
 use Rattle.beam_values.specs.declared.piece.Piece.{Piece}
 use Rattle.beam_values.specs.declared.plan.Estimator.{Estimator}
 use Rattle.beam_values.specs.declared.plan.Estimator.TheVariants as estimator
-use Rattle.beam_model.specs.Estimators.{declared_marks, emission_at, observed_times}
+use Rattle.beam_model.specs.Estimators.{declared_marks, emission_at, observed_times, later_time, latest_time, seen_with}
 use Rattle.beam_model.specs.Holds.{estimator_of}
 use Rattle.beam_model.specs.Positions.{Emission, Emits, Poison, SourceItem, TimedValue}
 use Rattle.bundle_commit.specs.declared.job.Receipt.{Receipt}
 use Rattle.book_core.specs.Book.{BookData}
 use Rattle.book_core.specs.Facts.{IsSeenBefore, IsSeenOf}
-use Rattle.book_core.specs.Work.{IsWorkOnItem, later_time, latest_time, seen_over, seen_with}
+use Rattle.book_core.specs.Work.{IsWorkOnItem, seen_over}
 
--- ---- what an estimator has seen is what it had, or it looked at it
+-- ---- each time that an estimator has seen was there before, or is one that it looked at
 
 has_first : (x : ℤ) (xs : List ℤ) → Contains (x ∷ xs) x
 has_first x xs = (0, omega arith, refl)

@@ -15,6 +15,7 @@ use Rattle.beam_values.specs.declared.file_text.FileText.{FileText}
 use Rattle.beam_values.specs.declared.piece.Piece.{Piece}
 use Rattle.beam_values.specs.declared.plan.Plan.{Plan}
 use Rattle.beam_model.specs.Chains.{Output, Arrives, chain}
+use Rattle.beam_model.specs.Flow.{batch_outputs}
 use Rattle.bundle_commit.specs.declared.job.Job.{Job}
 use Rattle.bundle_commit.specs.declared.job.Job.TheVariants as job
 use Rattle.bundle_commit.specs.declared.job.Receipt.{Receipt}
@@ -23,7 +24,7 @@ use Rattle.book_core.specs.Book.{BookData}
 use Rattle.book_core.specs.Changes.{committed, with_slot}
 use Rattle.book_core.specs.Jobs.{Next, attempted_of, job_of}
 use Rattle.book_core.specs.Steps.{CanCommit, IsClaiming, IsCommitting, IsFree, IsTaking, IsWorking}
-use Rattle.book_core.specs.Work.{batch_outputs, is_brought, is_known, worked_to, IsGiven, IsPlausible, IsWorkOnRange}
+use Rattle.book_core.specs.Work.{is_brought, is_known, worked_to, IsGiven, IsPlausible, IsWorkOnRange}
 use Rattle.book_core.specs.declared.live.Live.{Live}
 use Rattle.book_core.specs.declared.live.Live.TheVariants as live
 use Rattle.book_core.proofs.CellsAlways.{take_stays}

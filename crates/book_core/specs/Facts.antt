@@ -61,17 +61,18 @@ pub record AreHeldOnce (b : BookData) : Type 0 where
   pub once : (place : ℕ) → count_by (is_held_at place) (held b) ≤ 1
   pub batches : All (λ batch. 1 ≤ length batch.panes) (b.returned ++ live_batches b)
 
--- what flows from the panes that aren't through
+-- the chains of the panes that aren't through
 abbrev pub held_chains : BookData → List Output
 held_chains b = flat_map (λ held. pane_chains b.plan (panes_of b.panes (held.waiting ∷ []))) (held b)
 
--- where the files are told: what arrived is what flows from the done ranges and from the panes that are through, and nothing of that is poison
+-- where the files are told: the arrivals and the chains of the panes that aren't through are the outputs of the done ranges and the chains of all panes, and
+-- none of them is poison
 abbrev pub IsBalanced : List FileText → BookData → Type 0
 IsBalanced told b =
     IsSameBag (spread_dones b.plan (items_told (Some told) b.plan) b.done ++ pane_chains b.plan b.panes)
     (map Arrives (arrivals_of b.cells b.dropped [] b.written) ++ held_chains b)
 
--- what was written is at Writes
+-- written elements are at Writes
 pub record AreAtWrites (b : BookData) : Type 0 where
   pub written : All (λ arrival. is_write b.plan arrival.node ≡ true) b.written
 

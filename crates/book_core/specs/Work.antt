@@ -1,17 +1,14 @@
 -- What work on a job brings, whether it is poison, and when it may be said to have failed.
 use Rattle.std.specs.Prelude.{◌≡◌, ◌⊎◌, ℕ, ◌+◌, ◌<◌, ◌≤◌, min, ℤ, ◌≤ℤ◌, ◌+ℤ◌, ◌-◌, Bool, true, false, not, ◌&&◌, ◌||◌, List, [], ◌∷◌, ◌++◌, map, fold, slice_get, unwrap_or, Option, Some, None}
-use Rattle.std.specs.Int.{int_max}
-use Rattle.std.specs.List.{All, flat_map, list_any}
+use Rattle.std.specs.List.{All, list_any}
 use Rattle.std.specs.Option.{option_map}
 use Rattle.beam_values.specs.Checked.{reads_file}
 use Rattle.beam_values.specs.Intervals.{Offsets}
 use Rattle.beam_values.specs.Lines.{offsets}
-use Rattle.beam_values.specs.Marks.{seen_after}
 use Rattle.beam_values.specs.Nodes.{has_kind, is_barrier_kind, takes_from}
 use Rattle.beam_values.specs.Strategies.{greatest_length}
 use Rattle.beam_values.specs.Times.{greatest_time}
 use Rattle.beam_values.specs.Tracking.{first_unattempted}
-use Rattle.beam_values.specs.declared.cell.Pane.{Pane}
 use Rattle.beam_values.specs.declared.fault.Cause.{Cause}
 use Rattle.beam_values.specs.declared.fault.Cause.TheVariants.{Call, Read}
 use Rattle.beam_values.specs.declared.file_text.FileText.{FileText}
@@ -23,10 +20,11 @@ use Rattle.beam_values.specs.declared.plan.NodeKind.TheVariants.{Source}
 use Rattle.beam_values.specs.declared.plan.Plan.{Plan}
 use Rattle.beam_model.specs.Chains.{Output, Arrives, PoisonAt, chain}
 use Rattle.beam_model.specs.Coverings.{item_at}
-use Rattle.beam_model.specs.Estimators.{emission_at}
+use Rattle.beam_model.specs.Estimators.{emission_at, seen_with}
+use Rattle.beam_model.specs.Flow.{batch_outputs}
 use Rattle.beam_model.specs.Holds.{estimator_of}
-use Rattle.beam_model.specs.Positions.{Emission, Emits, Poison, SourceItem, TimedValue, items}
-use Rattle.beam_model.specs.Spread.{spread_range, is_poison}
+use Rattle.beam_model.specs.Positions.{Poison, SourceItem, items}
+use Rattle.beam_model.specs.Spread.{spread_range, is_poison, first_poison}
 use Rattle.bundle_commit.specs.declared.job.Job.{Job}
 use Rattle.bundle_commit.specs.declared.job.Job.TheVariants as job
 use Rattle.bundle_commit.specs.declared.job.Receipt.{Receipt}
@@ -78,19 +76,6 @@ is_brought plan from node = unwrap_or (option_map (takes_carried plan from) (sli
 
 -- ---- what was seen
 
-abbrev pub later_time : Option ℤ → TimedValue → Option ℤ
-later_time None value = Some value.time
-later_time (Some time) value = Some (int_max time value.time)
-
--- the greatest time of some values, if there is one
-abbrev pub latest_time : List TimedValue → Option ℤ
-latest_time values = fold later_time None values
-
--- what an estimator has seen after a position with this emission
-abbrev pub seen_with : Estimator → ℤ → Emission → ℤ
-seen_with estimator seen (Emits values declared) = seen_after estimator seen (latest_time values) declared
-seen_with estimator seen Poison = seen
-
 -- and after the positions of `[from, to)`
 abbrev pub seen_over : Estimator → SourceItem → ℕ → ℕ → ℤ → ℤ
 seen_over estimator item from to seen = fold (λ before p. seen_with estimator before (emission_at item p)) seen (offsets from (to - from))
@@ -102,7 +87,7 @@ seen_over estimator item from to seen = fold (λ before p. seen_with estimator b
 abbrev pub worked_to : Piece → Option ℕ → ℕ
 worked_to piece attempted = min (first_unattempted piece.range.from attempted) piece.range.to
 
--- what comes of the positions of an item from the piece's start up to there is what the receipt has, and nothing of it is poison
+-- the receipt has the outputs of the item's positions from the piece's start up to there, and none of them is poison
 pub record IsWorkOn (plan : Plan) (piece : Piece) (upto : ℕ) (item : SourceItem) (receipt : Receipt) : Type 0 where
   pub arrivals : map Arrives receipt.arrivals ≡ spread_range plan item piece.range.from upto
   pub seen : receipt.seen ≡ seen_over (estimator_of plan piece.node) item piece.range.from upto piece.seen
@@ -124,9 +109,6 @@ abbrev pub IsWorkOnRange : Bool → Option (List FileText) → Plan → Piece �
 IsWorkOnRange true told plan piece upto receipt = IsWorkOnItem plan piece upto (item_at (items_told told plan) piece.node piece.item) receipt
 IsWorkOnRange false told plan piece upto receipt = IsPlausible plan piece receipt
 
-abbrev pub batch_outputs : Plan → ℕ → List Pane → List Output
-batch_outputs plan node panes = flat_map (λ pane. chain plan node pane.element) panes
-
 -- A receipt is what the plan gives for a job, of a range up to its last attempted position. It has no log.
 abbrev pub IsGiven : Option (List FileText) → Plan → Job → Option ℕ → Receipt → Type 0
 IsGiven told plan (job.Span piece) attempted receipt =
@@ -146,12 +128,6 @@ abbrev pub job_outputs : Option (List FileText) → Plan → Job → List Output
 job_outputs told plan (job.Span piece) = outputs_of_item plan piece.range (item_at (items_told told plan) piece.node piece.item)
 job_outputs told plan (job.Batch node first panes attempts) = batch_outputs plan node panes
 job_outputs told plan (job.Key node cell key span inputs state timers attempts) = []
-
--- the node of the first poison among outputs, in the order of the work
-abbrev pub first_poison : List Output → Option ℕ
-first_poison [] = None
-first_poison (Arrives arrival ∷ later) = first_poison later
-first_poison (PoisonAt node ∷ later) = Some node
 
 -- where the files are told, a job that is poison
 abbrev pub IsPoisonJob : Option (List FileText) → Plan → Job → Type 0

@@ -49,7 +49,7 @@ pub fn marks_are_kept()
     ensures { (told : Option (List FileText)) (b : BookData) → Reached told b → AreMarksKept b }
 {}
 
-/// What came to the Groups is legal, own windows of sessions are as long as the gap, and what was written
+/// The arrivals at the Groups are legal, own windows of sessions are as long as the gap, and what was written
 /// is at Writes.
 pub fn cells_are_kept()
     ensures cells { (told : Option (List FileText)) (b : BookData) → Reached told b → AreCellsKept b }
@@ -67,8 +67,9 @@ pub fn reached_books_are_kept()
     strategies_follow_kinds();
 }
 
-/// Where the files are told: what arrived, and what flows from panes that aren't through, is what flows
-/// from the done ranges and from all panes; and what was seen before each piece was seen below it.
+/// Where the files are told: the arrivals and the chains of the panes that aren't through are the outputs
+/// of the done ranges and the chains of all panes; and each time that a piece's estimator has seen stands
+/// at a position below the piece.
 pub fn told_books_are_kept()
     ensures { (told : List FileText) (b : BookData) → Reached (Some told) b → AreKeptOf told b }
 {

@@ -14,11 +14,12 @@ use Rattle.beam_model.specs.Chains.{Arrives}
 use Rattle.beam_model.specs.Holds.{estimator_of}
 use Rattle.beam_model.specs.Positions.{TimedValue, Emits}
 use Rattle.beam_model.specs.Spread.{emission_outputs}
+use Rattle.beam_model.specs.Estimators.{latest_time, later_time}
 use Rattle.bundle_commit.specs.declared.job.Receipt.{Receipt}
 use Rattle.dofn_traits.specs.Calls.{timed_value}
 use Rattle.dofn_traits.specs.declared.calls.Emission as calls
 use Rattle.dofn_traits.specs.declared.calls.Timed.{Timed}
-use Rattle.chain_exec.specs.Positions.{HasValue, IsWorked, emission_of, latest_time, later_time}
+use Rattle.chain_exec.specs.Positions.{HasValue, IsWorked, emission_of}
 
 latest-snoc : (start : Option ℤ) (values : List TimedValue) (v : TimedValue) → fold later_time start (values ++ v ∷ []) ≡ later_time (fold later_time start values) v
 latest-snoc start [] v = refl

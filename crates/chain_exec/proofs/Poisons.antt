@@ -8,8 +8,9 @@ use Rattle.std.proofs.lemmas.List.{append-nil, take-append-drop, take_more}
 use Rattle.beam_values.specs.declared.arrival.Arrival.{Arrival}
 use Rattle.beam_values.specs.declared.fault.Cause.TheVariants.{Call, Read}
 use Rattle.beam_model.specs.Chains.{Output, Arrives, PoisonAt}
+use Rattle.beam_model.specs.Spread.{first_poison}
 use Rattle.beam_ports.specs.Counts.{Rose}
-use Rattle.chain_exec.specs.Causes.{first_poison, IsCallRefused}
+use Rattle.chain_exec.specs.Causes.{IsCallRefused}
 use Rattle.chain_exec.specs.declared.refusal.ExecRefusal.{ExecRefusal}
 use Rattle.chain_exec.specs.declared.refusal.ExecRefusal.TheVariants.{Faulted, NoMemory}
 

@@ -1,16 +1,10 @@
 -- Why work was refused.
-use Rattle.std.specs.Prelude.{◌≡◌, ℕ, Bool, true, List, [], ◌∷◌, Option, Some, None}
+use Rattle.std.specs.Prelude.{◌≡◌, ℕ, Bool, true, List, Some}
 use Rattle.beam_values.specs.declared.fault.Cause.TheVariants.{Call, Read}
-use Rattle.beam_model.specs.Chains.{Output, Arrives, PoisonAt}
+use Rattle.beam_model.specs.Chains.{Output}
 use Rattle.beam_ports.specs.Counts.{Rose}
 use Rattle.chain_exec.specs.declared.refusal.ExecRefusal.{ExecRefusal}
 use Rattle.chain_exec.specs.declared.refusal.ExecRefusal.TheVariants.{Faulted, NoMemory}
-
--- the node of the first poison
-abbrev pub first_poison : List Output → Option ℕ
-first_poison [] = None
-first_poison (Arrives arrival ∷ outputs) = first_poison outputs
-first_poison (PoisonAt node ∷ outputs) = Some node
 
 -- what a call observed at a shelf: whether it is strict, and its count of faults before and after
 pub record ObservedShelf : Type 0 where

@@ -1,4 +1,3 @@
-pub mod Batches
 pub mod Causes
 pub mod Deliveries
 pub mod Passing

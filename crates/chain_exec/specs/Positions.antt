@@ -1,42 +1,26 @@
 -- What a position of a source brings to the barriers, and why work on it was refused.
-use Rattle.std.specs.Prelude.{◌≡◌, ◌↔◌, ℕ, ◌<◌, ◌≤◌, true, ℤ, IsTrue, List, [], ◌∷◌, ◌++◌, map, fold, Option, Some, None}
-use Rattle.std.specs.Int.{int_max}
+use Rattle.std.specs.Prelude.{◌≡◌, ◌↔◌, ℕ, ◌<◌, ◌≤◌, true, IsTrue, List, [], ◌∷◌, ◌++◌, map, Option, Some}
 use Rattle.std.specs.List.{All}
 use Rattle.beam_values.specs.Checked.{reads_file}
-use Rattle.beam_values.specs.Marks.{seen_after}
 use Rattle.beam_values.specs.Times.{IsTime}
 use Rattle.beam_values.specs.declared.fault.Cause.TheVariants.{Call, Read}
-use Rattle.beam_values.specs.declared.plan.Estimator.{Estimator}
 use Rattle.beam_values.specs.declared.plan.Plan.{Plan}
 use Rattle.beam_values.specs.declared.plan.SourceKind.{SourceKind}
 use Rattle.beam_model.specs.Chains.{Output, Arrives}
 use Rattle.beam_model.specs.Holds.{estimator_of}
-use Rattle.beam_model.specs.Positions.{TimedValue, Emission, Emits, Poison, emission, next_position}
-use Rattle.beam_model.specs.Spread.{emission_outputs}
+use Rattle.beam_model.specs.Positions.{Emission, Emits, Poison, emission, next_position}
+use Rattle.beam_model.specs.Spread.{emission_outputs, first_poison}
 use Rattle.beam_ports.specs.Counts.{Rose}
 use Rattle.beam_ports.specs.Files.{Opening}
 use Rattle.bundle_commit.specs.declared.job.Receipt.{Receipt}
 use Rattle.dofn_traits.specs.Calls.{timed_value}
 use Rattle.dofn_traits.specs.declared.calls.Emission as calls
 use Rattle.sdf_library.specs.Paging.{Paged}
-use Rattle.chain_exec.specs.Causes.{ObservedShelf, first_poison}
+use Rattle.chain_exec.specs.Causes.{ObservedShelf}
 use Rattle.chain_exec.specs.Sources.{SourceWork, IsLookInto, IsText}
 use Rattle.chain_exec.specs.declared.position.Step.{Step}
 use Rattle.chain_exec.specs.declared.refusal.ExecRefusal.{ExecRefusal}
 use Rattle.chain_exec.specs.declared.refusal.ExecRefusal.TheVariants.{Faulted, NoMemory}
-
--- the greatest time of some values, if there is one
-abbrev pub later_time : Option ℤ → TimedValue → Option ℤ
-later_time None value = Some value.time
-later_time (Some time) value = Some (int_max time value.time)
-
-abbrev pub latest_time : List TimedValue → Option ℤ
-latest_time values = fold later_time None values
-
--- what an estimator has seen after a position with this emission
-abbrev pub seen_with : Estimator → ℤ → Emission → ℤ
-seen_with estimator seen (Emits values declared) = seen_after estimator seen (latest_time values) declared
-seen_with estimator seen Poison = seen
 
 -- it has a value; a watermark alone is none
 abbrev pub HasValue : Emission → Type 0

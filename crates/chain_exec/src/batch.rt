@@ -1,7 +1,8 @@
 ghost use Rattle.std.specs.Prelude.{◌≡◌, ◌≤◌, ◌<◌, ◌++◌, true, None, length, map, IfErr, OnOk};
 ghost use Rattle.beam_model.specs.Chains.{Arrives};
-ghost use Rattle.chain_exec.specs.Causes.{first_poison, observed_shelf, IsCallRefused};
-ghost use Rattle.chain_exec.specs.Batches.{batch_outputs};
+ghost use Rattle.beam_model.specs.Spread.{first_poison};
+ghost use Rattle.beam_model.specs.Flow.{batch_outputs};
+ghost use Rattle.chain_exec.specs.Causes.{observed_shelf, IsCallRefused};
 
 use crate::ExecRefusal;
 use crate::buffers::Buffers;

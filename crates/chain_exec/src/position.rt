@@ -3,10 +3,12 @@ ghost use Rattle.std.specs.List.{All};
 ghost use Rattle.std.specs.Option.{ForSome};
 ghost use Rattle.beam_values.specs.Times.{IsTime};
 ghost use Rattle.beam_model.specs.Positions as model;
+ghost use Rattle.beam_model.specs.Spread.{first_poison};
+ghost use Rattle.beam_model.specs.Estimators.{latest_time, later_time};
 ghost use Rattle.beam_ports.specs.Files.{KeepsOpenings};
 ghost use Rattle.dofn_traits.specs.Calls.{timed_value};
-ghost use Rattle.chain_exec.specs.Causes.{first_poison, observed_shelf};
-ghost use Rattle.chain_exec.specs.Positions.{IsEmissionAt, IsNextOf, IsPositionRefused, IsWorked, latest_time, later_time, outputs_in};
+ghost use Rattle.chain_exec.specs.Causes.{observed_shelf};
+ghost use Rattle.chain_exec.specs.Positions.{IsEmissionAt, IsNextOf, IsPositionRefused, IsWorked, outputs_in};
 ghost use Rattle.chain_exec.specs.Sources.{IsCounted, IsHeldFor, IsText, source_at};
 
 use crate::ExecRefusal;

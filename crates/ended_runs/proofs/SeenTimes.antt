@@ -16,7 +16,7 @@ use Rattle.beam_values.specs.declared.piece.Piece.{Piece}
 use Rattle.beam_values.specs.declared.plan.Estimator.{Estimator}
 use Rattle.beam_values.specs.declared.plan.Estimator.TheVariants as estimator
 use Rattle.beam_model.specs.Coverings.{is_item, item_at}
-use Rattle.beam_model.specs.Estimators.{declared_marks, emission_at}
+use Rattle.beam_model.specs.Estimators.{declared_marks, emission_at, later_time, latest_time, seen_with}
 use Rattle.beam_model.specs.Holds.{estimator_of}
 use Rattle.beam_model.specs.Positions.{Emission, Emits, Poison, SourceItem, TimedValue, items}
 use Rattle.bundle_commit.specs.declared.job.Receipt.{Receipt}
@@ -27,7 +27,7 @@ use Rattle.book_core.specs.Changes.{with_slot, cut_to, rest_of, given_back, trie
 use Rattle.book_core.specs.Jobs.{Next, attempted_of, job_of}
 use Rattle.book_core.specs.Runs.{Reached, IsOpening, pieces_of}
 use Rattle.book_core.specs.Steps.{IsWorking}
-use Rattle.book_core.specs.Work.{IsGiven, IsWorkOnItem, later_time, latest_time, seen_with, worked_to}
+use Rattle.book_core.specs.Work.{IsGiven, IsWorkOnItem, worked_to}
 use Rattle.book_core.specs.declared.live.Live.{Live}
 use Rattle.book_core.specs.declared.live.Live.TheVariants as live
 use Rattle.book_core.proofs.Cases.{Keeps, AreAlways, Both, kept_with, always_reached}

@@ -15,6 +15,7 @@ use Rattle.beam_values.specs.declared.plan.Plan.{Plan}
 use Rattle.beam_model.specs.Coverings.{item_at}
 use Rattle.beam_model.specs.Positions.{SourceItem, item_len, items}
 use Rattle.beam_model.specs.Spread.{is_poison, outputs_at}
+use Rattle.beam_model.specs.Flow.{batch_outputs}
 use Rattle.bundle_commit.specs.declared.job.Job.{Job}
 use Rattle.book_core.specs.Book.{BookData, batch_of, held_at, held_in, live_batches, pane_at, panes_of, queued}
 use Rattle.book_core.specs.Changes.{counted, cut_to, ends_run, given_back, note_of, stopped_where, with_slot}
@@ -22,7 +23,7 @@ use Rattle.book_core.specs.Facts.{AreKept, IsHeldPane}
 use Rattle.book_core.specs.Jobs.{Due, GivenBack, Oldest, first_due, job_of, without_due}
 use Rattle.book_core.specs.Runs.{AreTold, HonestRun, HonestlyReached, MadeStep}
 use Rattle.book_core.specs.Steps.{Action, Enroll, Take, Claim, Split, Commit, Fail, Stop, Answer, Enrolled, TakenJob, Nothing, Finished, Stopped, Claimed, SplitAt, Committed, Noted, NoMemory, IsTaking, IsWorking, Step}
-use Rattle.book_core.specs.Work.{IsPoisonJob, Known, batch_outputs, items_told, outputs_of_item}
+use Rattle.book_core.specs.Work.{IsPoisonJob, Known, items_told, outputs_of_item}
 use Rattle.book_core.specs.declared.live.Batch.{Batch}
 use Rattle.book_core.specs.declared.live.Live.{Live}
 use Rattle.book_core.specs.declared.live.Live.TheVariants as live

@@ -36,6 +36,7 @@ use Rattle.beam_model.specs.Positions.{Emission, Emits, Poison, SourceItem, Time
 use Rattle.beam_model.specs.Spread.{emission_outputs, from_source, is_left_out, outputs_at, spread_range}
 use Rattle.beam_model.proofs.Above.{above_above, checked_inputs_lower}
 use Rattle.beam_model.proofs.Barriers.{outputs_below}
+use Rattle.beam_model.specs.Flow.{batch_outputs}
 use Rattle.bundle_commit.specs.declared.job.Receipt.{Receipt}
 use Rattle.group_cells.proofs.Counting.{All-unmap}
 use Rattle.pipeline_graph.specs.Rules.{HasLag, HasOwnStrategy, HasSettings}
@@ -44,7 +45,7 @@ use Rattle.book_core.specs.Book.{BookData, HeldPane, AreMarksOfBook, held, held_
 use Rattle.book_core.specs.Facts.{AreHeldOnce, AreSeenBefore, IsHeldPane, IsSeenOf}
 use Rattle.book_core.specs.Jobs.{attempted_of, job_of}
 use Rattle.book_core.specs.Steps.{IsWorking}
-use Rattle.book_core.specs.Work.{IsGiven, IsWorkOnItem, batch_outputs, worked_to}
+use Rattle.book_core.specs.Work.{IsGiven, IsWorkOnItem, worked_to}
 use Rattle.book_core.specs.declared.live.Batch.{Batch}
 use Rattle.book_core.specs.declared.live.Live.{Live}
 use Rattle.book_core.specs.declared.live.Live.TheVariants as live

@@ -15,7 +15,8 @@ use Rattle.beam_values.specs.declared.plan.Plan.{Plan}
 use Rattle.beam_values.proofs.Spreads.{spread-single}
 use Rattle.beam_model.specs.Coverings.{item_at}
 use Rattle.beam_model.specs.Positions.{SourceItem}
-use Rattle.beam_model.specs.Spread.{is_poison, outputs_at}
+use Rattle.beam_model.specs.Spread.{is_poison, outputs_at, first_poison}
+use Rattle.beam_model.specs.Flow.{batch_outputs}
 use Rattle.beam_ports.specs.Counts.{raised}
 use Rattle.book_core.specs.Book.{BookData, batch_of, panes_of, piece_of}
 use Rattle.book_core.specs.Changes.{attempts_of, counted, ends_run, given_back, note_of, or_stopped, stopped_where, with_slot}
@@ -23,7 +24,7 @@ use Rattle.book_core.specs.Facts.{AreAttemptsCounted, AreKept, IsBelowLimit, IsS
 use Rattle.book_core.specs.Jobs.{Due, GivenBack, Oldest, Next, attempted_of, due_or_piece, first_due, job_of, without_due, without_first}
 use Rattle.book_core.specs.Runs.{HonestRun, HonestlyReached, IsHonestAction, MadeStep}
 use Rattle.book_core.specs.Steps.{Action, Enroll, Take, Claim, Split, Commit, Fail, Stop, Answer, Enrolled, TakenJob, Nothing, Finished, Stopped, Claimed, SplitAt, Committed, Noted, NoMemory, IsWorking, Step}
-use Rattle.book_core.specs.Work.{IsHonestCall, IsPoisonAttempt, IsPoisonJob, Known, batch_outputs, is_known, items_told, outputs_of_item, first_poison}
+use Rattle.book_core.specs.Work.{IsHonestCall, IsPoisonAttempt, IsPoisonJob, Known, is_known, items_told, outputs_of_item}
 use Rattle.book_core.specs.declared.live.Batch.{Batch}
 use Rattle.book_core.specs.declared.live.Live.{Live}
 use Rattle.book_core.specs.declared.live.Live.TheVariants as live

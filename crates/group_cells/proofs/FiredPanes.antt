@@ -22,7 +22,7 @@ use Rattle.beam_model.specs.Panes.{taken_entry, IsPaneOf}
 use Rattle.group_cells.specs.Cells.{entries_held}
 use Rattle.group_cells.specs.Firings.{is_held}
 
--- what is held is what passes the test
+-- the entries that a cell still holds are those that pass `is_held`
 pub held_filtered : (mode : Mode) (entries : List Entry) → filter (is_held mode) entries ≡ entries_held mode entries
 held_filtered Discarding entries = refl
 held_filtered Accumulating [] = refl

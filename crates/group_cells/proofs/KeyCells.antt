@@ -47,7 +47,7 @@ module _ (node : ℕ) (key : Value) where
           filter_all (is_at_key node key) (map (taken_entry cell.node) cell.entries) (each true e) ∙ ap (λ n. map (taken_entry n) cell.entries) here
       by false e = filter_none (is_at_key node key) (map (taken_entry cell.node) cell.entries) (each false e)
 
-  -- what cells have of a node and key is what the cells of that node and key have
+  -- the entries of a node and key among all cells are those of the cells of that node and key
   pub taken_keyed : (cells : List Cell) → All IsKeyed cells → taken_at node key (taken_by cells) ≡ all_taken node (cells_keyed node key cells)
   taken_keyed [] keyed = refl
   taken_keyed (cell ∷ cells) keyed =

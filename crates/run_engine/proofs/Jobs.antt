@@ -8,13 +8,15 @@ use Rattle.beam_values.specs.declared.file_text.FileText.{FileText}
 use Rattle.beam_values.specs.declared.piece.Piece.{Piece}
 use Rattle.beam_values.specs.declared.plan.Plan.{Plan}
 use Rattle.beam_model.specs.Chains.{Arrives}
+use Rattle.beam_model.specs.Flow.{batch_outputs}
+use Rattle.beam_model.specs.Spread.{first_poison}
 use Rattle.beam_ports.specs.Observed.{ObservedStore}
 use Rattle.book_core.specs.Book.{BookData, panes_of, slot_at}
 use Rattle.book_core.specs.Changes.{with_slot}
 use Rattle.book_core.specs.Jobs.{attempted_of, job_of}
 use Rattle.book_core.specs.Runs.{HonestlyReached}
 use Rattle.book_core.specs.Steps.{CanCommit, IsWorking}
-use Rattle.book_core.specs.Work.{IsGiven, IsHonest, batch_outputs, first_poison}
+use Rattle.book_core.specs.Work.{IsGiven, IsHonest}
 use Rattle.book_core.specs.declared.live.Batch.{Batch}
 use Rattle.book_core.specs.declared.live.Live.{Live}
 use Rattle.book_core.specs.declared.live.Live.TheVariants as live

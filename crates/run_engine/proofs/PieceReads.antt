@@ -25,11 +25,11 @@ use Rattle.beam_model.specs.Chains.{Output, Arrives}
 use Rattle.beam_model.specs.Coverings.{AreDistinct, is_item, item_at}
 use Rattle.beam_model.specs.Holds.{estimator_of}
 use Rattle.beam_model.specs.Positions.{SourceItem, emission, positions_in}
-use Rattle.beam_model.specs.Spread.{emission_outputs, outputs_at, spread_range}
+use Rattle.beam_model.specs.Spread.{emission_outputs, outputs_at, spread_range, first_poison}
 use Rattle.beam_model.proofs.Coverings.{plan_distinct}
 use Rattle.beam_ports.specs.Files.{KeepsOpenings, Opening}
 use Rattle.beam_ports.specs.Observed.{ObservedStore}
-use Rattle.book_core.specs.Work.{IsGiven, IsHonest, IsHonestCall, IsPlausible, IsPoisonAttempt, IsWorkOn, IsWorkOnItem, IsWorkOnRange, first_poison, is_file_source, is_known, is_told, items_told, outputs_of_item, reads_file_in, worked_to}
+use Rattle.book_core.specs.Work.{IsGiven, IsHonest, IsHonestCall, IsPlausible, IsPoisonAttempt, IsWorkOn, IsWorkOnItem, IsWorkOnRange, is_file_source, is_known, is_told, items_told, outputs_of_item, reads_file_in, worked_to}
 use Rattle.bundle_commit.specs.declared.job.Job.TheVariants as job
 use Rattle.bundle_commit.specs.declared.job.Receipt.{Receipt}
 use Rattle.chain_exec.specs.Causes.{ObservedShelf}

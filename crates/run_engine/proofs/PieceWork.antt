@@ -19,7 +19,7 @@ use Rattle.beam_values.specs.declared.plan.NodeKind.TheVariants.{Source, ParDo, 
 use Rattle.beam_values.specs.declared.plan.Plan.{Plan}
 use Rattle.beam_values.proofs.Spreads.{spread-empty}
 use Rattle.beam_model.specs.Chains.{Output, Arrives, PoisonAt}
-use Rattle.beam_model.specs.Estimators.{emission_at}
+use Rattle.beam_model.specs.Estimators.{emission_at, seen_with}
 use Rattle.beam_model.specs.Holds.{estimator_of}
 use Rattle.beam_model.specs.Positions.{Emission, Emits, Poison, SourceItem, TimedValue, emission, next_position, nothing}
 use Rattle.beam_model.specs.Spread.{emission_outputs, outputs_at, spread_range}
@@ -28,7 +28,7 @@ use Rattle.bundle_commit.specs.declared.job.Receipt.{Receipt}
 use Rattle.group_cells.proofs.Counting.{All-unmap}
 use Rattle.pipeline_graph.specs.Rules.{HasSettings}
 use Rattle.book_core.specs.Book.{tracker_of}
-use Rattle.book_core.specs.Work.{IsPlausible, IsWorkOn, is_brought, seen_over, seen_with, worked_to}
+use Rattle.book_core.specs.Work.{IsPlausible, IsWorkOn, is_brought, seen_over, worked_to}
 use Rattle.book_core.proofs.EarlyEnds.{IsEarlyOutput, WindowsOfKind, emitted_early}
 use Rattle.book_core.proofs.EarlyTimes.{IsEarlyEmission}
 use Rattle.book_core.proofs.Gaps.{AreStrategies, IsGapped}

@@ -131,7 +131,7 @@ pub record IsRunOf (known : Known) (plan : Plan) (files : List FileLen) (options
   pub with_options : b.options ≡ options
   pub one : length b.slots ≡ 1
 
--- what a book is of is what it was of
+-- whatever run the old book is of, the new one is of it too
 abbrev pub StaysOfRun : Known → BookData → BookData → Type 0
 StaysOfRun known b new = (plan : Plan) (files : List FileLen) (options : Options) → IsRunOf known plan files options b → IsRunOf known plan files options new
 

@@ -4,8 +4,9 @@ use Rattle.std.proofs.lemmas.Result.{err_from_is_err_and}
 use Rattle.beam_values.specs.declared.cell.Pane.{Pane}
 use Rattle.bundle_commit.specs.declared.job.Receipt.{Receipt}
 use Rattle.beam_model.specs.Chains.{Output, Arrives, chain}
-use Rattle.chain_exec.specs.Batches.{batch_outputs}
-use Rattle.chain_exec.specs.Causes.{first_poison, IsCallRefused}
+use Rattle.beam_model.specs.Flow.{batch_outputs}
+use Rattle.beam_model.specs.Spread.{first_poison}
+use Rattle.chain_exec.specs.Causes.{IsCallRefused}
 use Rattle.chain_exec.proofs.Poisons.{batch_more, first_in_front, first_of_batch, none_in_front, none_staged, refused_in_whole}
 use Rattle.chain_exec.proofs.batch.run_batch.Goals as goal
 

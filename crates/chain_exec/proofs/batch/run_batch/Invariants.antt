@@ -1,7 +1,7 @@
 use Rattle.std.proofs.Common.{◌≡◌, ◌≤◌, ◌++◌, true, None, map, take}
 use Rattle.beam_model.specs.Chains.{Arrives}
-use Rattle.chain_exec.specs.Batches.{batch_outputs}
-use Rattle.chain_exec.specs.Causes.{first_poison}
+use Rattle.beam_model.specs.Flow.{batch_outputs}
+use Rattle.beam_model.specs.Spread.{first_poison}
 use Rattle.chain_exec.specs.Unused.{IsUnused}
 use Rattle.chain_exec.proofs.batch.run_batch.Given as goal
 

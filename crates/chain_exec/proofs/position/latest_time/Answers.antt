@@ -1,6 +1,6 @@
 use Rattle.std.proofs.Common.{ap, ◌∙◌, refl}
+use Rattle.beam_model.specs.Estimators.{later_time}
 use Rattle.dofn_traits.specs.Calls.{timed_value}
-use Rattle.chain_exec.specs.Positions.{later_time}
 use Rattle.chain_exec.proofs.Emissions.{latest-push, timely-push}
 use Rattle.chain_exec.proofs.position.latest_time.Goals as goal
 

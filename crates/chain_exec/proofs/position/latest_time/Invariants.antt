@@ -1,8 +1,8 @@
 use Rattle.std.proofs.Common.{◌≡◌, map, take}
 use Rattle.std.specs.List.{All}
 use Rattle.beam_values.specs.Times.{IsTime}
+use Rattle.beam_model.specs.Estimators.{latest_time}
 use Rattle.dofn_traits.specs.Calls.{timed_value}
-use Rattle.chain_exec.specs.Positions.{latest_time}
 use Rattle.chain_exec.proofs.position.latest_time.Given as goal
 
 abbrev pub invariant-loop-timed : goal.invariant-loop-timed

@@ -1,8 +1,9 @@
 use Rattle.std.proofs.Common.{◌++◌, Bool, map, sym, ap, subst, ◌∙◌, arith}
 use Rattle.std.proofs.lemmas.Result.{err_from_is_err_and}
 use Rattle.beam_model.specs.Chains.{Arrives}
+use Rattle.beam_model.specs.Spread.{first_poison}
 use Rattle.bundle_commit.specs.declared.job.Receipt.{Receipt}
-use Rattle.chain_exec.specs.Causes.{first_poison, IsCallRefused}
+use Rattle.chain_exec.specs.Causes.{IsCallRefused}
 use Rattle.chain_exec.specs.Deliveries.{brought_by, brought_by_all}
 use Rattle.chain_exec.proofs.Passings.{brought_top}
 use Rattle.chain_exec.proofs.Poisons.{first_in_front, none_in_front, refused_in_whole, same_first}

@@ -1,6 +1,6 @@
 use Rattle.std.proofs.Common.{◌≡◌, ◌≤◌, ◌++◌, [], true, None, map}
 use Rattle.beam_model.specs.Chains.{Arrives}
-use Rattle.chain_exec.specs.Causes.{first_poison}
+use Rattle.beam_model.specs.Spread.{first_poison}
 use Rattle.chain_exec.specs.Deliveries.{brought_by_all}
 use Rattle.chain_exec.specs.Passing.{stops_of_all}
 use Rattle.chain_exec.proofs.buffers.Buffers.carry.Given as goal

@@ -1,7 +1,8 @@
 use Rattle.std.proofs.Common.{◌≡◌, ◌++◌, map, ap, subst, ◌∙◌, List}
 use Rattle.std.specs.Prelude.{IfErr, OnOk}
 use Rattle.beam_model.specs.Chains.{Output, Arrives}
-use Rattle.chain_exec.specs.Causes.{first_poison, observed_shelf, IsCallRefused}
+use Rattle.beam_model.specs.Spread.{first_poison}
+use Rattle.chain_exec.specs.Causes.{observed_shelf, IsCallRefused}
 use Rattle.chain_exec.proofs.Passings.{brought_alone}
 use Rattle.chain_exec.proofs.buffers.Buffers.send.Goals as goal
 
