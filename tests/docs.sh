@@ -9,22 +9,9 @@ set -u
 cd "$(dirname "$0")/.." || exit 1
 export LC_ALL=C
 
-# Paths in the documents that are in no checkout, and why.
-read -r -d '' no_file <<'END'
-out/                  what rt makes while it checks
-access.log            a reader's own file
-access.tsv            a reader's own file
-events.jsonl          a reader's own file
-sales.csv             a reader's own file
-plan.json             a reader's own plan
-END
-
-# Names in the documents that no file outside of them has, and why.
-read -r -d '' no_name <<'END'
-OffsetRangeTracker    a class of Beam
-GroupByKey            a transform of Beam
-WindowInto            a transform of Beam, and a node here
-TextIO                a transform of Beam
+# Paths and names in the documents that are nowhere else in a checkout, and why.
+read -r -d '' exceptions <<'END'
+out/    what rt makes while it checks
 END
 
 program=
@@ -42,7 +29,8 @@ mkdir "$work/shown" "$work/cases"
 
 find . \( -name .git -o -name out \) -prune -o -print | sed 's|^\./||' | sort >"$work/files"
 grep '\.md$' "$work/files" >"$work/docs"
-printf '%s\n' "$no_file" | awk '{ print $1 }' >"$work/no_file"
+mapfile -t documents <"$work/docs"
+printf '%s\n' "$exceptions" | awk '{ print $1 }' >"$work/exceptions"
 
 # The names that stand in each crate, and in the rest of the repository but its documents.
 for folder in crates/*/ bench/ tests/ examples/; do
@@ -51,7 +39,7 @@ for folder in crates/*/ bench/ tests/ examples/; do
 done >"$work/names"
 {
     grep -hoE '[A-Za-z_][A-Za-z0-9_]*' crates.txt beam_run .ci/run docs/*.json | sort -u
-    printf '%s\n' "$no_name" | awk '{ print $1 }'
+    cat "$work/exceptions"
     ls crates
 } | sed 's|^|- |' >>"$work/names"
 
@@ -65,7 +53,7 @@ read_documents() {
         while (match(text, /(crates|docs|tests|bench|examples)\/[A-Za-z0-9_.\/-]*/)) {
             before = substr(text, RSTART - 1, 1); path = substr(text, RSTART, RLENGTH); text = substr(text, RSTART + RLENGTH)
             sub(/[.]+$/, "", path)
-            if (before !~ /[A-Za-z0-9_.\/-]/ && text !~ /^[*{]/) say("file", path)
+            if (before !~ /[A-Za-z0-9_.\/-]/ && text !~ /^[*{]/ && path !~ /NAME/) say("file", path)
         }
     }
     # A word in code style: a path, or names with :: between them.
@@ -135,12 +123,12 @@ read_documents() {
             if (i < n) { if (code) { say_code(text); code = 0 } else { code = 1; text = "" } }
         }
         say_within(parts, n)
-    }' $(cat "$work/docs") >"$work/said"
+    }' "${documents[@]}" >"$work/said"
 }
 
 # Looks up what was said.
 look_up() {
-    awk -F'\t' -v files="$work/files" -v names="$work/names" -v no_file="$work/no_file" '
+    awk -F'\t' -v files="$work/files" -v names="$work/names" -v exceptions="$work/exceptions" '
     function folder(path) { return path ~ /\// ? substr(path, 1, match(path, /\/[^\/]*$/) - 1) : "" }
     # The path without `..` and `.`
     function plain(path,    parts, kept, n, i, m) {
@@ -159,7 +147,7 @@ look_up() {
             end = line
             while (1) { ends[end] = 1; full[end] = line; at = index(end, "/"); if (!at) break; end = substr(end, at + 1) }
         }
-        while ((getline line <no_file) > 0) ends[line] = 1
+        while ((getline line <exceptions) > 0) ends[line] = 1
         while ((getline line <names) > 0) { split(line, pair, " "); known[pair[2]] = 1; within[pair[1], pair[2]] = 1; crate[pair[1]] = 1 }
     }
     $1 == "say" { print $2; next }
@@ -187,7 +175,7 @@ look_up() {
         n = split($3, parts, "::")
         for (i = 1; i <= n; i++) {
             word = parts[i]
-            if (n == 1 && word !~ /_/ && word !~ /^[A-Z][a-z0-9]+[A-Z]/) continue
+            if (n == 1 && word !~ /_/ && word !~ /^[A-Z]/) continue
             if (n > 1 && i > 1 && (parts[1] in crate)) { if (!((parts[1], word) in within)) print place ": the crate " parts[1] " has no name " word }
             else if (!(word in known)) print place ": nothing in the repository has the name " word
         }
@@ -261,7 +249,7 @@ has_its_files() {
 }
 
 check_command() {
-    local number=$1 place=$2 words=$3 found= other= at
+    local number=$1 place=$2 words=$3 found='' other at
     [ -s "$work/shown/$number.out" ] || return
     for ((at = 1; at <= count; at++)); do
         [ "$(cat "$work/cases/$at.words")" = "$words" ] || continue
@@ -304,4 +292,5 @@ if [ -s "$work/failures" ]; then
     sort -u -t: -k1,1 -k2,2n "$work/failures"
     exit 1
 fi
-echo "docs: $(wc -l <"$work/docs") documents, $(wc -l <"$work/said") links, files and names, $(cat "$work/blocks" | wc -l) blocks of cases, $(cat "$work/commands" | wc -l) commands"
+lines() { cat "$@" 2>/dev/null | wc -l; }
+echo "docs: ${#documents[@]} documents, $(lines "$work/said") links, files and names, $(lines "$work/blocks") blocks of cases, $(lines "$work/commands") commands"
