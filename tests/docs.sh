@@ -9,9 +9,9 @@ set -u
 cd "$(dirname "$0")/.." || exit 1
 export LC_ALL=C
 
-# Paths and names in the documents that are nowhere else in a checkout, and why.
+# Paths and names in the documents that are nowhere else in a checkout, and why. What ends with / stands for all in it.
 read -r -d '' exceptions <<'END'
-out/    what rt makes while it checks
+out/    what rt makes in a crate, and the program
 END
 
 program=
@@ -129,6 +129,10 @@ read_documents() {
 # Looks up what was said.
 look_up() {
     awk -F'\t' -v files="$work/files" -v names="$work/names" -v exceptions="$work/exceptions" '
+    function is_excepted(path,    name) {
+        for (name in within_folder) if (index("/" path, "/" name)) return 1
+        return 0
+    }
     function folder(path) { return path ~ /\// ? substr(path, 1, match(path, /\/[^\/]*$/) - 1) : "" }
     # The path without `..` and `.`
     function plain(path,    parts, kept, n, i, m) {
@@ -147,7 +151,7 @@ look_up() {
             end = line
             while (1) { ends[end] = 1; full[end] = line; at = index(end, "/"); if (!at) break; end = substr(end, at + 1) }
         }
-        while ((getline line <exceptions) > 0) ends[line] = 1
+        while ((getline line <exceptions) > 0) if (line ~ /\/$/) within_folder[line] = 1; else ends[line] = 1
         while ((getline line <names) > 0) { split(line, pair, " "); known[pair[2]] = 1; within[pair[1], pair[2]] = 1; crate[pair[1]] = 1 }
     }
     $1 == "say" { print $2; next }
@@ -161,7 +165,7 @@ look_up() {
     }
     $1 == "file" {
         path = $3
-        if (path in ends) next
+        if (path in ends || is_excepted(path)) next
         sub(/\/$/, "", path)
         if (!(path in ends) && !(plain(folder(doc) "/" path) in there)) print place ": there is no file " $3
     }
