@@ -1,10 +1,11 @@
 #!/usr/bin/env bash
-# Checks what the documents say of the repository: links, files, names, cases, and commands shown with their
-# output. With `--run PROGRAM` it runs those commands on a built program as well. Needs no network, and takes a
-# few seconds. Each failure is a line FILE:LINE: WHAT, and the status is then 1.
-#
-# A block headed ```case FILE``` stands word for word in crates/worked_cases/data/FILE. A line `$ ./beam_run ..`
-# in a block is a case of commands.cases with the lines below it as its output; a last line `..` leaves the rest out.
+# Checks the documents against the repository, and prints each failure as FILE:LINE: WHAT; the status is then 1.
+# Needs no network, and takes a few seconds. It looks for
+# - links, files and names that are nowhere, and names that aren't in the file that is told with them;
+# - a block headed ```case FILE```, which stands word for word in crates/worked_cases/data/FILE;
+# - a line `$ ./beam_run ..` in a block with its output below, which is a case of commands.cases over the same files
+#   (a last line `..` leaves the rest of the output out), and so are the outputs of examples/.
+# With `--run PROGRAM` it runs the commands that are shown on a built program as well.
 set -u
 cd "$(dirname "$0")/.." || exit 1
 export LC_ALL=C
@@ -134,7 +135,7 @@ look_up() {
         return 0
     }
     function folder(path) { return path ~ /\// ? substr(path, 1, match(path, /\/[^\/]*$/) - 1) : "" }
-    # The path without `..` and `.`
+    # The path without ".." and "."
     function plain(path,    parts, kept, n, i, m) {
         n = split(path, parts, "/"); m = 0; kept = ""
         for (i = 1; i <= n; i++) {
@@ -184,15 +185,15 @@ look_up() {
             else if (!(word in known)) print place ": nothing in the repository has the name " word
         }
     }' "$work/said" >"$work/looked_up"
-    grep -vE '^(anchor|within)' "$work/looked_up" >>"$work/failures"
+    grep -vE '^(anchor|within)' "$work/looked_up"
     grep '^within' "$work/looked_up" | while IFS=$'\t' read -r _ place name path; do
         grep -rqw -- "$name" "$path" || echo "$place: $path has no name $name"
-    done >>"$work/failures"
+    done
     grep '^anchor' "$work/looked_up" | while IFS=$'\t' read -r _ place path anchor; do
         sed -n 's/^##* *//p' "$path" | tr 'A-Z ' 'a-z-' | tr -cd 'a-z0-9_\n-' | grep -qxF -- "$anchor" ||
             echo "$place: $path has no heading $anchor"
-    done >>"$work/failures"
-}
+    done
+} >>"$work/failures"
 
 # Whether the lines of a file stand one after another in another.
 stands_in() {
@@ -208,8 +209,8 @@ check_blocks() {
         elif [ ! -s "$work/block.$number" ] || ! stands_in "$work/block.$number" "$data/$file"; then
             echo "$place: this is no case of $data/$file"
         fi
-    done <"$work/blocks" >>"$work/failures"
-}
+    done <"$work/blocks"
+} >>"$work/failures"
 
 # Each case of the command: its words, its files, and what it writes.
 read_cases() {
@@ -283,17 +284,37 @@ check_commands() {
     while IFS=$'\t' read -r number place words; do
         check_command "$number" "$place" "$words"
         [ -z "$program" ] || run_command "$number" "$place" "$words"
-    done <"$work/commands" >>"$work/failures"
+    done <"$work/commands"
+} >>"$work/failures"
+
+# What an example of examples/ is said to print is what some case says of its plan.
+check_example() {
+    local at
+    for ((at = 1; at <= count; at++)); do
+        if [[ " $(cat "$work/cases/$at.words") " == *" $2 "* ]] && cmp -s "$1" "$work/cases/$at.out"; then
+            return
+        fi
+    done
+    echo "$1:1: no case of $data/commands.cases with $2 writes this"
 }
+
+check_examples() {
+    local output
+    for output in examples/*/output.txt; do
+        check_example "$output" "${output%output.txt}plan.json"
+    done
+    check_example examples/visits.panes.txt examples/visits.tsv
+} >>"$work/failures"
 
 read_documents
 look_up
 check_blocks
 read_cases
 check_commands
+check_examples
 
 if [ -s "$work/failures" ]; then
-    sort -u -t: -k1,1 -k2,2n "$work/failures"
+    sort -t: -k1,1 -k2,2n "$work/failures" | uniq
     exit 1
 fi
 lines() { cat "$@" 2>/dev/null | wc -l; }
