@@ -71,6 +71,7 @@ impl<'a> Script<'a> {
 /// Runs the cases of a file, and prints each that fails and how many passed.
 pub fn run_file(rt: &(impl Files + Print + AllocGlobal), name: &str) -> io::Result<Tally> {
     let text = fs::read_to_string(rt, name)?;
+    let text = expanded(rt.alloc(), text.as_str())?;
     let mut script = Script {
         lines: text.as_str().lines(),
         number: 0,
@@ -108,9 +109,8 @@ fn line_passes(
     number: u64,
     line: &str,
 ) -> io::Result<bool> {
-    let line = expanded(rt.alloc(), line)?;
     let mut case = Case::new(rt.alloc());
-    if let Some((input, expected)) = line.as_str().split_once(" => ") {
+    if let Some((input, expected)) = line.split_once(" => ") {
         case.expect(expected.as_bytes());
         case.read(input);
         answer(&mut case);
