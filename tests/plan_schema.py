@@ -3,7 +3,8 @@
 
 What the reader takes the schema has to take too. What the reader refuses for a key, a word or a number
 the schema should refuse; what only the reader can see is listed here, by what it is. The examples' plans are
-checked as well. Without the package jsonschema nothing is checked, and it says so.
+checked as well, and the nodes that docs/using/PLAN.md shows, which have to be one of the cases, as one plan.
+Without the package jsonschema nothing is checked, and it says so.
 """
 import glob
 import json
@@ -33,10 +34,17 @@ def documents():
             yield text, answer
 
 
+def shown_plan():
+    """The nodes of docs/using/PLAN.md, each on a line of its own, as one plan."""
+    lines = (ROOT / "docs/using/PLAN.md").read_text().splitlines()
+    return {"beam": 1, "nodes": [json.loads(line) for line in lines if line.startswith('    {"name"')]}
+
+
 def main():
     schema = json.loads((ROOT / "docs/plan.schema.json").read_text())
     check = jsonschema.Draft202012Validator(schema).is_valid
     wrong = taken = refused = 0
+    shown, shown_is_case = shown_plan(), False
     for text, answer in documents():
         try:
             plan = json.loads(text)
@@ -44,6 +52,7 @@ def main():
             continue
         if re.fullmatch(r"\d+ nodes", answer):
             taken += 1
+            shown_is_case = shown_is_case or plan == shown
             if not check(plan):
                 wrong += 1
                 print(f"the schema refuses what the reader takes: {text[:200]}")
@@ -57,6 +66,9 @@ def main():
         if not check(json.loads(pathlib.Path(name).read_text())):
             wrong += 1
             print(f"the schema refuses {name}")
+    if not shown_is_case:
+        wrong += 1
+        print("the nodes that docs/using/PLAN.md shows aren't a plan of documents.cases")
     print(f"plan_schema: {taken} taken, {refused} refused by the reader, {wrong} wrong")
     return 1 if wrong else 0
 
