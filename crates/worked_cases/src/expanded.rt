@@ -1,12 +1,12 @@
 use std::alloc::{AllocError, Global};
 
-/// The most that a part of a line is repeated.
+/// The most that a part of a text is repeated.
 const MOST_TIMES: u32 = 20_000;
 
-/// The line with each `{COUNT*PART}` written out: the part so many times. Braces round anything else stay.
-pub fn expanded(alloc: Global, line: &str) -> Result<String, AllocError> {
+/// A text with each `{COUNT*PART}` written out: the part so many times. Braces round anything else stay.
+pub fn expanded(alloc: Global, text: &str) -> Result<String, AllocError> {
     let mut whole = String::new(alloc);
-    let mut pieces = line.split('{');
+    let mut pieces = text.split('{');
     whole.push_str(pieces.next().unwrap_or(""))?;
     for piece in pieces {
         push_piece(piece, &mut whole)?;
