@@ -7,6 +7,7 @@ use Rattle.beam_values.specs.declared.fault.Cause.TheVariants.{Call, Read}
 use Rattle.beam_values.specs.declared.plan.Plan.{Plan}
 use Rattle.beam_values.specs.declared.plan.SourceKind.{SourceKind}
 use Rattle.beam_model.specs.Chains.{Output, Arrives}
+use Rattle.beam_model.specs.Estimators.{seen_with}
 use Rattle.beam_model.specs.Holds.{estimator_of}
 use Rattle.beam_model.specs.Positions.{Emission, Emits, Poison, emission, next_position}
 use Rattle.beam_model.specs.Spread.{emission_outputs, first_poison}
