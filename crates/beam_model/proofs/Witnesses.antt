@@ -1,17 +1,21 @@
 -- What the definitions refuse and admit, on computed examples: no outcome passes by putting things where they don't belong.
-use Rattle.std.proofs.Common.{◌≡◌, ℕ, zero, suc, ◌+◌, ◌<◌, ◌&&◌, ◌==◌, ℤ, pos, negsuc, FitsSigned, w64, Bool, true, false, cond, min, List, [], ◌∷◌, map, None, refl, subst, arith}
+use Rattle.std.proofs.Common.{◌≡◌, ℕ, zero, suc, ◌+◌, ◌<◌, ◌&&◌, ◌==◌, ℤ, pos, negsuc, FitsSigned, w64, Bool, true, false, cond, min, List, [], ◌∷◌, map, None, refl, sym, ap, subst, ◌∙◌, arith}
 use Rattle.std.specs.Prelude.{codes}
 use Rattle.std.proofs.lemmas.Bool.{true≢false, false≢true}
 use Rattle.std.proofs.lemmas.Bool.Decides.{nat_tests}
 use Rattle.std.proofs.lemmas.Int.{ints}
+use Rattle.std.proofs.lemmas.List.Elements.{All-nil, All-cons}
 use Rattle.beam_values.specs.Bags.{IsSameBag}
 use Rattle.beam_values.specs.Grouping.{pane_with}
 use Rattle.beam_values.specs.Intervals.{Interval, times_in}
 use Rattle.beam_values.specs.Lines.{offsets}
-use Rattle.beam_values.specs.Nodes.{is_stateful}
+use Rattle.beam_values.specs.Nodes.{is_group, is_stateful, is_write}
+use Rattle.beam_values.specs.Spelling.{varint, two's_complement, spelling}
 use Rattle.beam_values.specs.Windows.{global_window}
 use Rattle.beam_values.specs.declared.arrival.Arrival.{Arrival}
+use Rattle.beam_values.specs.declared.cell.Cell.{Cell}
 use Rattle.beam_values.specs.declared.cell.Dropped.{Dropped}
+use Rattle.beam_values.specs.declared.cell.Pane.{Pane}
 use Rattle.beam_values.specs.declared.element.Element.{Element}
 use Rattle.beam_values.specs.declared.log.KeyLog.{KeyLog}
 use Rattle.beam_values.specs.declared.log.LogInput.TheVariants.{Arrived}
@@ -23,9 +27,11 @@ use Rattle.beam_values.specs.declared.plan.Estimator.TheVariants as estimator
 use Rattle.beam_values.specs.declared.plan.NodeKind.TheVariants.{Source, Group, Write}
 use Rattle.beam_values.specs.declared.plan.Plan.{Plan}
 use Rattle.beam_values.specs.declared.plan.SourceKind.TheVariants.{Lines, TimedLines, Count, Made}
+use Rattle.beam_values.specs.declared.value.Value.{Value}
 use Rattle.beam_values.specs.declared.value.Value.TheVariants.{rolls-Int}
 use Rattle.beam_values.specs.Storable.{IsStorable}
 use Rattle.beam_values.proofs.Bags.{bag_from_same}
+use Rattle.beam_values.proofs.Induction.{spelling-Int}
 use Rattle.beam_values.proofs.Storable.{fits-Int}
 use Rattle.beam_model.specs.Account.{arrivals, IsAccounted}
 use Rattle.beam_model.specs.Chains.{Arrives}
@@ -77,10 +83,20 @@ misplaced_as_one_bag = bag_from_same (flow counted (items [] counted) [] []) (ma
 cells_taken_for_writes_are_refused : (items : List SourceItem) → IsAccounted items misplaced → ⊥
 cells_taken_for_writes_are_refused items h = false≢true (h.written 0 (record { node = 1; element = number }) (omega arith))
 
+-- a log at the Group: the element that it took, and the same element given out
 abbrev group_log : KeyLog
-group_log = record { node = 1; key = null; span = global_window; entries = record { input = Arrived number; commit = 1; outputs = [] } ∷ [] }
+group_log = record { node = 1; key = null; span = global_window; entries = record { input = Arrived number; commit = 1; outputs = number ∷ [] } ∷ [] }
 
-logs_at_a_group_are_refused : (items : List SourceItem) → IsAccounted items (outcome counted [] [] [] (group_log ∷ []) []) → ⊥
+-- the element that the log gives out is written
+abbrev logged : Outcome
+logged = outcome counted [] [] [] (group_log ∷ []) (record { node = 2; element = number } ∷ [])
+
+-- as a bag, this is all that flows
+logged_as_one_bag : IsSameBag (flow counted (items [] counted) [] (group_log ∷ [])) (map Arrives (arrivals logged))
+unfolding offsets
+logged_as_one_bag = bag_from_same (flow counted (items [] counted) [] (group_log ∷ [])) (map Arrives (arrivals logged)) refl
+
+logs_at_a_group_are_refused : (items : List SourceItem) → IsAccounted items logged → ⊥
 logs_at_a_group_are_refused items h = false≢true (h.logs 0 group_log (omega arith))
 
 -- ---- what is written
@@ -101,15 +117,64 @@ dropping_everything_is_refused : (items : List SourceItem) (name : List ℕ) (si
 dropping_everything_is_refused items name size e h =
     true≢false ((h 4 refl (λ upper above. no_stateful_node name size upper)).undropped 0 (record { node = 3; element = e; commit = 1 }) (omega arith))
 
+-- the Group dropped all that it took
+abbrev lost : Dropped
+lost = record { node = 1; element = number; commit = 1 }
+
+abbrev all_lost : Outcome
+all_lost = outcome counted [] [] (lost ∷ []) [] []
+
+-- the account admits this outcome, so that it is the plain grouping alone that refuses it
+everything_dropped_is_accounted : IsAccounted (items [] counted) all_lost
+unfolding offsets
+everything_dropped_is_accounted = record {
+  cells = All-nil (λ (cell : Cell). is_group counted cell.node ≡ true);
+  dropped = All-cons (λ (dropped : Dropped). is_group counted dropped.node ≡ true) lost [] refl (All-nil (λ (dropped : Dropped). is_group counted dropped.node ≡ true));
+  panes = All-nil (λ (pane : Pane). is_group counted pane.node ≡ true);
+  logs = All-nil (λ (log : KeyLog). is_stateful counted log.node ≡ true);
+  written = All-nil (λ (arrival : Arrival). is_write counted arrival.node ≡ true);
+  flow = bag_from_same (flow counted (items [] counted) [] []) (map Arrives (arrivals all_lost)) refl;
+}
+
+no_stateful_counted : (node : ℕ) → is_stateful counted node ≡ false
+no_stateful_counted zero = refl
+no_stateful_counted (suc zero) = refl
+no_stateful_counted (suc (suc zero)) = refl
+no_stateful_counted (suc (suc (suc node))) = refl
+
+everything_dropped_is_refused : ArePlainlyWritten (items [] counted) all_lost → ⊥
+everything_dropped_is_refused h = true≢false ((h 2 refl (λ upper above. no_stateful_counted upper)).undropped 0 lost (omega arith))
+
 -- 7 less 2 ^ 64 is spelled as 7 is, but no program can hold it
-numbers_beyond_64_bits_are_refused : (plan : Plan) (items : List SourceItem) (barrier node : ℕ) (span : Interval) (arrivals more : List Arrival)
-    → IsPlainRun plan items barrier arrivals (record { node = node; element = pane_with (blob (codes "a")) span (int (negsuc 18446744073709551608) ∷ []) } ∷ more) → ⊥
-numbers_beyond_64_bits_are_refused plan items barrier node span arrivals more run =
-    let n : ℤ = negsuc 18446744073709551608 in
-    let pane : Element = pane_with (blob (codes "a")) span (int n ∷ []) in
-    let fits = pane_fits pane (blob (codes "a")) span (int n ∷ []) refl (run.storable 0 (record { node = node; element = pane }) (omega arith)) in
-    let held : FitsSigned w64 n = fits-Int n (subst IsStorable (rolls-Int n) fits.1.0) in
+abbrev beyond : ℤ
+beyond = negsuc 18446744073709551608
+
+spelled : (n : ℤ) → spelling (int n) ≡ 1 ∷ varint (two's_complement n)
+spelled n = ap spelling (rolls-Int n) ∙ spelling-Int n
+
+spelled_as_seven : spelling (int beyond) ≡ spelling (int (pos 7))
+spelled_as_seven =
+    let bits : two's_complement beyond ≡ 7 = refl in
+    spelled beyond ∙ ap (λ (n : ℕ). 1 ∷ varint n) bits ∙ sym (spelled (pos 7))
+
+beyond_is_refused : IsStorable (int beyond) → ⊥
+beyond_is_refused fits =
+    let held : FitsSigned w64 beyond = fits-Int beyond (subst IsStorable (rolls-Int beyond) fits) in
     absurd (omega (arith, ints))
+
+keys_beyond_64_bits_are_refused : (plan : Plan) (items : List SourceItem) (barrier node : ℕ) (span : Interval) (parts : List Value) (arrivals more : List Arrival)
+    → IsPlainRun plan items barrier arrivals (record { node = node; element = pane_with (int beyond) span parts } ∷ more) → ⊥
+keys_beyond_64_bits_are_refused plan items barrier node span parts arrivals more run =
+    let pane : Element = pane_with (int beyond) span parts in
+    let fits = pane_fits pane (int beyond) span parts refl (run.storable 0 (record { node = node; element = pane }) (omega arith)) in
+    beyond_is_refused fits.0
+
+numbers_beyond_64_bits_are_refused : (plan : Plan) (items : List SourceItem) (barrier node : ℕ) (span : Interval) (arrivals more : List Arrival)
+    → IsPlainRun plan items barrier arrivals (record { node = node; element = pane_with (blob (codes "a")) span (int beyond ∷ []) } ∷ more) → ⊥
+numbers_beyond_64_bits_are_refused plan items barrier node span arrivals more run =
+    let pane : Element = pane_with (blob (codes "a")) span (int beyond ∷ []) in
+    let fits = pane_fits pane (blob (codes "a")) span (int beyond ∷ []) refl (run.storable 0 (record { node = node; element = pane }) (omega arith)) in
+    beyond_is_refused fits.1.0
 
 -- ---- covers
 
