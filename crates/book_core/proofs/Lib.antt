@@ -47,6 +47,14 @@ pub mod EarlyEnds
 pub mod EarlyAlways
 pub mod Lowered
 pub mod TakenLeft
+pub mod FiredNow
+pub mod Quiet
+pub mod Onward
+pub mod PiecesPlaced
+pub mod Settled
+pub mod CommitLowers
+pub mod Rounds
+pub mod LeftAlways
 pub mod Rooms
 pub mod CommitParts
 pub mod CommitRooms

@@ -40,7 +40,7 @@ lower_last b new plan same less =
 
 -- ---- what is left weighs
 
-pub at_node : ℕ → Piece → ℕ
+unfoldable pub at_node : ℕ → Piece → ℕ
 at_node node piece = cond (piece.node == node) (offsets_and_one piece) 0
 
 pub left_at_weighs : (b : BookData) (node : ℕ)

@@ -1,10 +1,16 @@
 -- What is left of a run, as a list of numbers that are compared from the front. A take and a commit lower it where a position was attempted, the range was empty or
--- panes went on; a take and a fail lower it always.
-use Rattle.std.specs.Prelude.{◌≡◌, ◌⊎◌, ℕ, ◌+◌, ◌*◌, ◌-◌, ◌<◌, ◌==◌, List, [], ◌∷◌, ◌++◌, length, map, sum_by, filter}
+-- panes went on; a take and a fail lower it always. Marks move behind the job's node alone, so no pane fires at that node or before it, under any trigger.
+--
+-- Of a source 0, a Group 1 with early 2 and a Write 2, over one file of 27 bytes and with 3 attempts: 28, 0, 0, 3 is left at the opening and after the take of
+-- `[0, 27)`. A commit behind the position 9 that fires a pane leaves 18, 1, 0, 6; the pane is taken, and a fail leaves 18, 1, 0, 5; its commit leaves 18, 0, 0, 3.
+use Rattle.std.specs.Prelude.{◌≡◌, ◌⊎◌, ℕ, ◌+◌, ◌*◌, ◌-◌, ◌<◌, ◌≤◌, ◌==◌, List, [], ◌∷◌, ◌++◌, length, map, fold, sum_by, filter, Some, None}
 use Rattle.beam_values.specs.Lines.{offsets}
 use Rattle.beam_values.specs.declared.piece.Piece.{Piece}
 use Rattle.book_core.specs.Book.{BookData, live_pieces, live_batches, held, queued}
+use Rattle.book_core.specs.Steps.{IsWorking}
 use Rattle.book_core.specs.declared.live.Batch.{Batch}
+use Rattle.book_core.specs.declared.live.Live.{Live}
+use Rattle.book_core.specs.declared.live.Live.TheVariants as live
 
 -- so many offsets of a piece aren't committed, and one more for the piece itself
 abbrev pub offsets_and_one : Piece → ℕ
@@ -38,3 +44,27 @@ abbrev pub IsBelow : List ℕ → List ℕ → Type 0
 IsBelow [] [] = ⊥
 IsBelow (m ∷ ms) (n ∷ ns) = (m < n) ⊎ ((m ≡ n) × IsBelow ms ns)
 IsBelow _ _ = ⊥
+
+-- ---- which commits lower it
+
+-- a job goes on when it is committed: a position of its range was attempted, or there is none, or it is a batch
+abbrev pub GoesOn : Live → Type 0
+GoesOn (live.Span piece None) = piece.range.to ≤ piece.range.from
+GoesOn (live.Span piece (Some p)) = Unit {0}
+GoesOn (live.Batch batch) = Unit {0}
+
+abbrev pub GoesOnAt : BookData → ℕ → Type 0
+GoesOnAt b slot = (job : Live) → IsWorking b slot job → GoesOn job
+
+-- ---- how many rounds there can be
+
+abbrev pub all_lengths : BookData → ℕ
+all_lengths b = sum_by (λ file. file.len) b.files
+
+-- No number of what is left comes near, since pieces and panes are numbered with 32 bits. It stays through a run.
+abbrev pub above_each : BookData → ℕ
+above_each b = 4294967296 * (all_lengths b + 3 * b.options.attempts + 2)
+
+-- So many rounds of a take and a commit, or a take and a fail, are left at most: what is left, read as the digits of one number.
+abbrev pub rounds_left : BookData → ℕ
+rounds_left b = fold (λ rounds digit. above_each b * rounds + digit) 0 (left b)

@@ -1,16 +1,16 @@
 //! What every list of steps keeps. Each function does nothing, but for calling the laws that its own
 //! rests on: its contract is the law.
 
-ghost use Rattle.std.specs.Prelude.{◌≡◌, ◌⊎◌, ℕ, List, Option, Some, None};
+ghost use Rattle.std.specs.Prelude.{◌≡◌, ◌⊎◌, ◌<◌, ◌≤◌, ℕ, Bool, List, Option, Some, None};
 ghost use Rattle.beam_values.specs.declared.fault.Cause.{Cause};
 ghost use Rattle.beam_values.specs.declared.file_text.FileText.{FileText};
 ghost use Rattle.bundle_commit.specs.declared.job.Job.{Job};
 ghost use Rattle.book_core.specs.Book.{BookData};
 ghost use Rattle.book_core.specs.Facts.{AreAtWrites, AreAttemptsCounted, AreCellsKept, AreHeldOnce, AreKept, AreKeptOf, AreMarksKept, ArePartitioned, IsStopNoted, IsWellFormed};
 ghost use Rattle.book_core.specs.Jobs.{next_job};
-ghost use Rattle.book_core.specs.Left.{IsBelow, left};
+ghost use Rattle.book_core.specs.Left.{GoesOnAt, IsBelow, left, rounds_left};
 ghost use Rattle.book_core.specs.Runs.{HonestlyReached, IsThrough, Reached};
-ghost use Rattle.book_core.specs.Steps.{Answer, IsFailing, IsIdle, IsTaking};
+ghost use Rattle.book_core.specs.Steps.{Answer, Commit, Committed, IsClaiming, IsFailing, IsIdle, IsTaking, Step};
 ghost use Rattle.book_core.specs.Work.{Known};
 
 use pipeline_graph::laws::{
@@ -93,6 +93,36 @@ pub fn fails_lower_what_is_left()
     ensures take { (told : Option (List FileText)) (b new : BookData) (slot : ℕ) (job : Job)
         → Reached told b → IsTaking b slot job new → IsBelow (left new) (left b) ⊎ (left new ≡ left b) }
 {}
+
+/// Each commit lowers what is left of a run, where a position of its range was attempted, the range is
+/// empty, or its panes went on; and no claim raises it.
+pub fn commits_lower_what_is_left()
+    ensures commit { (told : Option (List FileText)) (b new : BookData) (slot : ℕ)
+        → Reached told b → Step told b slot Commit Committed new → GoesOnAt b slot → IsBelow (left new) (left b) }
+    ensures claim { (told : Option (List FileText)) (b new : BookData) (slot p : ℕ) (granted : Bool)
+        → Reached told b → IsClaiming b slot p granted new → left new ≡ left b }
+{
+    nodes_take_elements_of_their_strategy();
+    strategies_follow_kinds();
+    nodes_have_inputs_and_settings_of_their_kind();
+}
+
+/// A run comes to its end: a book tells how many rounds are left at most, each a take, claims, and then
+/// a commit of a job that goes on or a fail.
+pub fn rounds_are_bounded()
+    ensures take { (told : Option (List FileText)) (b new : BookData) (slot : ℕ) (job : Job)
+        → Reached told b → IsTaking b slot job new → rounds_left new ≤ rounds_left b }
+    ensures claim { (told : Option (List FileText)) (b new : BookData) (slot p : ℕ) (granted : Bool)
+        → Reached told b → IsClaiming b slot p granted new → rounds_left new ≡ rounds_left b }
+    ensures commit { (told : Option (List FileText)) (b new : BookData) (slot : ℕ)
+        → Reached told b → Step told b slot Commit Committed new → GoesOnAt b slot → rounds_left new < rounds_left b }
+    ensures fail { (told : Option (List FileText)) (b new : BookData) (slot at : ℕ) (cause : Cause) (answer : Answer)
+        → Reached told b → IsFailing b slot at cause answer new → rounds_left new < rounds_left b }
+{
+    nodes_take_elements_of_their_strategy();
+    strategies_follow_kinds();
+    nodes_have_inputs_and_settings_of_their_kind();
+}
 
 /// A book that is reached by honest fails is reached, so all that holds of reached books holds of it.
 pub fn honest_runs_are_runs()

@@ -9,7 +9,6 @@ mod Passing
 mod Bounds
 mod Forward
 mod Above
-mod FiredNow
 mod ToCome
 mod SeenTimes
 mod PanesWell

@@ -26,7 +26,7 @@ use Rattle.book_core.specs.Book.{HeldPane}
 use Rattle.book_core.proofs.HeldOnce.{All-of_bag, get_at_end, get_front}
 use Rattle.book_core.proofs.Queues.{held_fired}
 use Rattle.ended_runs.proofs.Above.{StartsAbove}
-use Rattle.ended_runs.proofs.FiredNow.{mark_front}
+use Rattle.book_core.proofs.FiredNow.{mark_front}
 use Rattle.ended_runs.proofs.ToCome.{last_is_time}
 
 either : (t u : Bool) → (not t || u) ≡ true → t ≡ true → u ≡ true

@@ -55,7 +55,7 @@ use Rattle.book_core.proofs.RisingMarks.{reached_marked, reached_marks}
 use Rattle.book_core.proofs.SeenAlways.{reached_seen}
 use Rattle.book_core.proofs.Slotted.{All-append_left, All-append_right}
 use Rattle.ended_runs.proofs.Above.{IsAbove, KnownLaws, StartsAbove}
-use Rattle.ended_runs.proofs.FiredNow.{fired_now, mark_front}
+use Rattle.book_core.proofs.FiredNow.{fired_now, mark_front}
 use Rattle.ended_runs.proofs.PanesWell.{IsSpanWell, pane_times, panes_early, panes_well}
 use Rattle.ended_runs.proofs.SeenTimes.{reached_always, reached_seen_times}
 use Rattle.ended_runs.proofs.SoFar.{IsFiredNow, IsHeldSo, IsTakenAbove, held_later, held_now, held_of_bag, least_is_mark, taken_later, taken_of_bag}

@@ -1,0 +1,233 @@
+-- A commit of a job that goes on lowers what is left: at the job's node there is less, and before it as much as there was.
+use Rattle.std.proofs.Common.{◌≡◌, inl, inr, ℕ, zero, suc, ◌+◌, ◌-◌, ◌<◌, ◌≤◌, min, Bool, true, false, cond, List, [], ◌∷◌, ◌++◌, length, map, refl, sym, ap, subst, arith}
+use Rattle.std.specs.Prelude.{Option, Some, None, ◌==◌, nat_lt, slice_get}
+use Rattle.std.specs.List.{All, count_by, enumerate_from, flat_map, sum_by}
+use Rattle.std.proofs.lemmas.Bool.{cases_lt}
+use Rattle.std.proofs.lemmas.Bool.Decides.{nat_tests}
+use Rattle.std.proofs.lemmas.List.Elements.{All-head, All-tail}
+use Rattle.std.proofs.lemmas.List.Sums.{sum_by-cons}
+use Rattle.beam_values.specs.Lines.{offsets}
+use Rattle.beam_values.proofs.Bags.{bag_count}
+use Rattle.beam_values.specs.declared.cell.Cell.{Cell}
+use Rattle.beam_values.specs.declared.cell.Pane.{Pane}
+use Rattle.beam_values.specs.declared.file_text.FileText.{FileText}
+use Rattle.beam_values.specs.declared.marks.StageMarks.{StageMarks}
+use Rattle.beam_values.specs.declared.piece.Piece.{Piece}
+use Rattle.beam_values.specs.declared.plan.Node.{Node}
+use Rattle.beam_values.specs.declared.plan.Plan.{Plan}
+use Rattle.bundle_commit.specs.declared.job.Receipt.{Receipt}
+use Rattle.group_cells.proofs.Counting.{count-append}
+use Rattle.pipeline_graph.specs.Rules.{HasSettings}
+use Rattle.book_core.specs.Book.{BookData, HeldPane, batch_of, held, held_at, held_in, last_marks}
+use Rattle.book_core.specs.Changes.{committed, residual_of, with_residual}
+use Rattle.book_core.specs.Committing.{node_of}
+use Rattle.book_core.specs.Facts.{AreHeldOnce, AreMarksKept, IsAttemptedWithin, IsWellFormed}
+use Rattle.book_core.specs.Left.{GoesOn, IsBelow, attempts_left, left, left_at, offsets_and_one}
+use Rattle.book_core.specs.Steps.{IsWorking}
+use Rattle.book_core.specs.Work.{worked_to}
+use Rattle.book_core.specs.declared.live.Batch.{Batch}
+use Rattle.book_core.specs.declared.live.Live.{Live}
+use Rattle.book_core.specs.declared.live.Live.TheVariants as live
+use Rattle.book_core.specs.declared.live.WaitingPane.{WaitingPane}
+use Rattle.book_core.proofs.Cases.{Commits, LegalIn}
+use Rattle.book_core.proofs.CellsKept.{batch_at_group}
+use Rattle.book_core.proofs.HeldMoves.{IsNonempty, fired_held}
+use Rattle.book_core.proofs.HeldOnce.{commit_bag, group_within}
+use Rattle.book_core.proofs.HoldBags.{piece_set_weighs, with_piece_weight}
+use Rattle.book_core.proofs.Lowered.{at_node, left_at_weighs}
+use Rattle.book_core.proofs.PiecesPlaced.{ArePlaced, worked_placed}
+use Rattle.book_core.proofs.Queues.{held_fired}
+use Rattle.book_core.proofs.Settled.{NoneAt, none_fires}
+use Rattle.book_core.proofs.Slots.{All-slice_get}
+use Rattle.book_core.proofs.Slotted.{All-append_right, All-flat_at, one_weighs}
+
+-- ---- lists of numbers
+
+-- the lists are alike before a place, and lower there
+below_from : (f g : ℕ → ℕ) (x y n start count : ℕ) → start ≤ n → n < start + count → ((m : ℕ) → m < n → f m ≡ g m) → f n < g n
+    → IsBelow (map f (offsets start count) ++ x ∷ []) (map g (offsets start count) ++ y ∷ [])
+unfolding offsets
+below_from f g x y n start zero low high same less = absurd (omega (arith, low, high))
+below_from f g x y n start (suc count) low high same less = elim (cases_lt start n) [
+  | inl before ↦ inr (same start before, below_from f g x y n (suc start) count before (omega (arith, high)) same less)
+  | inr there ↦
+      let at : start ≡ n = omega (arith, low, there) in
+      inl (subst (λ (k : ℕ). f k < g k) (sym at) less)
+]
+
+pub lower_at : (b new : BookData) (n : ℕ) → new.plan ≡ b.plan → n < length b.plan.nodes → ((m : ℕ) → m < n → left_at new m ≡ left_at b m) → left_at new n < left_at b n
+    → IsBelow (left new) (left b)
+lower_at b new n plan inside same less =
+    subst (λ (p : Plan). IsBelow (map (left_at new) (offsets 0 (length p.nodes)) ++ attempts_left new ∷ []) (left b)) (sym plan)
+    (below_from (left_at new) (left_at b) (attempts_left new) (attempts_left b) n 0 (length b.plan.nodes) (omega arith) (omega (arith, inside)) same less)
+
+-- ---- pieces
+
+-- what is left of a piece and one more, where something is
+rest_size : Piece → ℕ → ℕ
+rest_size piece upto = cond (nat_lt upto piece.range.to) (piece.range.to - upto + 1) 0
+
+rest_weighs : (piece : Piece) (attempted : Option ℕ) (receipt : Receipt) (pending : List Piece) (m : ℕ)
+    → sum_by (at_node m) (with_residual (residual_of piece attempted receipt) pending) ≡ cond (piece.node == m) (rest_size piece (worked_to piece attempted)) 0 + sum_by (at_node m) pending
+unfolding rest_size at_node
+rest_weighs piece attempted receipt pending m = by (nat_lt (worked_to piece attempted) piece.range.to)
+  where
+    none : (t : Bool) → cond {A = ℕ} t 0 0 ≡ 0
+    none true = refl
+    none false = refl
+
+    by : (t : Bool)
+        → sum_by (at_node m) (with_residual (cond t (Some (record piece { range = record { from = worked_to piece attempted; to = piece.range.to }; seen = receipt.seen; attempts = 0 })) None) pending)
+        ≡ cond (piece.node == m) (cond t (piece.range.to - worked_to piece attempted + 1) 0) 0 + sum_by (at_node m) pending
+    by true = with_piece_weight (at_node m) (record piece { range = record { from = worked_to piece attempted; to = piece.range.to }; seen = receipt.seen; attempts = 0 }) pending
+    by false = omega (arith, none (piece.node == m))
+
+-- less is left behind a position that was attempted
+rest_less : (piece : Piece) (attempted : Option ℕ) → IsAttemptedWithin (Some (live.Span piece attempted)) → GoesOn (live.Span piece attempted)
+    → rest_size piece (worked_to piece attempted) < offsets_and_one piece
+unfolding rest_size
+rest_less piece None within goes = by (nat_lt (worked_to piece None) piece.range.to) refl
+  where
+    by : (t : Bool) → nat_lt (worked_to piece None) piece.range.to ≡ t → cond t (piece.range.to - worked_to piece None + 1) 0 < offsets_and_one piece
+    by true e = absurd (all piece.range.from piece.range.to goes e)
+      where
+        all : (from to : ℕ) → to ≤ from → nat_lt (min from to) to ≡ true → ⊥
+        all from to most e = let less : min from to < to = grind (arith, nat_tests) in omega (arith, most, less)
+    by false e = omega arith
+rest_less piece (Some p) within goes = by (nat_lt (worked_to piece (Some p)) piece.range.to) refl
+  where
+    by : (t : Bool) → nat_lt (worked_to piece (Some p)) piece.range.to ≡ t → cond t (piece.range.to - worked_to piece (Some p) + 1) 0 < offsets_and_one piece
+    by true e = part piece.range.from piece.range.to p within e
+      where
+        part : (from to last : ℕ) → from ≤ last → nat_lt (min (last + 1) to) to ≡ true → to - min (last + 1) to + 1 < to - from + 1
+        part from to last low e = let less : min (last + 1) to < to = grind (arith, nat_tests) in omega (arith, low, less)
+    by false e = omega arith
+
+-- ---- panes
+
+held_none : (before : List StageMarks) (m k : ℕ) (fired : List Pane) → NoneAt m fired → count_by (λ (pane : HeldPane). pane.node == m) (map (held_fired before) (enumerate_from k fired)) ≡ 0
+held_none before m k [] none = refl
+held_none before m k (p ∷ ps) none =
+    let sum = sum_by-cons (λ (pane : HeldPane). cond {A = ℕ} (pane.node == m) 1 0) (held_fired before (k, p)) (map (held_fired before) (enumerate_from (k + 1) ps)) in
+    let off : cond {A = ℕ} (p.node == m) 1 0 ≡ 0 = zero_of p.node (All-head (λ (q : Pane). q.node ≡ m → ⊥) p ps none) in
+    omega (arith, sum, off, held_none before m (k + 1) ps (All-tail (λ (q : Pane). q.node ≡ m → ⊥) p ps none))
+  where
+    zero_of : (a : ℕ) → (a ≡ m → ⊥) → cond {A = ℕ} (a == m) 1 0 ≡ 0
+    zero_of a other = grind (arith, nat_tests)
+
+batch_counts : (m node : ℕ) (panes : List WaitingPane) → count_by (λ (pane : HeldPane). pane.node == m) (held_at node panes) ≡ cond (node == m) (length panes) 0
+batch_counts m node [] = none (node == m)
+  where
+    none : (t : Bool) → 0 ≡ cond {A = ℕ} t 0 0
+    none true = refl
+    none false = refl
+batch_counts m node (w ∷ ws) =
+    by (node == m) refl (batch_counts m node ws)
+    (sum_by-cons (λ (pane : HeldPane). cond {A = ℕ} (pane.node == m) 1 0) (record { node = node; waiting = w }) (held_at node ws))
+  where
+    by : (t : Bool) → (node == m) ≡ t → count_by (λ (pane : HeldPane). pane.node == m) (held_at node ws) ≡ cond t (length ws) 0
+        → count_by (λ (pane : HeldPane). pane.node == m) (held_at node (w ∷ ws)) ≡ cond {A = ℕ} (node == m) 1 0 + count_by (λ (pane : HeldPane). pane.node == m) (held_at node ws)
+        → count_by (λ (pane : HeldPane). pane.node == m) (held_at node (w ∷ ws)) ≡ cond t (length (w ∷ ws)) 0
+    by true e later sum = let one : cond {A = ℕ} (node == m) 1 0 ≡ 1 = ap (λ (t : Bool). cond {A = ℕ} t 1 0) e in omega (arith, later, sum, one)
+    by false e later sum = let none : cond {A = ℕ} (node == m) 1 0 ≡ 0 = ap (λ (t : Bool). cond {A = ℕ} t 1 0) e in omega (arith, later, sum, none)
+
+other : (a m v : ℕ) → m < a → cond {A = ℕ} (a == m) v 0 ≡ 0
+other a m v less = let off : (a == m) ≡ false = grind (arith, nat_tests) in ap (λ (t : Bool). cond {A = ℕ} t v 0) off
+
+own : (a v : ℕ) → cond {A = ℕ} (a == a) v 0 ≡ v
+own a v = let same : (a == a) ≡ true = grind (arith, nat_tests) in ap (λ (t : Bool). cond {A = ℕ} t v 0) same
+
+-- ---- a commit
+
+module _ (told : Option (List FileText)) (b : BookData) (slot : ℕ) (job : Live) (receipt : Receipt) (cells : List Cell) (fired : List Pane) (marks : List StageMarks)
+    (settings : (n : ℕ) (node : Node) → slice_get b.plan.nodes n ≡ Some node → HasSettings node.kind)
+    (formed : IsWellFormed b) (once : AreHeldOnce b) (kept : AreMarksKept b) (some : 1 ≤ length b.commits) (legal : LegalIn b) (placed : ArePlaced b) (within : All IsAttemptedWithin b.slots)
+    (made : Commits told b slot job receipt cells fired marks) where
+  abbrev after : BookData
+  after = committed b slot job receipt cells fired marks
+
+  abbrev of_node : ℕ → HeldPane → Bool
+  of_node m pane = pane.node == m
+
+  -- up to the job's node, panes are held as before but for those of its batch
+  panes_upto : (m : ℕ) → m ≤ node_of job → count_by (of_node m) (held after) + count_by (of_node m) (flat_map held_in (batch_of (Some job))) ≡ count_by (of_node m) (held b)
+  panes_upto m upto =
+      let none = held_none (last_marks b) m (length b.panes) fired (none_fires told b slot job receipt cells fired marks settings formed kept some legal made m upto) in
+      omega (
+        arith,
+        none,
+        bag_count (of_node m) (held after ++ flat_map held_in (batch_of (Some job))) (held b ++ fired_held b fired) (commit_bag told b slot job receipt cells fired marks formed once made),
+        count-append (of_node m) (held after) (flat_map held_in (batch_of (Some job))),
+        count-append (of_node m) (held b) (fired_held b fired),
+      )
+
+span_left : (b : BookData) (slot : ℕ) (piece : Piece) (attempted : Option ℕ) (receipt : Receipt) (cells : List Cell) (fired : List Pane) (marks : List StageMarks)
+    → IsWorking b slot (live.Span piece attempted) → (m : ℕ)
+    → count_by (λ (pane : HeldPane). pane.node == m) (held (committed b slot (live.Span piece attempted) receipt cells fired marks)) + 0 ≡ count_by (λ (pane : HeldPane). pane.node == m) (held b)
+    → left_at (committed b slot (live.Span piece attempted) receipt cells fired marks) m + cond (piece.node == m) (offsets_and_one piece) 0
+    ≡ left_at b m + cond (piece.node == m) (rest_size piece (worked_to piece attempted)) 0
+unfolding at_node
+span_left b slot piece attempted receipt cells fired marks works m panes =
+    omega (
+      arith,
+      panes,
+      left_at_weighs b m,
+      left_at_weighs (committed b slot (live.Span piece attempted) receipt cells fired marks) m,
+      piece_set_weighs (at_node m) b slot (Some (live.Span piece attempted)) None works,
+      rest_weighs piece attempted receipt b.pending m,
+      one_weighs (at_node m) piece,
+    )
+
+batch_left : (b : BookData) (slot : ℕ) (batch : Batch) (receipt : Receipt) (cells : List Cell) (fired : List Pane) (marks : List StageMarks)
+    → IsWorking b slot (live.Batch batch) → (m : ℕ)
+    → count_by (λ (pane : HeldPane). pane.node == m) (held (committed b slot (live.Batch batch) receipt cells fired marks)) + count_by (λ (pane : HeldPane). pane.node == m) (held_in batch ++ [])
+    ≡ count_by (λ (pane : HeldPane). pane.node == m) (held b)
+    → left_at (committed b slot (live.Batch batch) receipt cells fired marks) m + cond (batch.node == m) (length batch.panes) 0 ≡ left_at b m
+batch_left b slot batch receipt cells fired marks works m panes =
+    omega (
+      arith,
+      panes,
+      left_at_weighs b m,
+      left_at_weighs (committed b slot (live.Batch batch) receipt cells fired marks) m,
+      piece_set_weighs (at_node m) b slot (Some (live.Batch batch)) None works,
+      count-append (λ (pane : HeldPane). pane.node == m) (held_in batch) [],
+      batch_counts m batch.node batch.panes,
+    )
+
+pub commit_lowers : (told : Option (List FileText)) (b : BookData) (slot : ℕ) (job : Live) (receipt : Receipt) (cells : List Cell) (fired : List Pane) (marks : List StageMarks)
+    → ((n : ℕ) (node : Node) → slice_get b.plan.nodes n ≡ Some node → HasSettings node.kind) → IsWellFormed b → AreHeldOnce b → AreMarksKept b → 1 ≤ length b.commits → LegalIn b → ArePlaced b
+    → All IsAttemptedWithin b.slots → Commits told b slot job receipt cells fired marks → GoesOn job → IsBelow (left (committed b slot job receipt cells fired marks)) (left b)
+commit_lowers told b slot (live.Span piece attempted) receipt cells fired marks settings formed once kept some legal placed within made goes =
+    let job = live.Span piece attempted in
+    let new = committed b slot job receipt cells fired marks in
+    let at = λ (m : ℕ) (upto : m ≤ piece.node).
+    span_left b slot piece attempted receipt cells fired marks made.works m
+    (panes_upto told b slot job receipt cells fired marks settings formed once kept some legal placed within made m upto) in
+    let rest = rest_size piece (worked_to piece attempted) in
+    let less = rest_less piece attempted (All-slice_get IsAttemptedWithin b.slots slot (Some job) made.works within) goes in
+    lower_at b new piece.node refl (worked_placed b placed slot piece attempted made.works).0
+    (λ m low.
+    let is = at m (omega (arith, low)) in
+    let a = other piece.node m (offsets_and_one piece) low in
+    let c = other piece.node m rest low in
+    omega (arith, is, a, c))
+    (let is = at piece.node (omega arith) in
+    let a = own piece.node (offsets_and_one piece) in
+    let c = own piece.node rest in
+    omega (arith, is, a, c, less))
+commit_lowers told b slot (live.Batch batch) receipt cells fired marks settings formed once kept some legal placed within made goes =
+    let job = live.Batch batch in
+    let new = committed b slot job receipt cells fired marks in
+    let at = λ (m : ℕ) (upto : m ≤ batch.node).
+    batch_left b slot batch receipt cells fired marks made.works m
+    (panes_upto told b slot job receipt cells fired marks settings formed once kept some legal placed within made m upto) in
+    let more : 1 ≤ length batch.panes =
+    All-head IsNonempty batch [] (All-flat_at batch_of b.slots slot IsNonempty (Some job) made.works (All-append_right IsNonempty b.returned _ once.batches)) in
+    lower_at b new batch.node refl (group_within b.plan batch.node (batch_at_group b slot batch once legal.panes_at made.works))
+    (λ m low.
+    let is = at m (omega (arith, low)) in
+    let a = other batch.node m (length batch.panes) low in
+    omega (arith, is, a))
+    (let is = at batch.node (omega arith) in
+    let a = own batch.node (length batch.panes) in
+    omega (arith, is, a, more))
