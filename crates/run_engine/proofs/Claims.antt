@@ -1,5 +1,5 @@
 -- A slot claims positions of its piece and works them, one after another.
-use Rattle.std.proofs.Common.{◌≡◌, ℕ, zero, suc, ◌+◌, ◌-◌, ◌<◌, ◌≤◌, min, Bool, true, false, List, [], ◌∷◌, length, refl, sym, ap, subst, ◌∙◌, arith}
+use Rattle.std.proofs.Common.{◌≡◌, ℕ, zero, suc, ◌<◌, ◌≤◌, Bool, true, List, [], ◌∷◌, length, refl, sym, ap, subst, ◌∙◌, arith}
 use Rattle.std.specs.Prelude.{Option, Some, None, IsSome, slice_get, slice_set}
 use Rattle.std.specs.List.{All}
 use Rattle.std.specs.Option.{ForSome, option_and_then}
@@ -19,7 +19,7 @@ use Rattle.beam_ports.specs.Files.{KeepsOpenings, Opening}
 use Rattle.book_core.specs.Book.{BookData, slot_at, tracker_of}
 use Rattle.book_core.specs.Calls.{CanClaim, Makes}
 use Rattle.book_core.specs.Changes.{with_slot}
-use Rattle.book_core.specs.Runs.{HonestlyReached}
+use Rattle.book_core.specs.Left.{GoesOn}
 use Rattle.book_core.specs.Steps.{Claim, Claimed, IsWorking}
 use Rattle.book_core.specs.Work.{worked_to}
 use Rattle.book_core.specs.declared.live.Live.{Live}
@@ -37,7 +37,7 @@ use Rattle.run_engine.specs.Outside.{IsKitKept}
 use Rattle.run_engine.proofs.Honest.{honest_more}
 use Rattle.run_engine.proofs.Opens.{store_onward, store_same}
 use Rattle.run_engine.proofs.PieceWork.{IsFitSoFar, IsWorkedSoFar, fit_more, fit_none, fit_plausible, work_done, work_more, work_none}
-use Rattle.run_engine.proofs.Working.{IsClaimed, claimed_more, claimed_none, refused_past}
+use Rattle.run_engine.proofs.Working.{IsClaimed, claimed_more, claimed_none}
 
 -- ---- one slot is set
 
@@ -113,6 +113,7 @@ pub record IsUnderWay (first b : BookData) (slot : ℕ) (plan : Plan) (opening :
   pub claims : IsClaimed (tracker_of piece None) (tracker_of piece attempted) p
   pub told : ForSome (source_at plan piece.node) (λ source. (text : List ℕ) → IsText source.work opening len text → IsWorkedSoFar plan piece (item_of piece source text) attempted p receipt)
   pub fit : IsFitSoFar plan piece receipt
+  pub goes : piece.range.from < p → GoesOn (live.Span piece attempted)
 
 module _ (first : BookData) (slot : ℕ) (plan : Plan) (opening : Option Opening) (len : ℕ) (piece : Piece) where
   pub under_none : (p : ℕ) (receipt : Receipt) → IsWorking first slot (live.Span piece None) → p ≡ piece.range.from → piece.range.from ≤ piece.range.to
@@ -123,6 +124,7 @@ module _ (first : BookData) (slot : ℕ) (plan : Plan) (opening : Option Opening
     claims = claimed_none (tracker_of piece None) p refl at ordered;
     told = λ source is text told. subst (λ (q : ℕ). IsWorkedSoFar plan piece (item_of piece source text) None q receipt) (sym at) (work_none plan piece source text receipt empty);
     fit = fit_none plan piece receipt empty;
+    goes = λ moved. absurd (omega (arith, at, moved));
   }
 
   -- what was worked, up to the last attempted position
@@ -148,6 +150,7 @@ module _ (first : BookData) (slot : ℕ) (plan : Plan) (opening : Option Opening
         let emits = worked.told source is text known in
         work_more plan piece source text under.attempted p step.next old later worked.emitted step under.claims (under.told source is text told) worked.worked emits.0 emits.1;
     fit = fit_more plan piece old later worked.emitted step under.fit worked.worked (fits worked.emitted worked.worked.timely);
+    goes = λ moved. tt;
   }
 
 -- ---- the sources of a plan

@@ -1,8 +1,7 @@
 -- Jobs that a slot has taken, and what is committed or told of them.
 use Rattle.std.proofs.Common.{◌≡◌, inl, inr, ℕ, zero, suc, Bool, true, false, List, [], ◌∷◌, length, map, refl, sym, ap, subst, ◌∙◌, arith}
-use Rattle.std.specs.Prelude.{Option, Some, None, slice_get, slice_set}
+use Rattle.std.specs.Prelude.{Option, Some, None, slice_set}
 use Rattle.beam_values.specs.declared.cell.Pane.{Pane}
-use Rattle.beam_values.specs.declared.fault.Cause.{Cause}
 use Rattle.beam_values.specs.declared.fault.Cause.TheVariants.{Call, Read}
 use Rattle.beam_values.specs.declared.file_text.FileText.{FileText}
 use Rattle.beam_values.specs.declared.piece.Piece.{Piece}
@@ -11,23 +10,22 @@ use Rattle.beam_model.specs.Chains.{Arrives}
 use Rattle.beam_model.specs.Flow.{batch_outputs}
 use Rattle.beam_model.specs.Spread.{first_poison}
 use Rattle.beam_ports.specs.Observed.{ObservedStore}
-use Rattle.book_core.specs.Book.{BookData, panes_of, slot_at}
-use Rattle.book_core.specs.Changes.{with_slot}
+use Rattle.book_core.specs.Book.{BookData, panes_of}
 use Rattle.book_core.specs.Jobs.{attempted_of, job_of}
-use Rattle.book_core.specs.Runs.{HonestlyReached}
+use Rattle.book_core.specs.Left.{GoesOn, GoesOnAt, rounds_left}
 use Rattle.book_core.specs.Steps.{CanCommit, IsWorking}
 use Rattle.book_core.specs.Work.{IsGiven, IsHonest}
 use Rattle.book_core.specs.declared.live.Batch.{Batch}
 use Rattle.book_core.specs.declared.live.Live.{Live}
 use Rattle.book_core.specs.declared.live.Live.TheVariants as live
-use Rattle.bundle_commit.specs.declared.job.Job.{Job}
+use Rattle.book_core.proofs.LeftAlways.{attempt_rounds}
 use Rattle.bundle_commit.specs.declared.job.Job.TheVariants as job
 use Rattle.bundle_commit.specs.declared.job.Receipt.{Receipt}
 use Rattle.chain_exec.specs.Causes.{IsCallRefused, ObservedShelf}
 use Rattle.chain_exec.specs.declared.refusal.ExecRefusal.{ExecRefusal}
 use Rattle.chain_exec.specs.declared.refusal.ExecRefusal.TheVariants.{Faulted, NoMemory}
 use Rattle.run_engine.specs.Bundles.{HasClaimed, HasTaken, IsJobRefused, IsSpanRefused, OnlyClaims}
-use Rattle.run_engine.specs.PlanRun.{IsCountedAs, known_of}
+use Rattle.run_engine.specs.PlanRun.{known_of}
 use Rattle.run_engine.proofs.Claims.{works_now}
 
 -- ---- what was taken
@@ -80,6 +78,9 @@ module _ (b : BookData) (slot : ℕ) (piece : Piece) (works : IsWorking b slot (
         (subst (λ (p : Plan). IsHonest (known_of shelf store) p (job.Span piece) attempted at cause) (sym plan_same) refused.1),
   )
 
+  pub span_goes : GoesOn (live.Span piece attempted) → GoesOnAt new slot
+  span_goes goes job there = let here = new_works in let same : live.Span piece attempted ≡ job = cc in subst GoesOn same goes
+
   slots_same : {X : Type 0} (xs : List X) (i : ℕ) (x : X) → length (slice_set xs i x) ≡ length xs
   slots_same [] i x = refl
   slots_same (y ∷ ys) zero x = refl
@@ -95,12 +96,13 @@ module _ (b : BookData) (slot : ℕ) (piece : Piece) (works : IsWorking b slot (
     reads = ap (λ (x : BookData). x.reads) claimed.is;
     stopped = ap (λ (x : BookData). x.stopped) claimed.is;
     slots = ap (λ (x : BookData). length x.slots) claimed.is ∙ slots_same b.slots slot (Some (live.Span piece attempted));
+    rounds = ap rounds_left claimed.is ∙ attempt_rounds b slot piece None attempted works;
   }
 
 -- ---- a batch
 
 pub claims_none : (b : BookData) → OnlyClaims b b
-claims_none b = record { reached = λ known reached. reached; plan = refl; files = refl; options = refl; calls = refl; reads = refl; stopped = refl; slots = refl }
+claims_none b = record { reached = λ known reached. reached; plan = refl; files = refl; options = refl; calls = refl; reads = refl; stopped = refl; slots = refl; rounds = refl }
 
 module _ (b : BookData) (slot node : ℕ) (panes : List Pane) (taken : IsBatchTaken b slot node panes) where
   outputs_same : batch_outputs b.plan node panes ≡ batch_outputs b.plan taken.batch.node (panes_of b.panes taken.batch.panes)
@@ -108,6 +110,9 @@ module _ (b : BookData) (slot node : ℕ) (panes : List Pane) (taken : IsBatchTa
 
   pub batch_commit : (told : Option (List FileText)) (receipt : Receipt) → map Arrives receipt.arrivals ≡ batch_outputs b.plan node panes → receipt.logged ≡ None → CanCommit told b slot receipt
   batch_commit told receipt arrivals logged = record { job = live.Batch taken.batch; works = taken.works; given = (arrivals ∙ outputs_same, logged) }
+
+  pub batch_goes : GoesOnAt b slot
+  batch_goes job there = let here = taken.works in let same : live.Batch taken.batch ≡ job = cc in subst GoesOn same tt
 
   pub batch_refused : (shelf : ObservedShelf) (store : ObservedStore) (refusal : ExecRefusal) → IsCallRefused shelf (batch_outputs b.plan node panes) refusal → IsJobRefused shelf store b slot refusal
   batch_refused shelf store NoMemory refused = tt

@@ -1,13 +1,10 @@
 -- The reader of a piece's item: its positions can be worked, and what comes of that is given for the piece, or is honest to tell.
-use Rattle.std.proofs.Common.{◌≡◌, ◌⊎◌, inl, inr, ℕ, zero, suc, ◌+◌, ◌<◌, ◌≤◌, min, Bool, true, false, cond, ◌||◌, ◌&&◌, ◌==◌, List, [], ◌∷◌, ◌++◌, length, get_or, map, set, refl, sym, ap, subst, ◌∙◌, arith}
-use Rattle.std.specs.Prelude.{ℤ, ◌≤ℤ◌, Option, Some, None, IsSome, IsSomeAnd, not, nat_le, slice_get, unwrap_or}
-use Rattle.std.specs.List.{All}
+use Rattle.std.proofs.Common.{◌≡◌, ◌⊎◌, inl, inr, ℕ, zero, suc, ◌+◌, ◌≤◌, Bool, true, false, cond, ◌||◌, ◌&&◌, ◌==◌, List, [], ◌∷◌, get_or, set, refl, sym, ap, subst, ◌∙◌, arith}
+use Rattle.std.specs.Prelude.{◌≤ℤ◌, Option, Some, None, IsSome, IsSomeAnd, not, nat_le, slice_get, unwrap_or}
 use Rattle.std.specs.Option.{option_and_then, option_map}
 use Rattle.std.proofs.lemmas.Bool.{and_from, and_parts, eq-eqb, eqb-true, false≢true}
 use Rattle.std.proofs.lemmas.Option.{slice_get-get_or, slice_get_within}
 use Rattle.std.proofs.lemmas.Bool.Decides.{nat_tests}
-use Rattle.std.proofs.lemmas.Int.{ints}
-use Rattle.std.proofs.lemmas.List.Elements.{All-nil}
 use Rattle.beam_values.specs.Checked.{reads_file}
 use Rattle.beam_values.specs.Times.{greatest_time}
 use Rattle.beam_values.specs.declared.fault.Cause.TheVariants.{Call, Read}
@@ -20,16 +17,14 @@ use Rattle.beam_values.specs.declared.plan.NodeKind.TheVariants.{Source, ParDo, 
 use Rattle.beam_values.specs.declared.plan.Plan.{Plan}
 use Rattle.beam_values.specs.declared.plan.SourceKind.{SourceKind}
 use Rattle.beam_values.specs.declared.plan.SourceKind.TheVariants.{Lines, TimedLines, Count, Made}
-use Rattle.beam_values.proofs.Spreads.{spread-empty, spread-single}
-use Rattle.beam_model.specs.Chains.{Output, Arrives}
+use Rattle.beam_values.proofs.Spreads.{spread-single}
 use Rattle.beam_model.specs.Coverings.{AreDistinct, is_item, item_at}
-use Rattle.beam_model.specs.Holds.{estimator_of}
 use Rattle.beam_model.specs.Positions.{SourceItem, emission, positions_in}
 use Rattle.beam_model.specs.Spread.{emission_outputs, outputs_at, spread_range, first_poison}
 use Rattle.beam_model.proofs.Coverings.{plan_distinct}
 use Rattle.beam_ports.specs.Files.{KeepsOpenings, Opening}
 use Rattle.beam_ports.specs.Observed.{ObservedStore}
-use Rattle.book_core.specs.Work.{IsGiven, IsHonest, IsHonestCall, IsPlausible, IsPoisonAttempt, IsWorkOn, IsWorkOnItem, IsWorkOnRange, is_file_source, is_known, is_told, items_told, outputs_of_item, reads_file_in, worked_to}
+use Rattle.book_core.specs.Work.{IsGiven, IsHonest, IsHonestCall, IsPoisonAttempt, IsWorkOn, IsWorkOnItem, IsWorkOnRange, is_file_source, is_known, is_told, items_told, outputs_of_item, reads_file_in, worked_to}
 use Rattle.bundle_commit.specs.declared.job.Job.TheVariants as job
 use Rattle.bundle_commit.specs.declared.job.Receipt.{Receipt}
 use Rattle.chain_exec.specs.Causes.{ObservedShelf}
@@ -41,7 +36,6 @@ use Rattle.sdf_library.specs.Paging.{Paged}
 use Rattle.run_engine.specs.Bundles.{CanRead, IsPieceRefused, IsPieceWorked, IsSpanRefused, item_of}
 use Rattle.run_engine.specs.Reading.{AreReaders, AreReadersOf, AreToldReaders, IsReaderOf, is_reader_for}
 use Rattle.run_engine.specs.declared.reading.Reader.{Reader}
-use Rattle.run_engine.proofs.PieceWork.{seen_over_quiet}
 
 -- ---- the reader of an item
 
@@ -212,31 +206,6 @@ reader_here items shown place piece r same found is =
     let here : slice_get items place ≡ Some r = slice_get-get_or items place r within ∙ ap Some (sym is) in
     let one : found.0 ≡ r = cc in
     (here, reader_for piece r (subst (λ (x : Reader). is_reader_for piece x ≡ true) one found.2))
-
--- nothing is given for a piece of which nothing was attempted
-pub nothing_given : (told : Option (List FileText)) (plan : Plan) (piece : Piece) (receipt : Receipt) → receipt ≡ record { arrivals = []; seen = piece.seen; logged = None } → receipt.seen ≤ℤ greatest_time
-    → IsGiven told plan (job.Span piece) None receipt
-nothing_given told plan piece receipt is time = (by (is_known told plan piece.node), ap (λ (r : Receipt). r.logged) is)
-  where
-    none : receipt.arrivals ≡ []
-    none = ap (λ (r : Receipt). r.arrivals) is
-
-    item : (found : Option SourceItem) → IsWorkOnItem plan piece (worked_to piece None) found receipt
-    item None = (none, ap (λ (r : Receipt). r.seen) is)
-    item (Some x) = record {
-      arrivals = ap (map Arrives) none ∙ sym (spread-empty (outputs_at plan x) piece.range.from (worked_to piece None) (omega arith));
-      seen = ap (λ (r : Receipt). r.seen) is ∙ sym (seen_over_quiet (estimator_of plan piece.node) x piece.seen piece.range.from (worked_to piece None) (λ q low high. absurd (omega arith)));
-    }
-
-    by : (known : Bool) → IsWorkOnRange known told plan piece (worked_to piece None) receipt
-    by true = item (item_at (items_told told plan) piece.node piece.item)
-    by false = subst (IsPlausible plan piece) (sym is) (record {
-      brought = All-nil _;
-      gaps = All-nil _;
-      ends = All-nil _;
-      seen = omega (arith, ints);
-      seen_time = subst (λ (r : Receipt). r.seen ≤ℤ greatest_time) is time;
-    })
 
 -- ---- readers after work
 

@@ -1,5 +1,5 @@
 -- From job to job of a run: what its book keeps, what was counted, and how it ends.
-use Rattle.std.proofs.Common.{◌≡◌, inl, inr, ℕ, zero, suc, ◌+◌, ◌-◌, ◌<◌, ◌≤◌, Bool, true, false, cond, min, List, [], ◌∷◌, ◌++◌, length, map, refl, sym, ap, subst, ◌∙◌, arith}
+use Rattle.std.proofs.Common.{◌≡◌, ℕ, zero, suc, ◌+◌, ◌-◌, ◌<◌, ◌≤◌, Bool, true, false, cond, List, [], ◌∷◌, ◌++◌, length, map, refl, sym, ap, subst, ◌∙◌, arith}
 use Rattle.std.specs.Prelude.{Option, Some, None, nat_le, slice_get, slice_set}
 use Rattle.std.specs.List.{All, flat_map}
 use Rattle.std.proofs.lemmas.Bool.Decides.{nat_tests}
@@ -20,13 +20,14 @@ use Rattle.beam_values.specs.declared.plan.Plan.{Plan}
 use Rattle.beam_ports.specs.Counts.{Rose, greatest_count, raised, rise}
 use Rattle.beam_model.specs.Positions.{item_len, items}
 use Rattle.beam_ports.specs.Observed.{ObservedStore, WhereTold}
-use Rattle.book_core.specs.Book.{BookData, batch_of, live_batches, live_pieces, piece_of, slot_at}
-use Rattle.book_core.specs.Calls.{IsOutcomeOf, Makes, failure_of}
-use Rattle.book_core.specs.Changes.{attempts_of, counted, ends_run, failed, given_back, note_of, or_stopped, stopped_where, with_slot}
-use Rattle.book_core.specs.Facts.{AreAttemptsCounted, IsBelowLimit, IsStopNoted}
+use Rattle.book_core.specs.Book.{BookData, batch_of, live_batches, live_pieces, piece_of}
+use Rattle.book_core.specs.Calls.{IsOutcomeOf}
+use Rattle.book_core.specs.Changes.{attempts_of, counted, ends_run, given_back, note_of, or_stopped, stopped_where, with_slot}
+use Rattle.book_core.specs.Facts.{AreAttemptsCounted, IsStopNoted}
 use Rattle.book_core.specs.Jobs.{Due, GivenBack, Oldest, Next, attempted_of, due_or_piece, first_due, job_of, next_job, without_due, without_first}
-use Rattle.book_core.specs.Runs.{HonestlyReached, IsEnded, IsHonestAction, IsOpening, IsThrough, Reached}
-use Rattle.book_core.specs.Steps.{Action, Answer, Commit, Committed, Enroll, Enrolled, Fail, IsCommitting, IsFailing, IsFailure, IsFree, IsIdle, IsRunning, IsTaking, IsWithinLimits, IsWorking, Retried, Spent, Step, Take, TakenJob}
+use Rattle.book_core.specs.Left.{rounds_left}
+use Rattle.book_core.specs.Runs.{IsEnded, IsHonestAction, IsOpening, IsThrough, Reached}
+use Rattle.book_core.specs.Steps.{Action, Answer, Commit, Committed, Enroll, Enrolled, Fail, IsCommitting, IsFailing, IsFailure, IsFree, IsIdle, IsRunning, IsTaking, IsWithinLimits, IsWorking, Retried, Spent, Step}
 use Rattle.book_core.specs.Work.{Known}
 use Rattle.book_core.specs.declared.live.Live.{Live}
 use Rattle.book_core.specs.declared.live.Live.TheVariants as live
@@ -39,7 +40,7 @@ use Rattle.bundle_commit.specs.declared.job.Job.{Job}
 use Rattle.bundle_commit.specs.declared.job.Receipt.{Receipt}
 use Rattle.chain_exec.specs.Causes.{ObservedShelf}
 use Rattle.chain_exec.proofs.Poisons.{rose_after}
-use Rattle.run_engine.specs.Bundles.{AreFaultsCounted, HasTaken, IsEndOf, IsRunOf, IsWorkEnd, IsSpentBy, OnlyClaims, StaysBelow, StaysOfRun}
+use Rattle.run_engine.specs.Bundles.{AreFaultsCounted, HasTaken, IsEndOf, IsJobDone, IsRunOf, IsWorkEnd, IsSpentBy, OnlyClaims, StaysBelow, StaysOfRun}
 use Rattle.run_engine.specs.PlanRun.{IsCountedAs, IsOutcomeWhere, IsPlanEnd, IsStoppedBy, known_of}
 use Rattle.run_engine.specs.declared.status.RunEnd.{RunEnd}
 use Rattle.run_engine.specs.declared.status.Status.{Status}
@@ -364,6 +365,35 @@ module _ (shelf : ObservedShelf) (store : ObservedStore) (low : shelf.before ≤
           → attempts_of step.job + 1 ≤ new.calls + new.reads
       few Call low under calls reads = omega (arith, low, under, calls, reads)
       few Read low under calls reads = omega (arith, low, under, calls, reads)
+
+-- ---- a job is done
+
+pub job_committed : (shelf : ObservedShelf) (store : ObservedStore) → shelf.before ≤ shelf.after → store.before ≤ store.after → (b mid new : BookData) (slot : ℕ) (receipt : Receipt)
+    → length b.slots ≡ 1 → OnlyClaims b mid → IsCommitting store.files mid slot receipt new × IsWithinLimits new → rounds_left new < rounds_left mid → IsJobDone shelf store slot b new
+job_committed shelf store low low' b mid new slot receipt one claims step less =
+    let known = known_of shelf store in
+    let freed = commit_frees store.files mid slot receipt new step.0 in
+    record {
+      one = freed.slots ∙ claims.slots ∙ one;
+      free = freed.free;
+      run = onward_of_run known b mid new (claims_of_run known b mid claims) (step_of_run known mid new slot Commit Committed (receipt, step.0, step.1) tt freed.slots);
+      counted = faults_same shelf store b new low low' (commit_calls store.files mid slot receipt new step.0 ∙ claims.calls) (commit_reads store.files mid slot receipt new step.0 ∙ claims.reads);
+      fewer = omega (arith, less, claims.rounds);
+    }
+
+pub job_failed : (shelf : ObservedShelf) (store : ObservedStore) → shelf.before ≤ shelf.after → store.before ≤ store.after → (b mid new : BookData) (slot at : ℕ) (cause : Cause) (answer : Answer)
+    → length b.slots ≡ 1 → OnlyClaims b mid → IsCountedAs shelf store cause → IsHonestAction (known_of shelf store) mid slot (Fail at cause) → IsFailing mid slot at cause answer new
+    → rounds_left new < rounds_left mid → IsJobDone shelf store slot b new
+job_failed shelf store low low' b mid new slot at cause answer one claims rose honest step less =
+    let known = known_of shelf store in
+    let freed = fail_frees shelf store low low' mid slot at cause answer new step in
+    record {
+      one = freed.slots ∙ claims.slots ∙ one;
+      free = freed.free;
+      run = onward_of_run known b mid new (claims_of_run known b mid claims) (step_of_run known mid new slot (Fail at cause) answer step honest freed.slots);
+      counted = faults_before shelf store b mid new claims (fail_counts shelf store low low' mid slot at cause answer new step rose);
+      fewer = omega (arith, less, claims.rounds);
+    }
 
 -- ---- how it ends
 

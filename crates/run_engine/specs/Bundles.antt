@@ -1,5 +1,5 @@
 -- What a worker's work on one job leaves of the book, and what it brings or why it was refused.
-use Rattle.std.specs.Prelude.{◌≡◌, ℕ, ◌+◌, ◌<◌, ◌≤◌, ℤ, ◌≤ℤ◌, ◌+ℤ◌, true, List, [], length, Option, Some, None, IsSome}
+use Rattle.std.specs.Prelude.{◌≡◌, ℕ, ◌+◌, ◌<◌, ◌≤◌, ◌≤ℤ◌, ◌+ℤ◌, true, List, [], length, Option, Some, None, IsSome}
 use Rattle.std.specs.List.{All}
 use Rattle.std.specs.Option.{ForSome}
 use Rattle.beam_values.specs.Storable.{IsStorable}
@@ -21,8 +21,9 @@ use Rattle.book_core.specs.Book.{BookData}
 use Rattle.book_core.specs.Calls.{CanFail, IsOutcomeOf}
 use Rattle.book_core.specs.Changes.{with_slot}
 use Rattle.book_core.specs.Jobs.{attempted_of, job_of, next_job}
+use Rattle.book_core.specs.Left.{rounds_left}
 use Rattle.book_core.specs.Runs.{HonestlyReached, IsHonestAction}
-use Rattle.book_core.specs.Steps.{Fail, IsIdle, IsRunning, IsWorking}
+use Rattle.book_core.specs.Steps.{Fail, IsFree, IsIdle, IsRunning, IsWorking}
 use Rattle.book_core.specs.Work.{Known, IsHonest, IsPlausible, IsWorkOn, is_brought, worked_to}
 use Rattle.book_core.specs.declared.live.Live.{Live}
 use Rattle.book_core.specs.declared.live.Live.TheVariants as live
@@ -114,6 +115,7 @@ pub record OnlyClaims (b new : BookData) : Type 0 where
   pub reads : new.reads ≡ b.reads
   pub stopped : new.stopped ≡ b.stopped
   pub slots : length new.slots ≡ length b.slots
+  pub rounds : rounds_left new ≡ rounds_left b
 
 -- The job's work was refused: it failed, that was counted, and may be told of the book as an honest fail. Or there was no memory.
 abbrev pub IsJobRefused : ObservedShelf → ObservedStore → BookData → ℕ → ExecRefusal → Type 0
@@ -149,6 +151,14 @@ pub record IsSpentBy (shelf : ObservedShelf) (store : ObservedStore) (note : Fau
   pub attempt : note.attempt ≡ b.options.attempts
   pub counted : note.attempt ≤ b.calls + b.reads
   pub cause : IsCountedAs shelf store note.cause
+
+-- a job was committed or given back, so the one slot is free, and fewer rounds are left
+pub record IsJobDone (shelf : ObservedShelf) (store : ObservedStore) (slot : ℕ) (b new : BookData) : Type 0 where
+  pub one : length new.slots ≡ 1
+  pub free : IsFree new slot
+  pub run : StaysOfRun (known_of shelf store) b new
+  pub counted : AreFaultsCounted shelf store b new
+  pub fewer : rounds_left new < rounds_left b
 
 -- how a job ended: it is given back or committed and the book runs on, or a fail stopped it
 abbrev pub IsJobEnd : ObservedShelf → ObservedStore → BookData → Option FaultNote → Type 0

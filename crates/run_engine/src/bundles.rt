@@ -5,6 +5,7 @@ ghost use Rattle.beam_model.specs.Positions.{Emission};
 ghost use Rattle.beam_model.specs.Spread.{emission_outputs};
 ghost use Rattle.beam_model.specs.Flow.{batch_outputs};
 ghost use Rattle.beam_ports.specs.Observed.{observed_store};
+ghost use Rattle.book_core.specs.Left.{GoesOn, GoesOnAt};
 ghost use Rattle.book_core.specs.Steps.{CanCommit, IsWorking};
 ghost use Rattle.book_core.specs.Work.{IsGiven};
 ghost use Rattle.book_core.specs.declared.live.Batch.{Batch};
@@ -22,7 +23,7 @@ use crate::reading::{Reader, place_of};
 use beam_ports::Store;
 use beam_values::{Pane, Piece, Time};
 use book_core::Book;
-use book_core::laws::{cells_are_kept, panes_are_held_once};
+use book_core::laws::{cells_are_kept, panes_are_held_once, reached_books_are_well_formed};
 use bundle_commit::{Job, Receipt, Staging};
 use chain_exec::{Buffers, ExecRefusal, Step, run_batch, run_position};
 use dofn_traits::Shelf;
@@ -59,6 +60,7 @@ pub fn work_job<F: Shelf, S: Store>(
     requires readers { AreReaders (S.files store.old) (S.opened store.old) book.old.plan bench.old.readers.items }
     ensures untold { IfOk result (CanCommit None book.new slot) }
     ensures told { IfOk result (CanCommit (S.files store.old) book.new slot) }
+    ensures goes { OnOk result (GoesOnAt book.new slot) }
     ensures refused { IfErr result (IsJobRefused (observed_shelf F.strict F.faults shelf.old shelf.new)
         (observed_store S.files S.faults store.old store.new) book.new slot) }
     ensures claims { OnlyClaims book.old book.new }
@@ -133,15 +135,16 @@ fn work_span<F: Shelf, S: Store>(
     requires works { IsWorking book.old slot (live.Span piece.now None) }
     requires readers { AreReaders (S.files store.old) (S.opened store.old) book.old.plan bench.old.readers.items }
     ensures claimed { (attempted : OptionOf ℕ) × HasClaimed book.old slot piece.now attempted book.new
-        × IfOk result (λ receipt. IsGiven None book.old.plan (jobs.Span piece.now) attempted receipt × IsGiven (S.files store.old) book.old.plan (jobs.Span piece.now) attempted receipt)
+        × IfOk result (λ receipt. IsGiven None book.old.plan (jobs.Span piece.now) attempted receipt × IsGiven (S.files store.old) book.old.plan (jobs.Span piece.now) attempted receipt
+        × GoesOn (live.Span piece.now attempted))
         × IfErr result (IsSpanRefused (observed_shelf F.strict F.faults shelf.old shelf.new) (observed_store S.files S.faults store.old store.new) book.old.plan piece.now attempted) }
     ensures readers { AreReaders (S.files store.new) (S.opened store.new) book.old.plan bench.new.readers.items }
     ensures kept { IsKitKept F.faults F.strict S.faults S.files S.opened shelf.old shelf.new store.old store.new }
 {
     let mut staging = Staging::new(alloc, piece.seen);
     let Some(place) = place_of(bench.readers.as_slice(), bench.last, piece) else {
-        // Nothing of the piece is worked.
-        return Ok(sealed(staging));
+        // The readers of a run hold the items of all its pieces.
+        return Err(ExecRefusal::NoMemory);
     };
     bench.last = place;
     let pager = &mut bench.readers[place].pager;
@@ -190,7 +193,7 @@ fn work_positions<F: Shelf, S: Store>(
     requires able { CanRead book.old.plan piece.now.node (S.opened store.old pager.old.file) pager.old }
     requires reaches { piece.now.range.to ≤ pager.old.len }
     ensures claimed { (attempted : OptionOf ℕ) × HasClaimed book.old slot piece.now attempted book.new
-        × OnOk result (IsPieceWorked book.old.plan (S.opened store.old pager.old.file) pager.old.len piece.now attempted staging.new)
+        × OnOk result (IsPieceWorked book.old.plan (S.opened store.old pager.old.file) pager.old.len piece.now attempted staging.new × GoesOn (live.Span piece.now attempted))
         × IfErr result (IsPieceRefused (observed_shelf F.strict F.faults shelf.old shelf.new) (record { before = S.faults store.old; after = S.faults store.new })
         book.old.plan (S.opened store.old pager.old.file) pager.old.len piece.now attempted) }
     ensures able { CanRead book.old.plan piece.now.node (S.opened store.new pager.new.file) pager.new }
@@ -199,6 +202,8 @@ fn work_positions<F: Shelf, S: Store>(
     ensures kept { IsKitKept F.faults F.strict S.faults S.files S.opened shelf.old shelf.new store.old store.new }
 {
     outputs_are_fit(book.graph());
+    reached_books_are_well_formed();
+    book.is_reached();
     let bundle = book.options().bundle;
     let mut p = piece.range.from();
     let mut emitted = 0;

@@ -5,7 +5,7 @@ ghost use Rattle.beam_values.specs.declared.file_text.FileText.{FileText};
 ghost use Rattle.book_core.specs.Runs.{AreOptions};
 ghost use Rattle.book_core.specs.Steps.{IsFree, IsRunning};
 ghost use Rattle.chain_exec.specs.Causes.{observed_shelf};
-ghost use Rattle.run_engine.specs.Bundles.{AreFaultsCounted, HasTaken, IsEndOf, IsJobEnd, IsWorkEnd, StaysOfRun};
+ghost use Rattle.run_engine.specs.Bundles.{AreFaultsCounted, HasTaken, IsEndOf, IsJobDone, IsJobEnd, IsWorkEnd, StaysOfRun};
 ghost use Rattle.run_engine.specs.Kits.{FirstBecomes, IsOfFirst, OthersStay};
 ghost use Rattle.run_engine.specs.Openings.{AreOpened, file_names};
 ghost use Rattle.run_engine.specs.Outside.{IsKitKept};
@@ -19,7 +19,7 @@ use crate::status::{RunEnd, Status};
 use crate::storable::look_at_panes;
 use beam_ports::{Opened, Store};
 use beam_values::{FaultNote, NoMemory, Options};
-use book_core::laws::books_with_no_job_left_are_through;
+use book_core::laws::{books_with_no_job_left_are_through, rounds_are_bounded};
 use book_core::{Book, Failure, Taken};
 use bundle_commit::Job;
 use chain_exec::{Buffers, ExecRefusal};
@@ -135,11 +135,14 @@ fn work<F: Shelf, S: Store>(
         (observed_store S.files S.faults store.old store.new) book.old book.new) }
     ensures kept { IsKitKept F.faults F.strict S.faults S.files S.opened shelf.old shelf.new store.old store.new }
 {
-    // No run comes near the bound.
-    for _turn in 0..u64::MAX {
+    rounds_are_bounded();
+    'turns: loop {
+        book.is_reached();
         match book.take(slot)? {
             Taken::Job(job) => {
-                let spent = do_job(alloc, book, slot, &job, shelf, store, bench)?;
+                let done = do_job(alloc, book, slot, &job, shelf, store, bench);
+                drop(job);
+                let spent = done?;
                 match spent {
                     None => {}
                     Some(note) => return Ok(Some(note)),
@@ -149,7 +152,6 @@ fn work<F: Shelf, S: Store>(
             Taken::Nothing | Taken::Stopped => unreachable!(),
         }
     }
-    Err(NoMemory)
 }
 
 // Works a job that the slot has taken, and commits it or tells the book that it failed. Where that stopped
@@ -169,20 +171,20 @@ fn do_job<F: Shelf, S: Store>(
     requires readers { AreReaders (S.files store.old) (S.opened store.old) book.old.plan bench.old.readers.items }
     ensures ended { IfOk result (IsJobEnd (observed_shelf F.strict F.faults shelf.old shelf.new)
         (observed_store S.files S.faults store.old store.new) book.new) }
-    ensures one { OnOk result (length book.new.slots ≡ 1) }
-    ensures free { OnOk result (IsFree book.new slot) }
-    ensures run { OnOk result (StaysOfRun (known_of (observed_shelf F.strict F.faults shelf.old shelf.new)
-        (observed_store S.files S.faults store.old store.new)) book.old book.new) }
-    ensures counted { OnOk result (AreFaultsCounted (observed_shelf F.strict F.faults shelf.old shelf.new)
-        (observed_store S.files S.faults store.old store.new) book.old book.new) }
+    ensures done { OnOk result (IsJobDone (observed_shelf F.strict F.faults shelf.old shelf.new)
+        (observed_store S.files S.faults store.old store.new) slot book.old book.new) }
     ensures readers { OnOk result (AreReaders (S.files store.new) (S.opened store.new) book.new.plan bench.new.readers.items) }
     ensures kept { IsKitKept F.faults F.strict S.faults S.files S.opened shelf.old shelf.new store.old store.new }
 {
+    rounds_are_bounded();
     match work_job(alloc, book, slot, job, shelf, store, bench) {
-        Ok(receipt) => match book.commit(slot, receipt) {
-            Ok(()) => Ok(None),
-            Err(_unplaced) => Err(NoMemory),
-        },
+        Ok(receipt) => {
+            book.is_reached();
+            match book.commit(slot, receipt) {
+                Ok(()) => Ok(None),
+                Err(_unplaced) => Err(NoMemory),
+            }
+        }
         Err(ExecRefusal::Faulted { at, cause }) => {
             book.is_reached();
             match book.fail(slot, at, cause) {

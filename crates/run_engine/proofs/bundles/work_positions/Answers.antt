@@ -1,6 +1,7 @@
-use Rattle.std.proofs.Common.{◌≡◌, ℕ, ◌<◌, ◌≤◌, true, false, Some, None, ap, sym, subst, ◌∙◌, refl, arith}
+use Rattle.std.proofs.Common.{◌≡◌, ◌<◌, ◌≤◌, true, false, Some, None, ap, sym, subst, ◌∙◌, refl, inl, inr, arith}
 use Rattle.std.specs.Prelude.{IsSome}
 use Rattle.std.specs.List.{All}
+use Rattle.beam_values.specs.declared.options.Options.{Options}
 use Rattle.beam_values.specs.declared.plan.Plan.{Plan}
 use Rattle.beam_model.specs.Positions.{Emission}
 use Rattle.beam_model.specs.Spread.{emission_outputs}
@@ -20,6 +21,7 @@ positions-init g c = record {
   able = c.requires.able;
   file = refl;
   len = refl;
+  moved = inl refl;
   kept = kit_same g.F.Shelf.faults g.F.Shelf.strict g.S.Store.faults g.S.Store.files g.S.Store.opened c.args.shelf.now c.args.store.now;
 }
 
@@ -76,6 +78,7 @@ positions-preserved g c =
       able = subst (λ (pl : Plan). CanRead pl piece.node (g.S.Store.opened c.work_position.new.store c.work_position.new.pager.file) c.work_position.new.pager) plan c.work_position.ensures.able;
       file = c.work_position.ensures.file ∙ known.file;
       len = c.work_position.ensures.len ∙ known.len;
+      moved = inr (omega (arith, under.claims.may.from_start, c.in-Ok.ensures.next.0));
       kept = kit_onward g.F.Shelf.faults g.F.Shelf.strict g.S.Store.faults g.S.Store.files g.S.Store.opened c.args.shelf.now c.positions.shelf c.work_position.new.shelf c.args.store.now c.positions.store
           c.work_position.new.store known.kept c.work_position.ensures.kept;
     }
@@ -101,6 +104,7 @@ positions-preserved-then-step g c =
       able = subst (λ (pl : Plan). CanRead pl piece.node (g.S.Store.opened c.work_position.new.store c.work_position.new.pager.file) c.work_position.new.pager) plan c.work_position.ensures.able;
       file = c.work_position.ensures.file ∙ known.file;
       len = c.work_position.ensures.len ∙ known.len;
+      moved = inr (omega (arith, under.claims.may.from_start, c.in-Ok.ensures.next.0));
       kept = kit_onward g.F.Shelf.faults g.F.Shelf.strict g.S.Store.faults g.S.Store.files g.S.Store.opened c.args.shelf.now c.positions.shelf c.work_position.new.shelf c.args.store.now c.positions.store
           c.work_position.new.store known.kept c.work_position.ensures.kept;
     }
@@ -149,8 +153,11 @@ returns-else-claim-clause-claimed g c =
     let past : piece.range.to ≤ p = refused_past (tracker_of piece under.attempted) p (sym made.1) in (
       Some p,
       made.0,
-      under_done first c.args.slot first.plan (g.S.Store.opened c.args.store.now c.args.pager.now.file) c.args.pager.now.len piece c.positions.book p c.positions.staging under (Some p)
-          (omega (arith, under.claims.within, under.claims.ordered, past)) (omega (arith, past)),
+      (
+        under_done first c.args.slot first.plan (g.S.Store.opened c.args.store.now c.args.pager.now.file) c.args.pager.now.len piece c.positions.book p c.positions.staging under (Some p)
+            (omega (arith, under.claims.within, under.claims.ordered, past)) (omega (arith, past)),
+        tt,
+      ),
       tt,
     )
 
@@ -158,10 +165,16 @@ pub returns-after-positions-clause-claimed : goal.returns-after-positions-clause
 returns-after-positions-clause-claimed g c =
     let under = c.positions.invariant.under in
     let first = c.args.book.now in
-    let piece = c.args.piece.now in (
+    let piece = c.args.piece.now in
+    let least = (c.reached_books_are_well_formed.ensures None first c.is_reached.ensures).allowed.bundle.0 in
+    let same : c.options-bundle.result.bundle ≡ first.options.bundle = ap (λ (o : Options). o.bundle) c.options-bundle.ensures in
+    let some : 1 ≤ c.positions.emitted = omega (arith, least, same, c.positions-test.false) in (
       under.attempted,
       under.claimed,
-      under_done first c.args.slot first.plan (g.S.Store.opened c.args.store.now c.args.pager.now.file) c.args.pager.now.len piece c.positions.book c.positions.p c.positions.staging under under.attempted
-          (omega (arith, under.claims.within)) (omega (arith, under.claims.ordered)),
+      (
+        under_done first c.args.slot first.plan (g.S.Store.opened c.args.store.now c.args.pager.now.file) c.args.pager.now.len piece c.positions.book c.positions.p c.positions.staging under under.attempted
+            (omega (arith, under.claims.within)) (omega (arith, under.claims.ordered)),
+        elim c.positions.invariant.moved [ inl none ↦ absurd (omega (arith, none, some)) | inr moved ↦ under.goes moved ],
+      ),
       tt,
     )

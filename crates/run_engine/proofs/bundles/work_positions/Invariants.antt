@@ -1,4 +1,4 @@
-use Rattle.std.proofs.Common.{◌≡◌, ◌≤◌, ◌-◌}
+use Rattle.std.proofs.Common.{◌≡◌, ◌⊎◌, ◌<◌, ◌-◌}
 use Rattle.run_engine.specs.Bundles.{CanRead}
 use Rattle.run_engine.specs.Outside.{IsKitKept}
 use Rattle.run_engine.proofs.Claims.{IsUnderWay}
@@ -10,6 +10,7 @@ invariant-positions g l = record {
   able : CanRead l.initial.book.plan l.piece.node (g.S.Store.opened l.store l.pager.file) l.pager;
   file : l.pager.file ≡ l.initial.pager.file;
   len : l.pager.len ≡ l.initial.pager.len;
+  moved : (l.emitted ≡ 0) ⊎ (l.piece.range.from < l.p);
   kept : IsKitKept g.F.Shelf.faults g.F.Shelf.strict g.S.Store.faults g.S.Store.files g.S.Store.opened l.initial.shelf l.shelf l.initial.store l.store;
 }
 

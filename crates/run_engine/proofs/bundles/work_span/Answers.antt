@@ -1,25 +1,16 @@
-use Rattle.std.proofs.Common.{◌≡◌, ℕ, ◌<◌, length, None, ap, sym, subst, ◌∙◌, refl, arith}
+use Rattle.std.proofs.Common.{ℕ, None, ap, sym, subst, ◌∙◌, refl, arith}
 use Rattle.std.specs.Prelude.{slice_get}
 use Rattle.std.proofs.lemmas.Option.{slice_get_within}
 use Rattle.beam_ports.specs.Observed.{observed_store}
 use Rattle.bundle_commit.specs.declared.job.Receipt.{Receipt}
 use Rattle.chain_exec.specs.Causes.{observed_shelf}
 use Rattle.run_engine.specs.Bundles.{CanRead, IsPieceWorked}
-use Rattle.run_engine.specs.declared.reading.Reader.{Reader}
 use Rattle.run_engine.proofs.Claims.{claim_none}
-use Rattle.run_engine.proofs.PieceReads.{nothing_given, piece_given, piece_honest, reader_can, reader_here, readers_after}
+use Rattle.run_engine.proofs.PieceReads.{piece_given, piece_honest, reader_can, reader_here, readers_after}
 use Rattle.run_engine.proofs.bundles.work_span.Goals as goal
 
 pub returns-in_default-clause-claimed : goal.returns-in_default-clause-claimed
-returns-in_default-clause-claimed g c =
-    let plan = c.args.book.now.plan in
-    let piece = c.args.piece.now in
-    let empty = c.sealed.ensures.same ∙ c.new-staging.ensures in (
-      None,
-      claim_none c.args.book.now c.args.slot piece c.requires.works,
-      (nothing_given None plan piece c.sealed.result empty c.sealed.ensures.time, nothing_given (g.S.Store.files c.args.store.now) plan piece c.sealed.result empty c.sealed.ensures.time),
-      tt,
-    )
+returns-in_default-clause-claimed g c = (None, claim_none c.args.book.now c.args.slot c.args.piece.now c.requires.works, tt, tt)
 
 pub index_mut-requires : goal.index_mut-requires
 index_mut-requires g c =
@@ -49,13 +40,14 @@ returns-in-Ok-clause-claimed g c =
     let files = g.S.Store.files c.args.store.now in
     let here = reader_here items c.as_slice.result.now c.in-Some.place piece r c.as_slice.ensures.value c.in-Some.ensures c.index_mut.ensures.value in
     let done = c.in-Ok.ensures.claimed in
-    let worked = subst (λ (x : Receipt). IsPieceWorked plan (opened r.pager.file) r.pager.len piece done.0 x) (sym c.sealed-in-Ok.ensures.same) done.2 in
-    let time = c.sealed-in-Ok.ensures.time in (
+    let worked = subst (λ (x : Receipt). IsPieceWorked plan (opened r.pager.file) r.pager.len piece done.0 x) (sym c.sealed.ensures.same) done.2.0 in
+    let time = c.sealed.ensures.time in (
       done.0,
       done.1,
       (
-        piece_given None opened plan items c.requires.readers.untold c.in-Some.place r here.0 piece here.1 done.0 c.sealed-in-Ok.result time worked,
-        piece_given files opened plan items c.requires.readers.told c.in-Some.place r here.0 piece here.1 done.0 c.sealed-in-Ok.result time worked,
+        piece_given None opened plan items c.requires.readers.untold c.in-Some.place r here.0 piece here.1 done.0 c.sealed.result time worked,
+        piece_given files opened plan items c.requires.readers.told c.in-Some.place r here.0 piece here.1 done.0 c.sealed.result time worked,
+        done.2.1,
       ),
       tt,
     )

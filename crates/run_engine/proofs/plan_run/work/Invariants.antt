@@ -1,5 +1,6 @@
 use Rattle.std.proofs.Common.{◌≡◌, length}
 use Rattle.beam_ports.specs.Observed.{observed_store}
+use Rattle.book_core.specs.Left.{rounds_left}
 use Rattle.book_core.specs.Steps.{IsFree, IsRunning}
 use Rattle.chain_exec.specs.Causes.{observed_shelf}
 use Rattle.run_engine.specs.Bundles.{AreFaultsCounted, StaysOfRun}
@@ -8,8 +9,8 @@ use Rattle.run_engine.specs.PlanRun.{known_of}
 use Rattle.run_engine.specs.Reading.{AreReaders}
 use Rattle.run_engine.proofs.plan_run.work.Given as goal
 
-abbrev pub invariant-loop-turn : goal.invariant-loop-turn
-invariant-loop-turn g l = record {
+abbrev pub invariant-turns : goal.invariant-turns
+invariant-turns g l = record {
   one : length l.book.slots ≡ 1;
   free : IsFree l.book l.slot;
   running : IsRunning l.book;
@@ -18,3 +19,6 @@ invariant-loop-turn g l = record {
   readers : AreReaders (g.S.Store.files l.store) (g.S.Store.opened l.store) l.book.plan l.bench.readers.items;
   kept : IsKitKept g.F.Shelf.faults g.F.Shelf.strict g.S.Store.faults g.S.Store.files g.S.Store.opened l.initial.shelf l.shelf l.initial.store l.store;
 }
+
+abbrev pub decreases-turns : goal.decreases-turns
+decreases-turns g l = rounds_left l.book
