@@ -19,3 +19,9 @@ mod SessionsStay
 mod SessionKeys
 mod SessionsGrouped
 mod Written
+mod Pipeline
+mod OneKeyRun
+mod LateLine
+mod LateLineRun
+mod EarlyPane
+mod EarlyPaneRun

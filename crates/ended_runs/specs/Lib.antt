@@ -1,3 +1,4 @@
 pub mod Stops
 pub mod Storable
 pub mod Unpoisoned
+pub mod EndedRuns

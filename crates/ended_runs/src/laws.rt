@@ -11,14 +11,16 @@ ghost use Rattle.beam_values.specs.declared.outcome.StopCause.TheVariants as sto
 ghost use Rattle.beam_model.specs.Account.{IsAccounted};
 ghost use Rattle.beam_model.specs.Covers.{IsCovered};
 ghost use Rattle.beam_model.specs.Estimators.{AreSoundAbove};
+ghost use Rattle.beam_model.specs.Flow.{elements_at};
 ghost use Rattle.beam_model.specs.Panes.{ArePanesLegal};
-ghost use Rattle.beam_model.specs.Plain.{ArePlainlyWrittenWhere, HasDefaultTriggersAbove, NothingIsDroppedAbove};
+ghost use Rattle.beam_model.specs.Plain.{ArePlainlyWrittenWhere, HasDefaultTriggersAbove, IsPlainAt, NothingIsDroppedAbove};
 ghost use Rattle.beam_model.specs.Positions.{items};
 ghost use Rattle.book_core.specs.Book.{BookData};
 ghost use Rattle.book_core.specs.Calls.{IsOutcomeOf};
 ghost use Rattle.book_core.specs.Changes.{done_cmp};
 ghost use Rattle.book_core.specs.Runs.{AreTold, HonestlyReached, IsThrough, Reached};
 ghost use Rattle.book_core.specs.Work.{Known};
+ghost use Rattle.ended_runs.specs.EndedRuns.{IsEndedRun};
 ghost use Rattle.ended_runs.specs.Stops.{IsHonestStop};
 ghost use Rattle.ended_runs.specs.Storable.{ArePanesStorable};
 ghost use Rattle.ended_runs.specs.Unpoisoned.{TakesNoPoison};
@@ -103,6 +105,22 @@ pub fn outcomes_are_plainly_written()
     allowed_functions_go_forward();
     windows_hold_their_time();
 }
+
+/// Plain writing asks for sound estimators: there is a run with default triggers that came to its end, whose
+/// Group dropped a line, so that what was written is no plain grouping. Of two lines the second is 5001
+/// milliseconds before the first, and the lag is 5000.
+pub fn a_lag_one_millisecond_too_small_drops_a_line()
+    ensures { (told : List FileText) × (b : BookData) × (o : Outcome) × (node : ℕ) × IsEndedRun told b o node × HasDefaultTriggersAbove o.plan node
+        × (NothingIsDroppedAbove o.plan node o.dropped → ⊥) × (IsPlainAt o.plan (items told b.plan) node (elements_at node o.written) → ⊥) }
+{}
+
+/// And it asks for default triggers: there is a run with sound estimators that came to its end and dropped
+/// nothing, where what was written is no plain grouping. A Group that fires early shows the first of two
+/// lines before the second comes.
+pub fn an_early_trigger_splits_a_pane()
+    ensures { (told : List FileText) × (b : BookData) × (o : Outcome) × (node : ℕ) × IsEndedRun told b o node × AreSoundAbove o.plan (items told b.plan) node
+        × NothingIsDroppedAbove o.plan node o.dropped × (IsPlainAt o.plan (items told b.plan) node (elements_at node o.written) → ⊥) }
+{}
 
 /// A run that was given up by a fault met that fault: some job of it failed there honestly, as often as
 /// it may.
