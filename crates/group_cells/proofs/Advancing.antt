@@ -70,6 +70,7 @@ index_moved index after cells new same places h =
       finds = λ q.
           h.finds q ∙ found_by_place (is_place_of q.node q.key q.span) cells ∙ sym (ap (position (is_place_of q.node q.key q.span)) places)
           ∙ sym (found_by_place (is_place_of q.node q.key q.span) new);
+      guesses = h.guesses;
     })
 
 -- ---- firing leaves which windows stand

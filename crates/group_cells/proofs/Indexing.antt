@@ -1,25 +1,33 @@
 -- How the index follows the cells.
-use Rattle.std.proofs.Common.{◌≡◌, ℕ, suc, not, ◌==◌, ◌&&◌, ℤ, Bool, true, false, cond, List, [], ◌∷◌, ◌++◌, length, Option, Some, None, refl, sym, ap, ◌∙◌, arith, length-append}
-use Rattle.std.specs.List.{position, position_or_len}
+use Rattle.std.proofs.Common.{◌≡◌, ℕ, suc, not, ◌==◌, ◌&&◌, ℤ, Bool, true, false, cond, List, [], ◌∷◌, ◌++◌, length, Option, Some, None, refl, sym, ap, subst, ◌∙◌, ◌<◌, arith, length-append, replicate, take}
+use Rattle.std.specs.List.{All, Contains, position, position_or_len, slice_get}
 use Rattle.std.specs.Option.{option_or, option_map}
 use Rattle.std.specs.Ordering.{is_eq, nat_cmp, int_cmp, int_eq, ordering_then}
 use Rattle.std.specs.Str.{bytes_eq}
 use Rattle.std.specs.BTreeMap as tree
+use Rattle.std.specs.BTreeMap.{BTreeMap}
 use Rattle.std.specs.Cmp.{tied_then}
 use Rattle.std.proofs.lemmas.Bool.{false≢true}
 use Rattle.std.proofs.lemmas.Bool.Decides.{Decides-int_eq, nat_tests, Decides-eqb}
 use Rattle.std.proofs.lemmas.Grind.{common_steps}
+use Rattle.std.proofs.lemmas.List.Elements.{All-append, All-contains, All-replicate, All-take, All-weaker}
 use Rattle.std.proofs.lemmas.List.Folds.{position_or_len_push}
+use Rattle.std.proofs.lemmas.List.Quantifiers.{position-Some}
 use Rattle.std.proofs.lemmas.List.Sums.{prefix_len-le-length}
 use Rattle.std.proofs.lemmas.Map.Text.{is_eq-slice_cmp}
+use Rattle.std.proofs.lemmas.Option.{get_or_from_slice_get}
 use Rattle.std.proofs.lemmas.Slice.Eq.{bytes_eq-Decides}
 use Rattle.beam_values.specs.Cells.{span_cmp}
 use Rattle.beam_values.specs.Orders.{value_cmp}
 use Rattle.beam_values.specs.Spans.{same_span}
 use Rattle.beam_values.specs.Spelling.{spelling}
+use Rattle.beam_values.specs.Intervals.{Interval}
 use Rattle.beam_values.specs.declared.cell.Cell.{Cell}
+use Rattle.beam_values.specs.declared.value.Value.{Value}
 use Rattle.group_cells.specs.Looking.{is_cell_of, place_of}
-use Rattle.group_cells.specs.Indexes.{cell_key_cmp, IsIndexOf}
+use Rattle.group_cells.specs.Indexes.{cell_key_cmp, IsFoundPlace, IsIndexOf, IsOfKey}
+use Rattle.group_cells.specs.declared.groups.guesses.Guess.{Guess}
+use Rattle.group_cells.specs.declared.groups.guesses.Guesses.{Guesses}
 use Rattle.group_cells.specs.declared.groups.index.CellIndex.{CellIndex}
 use Rattle.group_cells.specs.declared.groups.index.CellKey.{CellKey}
 
@@ -82,14 +90,28 @@ or_none : {X : Type 0} (o : Option X) → o ≡ option_or o None
 or_none None = refl
 or_none (Some x) = refl
 
-pub index_more : (old new : CellIndex) (key : CellKey) (place : ℕ) → tree.Updates cell_key_cmp old.places new.places key (Some place)
+-- notes of places of a map keep to it
+abbrev pub KeepsTo : Guesses → Guesses → Guess → Type 0
+KeepsTo old new guess = (places : BTreeMap CellKey ℕ) → All (IsOfKey places) old.slots.items → IsOfKey places guess → All (IsOfKey places) new.slots.items
+
+pub index_more : (old new : CellIndex) (key : CellKey) (hash place : ℕ) → tree.Updates cell_key_cmp old.places new.places key (Some place)
+    → KeepsTo old.guesses new.guesses (record { hash = hash; place = place })
     → (cells : List Cell) (cell : Cell) → IsIndexOf old cells → place ≡ length cells
     → cell.node ≡ key.node → cell.key ≡ key.key → cell.span ≡ key.span
     → place_of key.node key.key key.span cells ≡ None → IsIndexOf new (cells ++ cell ∷ [])
-index_more old new key place updates cells cell index at nodes keys spans absent = record {
+index_more old new key hash place updates keeps cells cell index at nodes keys spans absent = record {
   finds = λ q. updates.0 q ∙ by_test q (is_eq (cell_key_cmp key q)) refl ∙ sym (place_pushed (is_cell_of q.node q.key q.span) cells cell);
+  guesses = keeps new.places
+      (All-weaker (IsOfKey old.places) (IsOfKey new.places) (λ guess h hashed. let f = h hashed in (f.0, still f.0 guess.place f.1 (is_eq (cell_key_cmp key f.0)) refl)) old.guesses.slots.items index.guesses)
+      (λ hashed. (key, updates.1));
 }
   where
+    -- a key that was found isn't the new one
+    still : (q : CellKey) (p : ℕ) → tree.get cell_key_cmp old.places q ≡ Some p → (t : Bool) → is_eq (cell_key_cmp key q) ≡ t → tree.get cell_key_cmp new.places q ≡ Some p
+    still q p found true e =
+        let none : Some p ≡ None = sym found ∙ index.finds q ∙ sym (found_alike key q cells e) ∙ absent in absurd cc
+    still q p found false e = updates.0 q ∙ ap (λ b. cond {A = Option ℕ} b (Some place) (tree.get cell_key_cmp old.places q)) e ∙ found
+
     is_it : (q : CellKey) → is_cell_of q.node q.key q.span cell ≡ is_eq (cell_key_cmp key q)
     is_it q =
         ap (λ n. (n == q.node && bytes_eq (spelling cell.key) (spelling q.key)) && same_span cell.span q.span) nodes
@@ -125,6 +147,7 @@ pub index_again : (index : CellIndex) (cells : List Cell) (cell : Cell) (key : C
     → Some place ≡ place_of key.node key.key key.span cells → IsIndexOf index cells → IsIndexOf index (cells ++ cell ∷ [])
 index_again index cells cell key place keyed there h = record {
   finds = λ q. h.finds q ∙ by_test q (is_eq (cell_key_cmp own q)) refl ∙ sym (place_pushed (is_cell_of q.node q.key q.span) cells cell);
+  guesses = h.guesses;
 }
   where
     own : CellKey
@@ -142,3 +165,39 @@ index_again index cells cell key place keyed there h = record {
         let away : is_cell_of q.node q.key q.span cell ≡ false = sym (same_place mine q) ∙ e in
         or_none (place_of q.node q.key q.span cells)
         ∙ sym (ap (λ b. option_or (place_of q.node q.key q.span cells) (cond {A = Option ℕ} b (Some (length cells)) None)) away)
+
+-- ---- guesses
+
+-- a place that is noted for a key that was found there keeps to the map
+pub index_noted : (old : CellIndex) (new : Guesses) (key : CellKey) (hash place : ℕ) → KeepsTo old.guesses new (record { hash = hash; place = place })
+    → (cells : List Cell) → Some place ≡ place_of key.node key.key key.span cells → IsIndexOf old cells → IsIndexOf (record { places = old.places; guesses = new }) cells
+index_noted old new key hash place keeps cells found h = record {
+  finds = h.finds;
+  guesses = keeps old.places h.guesses (λ hashed. (key, h.finds key ∙ sym found));
+}
+
+-- an empty slot has no place
+pub no_key : (places : BTreeMap CellKey ℕ) → IsOfKey places (record { hash = 0; place = 0 })
+no_key places = λ hashed. absurd (omega (arith, hashed))
+
+pub resized : {X : Type 0} (P : X → Type 0) (ok : Bool) (xs ys : List X) (n k : ℕ) (x : X) → ys ≡ cond ok (take n xs ++ replicate k x) xs → P x → All P xs → All P ys
+resized P true xs ys n k x is own all = subst (All P) (sym is) (All-append P (take n xs) (replicate k x) (All-take P n xs all) (All-replicate P k x own))
+resized P false xs ys n k x is own all = subst (All P) (sym is) all
+
+pub guess_found : (index : CellIndex) (hash place : ℕ) → 0 < hash → Contains index.guesses.slots.items (record { hash = hash; place = place })
+    → (cells : List Cell) → IsIndexOf index cells → IsFoundPlace cells place
+guess_found index hash place hashed there cells h =
+    let guess : Guess = record { hash = hash; place = place } in
+    let found = All-contains (IsOfKey index.places) index.guesses.slots.items guess h.guesses there hashed in
+    (found.0, sym (h.finds found.0) ∙ found.1)
+
+-- a place at which some key finds its cell is the one at which that cell's own key does
+pub found_own : (node : ℕ) (key : Value) (span : Interval) (cells : List Cell) (place : ℕ) (cell : Cell) → IsFoundPlace cells place → slice_get cells place ≡ Some cell
+    → is_cell_of node key span cell ≡ true → Some place ≡ place_of node key span cells
+found_own node key span cells place cell found there is =
+    let q : CellKey = found.0 in
+    let mine : CellKey = record { node = node; span = span; key = key } in
+    let own : CellKey = record { node = cell.node; span = cell.span; key = cell.key } in
+    let of_q : is_cell_of q.node q.key q.span cell ≡ true =
+    ap (is_cell_of q.node q.key q.span) (sym (get_or_from_slice_get cells place cell cell there)) ∙ (position-Some (is_cell_of q.node q.key q.span) cells place cell found.1).1 in
+    sym found.1 ∙ sym (found_alike own q cells (same_place own q ∙ of_q)) ∙ found_alike own mine cells (same_place own mine ∙ is)

@@ -81,7 +81,10 @@ taken_at node key span entry cells new place at is =
 -- the index stays where a cell keeps its node, key and window
 pub index_set : (index : CellIndex) (cells : List Cell) (place : ℕ) (cell y : Cell) → slice_get cells place ≡ Some cell
     → ((node : ℕ) (key : Value) (span : Interval) → is_cell_of node key span y ≡ is_cell_of node key span cell) → IsIndexOf index cells → IsIndexOf index (slice_set cells place y)
-index_set index cells place cell y found alike h = record { finds = λ q. h.finds q ∙ sym (written (is_cell_of q.node q.key q.span) (alike q.node q.key q.span)) }
+index_set index cells place cell y found alike h = record {
+  finds = λ q. h.finds q ∙ sym (written (is_cell_of q.node q.key q.span) (alike q.node q.key q.span));
+  guesses = h.guesses;
+}
   where
     written : (p : Cell → Bool) → p y ≡ p cell → position p (slice_set cells place y) ≡ position p cells
     written p same =

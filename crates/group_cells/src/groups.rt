@@ -12,6 +12,7 @@ mod draft;
 mod due;
 mod fired;
 mod firing;
+mod guesses;
 mod index;
 mod looking;
 mod placing;

@@ -1,4 +1,4 @@
-ghost use Rattle.std.specs.Prelude.{◌≡◌, ◌<◌, ◌∷◌, [], ◌++◌, Some, length, slice_get, slice_set, OnOk, OnErr, IfOk, None, false, take};
+ghost use Rattle.std.specs.Prelude.{◌≡◌, ◌<◌, ◌∷◌, [], ◌++◌, Some, length, slice_get, slice_set, OnOk, OnErr, IfOk, IfSome, None, false, take};
 ghost use Rattle.beam_values.specs.Grouping.{key_of};
 ghost use Rattle.beam_values.specs.declared.cell.Cell.{Cell as CellOf};
 ghost use Rattle.group_cells.specs.Arrivals.{arrived};
@@ -12,7 +12,8 @@ ghost use Rattle.group_cells.specs.Unfiring.{unfired};
 use crate::groups::due::DueCells;
 use crate::groups::fired::{Unfired, unfire};
 use crate::groups::index::{CellIndex, CellKey};
-use beam_values::{Cell, Dropped, Entry, List, NoMemory, Plan, copy_key};
+use crate::groups::looking::is_cell_of;
+use beam_values::{Cell, Dropped, Element, Entry, List, NoMemory, Plan, Value, copy_key, key_or};
 use std::alloc::Global;
 
 /// A change of the cells.
@@ -171,13 +172,52 @@ impl Draft {
         ensures dropped { self.new.dropped ≡ self.old.dropped }
         ensures undo { undone_all self.new.changes.items self.new.cells.items ≡ undone_all self.old.changes.items self.old.cells.items }
     {
+        match self.guessed(node, &entry.element) {
+            Some(guessed) => self.put_unseen(plan, guessed, entry),
+            None => self.take_by_map(alloc, plan, node, entry),
+        }
+    }
+
+    /// The same, where the place isn't guessed.
+    fn take_by_map(
+        &mut self,
+        alloc: Global,
+        plan: &Plan,
+        node: u32,
+        entry: Entry,
+    ) -> Result<(), NoMemory>
+        requires indexed { IsIndexOf self.old.index self.old.cells.items }
+        requires unseen { entry.shown ≡ false }
+        requires due { IsDueOf plan.now self.old.due self.old.cells.items }
+        ensures ok { OnOk result (self.new.cells.items ≡ arrived node (key_of entry.element) entry.element.span entry self.old.cells.items) }
+        ensures indexed { OnOk result (IsIndexOf self.new.index self.new.cells.items) }
+        ensures due { OnOk result (IsDueOf plan.now self.new.due self.new.cells.items) }
+        ensures dropped { self.new.dropped ≡ self.old.dropped }
+        ensures undo { undone_all self.new.changes.items self.new.cells.items ≡ undone_all self.old.changes.items self.old.cells.items }
+    {
         let key = cell_key(alloc, node, &entry)?;
-        match self.index.find(&key) {
+        match self.index.find_again(&key) {
             Some(place) => self.put_unseen(plan, place, entry),
             None => {
                 let cell = first_cell(alloc, &key, entry)?;
                 self.open(plan, key, cell)
             }
+        }
+    }
+
+    /// The place of the cell of an element's window, where a guess is right.
+    fn guessed(&self, node: u32, element: &Element) -> Option<u32>
+        requires indexed { IsIndexOf self.now.index self.now.cells.items }
+        ensures { IfSome result (λ place. Some place ≡ place_of node (key_of element.now) element.now.span self.now.cells.items) }
+    {
+        let null = Value::Null;
+        let key = key_or(element, &null);
+        let place = self.index.guess(node, key, element.span)?;
+        let cell = self.cells.get(place as usize)?;
+        if is_cell_of(node, key, element.span, cell) {
+            Some(place)
+        } else {
+            None
         }
     }
 }

@@ -1,4 +1,4 @@
-ghost use Rattle.std.specs.Prelude.{◌≡◌, List as ListOf, [], ◌∷◌, ◌++◌, length, None, IfOk, OnOk};
+ghost use Rattle.std.specs.Prelude.{◌≡◌, List as ListOf, [], ◌∷◌, ◌++◌, length, None, IfOk, IfSome, OnOk};
 ghost use Rattle.std.specs.Ordering.{as_partial_cmp, eq_by_cmp, on, then_cmp};
 ghost use Rattle.std.specs.Cmp.{partial_order_from_own_ties};
 ghost use Rattle.std.specs.Cmp.Rules.{comparing};
@@ -7,8 +7,9 @@ ghost use Rattle.beam_values.specs.Cells.{span_cmp};
 ghost use Rattle.beam_values.specs.Orders.{value_cmp};
 ghost use Rattle.beam_values.specs.declared.cell.Cell.{Cell as CellOf};
 ghost use Rattle.group_cells.specs.Looking.{place_of};
-ghost use Rattle.group_cells.specs.Indexes.{cell_key_cmp, IsIndexOf};
+ghost use Rattle.group_cells.specs.Indexes.{cell_key_cmp, IsFoundPlace, IsIndexOf};
 
+use crate::groups::guesses::{Guess, Guesses, hash_of};
 use beam_values::{Cell, NoMemory, Span, Value, cmp_spans, cmp_values};
 use std::alloc::Global;
 use std::cmp::Ordering;
@@ -76,6 +77,8 @@ impl Ord for CellKey {
 #[derive(Debug, Drop)]
 pub struct CellIndex {
     pub places: BTreeMap<CellKey, u32>,
+    /// Of cells that were found or put lately.
+    pub guesses: Guesses,
 }
 
 impl CellIndex {
@@ -85,6 +88,7 @@ impl CellIndex {
     {
         CellIndex {
             places: BTreeMap::new(alloc),
+            guesses: Guesses::new(alloc),
         }
     }
 
@@ -118,13 +122,34 @@ impl CellIndex {
         self.places.get(key).copied()
     }
 
+    /// The same, with a guess for the next time.
+    pub fn find_again(&mut self, key: &CellKey) -> Option<u32>
+        ensures found { (cells : ListOf CellOf) → IsIndexOf self.old cells → result ≡ place_of key.now.node key.now.key key.now.span cells }
+        ensures indexed { (cells : ListOf CellOf) → IsIndexOf self.old cells → IsIndexOf self.new cells }
+    {
+        let place = self.find(key)?;
+        let hash = hash_of(key.node, &key.key, key.span);
+        self.guesses.note(Guess { hash, place });
+        Some(place)
+    }
+
+    /// A place that may be that of the cell of a node, key and window: that of some cell.
+    pub fn guess(&self, node: u32, key: &Value, span: Span) -> Option<u32>
+        ensures { (cells : ListOf CellOf) → IsIndexOf self.now cells → IfSome result (IsFoundPlace cells) }
+    {
+        self.guesses.place(hash_of(node, key, span))
+    }
+
     /// The place of one more cell, behind the others.
     pub fn add(&mut self, key: CellKey, place: u32) -> Result<(), NoMemory>
         ensures { OnOk result ((cells : ListOf CellOf) (cell : CellOf) → IsIndexOf self.old cells → place ≡ length cells
             → cell.node ≡ key.node → cell.key ≡ key.key → cell.span ≡ key.span
             → place_of key.node key.key key.span cells ≡ None → IsIndexOf self.new (cells ++ cell ∷ [])) }
     {
+        let hash = hash_of(key.node, &key.key, key.span);
         self.places.insert(key, place)?;
+        self.guesses.make_room(self.places.len());
+        self.guesses.note(Guess { hash, place });
         Ok(())
     }
 }

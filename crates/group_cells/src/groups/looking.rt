@@ -23,7 +23,8 @@ pub fn place_among(node: u32, key: &Value, span: Span, cells: &[Cell]) -> Option
     None
 }
 
-fn is_cell_of(node: u32, key: &Value, span: Span, cell: &Cell) -> bool
+/// Whether a cell is of a node, key and window.
+pub fn is_cell_of(node: u32, key: &Value, span: Span, cell: &Cell) -> bool
     ensures { result ≡ is_cell_of node key.now span cell.now }
 {
     is_cell_at_key(node, key, cell) && is_same_span(cell.span, span)
