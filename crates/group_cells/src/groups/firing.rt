@@ -1,13 +1,13 @@
-ghost use Rattle.std.specs.Prelude.{◌≡◌, ◌+◌, ◌<◌, ◌≤◌, ◌^◌, List as ListOf, Some, None, [], true, false, length, map, option_to_list, slice_get, slice_set, IfOk, OnErr, OnOk};
+ghost use Rattle.std.specs.Prelude.{◌≡◌, ◌<◌, ◌≤◌, List as ListOf, Some, None, [], true, false, length, option_to_list, slice_get, slice_set, IfOk, OnErr, OnOk};
 ghost use Rattle.std.specs.List.Sorted.{IsNonDecreasing};
 ghost use Rattle.beam_values.specs.Checked.{IsChecked};
 ghost use Rattle.beam_values.specs.Nodes.{facts_of, is_group};
 ghost use Rattle.beam_values.specs.declared.cell.Cell.{Cell as CellOf};
 ghost use Rattle.beam_model.specs.Panes.{rules_of, trigger_of};
 ghost use Rattle.group_cells.specs.Cells.{once_fired};
-ghost use Rattle.group_cells.specs.Plain.{after_node, AreFired, AreGroupFired, AreNodesFired, FiresAs, firing_at, IsNodeDone};
+ghost use Rattle.group_cells.specs.Plain.{after_node, AreGroupFired, AreNodesFired, FiresAs, firing_at, IsNodeDone};
 ghost use Rattle.group_cells.specs.Due.{IsDueOf};
-ghost use Rattle.group_cells.specs.FiredUpTo.{AreAllDue, AreFiredUpTo, IsFiredPast, IsNoneDue};
+ghost use Rattle.group_cells.specs.FiredUpTo.{AreAllDue, AreCellsFired, AreFiredUpTo, CanFireAt, HasFiredAt, IsFiredPast, IsNoneDue};
 ghost use Rattle.group_cells.specs.Undoing.{undone_all};
 ghost use Rattle.group_cells.specs.Unfiring.{unfired};
 ghost use Rattle.watermarks.specs.Holds.{hold_at};
@@ -142,8 +142,7 @@ impl Draft {
     ) -> Result<Vec<Pane>, NoMemory>
         requires due { IsDueOf plan.now self.old.due self.old.cells.items }
         requires trigger { rules.now.trigger ≡ trigger_of plan.now node }
-        ensures cells { OnOk result (self.new.cells.items ≡ map (after_node rules.now node mark) self.old.cells.items) }
-        ensures panes { IfOk result (λ panes. AreFired rules.now node commit mark self.old.cells.items panes.items) }
+        ensures fired { IfOk result (λ panes. AreCellsFired rules.now node commit mark self.old.cells.items self.new.cells.items panes.items) }
         ensures due { OnOk result (IsDueOf plan.now self.new.due self.new.cells.items) }
         ensures others { (self.new.index ≡ self.old.index) × (self.new.dropped ≡ self.old.dropped) }
         ensures undo { undone_all self.new.changes.items self.new.cells.items ≡ undone_all self.old.changes.items self.old.cells.items }
@@ -170,8 +169,7 @@ impl Draft {
         requires due { IsDueOf plan.now self.old.due self.old.cells.items }
         requires ascending { IsNonDecreasing places.now }
         requires all { AreAllDue rules.now node mark self.old.cells.items places.now }
-        ensures cells { OnOk result (self.new.cells.items ≡ map (after_node rules.now node mark) self.old.cells.items) }
-        ensures panes { IfOk result (λ panes. AreFired rules.now node commit mark self.old.cells.items panes.items) }
+        ensures fired { IfOk result (λ panes. AreCellsFired rules.now node commit mark self.old.cells.items self.new.cells.items panes.items) }
         ensures due { OnOk result (IsDueOf plan.now self.new.due self.new.cells.items) }
         ensures others { (self.new.index ≡ self.old.index) × (self.new.dropped ≡ self.old.dropped) }
         ensures undo { undone_all self.new.changes.items self.new.cells.items ≡ undone_all self.old.changes.items self.old.cells.items }
@@ -268,9 +266,8 @@ impl Draft {
     ) -> Result<(), NoMemory>
         requires within { place < length self.old.cells.items }
         requires due { IsDueOf plan.now self.old.due self.old.cells.items }
-        requires counted { (cell : CellOf) → slice_get self.old.cells.items place ≡ Some cell → cell.next_index + 1 < 2 ^ 32 }
-        ensures ok { OnOk result ((cell : CellOf) → slice_get self.old.cells.items place ≡ Some cell
-            → self.new.cells.items ≡ slice_set self.old.cells.items place (once_fired (Some timing) cell)) }
+        requires counted { CanFireAt place self.old.cells.items }
+        ensures ok { OnOk result (HasFiredAt place timing self.old.cells.items self.new.cells.items) }
         ensures due { OnOk result (IsDueOf plan.now self.new.due self.new.cells.items) }
         ensures others { (self.new.index ≡ self.old.index) × (self.new.dropped ≡ self.old.dropped) }
         ensures undo { undone_all self.new.changes.items self.new.cells.items ≡ undone_all self.old.changes.items self.old.cells.items }
@@ -290,9 +287,8 @@ impl Draft {
     ) -> Result<(), NoMemory>
         requires within { place < length self.old.cells.items }
         requires at { at ≡ place }
-        requires counted { (cell : CellOf) → slice_get self.old.cells.items place ≡ Some cell → cell.next_index + 1 < 2 ^ 32 }
-        ensures ok { OnOk result ((cell : CellOf) → slice_get self.old.cells.items place ≡ Some cell
-            → self.new.cells.items ≡ slice_set self.old.cells.items place (once_fired (Some timing) cell)) }
+        requires counted { CanFireAt place self.old.cells.items }
+        ensures ok { OnOk result (HasFiredAt place timing self.old.cells.items self.new.cells.items) }
         ensures others { (self.new.index ≡ self.old.index) × (self.new.dropped ≡ self.old.dropped) × (self.new.due ≡ self.old.due) }
         ensures undo { undone_all self.new.changes.items self.new.cells.items ≡ undone_all self.old.changes.items self.old.cells.items }
     {
@@ -320,9 +316,8 @@ fn set_fired_at(
     place: usize,
 ) -> Result<Unfired, NoMemory>
     requires within { place < length cells.old.items }
-    requires counted { (cell : CellOf) → slice_get cells.old.items place ≡ Some cell → cell.next_index + 1 < 2 ^ 32 }
-    ensures cell { OnOk result ((cell : CellOf) → slice_get cells.old.items place ≡ Some cell
-        → cells.new.items ≡ slice_set cells.old.items place (once_fired (Some timing) cell)) }
+    requires counted { CanFireAt place cells.old.items }
+    ensures cell { OnOk result (HasFiredAt place timing cells.old.items cells.new.items) }
     ensures before { IfOk result (λ before. (cell : CellOf) → slice_get cells.old.items place ≡ Some cell → unfired before (once_fired (Some timing) cell) ≡ cell) }
     ensures err { OnErr result (cells.new.items ≡ cells.old.items) }
 {

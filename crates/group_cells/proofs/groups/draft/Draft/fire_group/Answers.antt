@@ -10,8 +10,8 @@ pub returns-clause-fired : goal.returns-clause-fired
 returns-clause-fired c =
     subst (λ (l : List Pane). AreGroupFired c.args.rules.now c.args.node c.args.commit c.args.mark c.args.self.now.cells.items c.fire_cells.new.self.cells.items l) (sym c.from_vec.ensures) (record {
       panes = c.in_ok-panes.panes.items;
-      each = c.in_ok-panes.ensures.panes;
+      each = c.in_ok-panes.ensures.fired.each;
       order = c.in_ok-sort_by.ensures.permutation;
       ordered = sorted_from_sort_by pane_cmp pane_total c.sort_by.new.self.items c.in_ok-sort_by.ensures.sorted (λ a r q k. search rules);
-      fires = c.in_ok-panes.ensures.cells;
+      fires = c.in_ok-panes.ensures.fired.fires;
     })

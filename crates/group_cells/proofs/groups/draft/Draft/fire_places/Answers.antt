@@ -22,20 +22,12 @@ loop-place-preserved c =
       undo = c.in_ok-done.ensures.undo ∙ was.undo;
     }
 
-pub returns-clause-cells : goal.returns-clause-cells
-returns-clause-cells c =
+pub returns-clause-fired : goal.returns-clause-fired
+returns-clause-fired c =
     let places = c.args.places.now in
     let i = c.loop-place.place-index in
     let passed = subst (λ (l : List ℕ). ArePassed c.args.rules.now c.args.node c.args.commit c.args.mark c.args.self.now.cells.items c.loop-place.done l)
     (take_all i places (omega (arith, c.loop-place-test.false))) c.loop-place.invariant.passed in
-    (all_fired c.args.rules.now c.args.node c.args.commit c.args.mark c.args.self.now.cells.items places c.loop-place.done c.loop-place.self.cells.items c.loop-place.panes.items
-    c.loop-place.invariant.fired c.requires.all passed).0
-
-pub returns-clause-panes : goal.returns-clause-panes
-returns-clause-panes c =
-    let places = c.args.places.now in
-    let i = c.loop-place.place-index in
-    let passed = subst (λ (l : List ℕ). ArePassed c.args.rules.now c.args.node c.args.commit c.args.mark c.args.self.now.cells.items c.loop-place.done l)
-    (take_all i places (omega (arith, c.loop-place-test.false))) c.loop-place.invariant.passed in
-    (all_fired c.args.rules.now c.args.node c.args.commit c.args.mark c.args.self.now.cells.items places c.loop-place.done c.loop-place.self.cells.items c.loop-place.panes.items
-    c.loop-place.invariant.fired c.requires.all passed).1
+    let all = all_fired c.args.rules.now c.args.node c.args.commit c.args.mark c.args.self.now.cells.items places c.loop-place.done c.loop-place.self.cells.items c.loop-place.panes.items
+    c.loop-place.invariant.fired c.requires.all passed in
+    record { fires = all.0; each = all.1 }
