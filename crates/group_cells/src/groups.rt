@@ -16,6 +16,7 @@ mod guesses;
 mod index;
 mod looking;
 mod placing;
+mod ranks;
 mod sessions;
 
 use crate::groups::advance::Next;

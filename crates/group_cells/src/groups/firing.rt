@@ -15,6 +15,7 @@ ghost use Rattle.watermarks.specs.Holds.{hold_at};
 use crate::firing::{firing_of, pane_with};
 use crate::groups::draft::{Change, Draft};
 use crate::groups::fired::{Unfired, set_fired};
+use crate::groups::ranks::sort_by_ranks;
 use crate::plain::nodes::{cmp_panes, least_with, push_if};
 use crate::rules::{Rules, is_group, rules_of};
 use beam_values::{Cell, List, Mark, NoMemory, Pane, Plan, StageMarks, Timing};
@@ -127,6 +128,7 @@ impl Draft {
         ensures undo { undone_all self.new.changes.items self.new.cells.items ≡ undone_all self.old.changes.items self.old.cells.items }
     {
         let mut panes = self.fire_cells(alloc, plan, rules, node, commit, mark)?;
+        sort_by_ranks(&mut panes);
         panes.sort_by(|a, b| cmp_panes(a, b))?;
         Ok(List::from_vec(panes))
     }
