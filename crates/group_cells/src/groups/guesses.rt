@@ -99,7 +99,7 @@ fn slot_of(hash: u32, count: usize) -> usize {
 }
 
 /// A hash of the node, the key and the start of the window of a cell, never 0. Keys that are neither
-/// numbers nor bytes have one.
+/// numbers nor bytes share one in each window.
 pub fn hash_of(node: u32, key: &Value, span: Span) -> u32
     ensures { 0 < result }
 {

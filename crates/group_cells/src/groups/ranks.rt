@@ -33,7 +33,7 @@ fn rank_of(pane: &Pane) -> Rank {
     }
 }
 
-/// Keys that are neither numbers nor bytes have one rank.
+/// Keys that are neither numbers nor bytes share a rank.
 fn key_rank(key: &Value) -> (u64, u64, u64) {
     match key {
         Value::Int(number) => (0, first_groups(number.cast_unsigned()), 0),
