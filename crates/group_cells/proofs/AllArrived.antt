@@ -177,7 +177,7 @@ one_behind plan before c a cells = by (is_taken plan before a) (rules_of plan a.
     by true false = arrived_behind a.node (key_of a.element) a.element.span (entry_of c a.element) cells
     by false m = ([], sym (append-nil (map cell_place cells)))
 
-all_behind : (plan : Plan) (before : List StageMarks) (c : ℕ) (arrivals : List Arrival) (cells : List Cell) → (more : List CellPlace) × (map cell_place (with_arrivals plan before c cells arrivals) ≡ map cell_place cells ++ more)
+pub all_behind : (plan : Plan) (before : List StageMarks) (c : ℕ) (arrivals : List Arrival) (cells : List Cell) → (more : List CellPlace) × (map cell_place (with_arrivals plan before c cells arrivals) ≡ map cell_place cells ++ more)
 all_behind plan before c [] cells = ([], sym (append-nil (map cell_place cells)))
 all_behind plan before c (a ∷ arrivals) cells =
     let one = one_behind plan before c a cells in

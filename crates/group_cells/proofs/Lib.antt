@@ -39,6 +39,11 @@ mod DueSteps
 mod FireSteps
 mod FiredPlaces
 mod Advancing
+mod StandingPlaces
+mod OpenedPlaces
+mod KeyMaps
+mod Handing
+mod SessionsInTurn
 mod AllArrived
 mod Indexing
 mod Looking

@@ -1,5 +1,5 @@
 -- What an entry changes among the cells, seen by place.
-use Rattle.std.proofs.Common.{◌≡◌, ℕ, zero, suc, ◌<◌, Bool, true, false, cond, List, [], ◌∷◌, ◌++◌, length, get_or, nat_lt, Option, Some, None, refl, sym, ap, ◌∙◌, arith, subst}
+use Rattle.std.proofs.Common.{◌≡◌, ℕ, zero, suc, ◌<◌, ◌==◌, ◌&&◌, Bool, true, false, cond, List, [], ◌∷◌, ◌++◌, length, get_or, nat_lt, Option, Some, None, refl, sym, ap, ◌∙◌, arith, subst}
 use Rattle.std.proofs.Math.ListN.{set, length-set}
 use Rattle.std.specs.List.{position, position_or_len, slice_get, slice_set}
 use Rattle.std.specs.Option.{option_map}
@@ -7,7 +7,10 @@ use Rattle.std.proofs.lemmas.List.Folds.{position_or_len-set}
 use Rattle.std.proofs.lemmas.List.Quantifiers.{position-Some}
 use Rattle.std.proofs.lemmas.Option.{get_or_from_slice_get}
 use Rattle.beam_values.specs.Grouping.{key_of}
+use Rattle.std.specs.Str.{bytes_eq}
 use Rattle.beam_values.specs.Intervals.{Interval}
+use Rattle.beam_values.specs.Spans.{same_span}
+use Rattle.beam_values.specs.Spelling.{spelling}
 use Rattle.beam_values.specs.declared.cell.Cell.{Cell}
 use Rattle.beam_values.specs.declared.cell.Entry.{Entry}
 use Rattle.beam_values.specs.declared.value.Value.{Value}
@@ -124,3 +127,11 @@ pub index_stays : (index after : CellIndex) (cells new : List Cell) (place : ℕ
 index_stays index after cells new place entry same within h is =
     let P : CellIndex → Type 0 = λ i. IsIndexOf i new in
     subst P (sym same) (index_kept index cells new place entry within is h)
+
+-- and where it becomes another of them
+pub index_replaced : (index : CellIndex) (cells new : List Cell) (place : ℕ) (was cell : Cell) → slice_get cells place ≡ Some was
+    → (cell.node ≡ was.node) × (cell.key ≡ was.key) × (cell.span ≡ was.span) → new ≡ slice_set cells place cell → IsIndexOf index cells → IsIndexOf index new
+index_replaced index cells new place was cell found same is h =
+    subst (IsIndexOf index) (sym is)
+    (index_set index cells place was cell found
+    (λ n k s. (λ i. ((same.0 i) == n && bytes_eq (spelling (same.1 i)) (spelling k)) && same_span (same.2 i) s)) h)

@@ -15,7 +15,7 @@ use Rattle.group_cells.specs.Undoing.{undone, undone_all, without_last}
 use Rattle.group_cells.specs.Unfiring.{unfired}
 use Rattle.group_cells.specs.declared.groups.fired.Unfired.{Unfired}
 use Rattle.group_cells.specs.declared.groups.draft.Change.{Change}
-use Rattle.group_cells.specs.declared.groups.draft.Change.TheVariants.{Opened, Put, Fired}
+use Rattle.group_cells.specs.declared.groups.draft.Change.TheVariants.{Opened, Put, Fired, Replaced}
 
 pub undone_more : (changes : List Change) (change : Change) (cells : List Cell) → undone_all (changes ++ change ∷ []) cells ≡ undone_all changes (undone change cells)
 undone_more [] change cells = refl
@@ -68,6 +68,11 @@ put_step changes cells new place entry within is =
 
 pub open_step : (changes : List Change) (cells : List Cell) (cell : Cell) → undone_all (changes ++ Opened ∷ []) (cells ++ cell ∷ []) ≡ undone_all changes cells
 open_step changes cells cell = undone_more changes Opened (cells ++ cell ∷ []) ∙ ap (undone_all changes) (opened_undone cells cell)
+
+pub replaced_step : (changes : List Change) (cells : List Cell) (place : ℕ) (was cell : Cell) → slice_get cells place ≡ Some was
+    → undone_all (changes ++ Replaced place was ∷ []) (slice_set cells place cell) ≡ undone_all changes cells
+replaced_step changes cells place was cell found =
+    undone_more changes (Replaced place was) (slice_set cells place cell) ∙ ap (undone_all changes) (set_again cells place cell was ∙ set_back cells place was found)
 
 pub unfired_step : (changes : List Change) (cells new : List Cell) (at place : ℕ) (before : Unfired) (timing : Timing) → place < length cells → at ≡ place
     → ((cell : Cell) → slice_get cells place ≡ Some cell → new ≡ slice_set cells place (once_fired (Some timing) cell))

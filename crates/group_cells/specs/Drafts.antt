@@ -1,18 +1,22 @@
 -- What holds of the cells of Groups between commits.
-use Rattle.std.specs.Prelude.{◌≡◌, ◌<◌, ◌^◌, Bool, true, [], length}
+use Rattle.std.specs.Prelude.{◌≡◌, ℕ, ◌<◌, ◌^◌, Bool, true, List, [], length}
+use Rattle.std.specs.BTreeMap.{BTreeMap}
 use Rattle.beam_values.specs.declared.plan.Plan.{Plan}
 use Rattle.group_cells.specs.Arrivals.{UnmergedStand}
 use Rattle.group_cells.specs.Due.{IsDueOf}
 use Rattle.group_cells.specs.Indexes.{IsIndexOf}
+use Rattle.group_cells.specs.KeyLists.{AreStanding}
 use Rattle.group_cells.specs.Plain.{AreCells}
 use Rattle.group_cells.specs.declared.groups.draft.Draft.{Draft}
+use Rattle.group_cells.specs.declared.groups.keyed.GroupKey.{GroupKey}
 
-pub record IsSettled (plan : Plan) (draft : Draft) (indexed : Bool) : Type 0 where
+pub record IsSettled (plan : Plan) (draft : Draft) (standing : BTreeMap GroupKey (List ℕ)) (indexed : Bool) : Type 0 where
   pub cells : AreCells plan draft.cells.items
   pub stand : UnmergedStand plan draft.cells.items
   -- the indexes are whole, unless a commit was refused
   pub index : indexed ≡ true → IsIndexOf draft.index draft.cells.items
   pub due : indexed ≡ true → IsDueOf plan draft.due draft.cells.items
+  pub standing_are : indexed ≡ true → AreStanding plan standing draft.cells.items
   -- a place is a number of 32 bits
   pub small : length draft.cells.items < 2 ^ 32
   -- nothing is left to undo

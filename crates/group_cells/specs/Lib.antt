@@ -9,6 +9,8 @@ pub mod Indexes
 pub mod Arrivals
 pub mod Unfiring
 pub mod Undoing
+pub mod AtPlaces
+pub mod KeyLists
 pub mod Plain
 pub mod FiredUpTo
 pub mod Drafts

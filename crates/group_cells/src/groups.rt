@@ -14,6 +14,7 @@ mod fired;
 mod firing;
 mod guesses;
 mod index;
+mod keyed;
 mod looking;
 mod placing;
 mod ranks;
@@ -23,11 +24,13 @@ use crate::groups::advance::Next;
 use crate::groups::draft::Draft;
 use crate::groups::due::DueCells;
 use crate::groups::index::{CellIndex, CellKey};
+use crate::groups::keyed::GroupKey;
 use crate::groups::looking::{next_due, place_among};
 use beam_values::{
     Arrival, Cell, Dropped, List, Mark, NoMemory, Pane, Plan, Span, StageMarks, Value,
 };
 use std::alloc::Global;
+use std::collections::BTreeMap;
 use std::marker::Model;
 
 /// The cells of all Groups of a plan, and the elements that they dropped.
@@ -35,6 +38,8 @@ use std::marker::Model;
 pub struct Groups {
     plan: Plan,
     draft: Draft,
+    /// Where the cells stand that are at Groups of sessions.
+    standing: BTreeMap<GroupKey, List<u32>>,
     /// Whether the indexes are whole: a commit that is refused leaves them for the next one to make anew.
     indexed: bool,
     alloc: Global,
@@ -52,7 +57,7 @@ impl Model for Groups {
 
     ghost view = { λ g. record { plan = g.plan; cells = g.draft.cells.items; dropped = g.draft.dropped.items } };
 
-    ghost invariant = { λ g. IsSettled g.plan g.draft g.indexed };
+    ghost invariant = { λ g. IsSettled g.plan g.draft g.standing g.indexed };
 }
 
 impl Groups {
@@ -70,6 +75,7 @@ impl Groups {
                 due: DueCells::new(alloc),
                 changes: Vec::new(alloc),
             },
+            standing: BTreeMap::new(alloc),
             indexed: true,
             alloc,
         })
@@ -111,6 +117,7 @@ impl Groups {
             marks,
             commit,
             indexed,
+            &mut self.standing,
         )?;
         self.indexed = true;
         let Next {
@@ -165,6 +172,7 @@ impl Groups {
         let Groups {
             plan: _,
             draft,
+            standing: _,
             indexed: _,
             alloc: _,
         } = self;

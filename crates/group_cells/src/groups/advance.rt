@@ -6,6 +6,7 @@ ghost use Rattle.group_cells.specs.Arrivals.{merging, UnmergedStand};
 ghost use Rattle.group_cells.specs.Commits.{dropped_arrival, is_at_group, is_dropped};
 ghost use Rattle.group_cells.specs.Due.{IsDueOf};
 ghost use Rattle.group_cells.specs.Indexes.{IsIndexOf};
+ghost use Rattle.group_cells.specs.KeyLists.{AreStanding};
 ghost use Rattle.group_cells.specs.Plain.{AreCellsNext};
 ghost use Rattle.group_cells.specs.Undoing.{undone_all};
 ghost use Rattle.watermarks.specs.Holds.{hold_at};
@@ -13,11 +14,13 @@ ghost use Rattle.watermarks.specs.Holds.{hold_at};
 use crate::groups::draft::Draft;
 use crate::groups::due::DueCells;
 use crate::groups::index::CellIndex;
+use crate::groups::keyed::{GroupKey, standing_of};
 use crate::groups::placing::Commit;
 use crate::plain::arrivals::{is_taken, others_of};
 use crate::rules::rules_of;
 use beam_values::{Arrival, Duplicate, List, Mark, NoMemory, Pane, Plan, StageMarks};
 use std::alloc::Global;
+use std::collections::BTreeMap;
 use windowing::{NodeFacts, facts_of};
 
 /// What a commit answers beside the cells.
@@ -40,18 +43,21 @@ impl Draft {
         before: &[StageMarks],
         commit: u32,
         indexed: bool,
+        standing: &mut BTreeMap<GroupKey, List<u32>>,
     ) -> Result<Next, NoMemory>
         requires checked { IsChecked plan.now }
         requires holds { length holds.now ≡ length plan.now.nodes }
         requires marks { length before.now ≡ length plan.now.nodes }
         requires indexed { indexed ≡ true → IsIndexOf self.old.index self.old.cells.items }
         requires due { indexed ≡ true → IsDueOf plan.now self.old.due self.old.cells.items }
+        requires standing { indexed ≡ true → AreStanding plan.now standing.old self.old.cells.items }
         requires stand { UnmergedStand plan.now self.old.cells.items }
         requires changes { self.old.changes.items ≡ [] }
         ensures cells { IfOk result (λ next. AreCellsNext plan.now before.now (hold_at holds.now) commit arrivals.now self.old.cells.items self.new.cells.items next.marks next.fired) }
         ensures stand { OnOk result (UnmergedStand plan.now self.new.cells.items) }
         ensures indexed { OnOk result (IsIndexOf self.new.index self.new.cells.items) }
         ensures due { OnOk result (IsDueOf plan.now self.new.due self.new.cells.items) }
+        ensures standing { OnOk result (AreStanding plan.now standing.new self.new.cells.items) }
         ensures small { OnOk result (length self.new.cells.items < 2 ^ 32) }
         ensures grown { OnOk result (length self.new.cells.items ≤ length self.old.cells.items + length arrivals.now) }
         ensures dropped { OnOk result (self.new.dropped.items ≡ self.old.dropped.items ++ map (dropped_arrival commit) (filter (is_dropped plan.now before.now) arrivals.now)) }
@@ -60,7 +66,9 @@ impl Draft {
         ensures err { OnErr result ((self.new.cells.items ≡ self.old.cells.items) × (self.new.dropped.items ≡ self.old.dropped.items)) }
     {
         let kept = self.dropped.len();
-        match self.advance(alloc, plan, arrivals, holds, before, commit, indexed) {
+        match self.advance(
+            alloc, plan, arrivals, holds, before, commit, indexed, standing,
+        ) {
             Ok(next) => {
                 self.changes.clear();
                 Ok(next)
@@ -81,17 +89,20 @@ impl Draft {
         before: &[StageMarks],
         commit: u32,
         indexed: bool,
+        standing: &mut BTreeMap<GroupKey, List<u32>>,
     ) -> Result<Next, NoMemory>
         requires checked { IsChecked plan.now }
         requires holds { length holds.now ≡ length plan.now.nodes }
         requires marks { length before.now ≡ length plan.now.nodes }
         requires indexed { indexed ≡ true → IsIndexOf self.old.index self.old.cells.items }
         requires due { indexed ≡ true → IsDueOf plan.now self.old.due self.old.cells.items }
+        requires standing { indexed ≡ true → AreStanding plan.now standing.old self.old.cells.items }
         requires stand { UnmergedStand plan.now self.old.cells.items }
         ensures cells { IfOk result (λ next. AreCellsNext plan.now before.now (hold_at holds.now) commit arrivals.now self.old.cells.items self.new.cells.items next.marks next.fired) }
         ensures stand { OnOk result (UnmergedStand plan.now self.new.cells.items) }
         ensures indexed { OnOk result (IsIndexOf self.new.index self.new.cells.items) }
         ensures due { OnOk result (IsDueOf plan.now self.new.due self.new.cells.items) }
+        ensures standing { OnOk result (AreStanding plan.now standing.new self.new.cells.items) }
         ensures small { OnOk result (length self.new.cells.items < 2 ^ 32) }
         ensures grown { OnOk result (length self.new.cells.items ≤ length self.old.cells.items + length arrivals.now) }
         ensures dropped { OnOk result (self.new.dropped.items ≡ self.old.dropped.items ++ map (dropped_arrival commit) (filter (is_dropped plan.now before.now) arrivals.now)) }
@@ -99,9 +110,9 @@ impl Draft {
         ensures kept { take (length self.old.dropped.items) self.new.dropped.items ≡ self.old.dropped.items }
         ensures undo { undone_all self.new.changes.items self.new.cells.items ≡ undone_all self.old.changes.items self.old.cells.items }
     {
-        self.prepare(alloc, plan, indexed)?;
         let facts = facts_of(alloc, plan.nodes.as_slice())?;
         let facts = facts.as_slice();
+        self.prepare(alloc, plan, facts, indexed, standing)?;
         let others = others_of(alloc, plan, arrivals)?;
         let later = merging_of(alloc, plan, facts, before, arrivals)?;
         let mut marks = Vec::from_slice(alloc, before)?;
@@ -112,7 +123,7 @@ impl Draft {
             number: commit,
         };
         self.place_all(alloc, known, arrivals)?;
-        self.place_later(alloc, known, later)?;
+        self.place_later(alloc, known, later, standing)?;
         let fired = self.fire_all(alloc, plan, facts, before, holds, commit, &mut marks)?;
         if self.cells.len() > u32::MAX as usize {
             return Err(NoMemory);
@@ -125,16 +136,27 @@ impl Draft {
     }
 
     /// Makes the indexes anew where they aren't whole.
-    fn prepare(&mut self, alloc: Global, plan: &Plan, indexed: bool) -> Result<(), NoMemory>
+    fn prepare(
+        &mut self,
+        alloc: Global,
+        plan: &Plan,
+        facts: &[NodeFacts],
+        indexed: bool,
+        standing: &mut BTreeMap<GroupKey, List<u32>>,
+    ) -> Result<(), NoMemory>
+        requires facts { facts.now ≡ facts_of plan.now.nodes }
         requires indexed { indexed ≡ true → IsIndexOf self.old.index self.old.cells.items }
         requires due { indexed ≡ true → IsDueOf plan.now self.old.due self.old.cells.items }
+        requires standing { indexed ≡ true → AreStanding plan.now standing.old self.old.cells.items }
         ensures indexed { OnOk result (IsIndexOf self.new.index self.new.cells.items) }
         ensures due { OnOk result (IsDueOf plan.now self.new.due self.new.cells.items) }
+        ensures standing { OnOk result (AreStanding plan.now standing.new self.new.cells.items) }
         ensures others { (self.new.cells ≡ self.old.cells) × (self.new.dropped ≡ self.old.dropped) × (self.new.changes ≡ self.old.changes) }
     {
         if !indexed {
             self.index = CellIndex::of(alloc, self.cells.as_slice())?;
             self.due = DueCells::of(alloc, plan, self.cells.as_slice())?;
+            *standing = standing_of(alloc, plan, facts, self.cells.as_slice())?;
         }
         Ok(())
     }

@@ -25,8 +25,8 @@ pub enum Change {
     Put(u32),
     /// The cell at this place fired, and was this before.
     Fired(u32, Unfired),
-    /// All cells were these.
-    Whole(Vec<Cell>),
+    /// The cell at this place was this one.
+    Replaced(u32, Cell),
 }
 
 /// The cells as they are changed by a commit.
@@ -87,8 +87,10 @@ fn undo(alloc: Global, cells: &mut Vec<Cell>, change: Change)
                 unfire_at(alloc, cells, place, &before);
             }
         }
-        Change::Whole(was) => {
-            *cells = was;
+        Change::Replaced(place, was) => {
+            if (place as usize) < cells.len() {
+                cells[place as usize] = was;
+            }
         }
     }
 }
@@ -120,7 +122,7 @@ impl Draft {
     }
 
     /// The cell at a place takes an entry that no pane has shown.
-    fn put_unseen(&mut self, plan: &Plan, place: u32, entry: Entry) -> Result<(), NoMemory>
+    pub fn put_unseen(&mut self, plan: &Plan, place: u32, entry: Entry) -> Result<(), NoMemory>
         requires within { place < length self.old.cells.items }
         requires unseen { entry.shown ≡ false }
         requires due { IsDueOf plan.now self.old.due self.old.cells.items }
@@ -136,8 +138,8 @@ impl Draft {
             .change(plan, place, was, &self.cells[place as usize], count)
     }
 
-    /// Puts a cell behind the others.
-    fn open(&mut self, plan: &Plan, key: CellKey, cell: Cell) -> Result<(), NoMemory>
+    /// Puts a cell behind the others, and its key into the index.
+    pub fn open(&mut self, plan: &Plan, key: CellKey, cell: Cell) -> Result<(), NoMemory>
         requires { (cell.node ≡ key.node) × (cell.key ≡ key.key) × (cell.span ≡ key.span) }
         ensures ok { OnOk result (self.new.cells.items ≡ self.old.cells.items ++ cell ∷ []) }
         ensures indexed { OnOk result (IsIndexOf self.old.index self.old.cells.items → place_of key.node key.key key.span self.old.cells.items ≡ None
@@ -147,8 +149,18 @@ impl Draft {
         ensures undo { undone_all self.new.changes.items self.new.cells.items ≡ undone_all self.old.changes.items self.old.cells.items }
     {
         let place = u32::try_from(self.cells.len()).map_err(|_| NoMemory)?;
-        self.changes.reserve(1)?;
         self.index.add(key, place)?;
+        self.push(plan, cell)
+    }
+
+    /// Puts a cell behind the others.
+    pub fn push(&mut self, plan: &Plan, cell: Cell) -> Result<(), NoMemory>
+        ensures ok { OnOk result (self.new.cells.items ≡ self.old.cells.items ++ cell ∷ []) }
+        ensures due { OnOk result (IsDueOf plan.now self.old.due self.old.cells.items → IsDueOf plan.now self.new.due self.new.cells.items) }
+        ensures others { (self.new.index ≡ self.old.index) × (self.new.dropped ≡ self.old.dropped) }
+        ensures undo { undone_all self.new.changes.items self.new.cells.items ≡ undone_all self.old.changes.items self.old.cells.items }
+    {
+        self.changes.reserve(1)?;
         self.due.add(plan, self.cells.len(), &cell)?;
         self.cells.push(cell)?;
         self.changes.push_reserved(Change::Opened);

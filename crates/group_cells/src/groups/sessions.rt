@@ -1,87 +1,499 @@
-ghost use Rattle.std.specs.Prelude.{◌≡◌, ◌+◌, ◌≤◌, length, OnOk, IfOk, true, All};
+//! Arrivals at Groups of sessions, one key after another: only the cells of the key that stand are looked
+//! at. A cell that gives way to a session is replaced, and the session's stands behind the others.
+
+ghost use Rattle.std.specs.Prelude.{◌≡◌, ◌+◌, ◌∷◌, [], ◌++◌, ◌<◌, ◌≤◌, ℕ, Some, false, true, fold, length, map, All, option_to_list, slice_get, slice_set, OnOk, IfOk};
+ghost use Rattle.std.specs.List.{filter, find, flat_map, list_any};
+ghost use Rattle.beam_values.specs.Marks.{marks_at};
 ghost use Rattle.beam_values.specs.Nodes.{facts_of, is_group};
+ghost use Rattle.beam_values.specs.declared.cell.Cell.{Cell as CellOf};
+ghost use Rattle.beam_values.specs.declared.value.Value.{Value as ValueOf};
+ghost use Rattle.beam_model.specs.Panes.{is_cell_at_key, rules_of};
+ghost use Rattle.group_cells.specs.AtPlaces.{at_place, changed_at, given_all};
 ghost use Rattle.group_cells.specs.Due.{IsDueOf};
 ghost use Rattle.group_cells.specs.Indexes.{IsIndexOf};
-ghost use Rattle.group_cells.specs.Plain.{AreAllPlaced};
+ghost use Rattle.group_cells.specs.KeyLists.{open_span, standing_places, stands, AreStanding};
+ghost use Rattle.group_cells.specs.Placing.{fresh_cell, handed_over, once_opened, stands_as, takes};
+ghost use Rattle.group_cells.specs.Plain.{opened_all_at, opened_at, opening_of, put_all_at, put_at, AreAllPlaced, ArePlacedAt};
+ghost use Rattle.group_cells.specs.Rounds.{entry_of, open_windows, AreSessionsOver};
 ghost use Rattle.group_cells.specs.Undoing.{undone_all};
 
+use crate::firing::unseen;
 use crate::groups::draft::{Change, Draft};
-use crate::groups::due::DueCells;
-use crate::groups::index::CellIndex;
+use crate::groups::index::CellKey;
+use crate::groups::keyed::{GroupKey, by_key, put, take};
 use crate::groups::placing::Commit;
-use crate::plain::keys;
-use beam_values::{Arrival, Cell, Duplicate, List, NoMemory};
+use crate::plain::arrivals::mark_into;
+use crate::plain::placing::{gives_way, is_same_span, own_spans, takes};
+use crate::rules::{Rules, rules_of};
+use crate::windows::{is_open, push_if, sessions_over};
+use beam_values::{Arrival, Cell, Duplicate, Element, Entry, List, Mark, NoMemory, Plan, Span};
 use std::alloc::Global;
+use std::collections::BTreeMap;
 use std::mem;
 
 impl Draft {
-    /// Places the arrivals at Groups whose windows merge, if there are any.
+    /// Places the arrivals at Groups whose windows merge, one Group and key after another.
     pub fn place_later(
         &mut self,
         alloc: Global,
         commit: Commit,
         taken: List<Arrival>,
+        standing: &mut BTreeMap<GroupKey, List<u32>>,
     ) -> Result<(), NoMemory>
         requires facts { commit.facts.now ≡ facts_of commit.plan.now.nodes }
         requires groups { All (λ arrival. is_group commit.plan.now arrival.node ≡ true) taken }
+        requires merging { All (λ arrival. (rules_of commit.plan.now arrival.node).merges ≡ true) taken }
         requires indexed { IsIndexOf self.old.index self.old.cells.items }
         requires due { IsDueOf commit.plan.now self.old.due self.old.cells.items }
+        requires standing { AreStanding commit.plan.now standing.old self.old.cells.items }
         ensures ok { OnOk result (AreAllPlaced commit.entry.plan.now commit.entry.before.now commit.entry.number taken self.old.cells.items self.new.cells.items) }
         ensures grown { OnOk result (length self.new.cells.items ≤ length self.old.cells.items + length taken) }
         ensures indexed { OnOk result (IsIndexOf self.new.index self.new.cells.items) }
         ensures due { OnOk result (IsDueOf commit.entry.plan.now self.new.due self.new.cells.items) }
+        ensures standing { OnOk result (AreStanding commit.entry.plan.now standing.new self.new.cells.items) }
         ensures dropped { self.new.dropped ≡ self.old.dropped }
         ensures undo { undone_all self.new.changes.items self.new.cells.items ≡ undone_all self.old.changes.items self.old.cells.items }
     {
-        if taken.is_empty() {
-            return Ok(());
+        let mut left = by_key(alloc, taken)?;
+        'keys: while let Some((key, own)) = left.pop_first() {
+            if own.is_empty() {
+                continue 'keys;
+            }
+            self.place_key(alloc, commit, key, own, standing)?;
         }
-        self.place_merging(alloc, commit, taken)
+        Ok(())
     }
 
-    /// Places arrivals at Groups whose windows merge, on a copy of the cells.
-    fn place_merging(
+    /// Places the entries of one Group and key: there are cells for their windows first.
+    fn place_key(
         &mut self,
         alloc: Global,
         commit: Commit,
-        taken: List<Arrival>,
+        key: GroupKey,
+        own: List<Element>,
+        standing: &mut BTreeMap<GroupKey, List<u32>>,
     ) -> Result<(), NoMemory>
         requires facts { commit.facts.now ≡ facts_of commit.plan.now.nodes }
-        requires groups { All (λ arrival. is_group commit.plan.now arrival.node ≡ true) taken }
-        ensures ok { OnOk result (AreAllPlaced commit.entry.plan.now commit.entry.before.now commit.entry.number taken self.old.cells.items self.new.cells.items) }
-        ensures grown { OnOk result (length self.new.cells.items ≤ length self.old.cells.items + length taken) }
+        requires group { is_group commit.plan.now key.node ≡ true }
+        requires merges { (rules_of commit.plan.now key.node).merges ≡ true }
+        requires indexed { IsIndexOf self.old.index self.old.cells.items }
+        requires due { IsDueOf commit.plan.now self.old.due self.old.cells.items }
+        requires standing { AreStanding commit.plan.now standing.old self.old.cells.items }
+        ensures ok { OnOk result (ArePlacedAt (rules_of commit.entry.plan.now key.node) (marks_at commit.entry.before.now key.node).mark_in key.node key.key commit.entry.number own self.old.cells.items self.new.cells.items) }
+        ensures grown { OnOk result (length self.new.cells.items ≤ length self.old.cells.items + length own) }
         ensures indexed { OnOk result (IsIndexOf self.new.index self.new.cells.items) }
         ensures due { OnOk result (IsDueOf commit.entry.plan.now self.new.due self.new.cells.items) }
+        ensures standing { OnOk result (AreStanding commit.entry.plan.now standing.new self.new.cells.items) }
         ensures dropped { self.new.dropped ≡ self.old.dropped }
         ensures undo { undone_all self.new.changes.items self.new.cells.items ≡ undone_all self.old.changes.items self.old.cells.items }
     {
-        let mut cells = copy_cells(alloc, self.cells.as_slice())?;
-        keys::place_all(
+        let rules = rules_of(commit.plan, commit.facts, key.node);
+        let mark = mark_into(commit.before, key.node);
+        let places = take(alloc, standing, &key);
+        let windows = self.sessions_for(alloc, &rules, mark, own.as_slice(), places.as_slice())?;
+        let places = self.open_all(
             alloc,
             commit.plan,
-            commit.facts,
-            commit.before,
-            commit.number,
-            taken,
-            &mut cells,
+            &rules,
+            mark,
+            &key,
+            windows.as_slice(),
+            places,
         )?;
-        let index = CellIndex::of(alloc, cells.as_slice())?;
-        let due = DueCells::of(alloc, commit.plan, cells.as_slice())?;
-        self.changes.reserve(1)?;
-        let was = mem::replace(&mut self.cells, cells);
-        self.changes.push_reserved(Change::Whole(was));
-        self.index = index;
-        self.due = due;
+        self.put_all(
+            commit.plan,
+            &rules,
+            &key,
+            commit.number,
+            own,
+            places.as_slice(),
+        )?;
+        put(standing, key, places)?;
         Ok(())
+    }
+
+    /// The sessions for which there are to be cells, where these cells of the key stand.
+    fn sessions_for(
+        &self,
+        alloc: Global,
+        rules: &Rules,
+        before: Mark,
+        own: &[Element],
+        places: &[u32],
+    ) -> Result<List<Span>, NoMemory>
+        ensures windows { IfOk result (λ windows. (node : ℕ) (key : ValueOf) → places.now ≡ standing_places node key self.now.cells.items
+            → AreSessionsOver (map (λ e. e.span) own.now) (open_windows rules.now before (filter (is_cell_at_key node key) self.now.cells.items)) windows) }
+        ensures few { IfOk result (λ windows. length windows ≤ length own.now) }
+    {
+        let spans = own_spans(alloc, own)?;
+        let open = open_spans(alloc, rules, before, self.cells.as_slice(), places)?;
+        let windows = sessions_over(alloc, spans.as_slice(), open.as_slice())?;
+        Ok(windows)
+    }
+
+    /// A cell for each window, where none stands. Answers where the cells of the key stand then.
+    fn open_all(
+        &mut self,
+        alloc: Global,
+        plan: &Plan,
+        rules: &Rules,
+        before: Mark,
+        key: &GroupKey,
+        windows: &[Span],
+        places: List<u32>,
+    ) -> Result<List<u32>, NoMemory>
+        requires places { places ≡ standing_places key.now.node key.now.key self.old.cells.items }
+        requires indexed { IsIndexOf self.old.index self.old.cells.items }
+        requires due { IsDueOf plan.now self.old.due self.old.cells.items }
+        ensures ok { OnOk result (self.new.cells.items ≡ opened_all_at rules.now before key.now.node (map (opening_of key.now.key) windows.now) self.old.cells.items) }
+        ensures places { IfOk result (λ after. after ≡ standing_places key.now.node key.now.key self.new.cells.items) }
+        ensures indexed { OnOk result (IsIndexOf self.new.index self.new.cells.items) }
+        ensures due { OnOk result (IsDueOf plan.now self.new.due self.new.cells.items) }
+        ensures dropped { self.new.dropped ≡ self.old.dropped }
+        ensures undo { undone_all self.new.changes.items self.new.cells.items ≡ undone_all self.old.changes.items self.old.cells.items }
+    {
+        let mut places = places;
+        for span in windows {
+            places = self.open_session(alloc, plan, rules, before, key, *span, places)?;
+        }
+        Ok(places)
+    }
+
+    /// A cell for a window, where none stands: it takes the entries of those that give way to it.
+    fn open_session(
+        &mut self,
+        alloc: Global,
+        plan: &Plan,
+        rules: &Rules,
+        before: Mark,
+        key: &GroupKey,
+        span: Span,
+        places: List<u32>,
+    ) -> Result<List<u32>, NoMemory>
+        requires places { places ≡ standing_places key.now.node key.now.key self.old.cells.items }
+        requires indexed { IsIndexOf self.old.index self.old.cells.items }
+        requires due { IsDueOf plan.now self.old.due self.old.cells.items }
+        ensures ok { OnOk result (self.new.cells.items ≡ opened_at rules.now before key.now.node self.old.cells.items (opening_of key.now.key span)) }
+        ensures places { IfOk result (λ after. after ≡ standing_places key.now.node key.now.key self.new.cells.items) }
+        ensures indexed { OnOk result (IsIndexOf self.new.index self.new.cells.items) }
+        ensures due { OnOk result (IsDueOf plan.now self.new.due self.new.cells.items) }
+        ensures dropped { self.new.dropped ≡ self.old.dropped }
+        ensures undo { undone_all self.new.changes.items self.new.cells.items ≡ undone_all self.old.changes.items self.old.cells.items }
+    {
+        if any_stands_as(self.cells.as_slice(), span, places.as_slice()) {
+            return Ok(places);
+        }
+        let place = u32::try_from(self.cells.len()).map_err(|_| NoMemory)?;
+        let entries = self.hand_all_over(alloc, plan, rules, before, span, places.as_slice())?;
+        self.push_session(alloc, plan, key, span, entries)?;
+        let mut all = places;
+        all.push(place)?;
+        let standing = those_that_stand(alloc, self.cells.as_slice(), all.as_slice())?;
+        Ok(standing)
+    }
+
+    /// The cells that give way to a session hand their entries over, in order.
+    fn hand_all_over(
+        &mut self,
+        alloc: Global,
+        plan: &Plan,
+        rules: &Rules,
+        before: Mark,
+        span: Span,
+        places: &[u32],
+    ) -> Result<List<Entry>, NoMemory>
+        requires indexed { IsIndexOf self.old.index self.old.cells.items }
+        requires due { IsDueOf plan.now self.old.due self.old.cells.items }
+        ensures ok { OnOk result (self.new.cells.items ≡ fold (changed_at (once_opened rules.now before span)) self.old.cells.items places.now) }
+        ensures entries { IfOk result (λ entries. entries ≡ given_all (once_opened rules.now before span) (handed_over rules.now before span) places.now self.old.cells.items) }
+        ensures indexed { OnOk result (IsIndexOf self.new.index self.new.cells.items) }
+        ensures due { OnOk result (IsDueOf plan.now self.new.due self.new.cells.items) }
+        ensures dropped { self.new.dropped ≡ self.old.dropped }
+        ensures undo { undone_all self.new.changes.items self.new.cells.items ≡ undone_all self.old.changes.items self.old.cells.items }
+    {
+        let mut entries = List::new(alloc);
+        for place in places {
+            self.hand_over(alloc, plan, rules, before, span, *place, &mut entries)?;
+        }
+        Ok(entries)
+    }
+
+    /// The cell at a place hands its entries over, if it gives way to a session.
+    fn hand_over(
+        &mut self,
+        alloc: Global,
+        plan: &Plan,
+        rules: &Rules,
+        before: Mark,
+        span: Span,
+        place: u32,
+        entries: &mut List<Entry>,
+    ) -> Result<(), NoMemory>
+        requires indexed { IsIndexOf self.old.index self.old.cells.items }
+        requires due { IsDueOf plan.now self.old.due self.old.cells.items }
+        ensures ok { OnOk result (self.new.cells.items ≡ changed_at (once_opened rules.now before span) self.old.cells.items place) }
+        ensures entries { OnOk result (entries.new ≡ entries.old ++ at_place (handed_over rules.now before span) [] self.old.cells.items place) }
+        ensures indexed { OnOk result (IsIndexOf self.new.index self.new.cells.items) }
+        ensures due { OnOk result (IsDueOf plan.now self.new.due self.new.cells.items) }
+        ensures dropped { self.new.dropped ≡ self.old.dropped }
+        ensures undo { undone_all self.new.changes.items self.new.cells.items ≡ undone_all self.old.changes.items self.old.cells.items }
+    {
+        if self.cells.len() <= place as usize {
+            return Ok(());
+        }
+        let cell = &self.cells[place as usize];
+        if !gives_way(rules, before, span, cell) {
+            return Ok(());
+        }
+        let given = cell.entries.duplicate(alloc)?;
+        let merged = merged_cell(alloc, cell, span)?;
+        entries.append(given)?;
+        self.replace(plan, place, merged)
+    }
+
+    /// The cell at a place becomes another of its node, key and window.
+    fn replace(&mut self, plan: &Plan, place: u32, cell: Cell) -> Result<(), NoMemory>
+        requires within { place < length self.old.cells.items }
+        requires alike { (was : CellOf) → slice_get self.old.cells.items place ≡ Some was → (cell.node ≡ was.node) × (cell.key ≡ was.key) × (cell.span ≡ was.span) }
+        requires indexed { IsIndexOf self.old.index self.old.cells.items }
+        requires due { IsDueOf plan.now self.old.due self.old.cells.items }
+        ensures ok { OnOk result (self.new.cells.items ≡ slice_set self.old.cells.items place cell) }
+        ensures indexed { OnOk result (IsIndexOf self.new.index self.new.cells.items) }
+        ensures due { OnOk result (IsDueOf plan.now self.new.due self.new.cells.items) }
+        ensures dropped { self.new.dropped ≡ self.old.dropped }
+        ensures undo { undone_all self.new.changes.items self.new.cells.items ≡ undone_all self.old.changes.items self.old.cells.items }
+    {
+        let count = unseen(cell.entries.as_slice());
+        let was = self.due.moment_at(plan, place, &self.cells[place as usize]);
+        self.changes.reserve(1)?;
+        self.due.change(plan, place, was, &cell, count)?;
+        let before = exchange(&mut self.cells, place, cell);
+        self.changes.push_reserved(Change::Replaced(place, before));
+        Ok(())
+    }
+
+    /// Puts the cell of a session behind the others. Its window may have had one that was merged.
+    fn push_session(
+        &mut self,
+        alloc: Global,
+        plan: &Plan,
+        key: &GroupKey,
+        span: Span,
+        entries: List<Entry>,
+    ) -> Result<(), NoMemory>
+        requires indexed { IsIndexOf self.old.index self.old.cells.items }
+        requires due { IsDueOf plan.now self.old.due self.old.cells.items }
+        ensures ok { OnOk result (self.new.cells.items ≡ self.old.cells.items ++ fresh_cell key.now.node key.now.key span entries ∷ []) }
+        ensures indexed { OnOk result (IsIndexOf self.new.index self.new.cells.items) }
+        ensures due { OnOk result (IsDueOf plan.now self.new.due self.new.cells.items) }
+        ensures dropped { self.new.dropped ≡ self.old.dropped }
+        ensures undo { undone_all self.new.changes.items self.new.cells.items ≡ undone_all self.old.changes.items self.old.cells.items }
+    {
+        let cell = session_cell(alloc, key, span, entries)?;
+        let own = session_key(alloc, key, span)?;
+        match self.index.find(&own) {
+            None => self.open(plan, own, cell),
+            Some(_) => self.push(plan, cell),
+        }
+    }
+
+    /// Each entry goes to the first cell that takes it, of those of the key that stand.
+    fn put_all(
+        &mut self,
+        plan: &Plan,
+        rules: &Rules,
+        key: &GroupKey,
+        commit: u32,
+        own: List<Element>,
+        places: &[u32],
+    ) -> Result<(), NoMemory>
+        requires places { places.now ≡ standing_places key.now.node key.now.key self.old.cells.items }
+        requires indexed { IsIndexOf self.old.index self.old.cells.items }
+        requires due { IsDueOf plan.now self.old.due self.old.cells.items }
+        ensures ok { OnOk result (self.new.cells.items ≡ put_all_at rules.now key.now.node key.now.key (map (entry_of commit) own) self.old.cells.items) }
+        ensures places { OnOk result (places.now ≡ standing_places key.now.node key.now.key self.new.cells.items) }
+        ensures indexed { OnOk result (IsIndexOf self.new.index self.new.cells.items) }
+        ensures due { OnOk result (IsDueOf plan.now self.new.due self.new.cells.items) }
+        ensures dropped { self.new.dropped ≡ self.old.dropped }
+        ensures undo { undone_all self.new.changes.items self.new.cells.items ≡ undone_all self.old.changes.items self.old.cells.items }
+    {
+        for element in own.into_vec() {
+            let entry = Entry {
+                element,
+                commit,
+                shown: false,
+            };
+            self.put_first(plan, rules, key, entry, places)?;
+        }
+        Ok(())
+    }
+
+    fn put_first(
+        &mut self,
+        plan: &Plan,
+        rules: &Rules,
+        key: &GroupKey,
+        entry: Entry,
+        places: &[u32],
+    ) -> Result<(), NoMemory>
+        requires unseen { entry.shown ≡ false }
+        requires places { places.now ≡ standing_places key.now.node key.now.key self.old.cells.items }
+        requires indexed { IsIndexOf self.old.index self.old.cells.items }
+        requires due { IsDueOf plan.now self.old.due self.old.cells.items }
+        ensures ok { OnOk result (self.new.cells.items ≡ put_at rules.now key.now.node key.now.key entry self.old.cells.items) }
+        ensures places { OnOk result (places.now ≡ standing_places key.now.node key.now.key self.new.cells.items) }
+        ensures indexed { OnOk result (IsIndexOf self.new.index self.new.cells.items) }
+        ensures due { OnOk result (IsDueOf plan.now self.new.due self.new.cells.items) }
+        ensures dropped { self.new.dropped ≡ self.old.dropped }
+        ensures undo { undone_all self.new.changes.items self.new.cells.items ≡ undone_all self.old.changes.items self.old.cells.items }
+    {
+        match taker(rules, &entry, self.cells.as_slice(), places) {
+            None => Ok(()),
+            Some(place) => self.put_unseen(plan, place, entry),
+        }
     }
 }
 
-fn copy_cells(alloc: Global, cells: &[Cell]) -> Result<Vec<Cell>, NoMemory>
-    ensures { IfOk result (λ copies. copies.items ≡ cells.now) }
+/// The windows of the cells at these places that still take entries.
+fn open_spans(
+    alloc: Global,
+    rules: &Rules,
+    before: Mark,
+    cells: &[Cell],
+    places: &[u32],
+) -> Result<List<Span>, NoMemory>
+    ensures { IfOk result (λ spans. spans ≡ flat_map (at_place (open_span rules.now before) [] cells.now) places.now) }
 {
-    let mut copies = Vec::with_capacity(alloc, cells.len())?;
-    for cell in cells {
-        copies.push(cell.duplicate(alloc)?)?;
+    let mut spans = List::new(alloc);
+    for place in places {
+        push_if(&mut spans, open_span(rules, before, cells, *place))?;
     }
-    Ok(copies)
+    Ok(spans)
+}
+
+fn open_span(rules: &Rules, before: Mark, cells: &[Cell], place: u32) -> Option<Span>
+    ensures { option_to_list result ≡ at_place (open_span rules.now before) [] cells.now place }
+{
+    match cells.get(place as usize) {
+        None => None,
+        Some(cell) => {
+            if is_open(rules, before, cell) {
+                Some(cell.span)
+            } else {
+                None
+            }
+        }
+    }
+}
+
+/// Whether one of the cells at these places stands and has this window.
+fn any_stands_as(cells: &[Cell], span: Span, places: &[u32]) -> bool
+    ensures { result ≡ list_any (at_place (stands_as span) false cells.now) places.now }
+{
+    places.iter().any(|place| stands_as_at(cells, span, *place))
+}
+
+fn stands_as_at(cells: &[Cell], span: Span, place: u32) -> bool
+    ensures { result ≡ at_place (stands_as span) false cells.now place }
+{
+    match cells.get(place as usize) {
+        None => false,
+        Some(cell) => cell.merged_into.is_none() && is_same_span(cell.span, span),
+    }
+}
+
+/// Of these places those whose cells stand.
+fn those_that_stand(alloc: Global, cells: &[Cell], places: &[u32]) -> Result<List<u32>, NoMemory>
+    ensures { IfOk result (λ kept. kept ≡ filter (at_place stands false cells.now) places.now) }
+{
+    let mut kept = List::new(alloc);
+    for place in places {
+        if stands_at(cells, *place) {
+            kept.push(*place)?;
+        }
+    }
+    Ok(kept)
+}
+
+fn stands_at(cells: &[Cell], place: u32) -> bool
+    ensures { result ≡ at_place stands false cells.now place }
+{
+    match cells.get(place as usize) {
+        None => false,
+        Some(cell) => cell.merged_into.is_none(),
+    }
+}
+
+/// The first of these places whose cell takes an entry.
+fn taker(rules: &Rules, entry: &Entry, cells: &[Cell], places: &[u32]) -> Option<u32>
+    ensures { result ≡ find (at_place (takes rules.now entry.now) false cells.now) places.now }
+{
+    for place in places {
+        if takes_at(rules, entry, cells, *place) {
+            return Some(*place);
+        }
+    }
+    None
+}
+
+fn takes_at(rules: &Rules, entry: &Entry, cells: &[Cell], place: u32) -> bool
+    ensures { result ≡ at_place (takes rules.now entry.now) false cells.now place }
+{
+    match cells.get(place as usize) {
+        None => false,
+        Some(cell) => takes(rules, entry, cell),
+    }
+}
+
+/// A cell once a session took its entries.
+fn merged_cell(alloc: Global, cell: &Cell, session: Span) -> Result<Cell, NoMemory>
+    ensures { IfOk result (λ merged. merged ≡ record cell.now { entries = []; merged_into = Some session }) }
+{
+    Ok(Cell {
+        node: cell.node,
+        key: cell.key.copy(alloc)?,
+        span: cell.span,
+        entries: List::new(alloc),
+        next_index: cell.next_index,
+        on_time: cell.on_time,
+        merged_into: Some(session),
+    })
+}
+
+/// A cell for the one at a place, which is answered.
+fn exchange(cells: &mut Vec<Cell>, place: u32, cell: Cell) -> Cell
+    requires { place < length cells.old.items }
+    ensures cells { cells.new.items ≡ slice_set cells.old.items place cell }
+    ensures was { slice_get cells.old.items place ≡ Some result }
+{
+    mem::replace(&mut cells[place as usize], cell)
+}
+
+fn session_cell(
+    alloc: Global,
+    key: &GroupKey,
+    span: Span,
+    entries: List<Entry>,
+) -> Result<Cell, NoMemory>
+    ensures { IfOk result (λ cell. cell ≡ fresh_cell key.now.node key.now.key span entries) }
+{
+    Ok(Cell {
+        node: key.node,
+        key: key.key.copy(alloc)?,
+        span,
+        entries,
+        next_index: 0,
+        on_time: false,
+        merged_into: None,
+    })
+}
+
+fn session_key(alloc: Global, key: &GroupKey, span: Span) -> Result<CellKey, NoMemory>
+    ensures { IfOk result (λ own. own ≡ record { node = key.now.node; span = span; key = key.now.key }) }
+{
+    Ok(CellKey {
+        node: key.node,
+        span,
+        key: key.key.copy(alloc)?,
+    })
 }

@@ -4,7 +4,7 @@ ghost use Rattle.std.specs.Prelude.{◌≡◌, ◌+◌, ◌++◌, ◌<◌, ◌�
 ghost use Rattle.std.specs.List.{flat_map, list_any};
 ghost use Rattle.beam_values.specs.Spans.{lies_in, same_span};
 ghost use Rattle.beam_values.specs.declared.cell.Cell.{Cell as CellOf};
-ghost use Rattle.group_cells.specs.Placing.{gives_way, is_absorbed, with_entry};
+ghost use Rattle.group_cells.specs.Placing.{gives_way, is_absorbed, takes, with_entry};
 ghost use Rattle.group_cells.specs.Plain.{ArePlacedAt, handed_over_at, once_opened_at, opened_all_at, opened_at, opening_of, put_all_at, put_at, stands_at, takes_at};
 ghost use Rattle.group_cells.specs.Rounds.{entry_of};
 
@@ -228,9 +228,14 @@ pub fn taker(rules: &Rules, node: u32, key: &Value, entry: &Entry, cells: &[Cell
 fn takes_at(rules: &Rules, node: u32, key: &Value, entry: &Entry, cell: &Cell) -> bool
     ensures { result ≡ takes_at rules.now node key.now entry.now cell.now }
 {
-    is_cell_at_key(node, key, cell)
-        && cell.merged_into.is_none()
-        && belongs(rules, cell.span, entry.element.span)
+    is_cell_at_key(node, key, cell) && takes(rules, entry, cell)
+}
+
+/// Whether a cell takes an entry, which belongs to its window.
+pub fn takes(rules: &Rules, entry: &Entry, cell: &Cell) -> bool
+    ensures { result ≡ takes rules.now entry.now cell.now }
+{
+    cell.merged_into.is_none() && belongs(rules, cell.span, entry.element.span)
 }
 
 // An element belongs to the window that is its own; where windows merge, to each in which its own lies.

@@ -9,6 +9,7 @@ use Rattle.watermarks.specs.Holds.{hold_at}
 use Rattle.group_cells.specs.Arrivals.{UnmergedStand}
 use Rattle.group_cells.specs.Commits.{IsCommitted, KeepsLegal, NoneFalls, SeenGroups, dropped_arrival, is_at_group, is_dropped}
 use Rattle.group_cells.specs.Due.{IsDueOf}
+use Rattle.group_cells.specs.KeyLists.{AreStanding}
 use Rattle.group_cells.specs.Plain.{AreCells, AreCellsNext}
 use Rattle.group_cells.proofs.AllKeys.{keep_legal}
 use Rattle.group_cells.proofs.FiredFew.{commit_few}
@@ -28,6 +29,7 @@ invariant_of-self-2 c =
       stand = subst (λ (p : Plan). UnmergedStand p new.cells.items) (sym plan_is) c.in_ok-next.ensures.stand;
       index = λ e. c.in_ok-next.ensures.indexed;
       due = subst (λ (p : Plan). true ≡ true → IsDueOf p new.due new.cells.items) (sym plan_is) (λ e. c.in_ok-next.ensures.due);
+      standing_are = subst (λ (p : Plan). true ≡ true → AreStanding p c.commit.new.standing new.cells.items) (sym plan_is) (λ e. c.in_ok-next.ensures.standing);
       small = c.in_ok-next.ensures.small;
       changes = c.in_ok-next.ensures.changes;
     }

@@ -7,6 +7,11 @@ use Rattle.group_cells.specs.Arrivals.{UnmergedStand}
 use Rattle.group_cells.specs.Due.{IsDueOf}
 use Rattle.group_cells.specs.Indexes.{IsIndexOf}
 use Rattle.group_cells.specs.Plain.{AreCells}
+use Rattle.group_cells.specs.KeyLists.{group_key_cmp, AreStanding}
+use Rattle.group_cells.specs.declared.groups.keyed.GroupKey.{GroupKey}
+use Rattle.std.specs.Map.{lookup}
+use Rattle.std.specs.Ordering.{is_eq}
+use Rattle.std.specs.Prelude.{[], unwrap_or, ℕ}
 use Rattle.group_cells.proofs.groups.Groups.new.Goals as goal
 
 pub invariant_of-result : goal.invariant_of-result
@@ -22,6 +27,8 @@ invariant_of-result c =
       stand = subst (λ (l : List Cell). UnmergedStand plan l) none (record { each = λ node key group unmerged. tt });
       index = λ _. subst (λ (l : List Cell). IsIndexOf c.new-3.result l) none c.new-3.ensures;
       due = λ _. subst (λ (l : List Cell). IsDueOf plan c.new-4.result l) none (c.new-4.ensures plan);
+      standing_are = λ _. subst (λ (l : List Cell). AreStanding plan c.new-6.result l) none
+          (record { each = λ q at merges. ap (λ (es : List (GroupKey × List ℕ)). unwrap_or (lookup (λ k. is_eq (group_key_cmp q k)) es) []) c.new-6.ensures.empty });
       small = omega (arith, ap length c.new.ensures.items);
       changes = c.new-5.ensures.items;
     }

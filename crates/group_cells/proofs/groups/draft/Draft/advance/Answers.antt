@@ -4,18 +4,37 @@ use Rattle.beam_values.specs.Nodes.{is_group}
 use Rattle.beam_values.specs.declared.arrival.Arrival.{Arrival}
 use Rattle.beam_values.specs.declared.cell.Cell.{Cell}
 use Rattle.beam_values.specs.declared.marks.StageMarks.{StageMarks}
+use Rattle.beam_model.specs.Panes.{rules_of}
 use Rattle.watermarks.specs.Holds.{hold_at}
 use Rattle.group_cells.specs.Arrivals.{with_arrivals}
+use Rattle.group_cells.specs.KeyLists.{AreStanding}
 use Rattle.group_cells.specs.Plain.{AreCellsNext}
 use Rattle.group_cells.proofs.AllArrived.{all_placed, all_stand, joined}
 use Rattle.group_cells.proofs.FiredFew.{arrivals_few, same_length}
 use Rattle.group_cells.proofs.Advancing.{index_moved, later_at_groups, stand_fired}
+use Rattle.group_cells.proofs.SessionsInTurn.{later_merges, standing_arrived, standing_fired}
 use Rattle.group_cells.proofs.groups.draft.Draft.advance.Goals as goal
 
 pub place_later-requires-clause-groups : goal.place_later-requires-clause-groups
 place_later-requires-clause-groups c =
     subst (λ (l : List Arrival). All (λ arrival. is_group c.args.plan.now arrival.node ≡ true) l) (sym c.in_ok-later.ensures)
     (later_at_groups c.args.plan.now c.args.before.now c.args.arrivals.now)
+
+pub place_later-requires-clause-merging : goal.place_later-requires-clause-merging
+place_later-requires-clause-merging c =
+    subst (λ (l : List Arrival). All (λ arrival. (rules_of c.args.plan.now arrival.node).merges ≡ true) l) (sym c.in_ok-later.ensures)
+    (later_merges c.args.plan.now c.args.before.now c.args.arrivals.now)
+
+pub place_later-requires-clause-standing : goal.place_later-requires-clause-standing
+place_later-requires-clause-standing c =
+    let from : c.place_all.new.self.cells.items ≡ with_arrivals c.args.plan.now c.args.before.now c.args.commit c.prepare.new.self.cells.items c.args.arrivals.now = c.in_ok-place_all.ensures.ok in
+    subst (AreStanding c.args.plan.now c.prepare.new.standing) (sym from)
+    (standing_arrived c.args.plan.now c.args.before.now c.args.commit c.args.arrivals.now c.prepare.new.self.cells.items c.prepare.new.standing c.in_ok-prepare.ensures.standing)
+
+pub returns-clause-standing : goal.returns-clause-standing
+returns-clause-standing c =
+    standing_fired c.args.plan.now c.args.before.now (hold_at c.args.holds.now) c.args.commit c.place_later.new.self.cells.items c.fire_all.new.self.cells.items c.fire_all.new.marks.items
+    c.in_ok-fired.fired c.place_later.new.standing c.in_ok-fired.ensures.fired c.in_ok-place_later.ensures.standing
 
 pub returns-clause-cells : goal.returns-clause-cells
 returns-clause-cells c =

@@ -3,7 +3,7 @@ use Rattle.group_cells.specs.declared.groups.draft.Change.TheVariants.{Opened}
 use Rattle.group_cells.specs.Indexes.{IsIndexOf}
 use Rattle.group_cells.specs.Undoing.{undone_all}
 use Rattle.group_cells.proofs.Undoing.{open_step}
-use Rattle.group_cells.proofs.groups.draft.Draft.open.Goals as goal
+use Rattle.group_cells.proofs.groups.draft.Draft.push.Goals as goal
 
 pub returns-clause-undo : goal.returns-clause-undo
 returns-clause-undo c =

@@ -1,0 +1,84 @@
+-- One cell hands its entries over to a session, or doesn't.
+use Rattle.std.proofs.Common.{◌≡◌, ℕ, ◌+◌, ◌<◌, ◌≤◌, ℤ, Bool, true, false, cond, List, [], ◌∷◌, ◌++◌, length, get_or, take, drop, Option, Some, None, refl, sym, ap, ◌∙◌, append_assoc}
+use Rattle.std.specs.Prelude.{slice_get, slice_set, unwrap_or}
+use Rattle.std.specs.List.{find}
+use Rattle.std.specs.Option.{option_map, option_or}
+use Rattle.std.proofs.lemmas.List.{drop_more, take-append-drop, take_more}
+use Rattle.std.proofs.lemmas.List.Folds.{find-append}
+use Rattle.std.proofs.lemmas.Option.{slice_get_past, slice_get_read}
+use Rattle.beam_values.specs.Intervals.{Interval}
+use Rattle.beam_values.specs.declared.cell.Cell.{Cell}
+use Rattle.beam_values.specs.declared.cell.Entry.{Entry}
+use Rattle.beam_values.specs.declared.value.Value.{Value}
+use Rattle.beam_model.specs.Panes.{GroupRules}
+use Rattle.group_cells.specs.AtPlaces.{at_place, changed_at, given_all}
+use Rattle.group_cells.specs.Placing.{gives_way, handed_over, once_opened, with_entry}
+use Rattle.group_cells.specs.Plain.{put_at}
+use Rattle.group_cells.proofs.LoopSteps.{split_at}
+use Rattle.group_cells.proofs.Taking.{with_cell}
+use Rattle.group_cells.proofs.Undoing.{set_back}
+
+found : (cells : List Cell) (place : ℕ) (cell : Cell) → place < length cells → cell ≡ get_or cells place cell → slice_get cells place ≡ Some cell
+found cells place cell within is = slice_get_read cells (length cells) place cell refl within is
+
+module _ (rules : GroupRules) (before : ℤ) (w : Interval) (cells : List Cell) (place : ℕ) where
+  abbrev Stays : Type 0
+  Stays = (cells ≡ changed_at (once_opened rules before w) cells place) × ([] ≡ at_place (handed_over rules before w) [] cells place)
+
+  pub none_there : length cells ≤ place → (cells ≡ changed_at (once_opened rules before w) cells place) × ([] ≡ at_place (handed_over rules before w) [] cells place)
+  none_there past =
+      let none : slice_get cells place ≡ None = slice_get_past cells place past in (
+        sym (ap (λ o. unwrap_or (option_map (λ x. slice_set cells place (once_opened rules before w x)) o) cells) none),
+        sym (ap (λ o. unwrap_or (option_map (handed_over rules before w) o) []) none),
+      )
+
+  module _ (cell : Cell) (within : place < length cells) (is : cell ≡ get_or cells place cell) where
+    changed : changed_at (once_opened rules before w) cells place ≡ slice_set cells place (once_opened rules before w cell)
+    changed = ap (λ o. unwrap_or (option_map (λ x. slice_set cells place (once_opened rules before w x)) o) cells) (found cells place cell within is)
+
+    given : at_place (handed_over rules before w) [] cells place ≡ handed_over rules before w cell
+    given = ap (λ o. unwrap_or (option_map (handed_over rules before w) o) []) (found cells place cell within is)
+
+    pub stays_there : gives_way rules before w cell ≡ false → (cells ≡ changed_at (once_opened rules before w) cells place) × ([] ≡ at_place (handed_over rules before w) [] cells place)
+    stays_there stays = (
+      sym (changed ∙ ap (λ b. slice_set cells place (cond b (record cell { entries = []; merged_into = Some w }) cell)) stays ∙ set_back cells place cell (found cells place cell within is)),
+      sym (given ∙ ap (λ b. cond b cell.entries []) stays),
+    )
+
+    pub goes_there : (merged : Cell) → merged ≡ record cell { entries = []; merged_into = Some w } → gives_way rules before w cell ≡ true
+        → (slice_set cells place merged ≡ changed_at (once_opened rules before w) cells place) × (cell.entries ≡ at_place (handed_over rules before w) [] cells place)
+    goes_there merged made goes = (
+      ap (slice_set cells place) made
+          ∙ sym (changed ∙ ap (λ b. slice_set cells place (cond b (record cell { entries = []; merged_into = Some w }) cell)) goes),
+      sym (given ∙ ap (λ b. cond b cell.entries []) goes),
+    )
+
+-- one place after another
+pub given_step : {X Y : Type 0} (f : X → X) (g : X → List Y) (places : List ℕ) (xs after : List X) (old new : List Y) (i place : ℕ) → i < length places → place ≡ get_or places i place
+    → after ≡ changed_at f xs place → new ≡ old ++ at_place g [] xs place → new ++ given_all f g (drop (i + 1) places) after ≡ old ++ given_all f g (drop i places) xs
+given_step f g places xs after old new i place within is made pushed =
+    (λ j. pushed j ++ given_all f g (drop (i + 1) places) (made j))
+    ∙ append_assoc old (at_place g [] xs place) (given_all f g (drop (i + 1) places) (changed_at f xs place))
+    ∙ sym (ap (λ l. old ++ given_all f g l xs) (split_at places i place within is))
+
+-- ---- the first that passes
+
+pub none_more : {X : Type 0} (p : X → Bool) (xs : List X) (i : ℕ) (d : X) → i < length xs → p (get_or xs i d) ≡ false → find p (take i xs) ≡ None → find p (take (i + 1) xs) ≡ None
+none_more {X} p xs i d within off none =
+    ap (find p) (take_more xs i d within) ∙ find-append p (take i xs) (get_or xs i d ∷ [])
+    ∙ (λ j. option_or (none j) (cond {A = Option X} (off j) (Some (get_or xs i d)) None))
+
+pub found_now : {X : Type 0} (p : X → Bool) (xs : List X) (i : ℕ) (d : X) → i < length xs → p (get_or xs i d) ≡ true → find p (take i xs) ≡ None → find p xs ≡ Some (get_or xs i d)
+found_now {X} p xs i d within on none =
+    ap (find p) (sym (take-append-drop i xs) ∙ ap (λ l. take i xs ++ l) (drop_more xs i d within))
+    ∙ find-append p (take i xs) (get_or xs i d ∷ drop (i + 1) xs)
+    ∙ (λ j. option_or (none j) (cond {A = Option X} (on j) (Some (get_or xs i d)) (find p (drop (i + 1) xs))))
+
+-- ---- an entry is put where its cell stands
+
+pub put_there : (rules : GroupRules) (node : ℕ) (key : Value) (entry : Entry) (cells new : List Cell) (place : ℕ) → place < length cells
+    → put_at rules node key entry cells ≡ changed_at (with_entry entry) cells place
+    → ((cell : Cell) → slice_get cells place ≡ Some cell → new ≡ slice_set cells place (with_entry entry cell)) → new ≡ put_at rules node key entry cells
+put_there rules node key entry cells new place within put is =
+    with_cell cells place within (λ cell there.
+    is cell there ∙ sym (put ∙ ap (λ o. unwrap_or (option_map (λ x. slice_set cells place (with_entry entry x)) o) cells) there))

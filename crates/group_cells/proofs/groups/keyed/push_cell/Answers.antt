@@ -1,0 +1,24 @@
+use Rattle.std.proofs.Common.{◌≡◌, ◌∙◌, rules, sym, true, false}
+use Rattle.std.specs.Option.{is_some}
+use Rattle.std.proofs.lemmas.Result.{on_ok_weaker}
+use Rattle.group_cells.proofs.KeyMaps.{not_standing, standing_merged, standing_more, standing_unmerged, yet_standing}
+use Rattle.group_cells.proofs.groups.keyed.push_cell.Goals as goal
+
+pub returns-then-not-merges_at : goal.returns-then-not-merges_at
+returns-then-not-merges_at c = λ cells at h.
+    standing_unmerged c.args.plan.now c.args.standing.now cells c.args.cell.now h (sym c.merges_at.ensures ∙ c.if-not-merges_at.true)
+
+pub returns-then-is_some : goal.returns-then-is_some
+returns-then-is_some c =
+    let gone : is_some c.args.cell.now.merged_into ≡ true = search rules in
+    λ cells at h. standing_merged c.args.plan.now c.args.standing.now cells c.args.cell.now h (not_standing c.args.cell.now.merged_into gone)
+
+pub returns : goal.returns
+returns c =
+    let same : c.in_ok-place.place ≡ c.args.place = search rules in
+    let none : is_some c.args.cell.now.merged_into ≡ false = search rules in
+    on_ok_weaker c.push.result
+    (λ after cells at h.
+    standing_more c.args.plan.now c.args.standing.now cells c.args.cell.now h c.push.new.lists c.in_ok-key.key c.in_ok-place.place c.in_ok-key.ensures (same ∙ at)
+    (yet_standing c.args.cell.now.merged_into none) (sym c.merges_at.ensures ∙ c.if-not-merges_at.false) after)
+    c.push.ensures.others

@@ -1,0 +1,200 @@
+//! Lists by Group and key: the arrivals of a commit, and the places of the cells that stand at Groups of
+//! sessions.
+
+ghost use Rattle.std.specs.Prelude.{◌≡◌, ◌+◌, ◌∷◌, ◌++◌, ◌≤◌, [], length, List as ListOf, if◌then◌else◌, IfOk, OnOk, IfSome, IfNone, IsSome};
+ghost use Rattle.std.specs.Ordering.{as_partial_cmp, eq_by_cmp, is_eq, on, then_cmp};
+ghost use Rattle.std.specs.Cmp.{partial_order_from_own_ties};
+ghost use Rattle.std.specs.Cmp.Rules.{comparing};
+ghost use Rattle.std.proofs.Common.{rules};
+ghost use Rattle.beam_values.specs.Nodes.{facts_of};
+ghost use Rattle.beam_values.specs.declared.arrival.Arrival.{Arrival as ArrivalOf};
+ghost use Rattle.beam_values.specs.declared.cell.Cell.{Cell as CellOf};
+ghost use Rattle.beam_model.specs.Panes.{rules_of};
+ghost use Rattle.group_cells.specs.Commits.{elements_keyed};
+ghost use Rattle.group_cells.specs.KeyLists.{all_listed, group_key_cmp, listed, AreStanding};
+ghost use Rattle.group_cells.specs.declared.groups.keyed.GroupKey.{GroupKey as GroupKeyOf};
+
+use crate::rules::rules_of;
+use beam_values::{Arrival, Cell, Element, List, NoMemory, Plan, Value, cmp_values, copy_key};
+use std::alloc::Global;
+use std::cmp::Ordering;
+use std::collections::BTreeMap;
+use windowing::NodeFacts;
+
+/// A Group and a key.
+#[derive(Debug, Drop)]
+pub struct GroupKey {
+    pub node: u32,
+    pub key: Value,
+}
+
+impl PartialEq for GroupKey {
+    ghost eq = { eq_by_cmp group_key_cmp };
+
+    ghost laws = { Prim.search (comparing, rules) depth 12 };
+
+    fn eq(&self, other: &GroupKey) -> bool {
+        self.cmp(other).is_eq()
+    }
+}
+
+impl Eq for GroupKey {
+    ghost laws = { Prim.search (comparing, rules) depth 12 };
+}
+
+impl PartialOrd for GroupKey {
+    ghost partial_cmp = { as_partial_cmp group_key_cmp };
+
+    ghost laws = { partial_order_from_own_ties (Prim.search (comparing, rules) depth 12) (Prim.search (comparing, rules) depth 12) };
+
+    fn partial_cmp(&self, other: &GroupKey) -> Option<Ordering> {
+        Some(self.cmp(other))
+    }
+}
+
+impl Ord for GroupKey {
+    ghost cmp = { group_key_cmp };
+
+    ghost total = { Prim.search (comparing, rules) depth 12 };
+
+    ghost matches_partial_cmp = { Prim.search (comparing, rules) depth 12 };
+
+    ghost matches_eq = { Prim.search (comparing, rules) depth 12 };
+
+    fn cmp(&self, other: &GroupKey) -> Ordering {
+        match self.node.cmp(&other.node) {
+            Ordering::Equal => cmp_values(&self.key, &other.key),
+            decided => decided,
+        }
+    }
+}
+
+/// Takes the list of a Group and key out. Takes no memory.
+pub fn take<T: Drop>(
+    alloc: Global,
+    lists: &mut BTreeMap<GroupKey, List<T>>,
+    key: &GroupKey,
+) -> List<T>
+    ensures list { result ≡ listed lists.old key.now }
+    ensures others { (q : GroupKeyOf) → listed lists.new q ≡ (if is_eq (group_key_cmp key.now q) then [] else listed lists.old q) }
+    ensures count { all_listed lists.new + length result ≡ all_listed lists.old }
+{
+    match lists.remove(key) {
+        None => List::new(alloc),
+        Some(list) => list,
+    }
+}
+
+/// Puts the list of a Group and key in, in the place of the one that is there.
+pub fn put<T: Drop>(
+    lists: &mut BTreeMap<GroupKey, List<T>>,
+    key: GroupKey,
+    list: List<T>,
+) -> Result<(), NoMemory>
+    ensures others { OnOk result ((q : GroupKeyOf) → listed lists.new q ≡ (if is_eq (group_key_cmp key q) then list else listed lists.old q)) }
+    ensures count { OnOk result (all_listed lists.new + length (listed lists.old key) ≡ all_listed lists.old + length list) }
+{
+    lists.insert(key, list)?;
+    Ok(())
+}
+
+/// One more item at the end of the list of a Group and key.
+fn push<T: Drop>(
+    alloc: Global,
+    lists: &mut BTreeMap<GroupKey, List<T>>,
+    key: GroupKey,
+    item: T,
+) -> Result<(), NoMemory>
+    ensures others { OnOk result ((q : GroupKeyOf) → listed lists.new q ≡ (if is_eq (group_key_cmp key q) then listed lists.old key ++ item ∷ [] else listed lists.old q)) }
+    ensures count { OnOk result (all_listed lists.new ≡ all_listed lists.old + 1) }
+{
+    let mut list = take(alloc, lists, &key);
+    list.push(item)?;
+    put(lists, key, list)
+}
+
+/// Arrivals by Group and key, those of each in their order.
+pub fn by_key(
+    alloc: Global,
+    arrivals: List<Arrival>,
+) -> Result<BTreeMap<GroupKey, List<Element>>, NoMemory>
+    ensures lists { IfOk result (λ lists. (q : GroupKeyOf) → listed lists q ≡ elements_keyed q.node q.key arrivals) }
+    ensures count { IfOk result (λ lists. all_listed lists ≡ length arrivals) }
+{
+    let mut lists = BTreeMap::new(alloc);
+    for arrival in arrivals.into_vec() {
+        push_arrival(alloc, &mut lists, arrival)?;
+    }
+    Ok(lists)
+}
+
+fn push_arrival(
+    alloc: Global,
+    lists: &mut BTreeMap<GroupKey, List<Element>>,
+    arrival: Arrival,
+) -> Result<(), NoMemory>
+    ensures lists { OnOk result ((before : ListOf ArrivalOf) → ((q : GroupKeyOf) → listed lists.old q ≡ elements_keyed q.node q.key before)
+        → (q : GroupKeyOf) → listed lists.new q ≡ elements_keyed q.node q.key (before ++ arrival ∷ [])) }
+    ensures count { OnOk result (all_listed lists.new ≡ all_listed lists.old + 1) }
+{
+    let key = GroupKey {
+        node: arrival.node,
+        key: copy_key(alloc, &arrival.element)?,
+    };
+    push(alloc, lists, key, arrival.element)
+}
+
+/// Where the cells stand that are at Groups of sessions.
+pub fn standing_of(
+    alloc: Global,
+    plan: &Plan,
+    facts: &[NodeFacts],
+    cells: &[Cell],
+) -> Result<BTreeMap<GroupKey, List<u32>>, NoMemory>
+    requires { facts.now ≡ facts_of plan.now.nodes }
+    ensures { IfOk result (λ standing. AreStanding plan.now standing cells.now) }
+{
+    let mut standing = BTreeMap::new(alloc);
+    for (place, cell) in cells.iter().enumerate() {
+        push_cell(alloc, plan, facts, cell, place, &mut standing)?;
+    }
+    Ok(standing)
+}
+
+fn push_cell(
+    alloc: Global,
+    plan: &Plan,
+    facts: &[NodeFacts],
+    cell: &Cell,
+    place: usize,
+    standing: &mut BTreeMap<GroupKey, List<u32>>,
+) -> Result<(), NoMemory>
+    requires { facts.now ≡ facts_of plan.now.nodes }
+    ensures { OnOk result ((cells : ListOf CellOf) → place ≡ length cells → AreStanding plan.now standing.old cells → AreStanding plan.now standing.new (cells ++ cell.now ∷ [])) }
+{
+    if !merges_at(plan, facts, cell.node) {
+        return Ok(());
+    }
+    if cell.merged_into.is_some() {
+        return Ok(());
+    }
+    let place = u32::try_from(place).map_err(|_| NoMemory)?;
+    let key = key_of_cell(alloc, cell)?;
+    push(alloc, standing, key, place)
+}
+
+fn merges_at(plan: &Plan, facts: &[NodeFacts], node: u32) -> bool
+    requires { facts.now ≡ facts_of plan.now.nodes }
+    ensures { result ≡ (rules_of plan.now node).merges }
+{
+    rules_of(plan, facts, node).merges
+}
+
+fn key_of_cell(alloc: Global, cell: &Cell) -> Result<GroupKey, NoMemory>
+    ensures { IfOk result (λ key. key ≡ record { node = cell.now.node; key = cell.now.key }) }
+{
+    Ok(GroupKey {
+        node: cell.node,
+        key: cell.key.copy(alloc)?,
+    })
+}
