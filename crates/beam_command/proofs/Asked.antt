@@ -11,7 +11,7 @@ use Rattle.book_core.specs.Runs.{AreOptions}
 use Rattle.chain_exec.specs.Causes.{ObservedShelf, observed_shelf}
 use Rattle.command_words.specs.Commands.{Asked, Help, Panes, Run, AreOptions as IsWithinOptions}
 use Rattle.run_engine.specs.Openings.{IsOpeningRefused}
-use Rattle.run_engine.specs.PlanRun.{IsSpent, known_of}
+use Rattle.run_engine.specs.PlanRun.{IsSpent, surroundings_of}
 use Rattle.run_engine.specs.declared.kit.Kit.{Kit}
 use Rattle.run_engine.specs.declared.status.Status.{Status}
 use Rattle.run_engine.specs.declared.status.Status.TheVariants as status
@@ -66,7 +66,7 @@ module _ (shelf : ObservedShelf) (files : Option (List FileText)) (first before 
       → IsPipelineEnd (record { shelf = shelf; store = record { files = files; before = first; after = after }; out = out }) asked options s outcome
   pipeline_end status.Ok outcome end = (end.1.0, end.1.1, (plan, of, end.0, end.1.2), end.1.3)
   pipeline_end status.SinkFault outcome end = (end.1.0, end.1.1, (plan, of, end.0, end.1.2), end.1.3)
-  pipeline_end (status.WorkFault note) outcome end = (end.0, (end.2.0, end.2.1, (plan, of, end.1, stopped_before (known_of shelf (record { files = files; before = before; after = after })) files first before after plan options note end.2.0 earlier end.2.2)), spent_before note end.3)
+  pipeline_end (status.WorkFault note) outcome end = (end.0, (end.2.0, end.2.1, (plan, of, end.1, stopped_before (surroundings_of shelf (record { files = files; before = before; after = after })) files first before after plan options note end.2.0 earlier end.2.2)), spent_before note end.3)
   pipeline_end status.NoMemory outcome end = (end.0, end.1, inr (inr refl))
   pipeline_end (status.NoSource name) outcome end =
       (end.0, end.1, elim end.2 [ inl refused ↦ inr (inl (plan, of, refused_before (status.NoSource name) refused)) | inr none ↦ inr (inr none) ])

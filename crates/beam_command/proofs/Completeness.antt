@@ -14,11 +14,11 @@ use Rattle.beam_ports.specs.Counts.{rise}
 use Rattle.beam_ports.specs.Observed.{ObservedStore, WhereTold}
 use Rattle.book_core.specs.Book.{BookData}
 use Rattle.book_core.specs.Runs.{AreTold, HonestlyReached}
-use Rattle.book_core.specs.Work.{Known}
+use Rattle.book_core.specs.Work.{Surroundings}
 use Rattle.ended_runs.specs.Unpoisoned.{TakesNoPoison}
 use Rattle.command_words.specs.Commands.{Asked, Help, Panes, Run}
 use Rattle.run_engine.specs.Openings.{IsOpeningRefused, file_names}
-use Rattle.run_engine.specs.PlanRun.{IsStoppedBy, known_of}
+use Rattle.run_engine.specs.PlanRun.{IsStoppedBy, surroundings_of}
 use Rattle.run_engine.specs.declared.status.Status.{Status}
 use Rattle.run_engine.specs.declared.status.Status.TheVariants as status
 use Rattle.beam_command.specs.Asking.{IsPlanOf}
@@ -136,14 +136,14 @@ complete (Some (Run name options)) files observed are s outcome end = λ told te
 -- ---- a shelf that fails on poison alone
 
 module _ (files : Option (List FileText)) (observed : Observed) (are : files ≡ observed.store.files) (s : Status) (outcome : Option Outcome)
-    (by_reads : (known : Known) (told : List FileText) (b : BookData) (note : FaultNote) → known.told ≡ Some told → known.strict ≡ true → AreTold told b
+    (by_reads : (known : Surroundings) (told : List FileText) (b : BookData) (note : FaultNote) → known.told ≡ Some told → known.strict ≡ true → AreTold told b
     → TakesNoPoison known b.plan b.options → HonestlyReached known b → b.stopped ≡ Some (stop.Spent note) → b.options.attempts ≤ b.reads) where
   module _ (told : List FileText) (tells : observed.store.files ≡ Some told) (own : Asked) (options : Options) (strict : observed.shelf.strict ≡ true)
       (inputs : HasCleanInputs told own options) (few : AreReadFaultsFew options.attempts observed) where
-    takes_none : (plan : Plan) (own_options : Options) → plan ≡ inputs.0 → own_options ≡ options → TakesNoPoison (known_of observed.shelf observed.store) plan own_options
+    takes_none : (plan : Plan) (own_options : Options) → plan ≡ inputs.0 → own_options ≡ options → TakesNoPoison (surroundings_of observed.shelf observed.store) plan own_options
     takes_none plan own_options same with_options =
-        let known : record { told = Some told; strict = true } ≡ known_of observed.shelf observed.store = λ i. record { told = sym tells i; strict = sym strict i } in
-        subst (λ (k : Known). TakesNoPoison k plan own_options) known
+        let known : record { told = Some told; strict = true } ≡ surroundings_of observed.shelf observed.store = λ i. record { told = sym tells i; strict = sym strict i } in
+        subst (λ (k : Surroundings). TakesNoPoison k plan own_options) known
         (subst (λ (p : Plan). TakesNoPoison (record { told = Some told; strict = true }) p own_options) (sym same)
         (subst (λ (o : Options). TakesNoPoison (record { told = Some told; strict = true }) inputs.0 o) (sym with_options) inputs.3))
 
@@ -152,7 +152,7 @@ module _ (files : Option (List FileText)) (observed : Observed) (are : files ≡
     not_given_up note o run =
         let book = run.3.book in
         let plan = run.3.of_plan ∙ plan_is observed.store told tells own inputs.0 run.0 inputs.1 run.1 in
-        let many = by_reads (known_of observed.shelf observed.store) told book note tells strict (run.3.lengths told tells)
+        let many = by_reads (surroundings_of observed.shelf observed.store) told book note tells strict (run.3.lengths told tells)
         (takes_none book.plan book.options plan run.3.with_options) run.3.reached run.3.is.noted in
         let limit : book.options.attempts ≡ options.attempts = ap (λ (o : Options). o.attempts) run.3.with_options in
         absurd (omega (arith, many, limit, run.3.is.reads, few.store))

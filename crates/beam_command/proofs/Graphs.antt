@@ -17,9 +17,9 @@ use Rattle.beam_values.specs.declared.plan.Plan.{Plan}
 use Rattle.beam_ports.specs.Files.{Opening}
 use Rattle.beam_ports.specs.declared.store.Opened.{Opened}
 use Rattle.book_core.specs.Runs.{IsEnded}
-use Rattle.book_core.specs.Work.{Known}
+use Rattle.book_core.specs.Work.{Surroundings}
 use Rattle.run_engine.specs.Openings.{AreOpened, file_names}
-use Rattle.run_engine.specs.PlanRun.{IsCountedAs, IsOutcomeWhere, IsPlanEnd, IsStoppedBy, known_of}
+use Rattle.run_engine.specs.PlanRun.{IsCountedAs, IsOutcomeWhere, IsPlanEnd, IsStoppedBy, surroundings_of}
 use Rattle.run_engine.specs.declared.status.Status.{Status}
 use Rattle.run_engine.specs.declared.status.Status.TheVariants as status
 use Rattle.beam_command.specs.Ends.{Observed, AreFound, IsUnwritten}
@@ -47,7 +47,7 @@ are_found files opened plan kept are = λ told is. opened_are_found files told i
 
 -- the text of a run that came to its end was written, or was not
 pub printed_end : (observed : Observed) (plan : Plan) (options : Options) (failed : ℕ) (o : Outcome) (s : Status) (outcome : Option Outcome) → AreFound observed.store.files plan
-    → IsOutcomeWhere (known_of observed.shelf observed.store) plan options IsEnded o → IsRunPrinted observed.out options.attempts o s outcome
+    → IsOutcomeWhere (surroundings_of observed.shelf observed.store) plan options IsEnded o → IsRunPrinted observed.out options.attempts o s outcome
     → IsGraphEnd observed plan options failed s outcome
 printed_end observed plan options failed o status.Ok outcome there run printed = (there, (o, printed.0, run, printed.1))
 printed_end observed plan options failed o status.SinkFault outcome there run printed = (there, (o, printed.0, run, printed.1))
@@ -65,7 +65,7 @@ counted_before shelf files first before after Call earlier counted = counted
 counted_before shelf files first before after Read earlier counted = grind (arith, nat_tests)
 
 -- what stopped a run stopped it also in a call that began before
-pub stopped_before : (known : Known) (files : Option (List FileText)) (first before after : ℕ) (plan : Plan) (options : Options) (note : FaultNote) (o : Outcome) → first ≤ before
+pub stopped_before : (known : Surroundings) (files : Option (List FileText)) (first before after : ℕ) (plan : Plan) (options : Options) (note : FaultNote) (o : Outcome) → first ≤ before
     → IsOutcomeWhere known plan options (IsStoppedBy (record { files = files; before = before; after = after }) note) o
     → IsOutcomeWhere known plan options (IsStoppedBy (record { files = files; before = first; after = after }) note) o
 stopped_before known files first before after plan options note o earlier run =
@@ -87,7 +87,7 @@ pub begun_before : (shelf : ObservedShelf) (files : Option (List FileText)) (fir
 begun_before shelf files first before after plan options status.Ok outcome earlier end = end
 begun_before shelf files first before after plan options (status.WorkFault note) outcome earlier end =
     let more : rise before after ≤ rise first after = grind (arith, nat_tests) in (
-      (end.0.0, end.0.1, stopped_before (known_of shelf (record { files = files; before = before; after = after })) files first before after plan options note end.0.0 earlier end.0.2),
+      (end.0.0, end.0.1, stopped_before (surroundings_of shelf (record { files = files; before = before; after = after })) files first before after plan options note end.0.0 earlier end.0.2),
       record {
         attempt = end.1.attempt;
         counted = omega (arith, end.1.counted, more);

@@ -26,19 +26,19 @@ use Rattle.beam_ports.specs.Observed.{WhereTold}
 use Rattle.book_core.specs.Book.{BookData}
 use Rattle.book_core.specs.Facts.{AreKept}
 use Rattle.book_core.specs.Runs.{AreTold, HonestlyReached, IsEnded, Reached}
-use Rattle.book_core.specs.Work.{Known}
+use Rattle.book_core.specs.Work.{Surroundings}
 use Rattle.command_words.specs.Commands.{Asked, Help, Panes, Run}
 use Rattle.command_words.specs.Rules.{Asks, ByDefault, ForHelp, ForPanes, ForRun, Given, IsValue}
 use Rattle.command_words.specs.Parts.{Part}
 use Rattle.command_words.specs.declared.setting.Setting.TheVariants.{Attempts}
 use Rattle.ended_runs.specs.Stops.{IsHonestStop}
 use Rattle.ended_runs.specs.Unpoisoned.{TakesNoPoison}
-use Rattle.run_engine.specs.Openings.{IsOpeningRefused, file_names}
-use Rattle.run_engine.specs.PlanRun.{IsCountedAs, IsStoppedBy, known_of}
+use Rattle.run_engine.specs.Openings.{IsOpeningRefused, file_names, IsNoSourceOrNoMemory}
+use Rattle.run_engine.specs.PlanRun.{IsCountedAs, IsStoppedBy, surroundings_of}
 use Rattle.run_engine.specs.declared.status.Status.{Status}
 use Rattle.run_engine.specs.declared.status.Status.TheVariants as status
 use Rattle.beam_command.specs.Asking.{IsPlanOf}
-use Rattle.beam_command.specs.Completeness.{AreReadFaultsFew, AsksForPoison, FailsOnPoison, HasInputs, HasNotFailed, IsEndOfAbsent, IsEndOfClean, IsEndOfPoison, IsStrict, WherePanes, first_fault}
+use Rattle.beam_command.specs.Completeness.{AreReadFaultsFew, AsksForPoison, FailsOnPoison, HasInputs, HasNotFailed, IsEndOfClean, IsEndOfPoison, IsStrict, WherePanes, first_fault}
 use Rattle.beam_command.specs.Ends.{Observed, AreFound, AreSourcesRefused, HasRun, IsDocumentRefused, IsEndOf, IsOutcomeOfAsked, IsPipelineEnd}
 use Rattle.beam_command.specs.Promises.{IsPlanAsked}
 use Rattle.beam_command.proofs.Completeness.{among, began, complete, complete_strict, named_not_none, plan_is}
@@ -139,7 +139,7 @@ module _ (observed : Observed) (told : List FileText) (tells : observed.store.fi
     never_found : (plan : Plan) → IsPlanOf observed.store.files own plan → AreFound observed.store.files plan → ⊥
     never_found plan is found = named_not_none (first_named file told) absent (file_found plan is found)
 
-    not_opened : (s : Status) → IsOpeningRefused observed.store (panes_plan file size) options.attempts 0 s → IsEndOfAbsent file s
+    not_opened : (s : Status) → IsOpeningRefused observed.store (panes_plan file size) options.attempts 0 s → IsNoSourceOrNoMemory file s
     not_opened (status.NoSource name) refused =
         inl (ap (λ (n : List ℕ). status.NoSource n)
         (among (λ (n : List ℕ). n ≡ file) refused.0 refused.1 (file ∷ []) name refused.2 (All-cons (λ (n : List ℕ). n ≡ file) file [] refl (All-nil (λ (n : List ℕ). n ≡ file)))))
@@ -152,7 +152,7 @@ module _ (observed : Observed) (told : List FileText) (tells : observed.store.fi
     not_opened (status.WorkFault note) refused = absurd refused
     not_opened status.SinkFault refused = absurd refused
 
-    absent_unbegun : (s : Status) → Begins s → IsEndOfAbsent file s
+    absent_unbegun : (s : Status) → Begins s → IsNoSourceOrNoMemory file s
     absent_unbegun s why = elim why [
       | inl refused ↦ absurd refused
       | inr other ↦ elim other [
@@ -161,7 +161,7 @@ module _ (observed : Observed) (told : List FileText) (tells : observed.store.fi
       ]
     ]
 
-    absent_ends : (s : Status) (outcome : Option Outcome) → IsPipelineEnd observed own options s outcome → IsEndOfAbsent file s
+    absent_ends : (s : Status) (outcome : Option Outcome) → IsPipelineEnd observed own options s outcome → IsNoSourceOrNoMemory file s
     absent_ends status.Ok outcome end = absurd (never_found end.2.0 end.2.1 end.2.2)
     absent_ends status.SinkFault outcome end = absurd (never_found end.2.0 end.2.1 end.2.2)
     absent_ends (status.WorkFault note) outcome end = absurd (never_found end.1.2.0 end.1.2.1 end.1.2.2)
@@ -204,21 +204,21 @@ module _ (observed : Observed) (told : List FileText) (tells : observed.store.fi
 
 module _ (files : Option (List FileText)) (observed : Observed) (are : files ≡ observed.store.files) (s : Status) (outcome : Option Outcome) where
   pub absent : (asked : Option Asked) → ((own : Asked) → asked ≡ Some own → HasAttempts own) → IsEndOf asked observed s outcome
-      → WherePanes asked (λ file size options. HasNotFailed observed.store → WhereTold files (λ told. first_named file told ≡ None → IsEndOfAbsent file s))
+      → WherePanes asked (λ file size options. HasNotFailed observed.store → WhereTold files (λ told. first_named file told ≡ None → IsNoSourceOrNoMemory file s))
   absent None tried end = tt
   absent (Some Help) tried end = tt
   absent (Some (Run name options)) tried end = tt
   absent (Some (Panes file size options)) tried end = λ whole told tells none.
       absent_ends observed told (sym are ∙ tells) file size options (tried (Panes file size options) refl) whole none s outcome end
 
-  module _ (runs : (known : Known) (b : BookData) → HonestlyReached known b → Reached known.told b)
+  module _ (runs : (known : Surroundings) (b : BookData) → HonestlyReached known b → Reached known.told b)
       (kept : (told : Option (List FileText)) (b : BookData) → Reached told b → AreKept b)
-      (honest : (known : Known) (b : BookData) (note : FaultNote) → HonestlyReached known b → b.stopped ≡ Some (stop.Spent note) → IsHonestStop known b note) where
+      (honest : (known : Surroundings) (b : BookData) (note : FaultNote) → HonestlyReached known b → b.stopped ≡ Some (stop.Spent note) → IsHonestStop known b note) where
     stopped : (told : List FileText) → observed.store.files ≡ Some told → (file : List ℕ) (size : ℤ) (options : Options) → observed.shelf.strict ≡ true → (note : FaultNote) (o : Outcome)
         → IsOutcomeOfAsked observed (Panes file size options) options (IsStoppedBy observed.store note) o → note.cause ≡ Call
         → (note ≡ first_fault options) × HasPoison (panes_plan file size) (items told (panes_plan file size))
     stopped told tells file size options strict note o run is =
-        let known = known_of observed.shelf observed.store in
+        let known = surroundings_of observed.shelf observed.store in
         let stop = honest known run.3.book note run.3.reached run.3.is.noted in
         let found = stop_is_poison file size known told run.3.book note tells strict (run.3.of_plan ∙ run.1) is stop (kept known.told stop.before (runs known stop.before stop.reached)) in
         (found.0 ∙ ap first_fault run.3.with_options, found.1)
@@ -237,7 +237,7 @@ module _ (files : Option (List FileText)) (observed : Observed) (are : files ≡
         poison_ends observed told here file size options (tried own refl) whole found (stopped told here file size options) strict
         (λ o run. unpoisoned (Some own) observed told here own options o refl run (account own options o refl run) asks) s outcome end
 
-    pub clean : ((known : Known) (told : List FileText) (b : BookData) (note : FaultNote) → known.told ≡ Some told → known.strict ≡ true → AreTold told b
+    pub clean : ((known : Surroundings) (told : List FileText) (b : BookData) (note : FaultNote) → known.told ≡ Some told → known.strict ≡ true → AreTold told b
         → TakesNoPoison known b.plan b.options → HonestlyReached known b → b.stopped ≡ Some (stop.Spent note) → b.options.attempts ≤ b.reads)
         → (asked : Option Asked) → IsEndOf asked observed s outcome
         → WherePanes asked (λ file size options. AreReadFaultsFew options.attempts observed → FailsOnPoison observed.shelf
@@ -247,7 +247,7 @@ module _ (files : Option (List FileText)) (observed : Observed) (are : files ≡
     clean by_reads (Some (Run name options)) end = tt
     clean by_reads (Some (Panes file size options)) end = λ few shelf told tells found never.
         let own = Panes file size options in
-        let seen : Known = record { told = Some told; strict = true } in
+        let seen : Surroundings = record { told = Some told; strict = true } in
         let none = takes_none file size told (λ poison. never (panes_plan file size, refl, poison)) options (λ b reached. kept (Some told) b (runs seen b reached)) in
         elim shelf [
           | inl strict ↦

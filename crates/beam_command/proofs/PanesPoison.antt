@@ -17,14 +17,13 @@ use Rattle.beam_values.specs.declared.plan.SourceKind.TheVariants.{TimedLines}
 use Rattle.beam_values.specs.declared.value.Value.{Value}
 use Rattle.beam_values.specs.declared.value.Value.TheViews.{out-roll-Value}
 use Rattle.beam_model.specs.Chains.{Output, Arrives, PoisonAt, chain}
-use Rattle.beam_model.specs.Coverings.{item_at}
+use Rattle.beam_model.specs.Coverings.{item_at, spread_of}
 use Rattle.beam_model.specs.Plans.{panes_plan}
 use Rattle.beam_model.specs.Positions.{Emission, Emits, Poison, SourceItem, TimedValue, emission, items, len_of, line_emission, told_bytes}
 use Rattle.beam_model.specs.Spread.{is_poison, HasPoison, emission_outputs, from_source, outputs_at, first_poison}
 use Rattle.beam_model.specs.Values.{blob}
 use Rattle.beam_model.specs.Flow.{batch_outputs}
 use Rattle.ended_runs.proofs.Poisons.{any_at, any_left, first_holds, first_is_poison}
-use Rattle.book_core.specs.Work.{outputs_of_item}
 
 each_of : {X Y : Type 0} (P : Y → Type 0) (f : X → List Y) (xs : List X) → ((x : X) → All P (f x)) → All P (flat_map f xs)
 each_of P f [] holds = All-nil P
@@ -124,8 +123,8 @@ module _ (file : List ℕ) (size : ℤ) where
         texts_if (nat_lt p (length (told_bytes told file))) (line p)
         (texts_if (starts_line (told_bytes told file) p) (line_emission (timed_line (line_at (told_bytes told file) p))) (line_texts (timed_line (line_at (told_bytes told file) p))))
 
-    brought : (p : ℕ) → All IsOfSource (brings p)
-    brought p = emission_comes (emission TimedLines Nothing (told_bytes told file) p) (source_texts p)
+    all_of_source : (p : ℕ) → All IsOfSource (brings p)
+    all_of_source p = emission_comes (emission TimedLines Nothing (told_bytes told file) p) (source_texts p)
 
     module _ (p at : ℕ) (first : first_poison (brings p) ≡ Some at) where
       inside : p < len_of (source_of told)
@@ -144,24 +143,24 @@ module _ (file : List ℕ) (size : ℤ) where
 
     -- a position that is poison is of the one item, and the source's function fails on it
     pub attempt_is_poison : (node item p at : ℕ)
-        → first_poison (outputs_of_item plan (record { from = p; to = p + 1 }) (item_at (items told plan) node item)) ≡ Some at
+        → first_poison (spread_of plan (record { from = p; to = p + 1 }) (item_at (items told plan) node item)) ≡ Some at
         → (node ≡ 0) × (item ≡ 0) × (at ≡ 0) × HasPoison plan (items told plan)
     attempt_is_poison node item p at first = by (0 == node && 0 == item) refl first
       where
         by : (b : Bool) → (0 == node && 0 == item) ≡ b
-            → first_poison (outputs_of_item plan (record { from = p; to = p + 1 }) (cond b (Some (source_of told)) None)) ≡ Some at
+            → first_poison (spread_of plan (record { from = p; to = p + 1 }) (cond b (Some (source_of told)) None)) ≡ Some at
             → (node ≡ 0) × (item ≡ 0) × (at ≡ 0) × HasPoison plan (items told plan)
         by true is of =
             let own : first_poison (brings p) ≡ Some at = ap first_poison (sym (spread-single brings p)) ∙ of in
-            (grind (arith, nat_tests, is), grind (arith, nat_tests, is), first_holds IsOfSource (brings p) at (brought p) own, poison_found p at own)
+            (grind (arith, nat_tests, is), grind (arith, nat_tests, is), first_holds IsOfSource (brings p) at (all_of_source p) own, poison_found p at own)
         by false is of = absurd cc
 
     -- a range that brings poison is of the one item too
-    pub range_is_poison : (node item from to : ℕ) → list_any is_poison (outputs_of_item plan (record { from = from; to = to }) (item_at (items told plan) node item)) ≡ true
+    pub range_is_poison : (node item from to : ℕ) → list_any is_poison (spread_of plan (record { from = from; to = to }) (item_at (items told plan) node item)) ≡ true
         → HasPoison plan (items told plan)
     range_is_poison node item from to any = by (0 == node && 0 == item) refl any
       where
-        by : (b : Bool) → (0 == node && 0 == item) ≡ b → list_any is_poison (outputs_of_item plan (record { from = from; to = to }) (cond b (Some (source_of told)) None)) ≡ true
+        by : (b : Bool) → (0 == node && 0 == item) ≡ b → list_any is_poison (spread_of plan (record { from = from; to = to }) (cond b (Some (source_of told)) None)) ≡ true
             → HasPoison plan (items told plan)
         by true is of =
             let found = any_of_spread brings from (to - from) of in

@@ -20,7 +20,7 @@ use Rattle.book_core.specs.Changes.{note_of}
 use Rattle.book_core.specs.Facts.{AreKept, IsHeldPane}
 use Rattle.book_core.specs.Jobs.{attempted_of, job_of}
 use Rattle.book_core.specs.Steps.{IsWorking}
-use Rattle.book_core.specs.Work.{IsHonest, IsPoisonAttempt, Known, is_known}
+use Rattle.book_core.specs.Work.{IsHonest, IsPoisonAttempt, Surroundings, is_known}
 use Rattle.book_core.specs.declared.live.Batch.{Batch}
 use Rattle.book_core.specs.declared.live.Live.{Live}
 use Rattle.book_core.specs.declared.live.Live.TheVariants as live
@@ -68,7 +68,7 @@ module _ (file : List ℕ) (size : ℤ) (b : BookData) (of : b.plan ≡ panes_pl
       let own = subst (λ (n : ℕ). first_poison (batch_outputs plan n (panes_of b.panes (waiting ∷ later))) ≡ Some at) (batch_at_group node waiting later held) first in
       first_holds Comes (batch_outputs plan 3 (panes_of b.panes (waiting ∷ later))) at (panes_come file size (panes_of b.panes (waiting ∷ later))) own
 
-  module _ (known : Known) (told : List FileText) (tells : known.told ≡ Some told) (strict : known.strict ≡ true) (slot : ℕ) (note : FaultNote) (cause : note.cause ≡ Call)
+  module _ (known : Surroundings) (told : List FileText) (tells : known.told ≡ Some told) (strict : known.strict ≡ true) (slot : ℕ) (note : FaultNote) (cause : note.cause ≡ Call)
       (attempts : ℕ) (spent : note.attempt ≡ attempts) where
     abbrev IsFirst : Type 0
     IsFirst = (note ≡ record { node = 0; item = 0; at = 0; attempt = attempts; cause = Call }) × HasPoison plan (items told plan)
@@ -93,7 +93,7 @@ module _ (file : List ℕ) (size : ℤ) (b : BookData) (of : b.plan ≡ panes_pl
     ]
 
 -- the fault is that of the source's function, and a position is poison
-pub stop_is_poison : (file : List ℕ) (size : ℤ) (known : Known) (told : List FileText) (b : BookData) (note : FaultNote) → known.told ≡ Some told → known.strict ≡ true
+pub stop_is_poison : (file : List ℕ) (size : ℤ) (known : Surroundings) (told : List FileText) (b : BookData) (note : FaultNote) → known.told ≡ Some told → known.strict ≡ true
     → b.plan ≡ panes_plan file size → note.cause ≡ Call → (stop : IsHonestStop known b note) → AreKept stop.before
     → (note ≡ record { node = 0; item = 0; at = 0; attempt = b.options.attempts; cause = Call }) × HasPoison (panes_plan file size) (items told (panes_plan file size))
 stop_is_poison file size known told b note tells strict of cause stop kept =

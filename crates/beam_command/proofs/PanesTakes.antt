@@ -14,7 +14,7 @@ use Rattle.book_core.specs.Facts.{AreKept}
 use Rattle.book_core.specs.Jobs.{Due, GivenBack, Oldest, first_due, job_of, without_due}
 use Rattle.book_core.specs.Runs.{HonestlyReached}
 use Rattle.book_core.specs.Steps.{IsWorking, Take, TakenJob}
-use Rattle.book_core.specs.Work.{IsPoisonJob, Known}
+use Rattle.book_core.specs.Work.{IsPoisonJob, Surroundings}
 use Rattle.book_core.specs.declared.live.Live.{Live}
 use Rattle.book_core.specs.declared.live.Live.TheVariants as live
 use Rattle.ended_runs.proofs.Stopped.{honest_more}
@@ -50,7 +50,7 @@ module _ (file : List ℕ) (size : ℤ) (told : List FileText) (clean : HasPoiso
       let first = poison_is_first (batch_outputs plan batch.node (panes_of b.panes batch.panes)) poison in
       batch_comes file size b of kept batch.node first.0 batch.panes (batch_held file size b of kept slot batch works) first.1
 
-  abbrev seen : Known
+  abbrev seen : Surroundings
   seen = record { told = Some told; strict = true }
 
   pub takes_none : (options : Options) → ((b : BookData) → HonestlyReached seen b → AreKept b) → TakesNoPoison seen plan options

@@ -19,7 +19,7 @@ use Rattle.beam_ports.specs.Observed.{WhereTold}
 use Rattle.book_core.specs.Book.{BookData}
 use Rattle.book_core.specs.Calls.{IsOutcomeOf}
 use Rattle.book_core.specs.Runs.{AreTold, HonestlyReached, IsEnded, IsThrough, Reached}
-use Rattle.book_core.specs.Work.{Known}
+use Rattle.book_core.specs.Work.{Surroundings}
 use Rattle.command_words.specs.Commands.{Asked, Help, Panes, Run}
 use Rattle.ended_runs.specs.Storable.{ArePanesStorable}
 use Rattle.run_engine.specs.declared.status.Status.{Status}
@@ -82,7 +82,7 @@ module _ (asked : Option Asked) (observed : Observed) (own : Asked) (options : O
   pub lengths_kept : WhereTold observed.store.files (λ told. o.files ≡ map item_len (items told o.plan))
   lengths_kept = λ told tells. run.3.of_book.files ∙ run.3.lengths told tells ∙ ap (λ (p : Plan). map item_len (items told p)) (sym run.3.of_book.plan)
 
-  module _ (runs : (known : Known) (b : BookData) → HonestlyReached known b → Reached known.told b) where
+  module _ (runs : (known : Surroundings) (b : BookData) → HonestlyReached known b → Reached known.told b) where
     reached : Reached observed.store.files run.3.book
     reached = runs _ run.3.book run.3.reached
 

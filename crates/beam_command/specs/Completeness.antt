@@ -54,7 +54,7 @@ HasNotFailed store = Rose store.before store.after → ⊥
 abbrev pub IsStrict : ObservedShelf → Type 0
 IsStrict shelf = shelf.strict ≡ true
 
--- or that did not fail in this call
+-- a shelf that fails on poison alone, or did not fail in this call
 abbrev pub FailsOnPoison : ObservedShelf → Type 0
 FailsOnPoison shelf = IsStrict shelf ⊎ (Rose shelf.before shelf.after → ⊥)
 
@@ -69,10 +69,6 @@ pub record AreReadFaultsFew (attempts : ℕ) (observed : Observed) : Type 0 wher
   pub out : rise observed.out.before observed.out.after < attempts
 
 -- ---- the ends
-
--- the file isn't there
-abbrev pub IsEndOfAbsent : List ℕ → Status → Type 0
-IsEndOfAbsent name s = (s ≡ status.NoSource name) ⊎ (s ≡ status.NoMemory)
 
 -- the source's function failed on a position of its first file, as often as it may
 abbrev pub first_fault : Options → FaultNote

@@ -16,7 +16,7 @@ use Rattle.chain_exec.specs.Causes.{ObservedShelf}
 use Rattle.command_words.specs.Commands.{Asked, Help, Panes, Run}
 use Rattle.command_words.specs.HelpText.{help_text}
 use Rattle.run_engine.specs.Openings.{IsOpeningRefused, file_names}
-use Rattle.run_engine.specs.PlanRun.{IsOutcomeWhere, IsSpent, IsStoppedBy, known_of}
+use Rattle.run_engine.specs.PlanRun.{IsOutcomeWhere, IsSpent, IsStoppedBy, surroundings_of}
 use Rattle.run_engine.specs.declared.status.RunEnd.{RunEnd}
 use Rattle.run_engine.specs.declared.status.Status.{Status}
 use Rattle.run_engine.specs.declared.status.Status.TheVariants as status
@@ -56,7 +56,7 @@ IsPlanRefused store name attempts (status.BadPlan refusal) = WhereTold store.fil
 IsPlanRefused store name attempts status.NoMemory = Unit {0}
 IsPlanRefused store name attempts _ = ⊥
 
--- so it is where the command reads a plan
+-- a plan's document was refused, where the command reads one
 abbrev pub IsDocumentRefused : ObservedStore → Asked → ℕ → Status → Type 0
 IsDocumentRefused store (Run name options) attempts s = IsPlanRefused store name attempts s
 IsDocumentRefused store _ attempts s = ⊥
@@ -71,11 +71,11 @@ AreSourcesRefused store asked attempts s = (plan : Plan) × IsPlanOf store.files
 abbrev pub AreFound : Option (List FileText) → Plan → Type 0
 AreFound files plan = WhereTold files (λ told. All (λ name. IsSome (first_named name told)) (file_names plan))
 
--- the outcome is that of the plan that was asked for, of a book of which this holds
+-- the plan that was asked for is there with its files, and the outcome is the data of a book of its run for which P holds
 abbrev pub IsOutcomeOfAsked : Observed → Asked → Options → (BookData → Type 0) → Outcome → Type 0
 IsOutcomeOfAsked observed asked options P o =
     (plan : Plan) × IsPlanOf observed.store.files asked plan × AreFound observed.store.files plan
-    × IsOutcomeWhere (known_of observed.shelf observed.store) plan options P o
+    × IsOutcomeWhere (surroundings_of observed.shelf observed.store) plan options P o
 
 -- the run came to its end, and its rendering was written
 abbrev pub IsRunThrough : Observed → Asked → Options → Status → Option Outcome → Type 0
@@ -84,7 +84,7 @@ IsRunThrough observed asked options s outcome =
 
 abbrev pub IsPipelineEnd : Observed → Asked → Options → Status → Option Outcome → Type 0
 IsPipelineEnd observed asked options status.Ok outcome = IsRunThrough observed asked options status.Ok outcome
--- the same, and the sink failed
+-- the run came to its end, and the sink failed
 IsPipelineEnd observed asked options status.SinkFault outcome = IsRunThrough observed asked options status.SinkFault outcome
 -- work failed as often as it may, and what was committed before is handed out
 IsPipelineEnd observed asked options (status.WorkFault note) outcome =
@@ -113,7 +113,7 @@ IsEndOf (Some Help) observed s outcome = IsHelpEnd observed.out s × (outcome �
 IsEndOf (Some (Panes file size options)) observed s outcome = IsPipelineEnd observed (Panes file size options) options s outcome
 IsEndOf (Some (Run name options)) observed s outcome = IsPipelineEnd observed (Run name options) options s outcome
 
--- the run came to its end, or only its text was not written whole, and this holds of its outcome
+-- P holds of the outcome, where the run came to its end: there is one if its text was written, and may be one if only the sink failed
 abbrev pub HasRun : Status → Option Outcome → (Outcome → Type 0) → Type 0
 HasRun status.Ok outcome P = (o : Outcome) × (outcome ≡ Some o) × P o
 HasRun status.SinkFault outcome P = (o : Outcome) → outcome ≡ Some o → P o

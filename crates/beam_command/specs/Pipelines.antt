@@ -6,7 +6,7 @@ use Rattle.beam_values.specs.declared.outcome.Outcome.{Outcome}
 use Rattle.beam_values.specs.declared.plan.Plan.{Plan}
 use Rattle.book_core.specs.Runs.{IsEnded}
 use Rattle.run_engine.specs.Openings.{IsOpeningRefused}
-use Rattle.run_engine.specs.PlanRun.{IsOutcomeWhere, IsSpent, IsStoppedBy, known_of}
+use Rattle.run_engine.specs.PlanRun.{IsOutcomeWhere, IsSpent, IsStoppedBy, surroundings_of}
 use Rattle.run_engine.specs.declared.status.Status.{Status}
 use Rattle.run_engine.specs.declared.status.Status.TheVariants as status
 use Rattle.beam_command.specs.Ends.{Observed, AreFound, IsUnwritten, IsPrinted, IsWritten}
@@ -28,14 +28,14 @@ IsRunPrinted out attempts o _ outcome = ⊥
 abbrev pub IsGraphThrough : Observed → Plan → Options → Status → Option Outcome → Type 0
 IsGraphThrough observed plan options s outcome =
     AreFound observed.store.files plan
-    × ((o : Outcome) × (outcome ≡ Some o) × IsOutcomeWhere (known_of observed.shelf observed.store) plan options IsEnded o × IsPrinted observed.out options.attempts s o)
+    × ((o : Outcome) × (outcome ≡ Some o) × IsOutcomeWhere (surroundings_of observed.shelf observed.store) plan options IsEnded o × IsPrinted observed.out options.attempts s o)
 
 abbrev pub IsGraphEnd : Observed → Plan → Options → ℕ → Status → Option Outcome → Type 0
 IsGraphEnd observed plan options failed status.Ok outcome = IsGraphThrough observed plan options status.Ok outcome
 IsGraphEnd observed plan options failed status.SinkFault outcome = IsGraphThrough observed plan options status.SinkFault outcome
 IsGraphEnd observed plan options failed (status.WorkFault note) outcome =
     IsUnwritten observed × AreFound observed.store.files plan
-    × ((o : Outcome) × (outcome ≡ Some o) × IsOutcomeWhere (known_of observed.shelf observed.store) plan options (IsStoppedBy observed.store note) o)
+    × ((o : Outcome) × (outcome ≡ Some o) × IsOutcomeWhere (surroundings_of observed.shelf observed.store) plan options (IsStoppedBy observed.store note) o)
     × IsSpent observed.shelf observed.store options.attempts note
 IsGraphEnd observed plan options failed s outcome =
     IsUnwritten observed × (outcome ≡ None) × (IsOpeningRefused observed.store plan options.attempts failed s ⊎ (s ≡ status.NoMemory))

@@ -1,5 +1,5 @@
 -- How the file of a plan document is opened and read.
-use Rattle.std.specs.Prelude.{◌≡◌, ◌⊎◌, ℕ, ◌+◌, ◌≤◌, List, length, Option, Some, None, IsSomeAnd}
+use Rattle.std.specs.Prelude.{◌≡◌, ℕ, ◌+◌, ◌≤◌, List, length, Option, Some, None, IsSomeAnd}
 use Rattle.beam_values.specs.Files.{first_named}
 use Rattle.beam_values.specs.declared.file_text.FileText.{FileText}
 use Rattle.beam_ports.specs.Counts.{rise}
@@ -31,6 +31,3 @@ abbrev pub IsReadRefused : ObservedStore → ℕ → ℕ → Status → Type 0
 IsReadRefused store failed attempts (status.SourceFault kit) = (kit ≡ 0) × (attempts ≤ failed + rise store.before store.after)
 IsReadRefused store failed attempts status.NoMemory = Unit {0}
 IsReadRefused store failed attempts _ = ⊥
-
-abbrev pub IsAbsentOrNoMemory : List ℕ → Status → Type 0
-IsAbsentOrNoMemory name s = (s ≡ status.NoSource name) ⊎ (s ≡ status.NoMemory)

@@ -6,7 +6,8 @@ ghost use Rattle.beam_ports.specs.Files.{KeepsOpenings};
 ghost use Rattle.beam_ports.specs.Observed.{observed_store, WhereTold};
 ghost use Rattle.beam_command.specs.Asking.{IsMeaningOf};
 ghost use Rattle.beam_command.specs.Ends.{IsPlanRefused};
-ghost use Rattle.beam_command.specs.PlanFiles.{IsOpenedWhole, IsOpenRefused, IsReadRefused, IsTextOf, IsAbsentOrNoMemory};
+ghost use Rattle.beam_command.specs.PlanFiles.{IsOpenedWhole, IsOpenRefused, IsReadRefused, IsTextOf};
+ghost use Rattle.run_engine.specs.Openings.{IsNoSourceOrNoMemory};
 
 use beam_ports::{Failed, OpenRefusal, Store};
 use beam_values::Bytes;
@@ -61,7 +62,7 @@ pub fn read_plan_file<S: Store>(
 }
 
 fn no_source(alloc: Global, name: &[u8]) -> Status
-    ensures { IsAbsentOrNoMemory name.now result }
+    ensures { IsNoSourceOrNoMemory name.now result }
 {
     match Bytes::from_slice(alloc, name) {
         Ok(name) => Status::NoSource(name),

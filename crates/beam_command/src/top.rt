@@ -11,7 +11,8 @@ ghost use Rattle.book_core.specs.Runs.{AreOptions};
 ghost use Rattle.beam_command.specs.Promises.{AsksPanes, HasLegalPanes, IsPlanAsked};
 ghost use Rattle.beam_command.specs.Ends.{AreFound, IsRun, IsEndOf, IsHelpEnd, IsNoted, IsNotedUpTo, IsPipelineEnd, StaysOrNoMemory};
 ghost use Rattle.beam_command.specs.Kits.{kit_files, kit_shelf, kit_store, observed_first};
-ghost use Rattle.beam_command.specs.Completeness.{AreFaultsFew, AsksForPoison, AreReadFaultsFew, FailsOnPoison, HasCleanInputs, HasInputs, HasNotFailed, IsEndOfAbsent, IsEndOfClean, IsEndOfPoison, IsStrict, WherePanes, WherePipeline};
+ghost use Rattle.beam_command.specs.Completeness.{AreFaultsFew, AsksForPoison, AreReadFaultsFew, FailsOnPoison, HasCleanInputs, HasInputs, HasNotFailed, IsEndOfClean, IsEndOfPoison, IsStrict, WherePanes, WherePipeline};
+ghost use Rattle.run_engine.specs.Openings.{IsNoSourceOrNoMemory};
 
 use crate::notes::{fixed_line, note_line};
 use crate::pipeline::{ended, run_graph, written};
@@ -75,7 +76,7 @@ pub fn beam_main<F: Shelf, S: Store, W: Sink, N: Sink>(
     // Where the store does not fail and tells its files, the file decides how `panes` ends: it isn't there;
     // or a line is poison, over a shelf that fails on poison alone.
     ensures absent { WherePanes (command_of (words_of words.now)) (λ file size options. HasNotFailed (kit_store S.files S.faults kits.old.items kits.new.items)
-        → WhereTold (kit_files S.files kits.old.items) (λ told. first_named file told ≡ None → IsEndOfAbsent file result.status)) }
+        → WhereTold (kit_files S.files kits.old.items) (λ told. first_named file told ≡ None → IsNoSourceOrNoMemory file result.status)) }
     ensures poison { WherePanes (command_of (words_of words.now)) (λ file size options. HasNotFailed (kit_store S.files S.faults kits.old.items kits.new.items)
         → IsStrict (kit_shelf F.strict F.faults kits.old.items kits.new.items)
         → WhereTold (kit_files S.files kits.old.items) (λ told. IsSome (first_named file told)

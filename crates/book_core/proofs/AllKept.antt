@@ -10,7 +10,7 @@ use Rattle.beam_values.specs.declared.file_text.FileText.{FileText}
 use Rattle.book_core.specs.Book.{BookData}
 use Rattle.book_core.specs.Facts.{AreKept, AreKeptOf}
 use Rattle.book_core.specs.Runs.{HonestRun, HonestlyReached, IsThrough, MadeStep, Reached, Run}
-use Rattle.book_core.specs.Work.{Known}
+use Rattle.book_core.specs.Work.{Surroundings}
 use Rattle.book_core.specs.Jobs.{next_job}
 use Rattle.book_core.specs.Steps.{Answer, IsFailing, IsIdle, IsTaking}
 use Rattle.book_core.proofs.AttemptsKept.{reached_counted, reached_noted}
@@ -63,9 +63,9 @@ reached_take_lowers told b new slot job reached step =
 
 -- ---- honest runs are runs
 
-honest_run : (known : Known) (steps : List MadeStep) (b end : BookData) → HonestRun known b steps end → Run known.told b steps end
+honest_run : (known : Surroundings) (steps : List MadeStep) (b end : BookData) → HonestRun known b steps end → Run known.told b steps end
 honest_run known [] b end run = run
 honest_run known (made ∷ later) b end run = (run.0, run.1, honest_run known later run.0 end run.3)
 
-pub honest_reached : (known : Known) (b : BookData) → HonestlyReached known b → Reached known.told b
+pub honest_reached : (known : Surroundings) (b : BookData) → HonestlyReached known b → Reached known.told b
 honest_reached known b h = record { first = h.first; opening = h.opening; steps = h.steps; run = honest_run known h.steps h.first b h.run }

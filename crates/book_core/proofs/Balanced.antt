@@ -138,8 +138,8 @@ batch_held b slot once batch works =
     let each = All-of_flat_map (IsHeldPane b) held_in (live_batches b) live_held in
     All-head (λ (x : Batch). All (IsHeldPane b) (held_in x)) batch [] (All-flat_at batch_of b.slots slot (λ (x : Batch). All (IsHeldPane b) (held_in x)) (Some (live.Batch batch)) works each)
 
--- what a receipt brought: what its range, which is done now, or its batch brings
-pub record Brought (told : List FileText) (b : BookData) (job : Live) (receipt : Receipt) : Type 0 where
+-- the arrivals of a receipt are the outputs of its range, which is done now, or of its batch
+pub record IsReceiptBalanced (told : List FileText) (b : BookData) (job : Live) (receipt : Receipt) : Type 0 where
   pub ends : All (IsEnd b.plan) receipt.arrivals
   pub weighs : (w : Output → ℕ)
       → sum_by w (spread_dones b.plan (items told b.plan) (done_after b.done job)) + sum_by (held_weight b.plan w b.panes) (flat_map held_in (batch_of (Some job)))
@@ -149,9 +149,9 @@ module _ (told : List FileText) (b : BookData) (slot : ℕ) (receipt : Receipt) 
   ended : (outputs : List Output) → map Arrives receipt.arrivals ≡ outputs → All (IsEnded b.plan) outputs → All (IsEnd b.plan) receipt.arrivals
   ended outputs same all = All-unmap (IsEnded b.plan) Arrives receipt.arrivals (subst (All (IsEnded b.plan)) (sym same) all)
 
-  span_brought : (piece : Piece) (attempted : Option ℕ) (found : Option SourceItem) → item_at (items told b.plan) piece.node piece.item ≡ found
-      → IsWorkOnItem b.plan piece (worked_to piece attempted) found receipt → Brought told b (live.Span piece attempted) receipt
-  span_brought piece attempted found at given = record { ends = by_ends found given; weighs = λ w. by_weight w found at given }
+  span_balanced : (piece : Piece) (attempted : Option ℕ) (found : Option SourceItem) → item_at (items told b.plan) piece.node piece.item ≡ found
+      → IsWorkOnItem b.plan piece (worked_to piece attempted) found receipt → IsReceiptBalanced told b (live.Span piece attempted) receipt
+  span_balanced piece attempted found at given = record { ends = by_ends found given; weighs = λ w. by_weight w found at given }
     where
       by_ends : (found : Option SourceItem) → IsWorkOnItem b.plan piece (worked_to piece attempted) found receipt → All (IsEnd b.plan) receipt.arrivals
       by_ends None given = subst (All (IsEnd b.plan)) (sym given.0) (All-nil (IsEnd b.plan))
@@ -180,9 +180,9 @@ module _ (told : List FileText) (b : BookData) (slot : ℕ) (receipt : Receipt) 
             sum_by-flat_map w (spread_done b.plan (items told b.plan)) b.done,
           )
 
-  batch_brought : (batch : Batch) → All (IsHeldPane b) (held_in batch) → map Arrives receipt.arrivals ≡ batch_outputs b.plan batch.node (panes_of b.panes batch.panes)
-      → Brought told b (live.Batch batch) receipt
-  batch_brought batch all given = record {
+  batch_balanced : (batch : Batch) → All (IsHeldPane b) (held_in batch) → map Arrives receipt.arrivals ≡ batch_outputs b.plan batch.node (panes_of b.panes batch.panes)
+      → IsReceiptBalanced told b (live.Batch batch) receipt
+  batch_balanced batch all given = record {
     ends = ended (batch_outputs b.plan batch.node (panes_of b.panes batch.panes)) given (panes_ended b.plan no_stateful batch.node (panes_of b.panes batch.panes));
     weighs = λ w. omega (
       arith,
@@ -192,10 +192,10 @@ module _ (told : List FileText) (b : BookData) (slot : ℕ) (receipt : Receipt) 
     );
   }
 
-  pub job_brought : (job : Live) → IsWorking b slot job → IsGiven (Some told) b.plan (job_of b.panes job) (attempted_of job) receipt → Brought told b job receipt
-  job_brought (live.Span piece attempted) works given = span_brought piece attempted (item_at (items told b.plan) piece.node piece.item) refl given.0
-  job_brought (live.Batch batch) works given =
-      batch_brought batch (batch_held b slot once batch works) given.0
+  pub job_balanced : (job : Live) → IsWorking b slot job → IsGiven (Some told) b.plan (job_of b.panes job) (attempted_of job) receipt → IsReceiptBalanced told b job receipt
+  job_balanced (live.Span piece attempted) works given = span_balanced piece attempted (item_at (items told b.plan) piece.node piece.item) refl given.0
+  job_balanced (live.Batch batch) works given =
+      batch_balanced batch (batch_held b slot once batch works) given.0
 
 module _ (told : List FileText) (b : BookData) (slot : ℕ) (job : Live) (receipt : Receipt) (cells : List Cell) (fired : List Pane) (marks : List StageMarks)
     (no_stateful : (n : ℕ) → is_stateful b.plan n ≡ false)
@@ -203,8 +203,8 @@ module _ (told : List FileText) (b : BookData) (slot : ℕ) (job : Live) (receip
   abbrev after : BookData
   after = committed b slot job receipt cells fired marks
 
-  abbrev brought : Brought told b job receipt
-  brought = job_brought told b slot receipt no_stateful once job made.works made.given
+  abbrev receipt_balanced : IsReceiptBalanced told b job receipt
+  receipt_balanced = job_balanced told b slot receipt no_stateful once job made.works made.given
 
   job_held : All (IsHeldPane b) (flat_map held_in (batch_of (Some job)))
   job_held = by job made.works
@@ -221,7 +221,7 @@ module _ (told : List FileText) (b : BookData) (slot : ℕ) (job : Live) (receip
         omega (
           arith,
           was.weighs w,
-          brought.weighs w,
+          receipt_balanced.weighs w,
           sum_by-append w (spread_dones b.plan (items told b.plan) b.done) (pane_chains b.plan b.panes),
           sum_by-append w (spread_dones b.plan (items told b.plan) after.done) (pane_chains b.plan (b.panes ++ fired)),
           ap (sum_by w) (flat_map-append (λ (pane : Pane). chain b.plan pane.node pane.element) b.panes fired),
@@ -231,7 +231,7 @@ module _ (told : List FileText) (b : BookData) (slot : ℕ) (job : Live) (receip
           sum_by-map w Arrives (arrivals_of b.cells b.dropped [] b.written),
           sum_by-map w Arrives (arrivals_of after.cells after.dropped [] after.written),
           sum_by-map w Arrives receipt.arrivals,
-          arrivals_added v b.plan (last_marks b) (length b.commits) receipt.arrivals b.cells cells b.dropped b.written made.entries brought.ends,
+          arrivals_added v b.plan (last_marks b) (length b.commits) receipt.arrivals b.cells cells b.dropped b.written made.entries receipt_balanced.ends,
           chains_weigh b.plan w b refl,
           chains_weigh b.plan w after refl,
           (commit_bag (Some told) b slot job receipt cells fired marks formed once made).weighs hw,

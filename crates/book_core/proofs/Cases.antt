@@ -41,26 +41,26 @@ pub record Commits (told : Option (List FileText)) (b : BookData) (slot : ℕ) (
   pub within : IsWithinLimits (committed b slot job receipt cells fired marks)
 
 -- what keeps a fact, where another one is known of the book before
-pub record Keeps (told : Option (List FileText)) (Known Fact : BookData → Type 0) : Type 0 where
+pub record Keeps (told : Option (List FileText)) (Premise Fact : BookData → Type 0) : Type 0 where
   pub opens : (b first : BookData) → IsOpening b.plan b.files b.options first → Fact first
-  pub enrolls : (b : BookData) → Known b → Fact b → IsWithinLimits (enrolled b) → Fact (enrolled b)
-  pub takes : (b : BookData) (slot : ℕ) (next : Next) → Known b → Fact b → IsRunning b → IsFree b slot → next_job b ≡ Some next
+  pub enrolls : (b : BookData) → Premise b → Fact b → IsWithinLimits (enrolled b) → Fact (enrolled b)
+  pub takes : (b : BookData) (slot : ℕ) (next : Next) → Premise b → Fact b → IsRunning b → IsFree b slot → next_job b ≡ Some next
       → Fact (with_slot next.rest slot (Some next.job))
-  pub claims : (b : BookData) (slot p : ℕ) (piece : Piece) (attempted : Option ℕ) → Known b → Fact b → IsWorking b slot (live.Span piece attempted)
+  pub claims : (b : BookData) (slot p : ℕ) (piece : Piece) (attempted : Option ℕ) → Premise b → Fact b → IsWorking b slot (live.Span piece attempted)
       → MayClaim (tracker_of piece attempted) p → Fact (with_slot b slot (Some (live.Span piece (Some p))))
-  pub splits : (b : BookData) (slot at : ℕ) (piece : Piece) (attempted : Option ℕ) → Known b → Fact b → IsWorking b slot (live.Span piece attempted)
+  pub splits : (b : BookData) (slot at : ℕ) (piece : Piece) (attempted : Option ℕ) → Premise b → Fact b → IsWorking b slot (live.Span piece attempted)
       → at < piece.range.to → first_unattempted piece.range.from attempted ≤ at → IsWithinLimits (split_off b slot piece attempted at) → Fact (split_off b slot piece attempted at)
   pub commits : (b : BookData) (slot : ℕ) (job : Live) (receipt : Receipt) (cells : List Cell) (fired : List Pane) (marks : List StageMarks)
-      → Known b → Fact b → Commits told b slot job receipt cells fired marks → Fact (committed b slot job receipt cells fired marks)
-  pub fails : (b : BookData) (slot at : ℕ) (job : Live) (cause : Cause) → Known b → Fact b → IsWorking b slot job → Fact (failed b slot job at cause)
-  pub stops : (b : BookData) → Known b → Fact b → Fact (record b { stopped = or_stopped b.stopped stop.NoMemory })
+      → Premise b → Fact b → Commits told b slot job receipt cells fired marks → Fact (committed b slot job receipt cells fired marks)
+  pub fails : (b : BookData) (slot at : ℕ) (job : Live) (cause : Cause) → Premise b → Fact b → IsWorking b slot job → Fact (failed b slot job at cause)
+  pub stops : (b : BookData) → Premise b → Fact b → Fact (record b { stopped = or_stopped b.stopped stop.NoMemory })
 
 -- a split lies behind the last attempted position
 behind_attempted : (piece : Piece) (attempted : Option ℕ) (num den at : ℕ) → at ≡ split_point_of (tracker_of piece attempted) num den → first_unattempted piece.range.from attempted ≤ at
 behind_attempted piece attempted num den at point = omega (arith, point)
 
-module _ (told : Option (List FileText)) (Known Fact : BookData → Type 0) (keeps : Keeps told Known Fact) where
-  commit_keeps : (b new : BookData) (slot : ℕ) (receipt : Receipt) → IsCommitting told b slot receipt new → IsWithinLimits new → Known b → Fact b → Fact new
+module _ (told : Option (List FileText)) (Premise Fact : BookData → Type 0) (keeps : Keeps told Premise Fact) where
+  commit_keeps : (b new : BookData) (slot : ℕ) (receipt : Receipt) → IsCommitting told b slot receipt new → IsWithinLimits new → Premise b → Fact b → Fact new
   commit_keeps b new slot receipt step within known h =
       let made = step.commit in
       let after = committed b slot step.job receipt made.cells made.fired made.marks in
@@ -73,7 +73,7 @@ module _ (told : Option (List FileText)) (Known Fact : BookData → Type 0) (kee
         within = subst IsWithinLimits made.is within;
       }))
 
-  pub step_keeps : (b new : BookData) (slot : ℕ) (action : Action) (answer : Answer) → Step told b slot action answer new → Known b → Fact b → Fact new
+  pub step_keeps : (b new : BookData) (slot : ℕ) (action : Action) (answer : Answer) → Step told b slot action answer new → Premise b → Fact b → Fact new
   step_keeps b new slot Enroll (Enrolled number) step known h =
       subst Fact (sym step.2) (keeps.enrolls b known h (subst IsWithinLimits step.2 step.3))
   step_keeps b new slot Enroll NoMemory step known h = subst Fact (sym step) h
@@ -101,7 +101,7 @@ Anything b = Unit {0}
 
 -- two facts, of which one needs the other
 abbrev pub Both : (BookData → Type 0) → (BookData → Type 0) → BookData → Type 0
-Both Known Fact b = Known b × Fact b
+Both Premise Fact b = Premise b × Fact b
 
 pub record AreAlways (told : Option (List FileText)) (Fact : BookData → Type 0) : Type 0 where
   pub opens : (b first : BookData) → IsOpening b.plan b.files b.options first → Fact first
@@ -113,12 +113,12 @@ kept_alone told Fact keeps = record {
   steps = λ b new slot action answer step h. step_keeps told Anything Fact keeps b new slot action answer step tt h;
 }
 
-pub kept_with : (told : Option (List FileText)) (Known Fact : BookData → Type 0) → AreAlways told Known → Keeps told Known Fact → AreAlways told (Both Known Fact)
-kept_with told Known Fact known keeps = record {
+pub kept_with : (told : Option (List FileText)) (Premise Fact : BookData → Type 0) → AreAlways told Premise → Keeps told Premise Fact → AreAlways told (Both Premise Fact)
+kept_with told Premise Fact known keeps = record {
   opens = λ b first opening. (known.opens b first opening, keeps.opens b first opening);
   steps = λ b new slot action answer step h. (
     known.steps b new slot action answer step h.0,
-    step_keeps told Known Fact keeps b new slot action answer step h.0 h.1,
+    step_keeps told Premise Fact keeps b new slot action answer step h.0 h.1,
   );
 }
 

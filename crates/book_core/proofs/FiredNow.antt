@@ -128,7 +128,7 @@ module _ (plan : Plan) (commits : List CommitMarks) (after : CommitMarks) (cells
       (bag_filter (is_at_key node key) (taken_by more_cells) (taken_by cells ++ map (taken_arrival (length commits)) arrivals) entries)
       (bag_from_same (taken_at node key (taken_by cells ++ map (taken_arrival (length commits)) arrivals)) (taken_at node key (taken_by cells) ++ news)
       (filter-append (is_at_key node key) (taken_by cells) (map (taken_arrival (length commits)) arrivals))) in
-      let came : All (λ e. e.commit ≡ suc c) news =
+      let of_this_commit : All (λ e. e.commit ≡ suc c) news =
       All-filter (is_at_key node key) (λ e. e.commit ≡ suc c) (map (taken_arrival (length commits)) arrivals)
       (All-map (λ e. e.commit ≡ suc c) (taken_arrival (length commits)) arrivals (λ k d inside. sym one)) in
       let history : IsLegalHistory (rules_of plan node) node key (mark_after (commits ++ after ∷ []) node) (suc c) (taken_at node key (taken_by more_cells)) (taken_at node key (map taken_drop more_dropped)) (panes_at node key panes ++ panes_at node key fired) =
@@ -139,7 +139,7 @@ module _ (plan : Plan) (commits : List CommitMarks) (after : CommitMarks) (cells
       subst (λ (n : ℕ). All (λ p. p.commit ≡ n) (panes_at node key fired)) one
       (of_newest (rules_of plan node) node key (mark_after commits node) (mark_after (commits ++ after ∷ []) node) c (taken_at node key (taken_by cells)) news (taken_at node key (taken_by more_cells))
       (taken_at node key (map taken_drop dropped)) (taken_at node key (map taken_drop more_dropped)) (panes_at node key panes) (panes_at node key fired)
-      (λ i early. mark_front commits (after ∷ []) node i (omega (arith, early, some))) moved came (old.each node key group).history history)
+      (λ i early. mark_front commits (after ∷ []) node i (omega (arith, early, some))) moved of_this_commit (old.each node key group).history history)
 
   pub fired_now : All (λ p. p.commit ≡ length commits) fired
   fired_now k d inside = at (get_or fired k d) (All-append_right (λ (p : Pane). is_group plan p.node ≡ true) panes fired new.panes_at k d inside)

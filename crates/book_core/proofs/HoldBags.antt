@@ -27,6 +27,7 @@ use Rattle.book_core.specs.declared.live.Live.TheVariants as live
 use Rattle.book_core.proofs.HeldMoves.{take_moves, set_moves, enroll_moves, back_moves}
 use Rattle.book_core.proofs.Slotted.{flat_set_weighs, one_weighs}
 use Rattle.book_core.proofs.Taking.{take_cases}
+use Rattle.book_core.specs.Indexes.{all_holds}
 
 -- ---- the least of a bag
 
@@ -56,9 +57,6 @@ marks_of_least plan hs ks marks same h = record {
 }
 
 -- ---- all holds of a book
-
-abbrev pub all_holds : BookData → List Hold
-all_holds b = map (piece_hold b.plan) (b.pending ++ live_pieces b) ++ holds b
 
 abbrev piece_weight : Plan → (Hold → ℕ) → Piece → ℕ
 piece_weight plan w piece = w (piece_hold plan piece)

@@ -32,7 +32,7 @@ use Rattle.book_core.specs.declared.live.Live.TheVariants as live
 use Rattle.book_core.proofs.Cases.{Commits}
 use Rattle.book_core.proofs.HeldMoves.{fired_held}
 use Rattle.book_core.proofs.HeldOnce.{All-of_bag, commit_bag}
-use Rattle.book_core.proofs.HoldBags.{all_holds}
+use Rattle.book_core.specs.Indexes.{all_holds}
 use Rattle.book_core.proofs.Queues.{held_fired}
 use Rattle.book_core.proofs.Seen.{receipt_rises}
 use Rattle.book_core.proofs.Slotted.{All-append_left, All-append_right, All-flat_set, All-flat_at}

@@ -24,7 +24,7 @@ use Rattle.book_core.specs.declared.live.WaitingPane.{WaitingPane}
 use Rattle.book_core.proofs.CellsKept.{nonempty_held}
 use Rattle.book_core.proofs.HeldMoves.{IsNonempty}
 use Rattle.book_core.proofs.HeldOnce.{group_within}
-use Rattle.book_core.proofs.HoldBags.{all_holds}
+use Rattle.book_core.specs.Indexes.{all_holds}
 use Rattle.book_core.proofs.Queues.{queued_from}
 use Rattle.book_core.proofs.Slotted.{All-append_left, All-append_right, All-of_flat_map}
 

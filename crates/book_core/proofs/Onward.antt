@@ -29,7 +29,7 @@ use Rattle.watermarks.proofs.CheckedNodes.{inputs_lower}
 use Rattle.book_core.specs.Book.{panes_of}
 use Rattle.book_core.specs.Committing.{node_of}
 use Rattle.book_core.specs.Jobs.{attempted_of, job_of}
-use Rattle.book_core.specs.Work.{IsGiven, IsWorkOnItem, IsWorkOnRange, carriers, is_brought, is_known, items_told, takes_carried, with_carried, worked_to}
+use Rattle.book_core.specs.Work.{IsGiven, IsWorkOnItem, IsWorkOnRange, passed_nodes, reaches_barrier, is_known, items_told, takes_passed, with_passed, worked_to}
 use Rattle.book_core.specs.declared.live.Live.{Live}
 use Rattle.book_core.specs.declared.live.Live.TheVariants as live
 
@@ -106,7 +106,7 @@ module _ (from : ℕ) where
       by false is e later = later e
 
   fold_behind : (nodes : List Node) (before : List Bool) → ((k : ℕ) (node : Node) → slice_get nodes k ≡ Some node → All (λ input. input < length before + k) node.inputs)
-      → AreBehind before → AreBehind (fold (with_carried from) before nodes)
+      → AreBehind before → AreBehind (fold (with_passed from) before nodes)
   fold_behind [] before lower behind = behind
   fold_behind (node ∷ later) before lower behind =
       let now : Bool = list_any (takes_from from before) node.inputs && not (is_barrier_kind node.kind) in
@@ -127,10 +127,10 @@ module _ (from : ℕ) where
         | inr h ↦ let low = less h.1 in let at = h.0 in omega (arith, low, at)
       ]
 
-  brought_behind : (plan : Plan) (node : ℕ) → IsChecked plan → is_brought plan from node ≡ true → from < node
-  brought_behind plan node checked e = by (slice_get plan.nodes node) refl e
+  reached_behind : (plan : Plan) (node : ℕ) → IsChecked plan → reaches_barrier plan from node ≡ true → from < node
+  reached_behind plan node checked e = by (slice_get plan.nodes node) refl e
     where
-      carried_behind : AreBehind (carriers plan from)
+      carried_behind : AreBehind (passed_nodes plan from)
       carried_behind = fold_behind plan.nodes [] (λ k other at. subst (λ (n : ℕ). All (λ input. input < n) other.inputs) (zero_on k) (inputs_lower plan k other checked at)) none
         where
           zero_on : (k : ℕ) → k ≡ 0 + k
@@ -139,11 +139,11 @@ module _ (from : ℕ) where
           none : AreBehind []
           none i e = absurd (cc)
 
-      by : (found : Option Node) → slice_get plan.nodes node ≡ found → unwrap_or (option_map (takes_carried plan from) found) false ≡ true → from < node
+      by : (found : Option Node) → slice_get plan.nodes node ≡ found → unwrap_or (option_map (takes_passed plan from) found) false ≡ true → from < node
       by None at e = absurd (cc)
       by (Some n) at e =
-          some_behind (carriers plan from) carried_behind node n.inputs (inputs_lower plan node n checked at)
-          (and_parts (is_barrier_kind n.kind) (list_any (takes_from from (carriers plan from)) n.inputs) e).1
+          some_behind (passed_nodes plan from) carried_behind node n.inputs (inputs_lower plan node n checked at)
+          (and_parts (is_barrier_kind n.kind) (list_any (takes_from from (passed_nodes plan from)) n.inputs) e).1
 
 -- ---- what a job brings
 
@@ -173,7 +173,7 @@ module _ (told : Option (List FileText)) (plan : Plan) (checked : IsChecked plan
   range_arrives : (piece : Piece) (upto : ℕ) (receipt : Receipt) (t : Bool) → IsWorkOnRange t told plan piece upto receipt → ArriveBehind piece.node receipt.arrivals
   range_arrives piece upto receipt true work = item_arrives piece upto receipt (item_at (items_told told plan) piece.node piece.item) refl work
   range_arrives piece upto receipt false work =
-      All-weaker (λ (a : Arrival). is_brought plan piece.node a.node ≡ true) (λ (a : Arrival). piece.node < a.node) (λ a e. brought_behind piece.node plan a.node checked e) receipt.arrivals work.brought
+      All-weaker (λ (a : Arrival). reaches_barrier plan piece.node a.node ≡ true) (λ (a : Arrival). piece.node < a.node) (λ a e. reached_behind piece.node plan a.node checked e) receipt.arrivals work.at_barriers
 
   pub given_arrives : (panes : List Pane) (job : Live) (receipt : Receipt) → IsGiven told plan (job_of panes job) (attempted_of job) receipt → ArriveBehind (node_of job) receipt.arrivals
   given_arrives panes (live.Span piece attempted) receipt given = range_arrives piece (worked_to piece attempted) receipt (is_known told plan piece.node) given.0

@@ -163,7 +163,7 @@ module _ (b : BookData) (slot num den at : ℕ) (new : BookData) (split : IsSpli
 worked_within : (piece : Piece) (attempted : Option ℕ) → worked_to piece attempted ≤ piece.range.to
 worked_within piece attempted = omega arith
 
--- what a range does and leaves weighs what it weighed
+-- a range holds a place as often as its done part and its residual together
 done_and_left : (piece : Piece) (attempted : Option ℕ) (seen : ℤ) (place : Place) → IsAttemptedWithin (span_of piece attempted)
     → times_at piece.node piece.item (record { from = piece.range.from; to = worked_to piece attempted }) place
     + times_at piece.node piece.item (record { from = worked_to piece attempted; to = piece.range.to }) place

@@ -28,7 +28,8 @@ use Rattle.book_core.specs.declared.live.Live.{Live}
 use Rattle.book_core.specs.declared.live.Live.TheVariants as live
 use Rattle.book_core.proofs.Cases.{Keeps, Commits, AreAlways, Both, kept_with, always_reached, enrolled}
 use Rattle.book_core.proofs.HeldOnce.{held_always}
-use Rattle.book_core.proofs.HoldBags.{all_holds, least_of_bag, marks_of_least, enroll_holds, take_holds, claim_holds, back_holds, split_least}
+use Rattle.book_core.proofs.HoldBags.{least_of_bag, marks_of_least, enroll_holds, take_holds, claim_holds, back_holds, split_least}
+use Rattle.book_core.specs.Indexes.{all_holds}
 use Rattle.book_core.proofs.MarksKept.{none_falls}
 use Rattle.book_core.proofs.Taking.{take_cases}
 

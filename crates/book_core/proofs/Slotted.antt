@@ -1,4 +1,4 @@
--- What is worked, where one slot is set: what it weighs, and what holds of each of it.
+-- Sums and facts over the jobs of all slots, where one slot is set.
 use Rattle.std.proofs.Common.{◌≡◌, ℕ, ◌+◌, List, [], ◌∷◌, ◌++◌, length, refl, arith}
 use Rattle.std.specs.Prelude.{Some, slice_get, slice_set}
 use Rattle.std.specs.List.{All, flat_map, sum_by}
@@ -26,7 +26,7 @@ All-of_flat_map P f (x ∷ xs) h =
     All-cons (λ y. All P (f y)) x xs (All-append_left P (f x) (flat_map f xs) h) (All-of_flat_map P f xs (All-append_right P (f x) (flat_map f xs) h))
 
 module _ {X Y : Type 0} (f : X → List Y) (xs : List X) (i : ℕ) where
-  -- what holds of each and of the new holds of each afterwards
+  -- a fact of all jobs and of the new ones is one of all jobs afterwards
   pub All-flat_set : (P : Y → Type 0) (new : X) → All P (f new) → All P (flat_map f xs) → All P (flat_map f (slice_set xs i new))
   All-flat_set P new one all = All-flat_map P f (slice_set xs i new) (All-set (λ x. All P (f x)) xs i new one (All-of_flat_map P f xs all))
 

@@ -24,7 +24,7 @@ use Rattle.book_core.specs.Book.{BookData}
 use Rattle.book_core.specs.Changes.{committed, with_slot}
 use Rattle.book_core.specs.Jobs.{Next, attempted_of, job_of}
 use Rattle.book_core.specs.Steps.{CanCommit, IsClaiming, IsCommitting, IsFree, IsTaking, IsWorking}
-use Rattle.book_core.specs.Work.{is_brought, is_known, worked_to, IsGiven, IsPlausible, IsWorkOnRange}
+use Rattle.book_core.specs.Work.{reaches_barrier, is_known, worked_to, IsGiven, IsPlausible, IsWorkOnRange}
 use Rattle.book_core.specs.declared.live.Live.{Live}
 use Rattle.book_core.specs.declared.live.Live.TheVariants as live
 use Rattle.book_core.proofs.CellsAlways.{take_stays}
@@ -131,13 +131,13 @@ range_can b new claimed slot p piece granted receipt step claim unknown plausibl
       );
     }
 
-pub plausible_at : (plan : Plan) (node : ℕ) (piece : Piece) (receipt : Receipt) → is_brought plan piece.node node ≡ true → ((span : Interval) → HasLength (strategy_of plan node) span)
+pub plausible_at : (plan : Plan) (node : ℕ) (piece : Piece) (receipt : Receipt) → reaches_barrier plan piece.node node ≡ true → ((span : Interval) → HasLength (strategy_of plan node) span)
     → All (λ (arrival : Arrival). arrival.node ≡ node) receipt.arrivals → All (λ (arrival : Arrival). arrival.element.span.end ≤ℤ (greatest_time +ℤ greatest_length)) receipt.arrivals
     → piece.seen ≤ℤ receipt.seen → receipt.seen ≤ℤ greatest_time → IsPlausible plan piece receipt
-plausible_at plan node piece receipt brought fixed at ends seen time = record {
-  brought =
-      All-weaker (λ (arrival : Arrival). arrival.node ≡ node) (λ (arrival : Arrival). is_brought plan piece.node arrival.node ≡ true)
-      (λ arrival e. subst (λ (n : ℕ). is_brought plan piece.node n ≡ true) (sym e) brought) receipt.arrivals at;
+plausible_at plan node piece receipt reaches fixed at ends seen time = record {
+  at_barriers =
+      All-weaker (λ (arrival : Arrival). arrival.node ≡ node) (λ (arrival : Arrival). reaches_barrier plan piece.node arrival.node ≡ true)
+      (λ arrival e. subst (λ (n : ℕ). reaches_barrier plan piece.node n ≡ true) (sym e) reaches) receipt.arrivals at;
   gaps =
       All-weaker (λ (arrival : Arrival). arrival.node ≡ node) (HasGap plan)
       (λ arrival e group. subst (λ (n : ℕ). HasLength (strategy_of plan n) arrival.element.span) (sym e) (fixed arrival.element.span)) receipt.arrivals at;

@@ -118,7 +118,7 @@ abbrev pub done_of : Piece → Option ℕ → Done
 done_of piece attempted =
     record { node = piece.node; item = piece.item; range = record { from = piece.range.from; to = worked_to piece attempted } }
 
--- what is left of it, never tried, with what the bundle has seen
+-- the residual of a committed piece: never tried, with what its bundle has seen
 abbrev pub residual_of : Piece → Option ℕ → Receipt → Option Piece
 residual_of piece attempted receipt =
     if nat_lt (worked_to piece attempted) piece.range.to

@@ -12,7 +12,7 @@ IsBatchAt batches None None = Unit {0}
 IsBatchAt batches (Some at) (Some batch) = slice_get batches at ≡ Some batch
 IsBatchAt batches _ _ = ⊥
 
--- this is due, and is found there
+-- `found` is the job that is due, and stands at this place; where none is due there is no place
 abbrev pub IsDueAs : BookData → Option Due → Option DueAt → Type 0
 IsDueAs b found None = found ≡ None
 IsDueAs b found (Some (at.GivenBack place)) =

@@ -25,7 +25,7 @@ marks_in held node = unwrap_or (option_map (λ h. h.marks) (slice_get held node)
 abbrev pub least_in : List SeenHolds → ℕ → ℤ
 least_in held node = least_mark (marks_in held node)
 
--- of each node the marks held are those of these holds
+-- each node's marks in `held` are the marks of its holds
 pub record AreHeldIn (held : List SeenHolds) (holds : List Hold) : Type 0 where
   pub each : (node : ℕ) → IsSameBag (marks_in held node) (marks_held holds node)
 

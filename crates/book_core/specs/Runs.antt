@@ -16,7 +16,7 @@ use Rattle.split_core.specs.Order.{first_pieces, with_pieces}
 use Rattle.book_core.specs.Book.{BookData, AreMarksOfBook, held, last_marks}
 use Rattle.book_core.specs.Jobs.{job_of, attempted_of}
 use Rattle.book_core.specs.Steps.{Action, Fail, Answer, Step, IsWorking, IsIdle, IsRunning, IsWithinLimits}
-use Rattle.book_core.specs.Work.{Known, IsHonest}
+use Rattle.book_core.specs.Work.{Surroundings, IsHonest}
 use Rattle.book_core.specs.declared.live.Live.{Live}
 
 -- all items are cut into pieces
@@ -96,17 +96,17 @@ pub record Reached (told : Option (List FileText)) (b : BookData) : Type 0 where
   pub run : Run told first steps b
 
 -- the fails of a run were honest
-abbrev pub IsHonestAction : Known → BookData → ℕ → Action → Type 0
+abbrev pub IsHonestAction : Surroundings → BookData → ℕ → Action → Type 0
 IsHonestAction known b slot (Fail at cause) =
     (job : Live) → IsWorking b slot job → IsHonest known b.plan (job_of b.panes job) (attempted_of job) at cause
 IsHonestAction known b slot _ = Unit {0}
 
-abbrev pub HonestRun : Known → BookData → List MadeStep → BookData → Type 0
+abbrev pub HonestRun : Surroundings → BookData → List MadeStep → BookData → Type 0
 HonestRun known b [] end = end ≡ b
 HonestRun known b (made ∷ later) end =
     (next : BookData) × Step known.told b made.slot made.action made.answer next × IsHonestAction known b made.slot made.action × HonestRun known next later end
 
-pub record HonestlyReached (known : Known) (b : BookData) : Type 0 where
+pub record HonestlyReached (known : Surroundings) (b : BookData) : Type 0 where
   pub first : BookData
   pub opening : IsOpening b.plan b.files b.options first
   pub steps : List MadeStep

@@ -15,7 +15,7 @@ use Rattle.book_core.specs.Work.{IsGiven}
 use Rattle.book_core.specs.declared.live.Live.{Live}
 use Rattle.book_core.specs.declared.live.Live.TheVariants as live
 
--- What a slot asks of the book. A commit brings a receipt, of which nothing is kept here.
+-- What a slot asks of the book. The receipt of a commit isn't part of the action: there is one in the step.
 pub data Action : Type 0 where
   Enroll : Action
   Take : Action

@@ -3,7 +3,6 @@ use Rattle.std.specs.Prelude.{◌≡◌, ◌⊎◌, ℕ, ◌+◌, ◌<◌, ◌�
 use Rattle.std.specs.List.{All, list_any}
 use Rattle.std.specs.Option.{option_map}
 use Rattle.beam_values.specs.Checked.{reads_file}
-use Rattle.beam_values.specs.Intervals.{Offsets}
 use Rattle.beam_values.specs.Lines.{offsets}
 use Rattle.beam_values.specs.Nodes.{has_kind, is_barrier_kind, takes_from}
 use Rattle.beam_values.specs.Strategies.{greatest_length}
@@ -19,7 +18,7 @@ use Rattle.beam_values.specs.declared.plan.NodeKind.{NodeKind}
 use Rattle.beam_values.specs.declared.plan.NodeKind.TheVariants.{Source}
 use Rattle.beam_values.specs.declared.plan.Plan.{Plan}
 use Rattle.beam_model.specs.Chains.{Output, Arrives, PoisonAt, chain}
-use Rattle.beam_model.specs.Coverings.{item_at}
+use Rattle.beam_model.specs.Coverings.{item_at, spread_of}
 use Rattle.beam_model.specs.Estimators.{emission_at, seen_with}
 use Rattle.beam_model.specs.Flow.{batch_outputs}
 use Rattle.beam_model.specs.Holds.{estimator_of}
@@ -30,8 +29,8 @@ use Rattle.bundle_commit.specs.declared.job.Job.TheVariants as job
 use Rattle.bundle_commit.specs.declared.job.Receipt.{Receipt}
 use Rattle.group_cells.specs.Commits.{HasGap}
 
--- What is known outside the book: the files, where the stores tell them, and whether every shelf fails on poison alone.
-pub record Known : Type 0 where
+-- The surroundings of a book: the files, where the stores tell them, and whether every shelf fails on poison alone.
+pub record Surroundings : Type 0 where
   pub told : Option (List FileText)
   pub strict : Bool
 
@@ -58,25 +57,26 @@ items_told told plan = items (unwrap_or told []) plan
 
 -- ---- where outputs can get to
 
--- of each node before this one whether an output of `from` can come to it, so far as no barrier stands between; and now of this one
-abbrev pub with_carried : ℕ → List Bool → Node → List Bool
-with_carried from carried node = carried ++ (list_any (takes_from from carried) node.inputs && not (is_barrier_kind node.kind)) ∷ []
+-- of each node before this one whether outputs of `from` pass through it, with no barrier between; and now of this one
+abbrev pub with_passed : ℕ → List Bool → Node → List Bool
+with_passed from passed node = passed ++ (list_any (takes_from from passed) node.inputs && not (is_barrier_kind node.kind)) ∷ []
 
--- the nodes through which an output of `from` passes
-abbrev pub carriers : Plan → ℕ → List Bool
-carriers plan from = fold (with_carried from) [] plan.nodes
+-- the nodes that outputs of `from` pass through
+abbrev pub passed_nodes : Plan → ℕ → List Bool
+passed_nodes plan from = fold (with_passed from) [] plan.nodes
 
-abbrev pub takes_carried : Plan → ℕ → Node → Bool
-takes_carried plan from node = is_barrier_kind node.kind && list_any (takes_from from (carriers plan from)) node.inputs
+-- the node is a barrier, and takes outputs of `from`, or of a node that they pass through
+abbrev pub takes_passed : Plan → ℕ → Node → Bool
+takes_passed plan from node = is_barrier_kind node.kind && list_any (takes_from from (passed_nodes plan from)) node.inputs
 
--- A chain from `from` can end at this barrier. Of a source 0, a ParDo 1 of it, a Group 2 of that and a Write 3 of the Group, that is 2 for the source and 3 for
--- the Group.
-abbrev pub is_brought : Plan → ℕ → ℕ → Bool
-is_brought plan from node = unwrap_or (option_map (takes_carried plan from) (slice_get plan.nodes node)) false
+-- Outputs of `from` reach this barrier, with no other between. Of a source 0, a ParDo 1 of it, a Group 2 of that and a Write 3 of the Group, the source reaches
+-- 2, and the Group 3.
+abbrev pub reaches_barrier : Plan → ℕ → ℕ → Bool
+reaches_barrier plan from node = unwrap_or (option_map (takes_passed plan from) (slice_get plan.nodes node)) false
 
 -- ---- what was seen
 
--- and after the positions of `[from, to)`
+-- what an estimator has seen after the positions of `[from, to)`, where it had seen `seen` before them
 abbrev pub seen_over : Estimator → SourceItem → ℕ → ℕ → ℤ → ℤ
 seen_over estimator item from to seen = fold (λ before p. seen_with estimator before (emission_at item p)) seen (offsets from (to - from))
 
@@ -92,10 +92,10 @@ pub record IsWorkOn (plan : Plan) (piece : Piece) (upto : ℕ) (item : SourceIte
   pub arrivals : map Arrives receipt.arrivals ≡ spread_range plan item piece.range.from upto
   pub seen : receipt.seen ≡ seen_over (estimator_of plan piece.node) item piece.range.from upto piece.seen
 
--- What is asked where the bytes aren't known: arrivals are at barriers to which the source's outputs get, own windows at Groups of sessions are as long as the
+-- What is asked where the bytes aren't known: arrivals are at barriers that the source reaches, own windows at Groups of sessions are as long as the
 -- gap, and what was seen doesn't fall. No window ends later than a window of the greatest time, and no time is above the greatest.
 pub record IsPlausible (plan : Plan) (piece : Piece) (receipt : Receipt) : Type 0 where
-  pub brought : All (λ arrival. is_brought plan piece.node arrival.node ≡ true) receipt.arrivals
+  pub at_barriers : All (λ arrival. reaches_barrier plan piece.node arrival.node ≡ true) receipt.arrivals
   pub gaps : All (HasGap plan) receipt.arrivals
   pub ends : All (λ arrival. arrival.element.span.end ≤ℤ (greatest_time +ℤ greatest_length)) receipt.arrivals
   pub seen : piece.seen ≤ℤ receipt.seen
@@ -119,13 +119,9 @@ IsGiven told plan (job.Key node cell key span inputs state timers attempts) atte
 
 -- ---- poison and faults
 
-abbrev pub outputs_of_item : Plan → Offsets → Option SourceItem → List Output
-outputs_of_item plan range None = []
-outputs_of_item plan range (Some item) = spread_range plan item range.from range.to
-
 -- all that a job would bring, of a range all its positions
 abbrev pub job_outputs : Option (List FileText) → Plan → Job → List Output
-job_outputs told plan (job.Span piece) = outputs_of_item plan piece.range (item_at (items_told told plan) piece.node piece.item)
+job_outputs told plan (job.Span piece) = spread_of plan piece.range (item_at (items_told told plan) piece.node piece.item)
 job_outputs told plan (job.Batch node first panes attempts) = batch_outputs plan node panes
 job_outputs told plan (job.Key node cell key span inputs state timers attempts) = []
 
@@ -138,11 +134,11 @@ abbrev pub IsPoisonAttempt : Option (List FileText) → Plan → Piece → Optio
 IsPoisonAttempt told plan piece None at = ⊥
 IsPoisonAttempt told plan piece (Some p) at =
     (piece.range.from ≤ p) × (p < piece.range.to)
-    × (first_poison (outputs_of_item plan (record { from = p; to = p + 1 }) (item_at (items_told told plan) piece.node piece.item)) ≡ Some at)
+    × (first_poison (spread_of plan (record { from = p; to = p + 1 }) (item_at (items_told told plan) piece.node piece.item)) ≡ Some at)
 
 -- A fail is honest: a read failed of a source of files; or a call did, where some shelf may fail at anything, or the files aren't known, or what was called
 -- on is poison.
-abbrev pub IsHonestCall : Known → Plan → Job → Option ℕ → ℕ → Type 0
+abbrev pub IsHonestCall : Surroundings → Plan → Job → Option ℕ → ℕ → Type 0
 IsHonestCall known plan (job.Span piece) attempted at =
     (is_known known.told plan piece.node ≡ false) ⊎ IsPoisonAttempt known.told plan piece attempted at
 IsHonestCall known plan (job.Batch node first panes attempts) attempted at = first_poison (batch_outputs plan node panes) ≡ Some at
@@ -152,6 +148,6 @@ abbrev pub IsHonestRead : Plan → Job → ℕ → Type 0
 IsHonestRead plan (job.Span piece) at = (is_file_source plan piece.node ≡ true) × (at ≡ piece.node)
 IsHonestRead plan _ at = ⊥
 
-abbrev pub IsHonest : Known → Plan → Job → Option ℕ → ℕ → Cause → Type 0
+abbrev pub IsHonest : Surroundings → Plan → Job → Option ℕ → ℕ → Cause → Type 0
 IsHonest known plan job attempted at Call = (known.strict ≡ false) ⊎ IsHonestCall known plan job attempted at
 IsHonest known plan job attempted at Read = IsHonestRead plan job at

@@ -11,7 +11,7 @@ ghost use Rattle.book_core.specs.Jobs.{next_job};
 ghost use Rattle.book_core.specs.Left.{GoesOnAt, IsBelow, left, rounds_left};
 ghost use Rattle.book_core.specs.Runs.{HonestlyReached, IsThrough, Reached};
 ghost use Rattle.book_core.specs.Steps.{Answer, Commit, Committed, IsClaiming, IsFailing, IsIdle, IsTaking, Step};
-ghost use Rattle.book_core.specs.Work.{Known};
+ghost use Rattle.book_core.specs.Work.{Surroundings};
 
 use pipeline_graph::laws::{
     no_node_is_stateful, nodes_have_inputs_and_settings_of_their_kind,
@@ -126,5 +126,5 @@ pub fn rounds_are_bounded()
 
 /// A book that is reached by honest fails is reached, so all that holds of reached books holds of it.
 pub fn honest_runs_are_runs()
-    ensures { (known : Known) (b : BookData) → HonestlyReached known b → Reached known.told b }
+    ensures { (known : Surroundings) (b : BookData) → HonestlyReached known b → Reached known.told b }
 {}

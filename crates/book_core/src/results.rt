@@ -11,7 +11,7 @@ use beam_values::{Arrival, CommitMarks, Done, List, NoMemory, Pane, Plan, RoomyL
 use std::alloc::Global;
 use std::cmp::Ordering;
 
-/// What the commits of a run have brought. The lists keep room, so that a commit that has changed the
+/// The results of the commits of a run. The lists keep room, so that a commit that has changed the
 /// cells can't be refused any more.
 #[derive(Debug, Drop)]
 pub struct Results {
@@ -62,7 +62,7 @@ impl Results {
         self.commits.reserve(1)
     }
 
-    /// What a commit has brought: of the arrivals that the Groups left, those at Writes are written.
+    /// Adds the results of a commit: of the arrivals that the Groups left, those at Writes are written.
     pub fn add(
         &mut self,
         plan: &Plan,

@@ -12,7 +12,7 @@ ghost use Rattle.beam_values.specs.declared.element.Element.{Element};
 ghost use Rattle.group_cells.specs.Commits.{HasLength};
 ghost use Rattle.book_core.specs.Runs.{AreLengthsOf};
 ghost use Rattle.book_core.specs.Steps.{IsFree};
-ghost use Rattle.book_core.specs.Work.{is_brought, is_known};
+ghost use Rattle.book_core.specs.Work.{reaches_barrier, is_known};
 
 use crate::{Book, Taken};
 use beam_values::{
@@ -28,7 +28,7 @@ use std::test::Fail;
 // A file, whose lines tell how far it has come, windows of a minute, a Group and a Write.
 fn minutes(alloc: Global) -> Result<Plan, NoMemory>
     ensures unknown { IfOk result (λ plan. is_known None plan 0 ≡ false) }
-    ensures brought { IfOk result (λ plan. is_brought plan 0 2 ≡ true) }
+    ensures reaches { IfOk result (λ plan. reaches_barrier plan 0 2 ≡ true) }
     ensures fixed { IfOk result (λ plan. (span : Interval) → HasLength (strategy_of plan 2) span) }
     ensures onward { IfOk result (λ plan. (e : Element) → chain plan 2 e ≡ Arrives (record { node = 3; element = e }) ∷ []) }
     ensures lengths { IfOk result (λ plan. AreLengthsOf (items [] plan) (record { node = 0; item = 0; len = 10 } ∷ [])) }
@@ -132,7 +132,7 @@ fn work_range(
 ) -> Result<Range, Fail>
     requires free { IsFree book.old slot }
     requires unknown { is_known None book.old.plan 0 ≡ false }
-    requires brought { is_brought book.old.plan 0 2 ≡ true }
+    requires reaches { reaches_barrier book.old.plan 0 2 ≡ true }
     requires fixed { (span : Interval) → HasLength (strategy_of book.old.plan 2) span }
     requires at { All (λ arrival. arrival.node ≡ 2) arrivals }
     requires ends { All (λ arrival. arrival.element.span.end ≤ℤ (greatest_time +ℤ greatest_length)) arrivals }
@@ -199,7 +199,7 @@ fn written(alloc: Global, panes: List<Pane>) -> Result<List<Arrival>, NoMemory>
 // The book of a file of ten bytes.
 fn open_book(alloc: Global) -> Result<Book, Fail>
     ensures unknown { IfOk result (λ book. is_known None book.plan 0 ≡ false) }
-    ensures brought { IfOk result (λ book. is_brought book.plan 0 2 ≡ true) }
+    ensures reaches { IfOk result (λ book. reaches_barrier book.plan 0 2 ≡ true) }
     ensures fixed { IfOk result (λ book. (span : Interval) → HasLength (strategy_of book.plan 2) span) }
     ensures onward { IfOk result (λ book. (e : Element) → chain book.plan 2 e ≡ Arrives (record { node = 3; element = e }) ∷ []) }
 {

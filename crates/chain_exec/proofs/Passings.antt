@@ -22,7 +22,7 @@ use Rattle.dofn_traits.specs.declared.calls.Timed.{Timed}
 use Rattle.pipeline_graph.specs.Followers.{followers_of}
 use Rattle.pipeline_graph.specs.Taking.{taken_by}
 use Rattle.pipeline_graph.proofs.FollowerChains.{chain-followers}
-use Rattle.chain_exec.specs.Deliveries.{brought_by, brought_by_all, deliveries_to, element_of}
+use Rattle.chain_exec.specs.Deliveries.{outputs_of_delivery, outputs_of_stack, deliveries_to, element_of}
 use Rattle.chain_exec.specs.Passing.{Passes, in_window, kept_at, put_out}
 use Rattle.chain_exec.specs.declared.deliveries.Delivery.{Delivery}
 
@@ -32,7 +32,7 @@ pub flatten_passes : (node : ℕ) (followers : List ℕ) (e : Element) (before a
 flatten_passes node followers e before after staged is =
     (e ∷ [], refl, is ∙ ap (λ (d : List Delivery). before ++ reverse d) (sym (append-nil (deliveries_to followers e))), sym (append-nil staged))
 
--- what is brought by way of a node, in terms of what it puts out
+-- the outputs of an element at a node: it stays there, or the elements that the node puts out go on
 through_outputs : (node : ℕ) (onward : Element → List Output) (kind : NodeKind) (e : Element) (outputs : List Element) → put_out kind e ≡ Some outputs
     → through node kind onward e ≡ map Arrives (kept_at node kind e) ++ flat_map onward outputs
 through_outputs node onward (Source work args files estimator) e outputs is = let none : outputs ≡ [] = cc in ap (flat_map onward) (sym none)
@@ -46,35 +46,35 @@ through_outputs node onward (Stateful work args log) e outputs is = let none : o
 through_outputs node onward (Write label) e outputs is = let none : outputs ≡ [] = cc in ap (λ l. Arrives (record { node = node; element = e }) ∷ flat_map onward l) (sym none)
 
 module _ (plan : Plan) where
-  -- what is brought by a stack, and by what lies on top of it
-  brought_on_top : (stack top : List Delivery) → brought_by_all plan (stack ++ reverse top) ≡ flat_map (brought_by plan) top ++ brought_by_all plan stack
-  brought_on_top stack top =
-      ap (flat_map (brought_by plan)) (reverse-append stack (reverse top) ∙ ap (λ (l : List Delivery). l ++ reverse stack) (reverse-reverse top))
-      ∙ flat_map-append (brought_by plan) top (reverse stack)
+  -- the outputs of a stack with more deliveries on top are those of the top ones, then those of the stack
+  stack_with_top : (stack top : List Delivery) → outputs_of_stack plan (stack ++ reverse top) ≡ flat_map (outputs_of_delivery plan) top ++ outputs_of_stack plan stack
+  stack_with_top stack top =
+      ap (flat_map (outputs_of_delivery plan)) (reverse-append stack (reverse top) ∙ ap (λ (l : List Delivery). l ++ reverse stack) (reverse-reverse top))
+      ∙ flat_map-append (outputs_of_delivery plan) top (reverse stack)
 
-  -- what is on top is brought first
-  pub brought_top : (stack rest : List Delivery) (top : Delivery) → stack ≡ rest ++ top ∷ []
-      → brought_by_all plan stack ≡ brought_by plan top ++ brought_by_all plan rest
-  brought_top stack rest top is =
-      ap (brought_by_all plan) is ∙ brought_on_top rest (top ∷ []) ∙ ap (λ (l : List Output). l ++ brought_by_all plan rest) (append-nil (brought_by plan top))
+  -- the outputs of the delivery on top come first
+  pub top_first : (stack rest : List Delivery) (top : Delivery) → stack ≡ rest ++ top ∷ []
+      → outputs_of_stack plan stack ≡ outputs_of_delivery plan top ++ outputs_of_stack plan rest
+  top_first stack rest top is =
+      ap (outputs_of_stack plan) is ∙ stack_with_top rest (top ∷ []) ∙ ap (λ (l : List Output). l ++ outputs_of_stack plan rest) (append-nil (outputs_of_delivery plan top))
 
 module _ (plan : Plan) (checked : IsChecked plan) where
-  -- the chain of an output is what is brought on its way to the followers
-  pub chain_delivered : (node : ℕ) (e : Element) → chain plan node e ≡ flat_map (brought_by plan) (deliveries_to (followers_of plan node) e)
+  -- the chain of an element is the outputs of its deliveries to the followers
+  pub chain_delivered : (node : ℕ) (e : Element) → chain plan node e ≡ flat_map (outputs_of_delivery plan) (deliveries_to (followers_of plan node) e)
   chain_delivered node e =
       chain-followers plan node e checked
-      ∙ sym (flat_map-map (brought_by plan) (λ (to : ℕ). record { node = to; element = e }) (followers_of plan node))
+      ∙ sym (flat_map-map (outputs_of_delivery plan) (λ (to : ℕ). record { node = to; element = e }) (followers_of plan node))
 
   chains_delivered : (node : ℕ) (outputs : List Element)
-      → flat_map (chain plan node) outputs ≡ flat_map (brought_by plan) (flat_map (deliveries_to (followers_of plan node)) outputs)
+      → flat_map (chain plan node) outputs ≡ flat_map (outputs_of_delivery plan) (flat_map (deliveries_to (followers_of plan node)) outputs)
   chains_delivered node [] = refl
   chains_delivered node (e ∷ more) =
       ap (λ (l : List Output). l ++ flat_map (chain plan node) more) (chain_delivered node e)
-      ∙ ap (λ (l : List Output). flat_map (brought_by plan) (deliveries_to (followers_of plan node) e) ++ l) (chains_delivered node more)
-      ∙ sym (flat_map-append (brought_by plan) (deliveries_to (followers_of plan node) e) (flat_map (deliveries_to (followers_of plan node)) more))
+      ∙ ap (λ (l : List Output). flat_map (outputs_of_delivery plan) (deliveries_to (followers_of plan node) e) ++ l) (chains_delivered node more)
+      ∙ sym (flat_map-append (outputs_of_delivery plan) (deliveries_to (followers_of plan node) e) (flat_map (deliveries_to (followers_of plan node)) more))
 
   taken_outputs : (node : ℕ) (at : Node) (e : Element) (outputs : List Element) → slice_get plan.nodes node ≡ Some at → put_out at.kind e ≡ Some outputs
-      → taken_by plan e node ≡ map Arrives (kept_at node at.kind e) ++ flat_map (brought_by plan) (flat_map (deliveries_to (followers_of plan node)) outputs)
+      → taken_by plan e node ≡ map Arrives (kept_at node at.kind e) ++ flat_map (outputs_of_delivery plan) (flat_map (deliveries_to (followers_of plan node)) outputs)
   taken_outputs node at e outputs here is =
       ap (λ (found : Option Node). unwrap_or (option_map (λ it. through node it.kind (chain plan node) e) found) []) here
       ∙ through_outputs node (chain plan node) at.kind e outputs is
@@ -83,36 +83,36 @@ module _ (plan : Plan) (checked : IsChecked plan) where
   -- nothing that was on its way is lost where an element passes a node
   pub passed_on : (node : ℕ) (at : Node) (e : Element) (stack after : List Delivery) (staged staged_after : List Arrival)
       → slice_get plan.nodes node ≡ Some at → Passes node at.kind (followers_of plan node) e stack after staged staged_after
-      → map Arrives staged_after ++ brought_by_all plan after ≡ map Arrives staged ++ (taken_by plan e node ++ brought_by_all plan stack)
+      → map Arrives staged_after ++ outputs_of_stack plan after ≡ map Arrives staged ++ (taken_by plan e node ++ outputs_of_stack plan stack)
   passed_on node at e stack after staged staged_after here passes =
       let top = flat_map (deliveries_to (followers_of plan node)) passes.0 in
       let kept = map Arrives (kept_at node at.kind e) in
       let front : map Arrives staged_after ≡ map Arrives staged ++ kept = ap (map Arrives) passes.3 ∙ map-append Arrives staged (kept_at node at.kind e) in
-      let back : brought_by_all plan after ≡ flat_map (brought_by plan) top ++ brought_by_all plan stack = ap (brought_by_all plan) passes.2 ∙ brought_on_top plan stack top in
+      let back : outputs_of_stack plan after ≡ flat_map (outputs_of_delivery plan) top ++ outputs_of_stack plan stack = ap (outputs_of_stack plan) passes.2 ∙ stack_with_top plan stack top in
       let taken = taken_outputs node at e passes.0 here passes.1 in
-      ap (λ (l : List Output). l ++ brought_by_all plan after) front
+      ap (λ (l : List Output). l ++ outputs_of_stack plan after) front
       ∙ ap (λ (l : List Output). (map Arrives staged ++ kept) ++ l) back
-      ∙ append_assoc (map Arrives staged) kept (flat_map (brought_by plan) top ++ brought_by_all plan stack)
-      ∙ ap (λ (l : List Output). map Arrives staged ++ l) (sym (append_assoc kept (flat_map (brought_by plan) top) (brought_by_all plan stack)))
-      ∙ ap (λ (l : List Output). map Arrives staged ++ (l ++ brought_by_all plan stack)) (sym taken)
+      ∙ append_assoc (map Arrives staged) kept (flat_map (outputs_of_delivery plan) top ++ outputs_of_stack plan stack)
+      ∙ ap (λ (l : List Output). map Arrives staged ++ l) (sym (append_assoc kept (flat_map (outputs_of_delivery plan) top) (outputs_of_stack plan stack)))
+      ∙ ap (λ (l : List Output). map Arrives staged ++ (l ++ outputs_of_stack plan stack)) (sym taken)
 
-  -- an element that alone is on its way to the followers of a node brings its chain
-  pub brought_alone : (node : ℕ) (e : Element) (followers : List ℕ) (before stack : List Delivery) → followers ≡ followers_of plan node → before ≡ []
-      → stack ≡ before ++ reverse (deliveries_to followers e) → brought_by_all plan stack ≡ chain plan node e
-  brought_alone node e followers before stack followed none is =
-      ap (brought_by_all plan) (is ∙ ap (λ (s : List Delivery). s ++ reverse (deliveries_to followers e)) none)
-      ∙ ap (flat_map (brought_by plan)) (reverse-reverse (deliveries_to followers e))
-      ∙ ap (λ fs. flat_map (brought_by plan) (deliveries_to fs e)) followed
+  -- where one element alone is on its way to the followers of a node, the outputs of the stack are its chain
+  pub element_alone : (node : ℕ) (e : Element) (followers : List ℕ) (before stack : List Delivery) → followers ≡ followers_of plan node → before ≡ []
+      → stack ≡ before ++ reverse (deliveries_to followers e) → outputs_of_stack plan stack ≡ chain plan node e
+  element_alone node e followers before stack followed none is =
+      ap (outputs_of_stack plan) (is ∙ ap (λ (s : List Delivery). s ++ reverse (deliveries_to followers e)) none)
+      ∙ ap (flat_map (outputs_of_delivery plan)) (reverse-reverse (deliveries_to followers e))
+      ∙ ap (λ fs. flat_map (outputs_of_delivery plan) (deliveries_to fs e)) followed
       ∙ sym (chain_delivered node e)
 
-  -- so do the values of an emission
-  pub brought_values : (node : ℕ) (items : List Timed) (declared : Option ℤ) (followers : List ℕ) (before stack : List Delivery) → followers ≡ followers_of plan node
+  -- where the values of an emission are, the outputs of the stack are theirs
+  pub values_alone : (node : ℕ) (items : List Timed) (declared : Option ℤ) (followers : List ℕ) (before stack : List Delivery) → followers ≡ followers_of plan node
       → before ≡ [] → stack ≡ before ++ reverse (flat_map (deliveries_to followers) (map element_of items))
-      → brought_by_all plan stack ≡ emission_outputs plan node (Emits (map timed_value items) declared)
-  brought_values node items declared followers before stack followed none is =
-      ap (brought_by_all plan) (is ∙ ap (λ (s : List Delivery). s ++ reverse (flat_map (deliveries_to followers) (map element_of items))) none)
-      ∙ ap (flat_map (brought_by plan)) (reverse-reverse (flat_map (deliveries_to followers) (map element_of items)))
-      ∙ ap (λ fs. flat_map (brought_by plan) (flat_map (deliveries_to fs) (map element_of items))) followed
+      → outputs_of_stack plan stack ≡ emission_outputs plan node (Emits (map timed_value items) declared)
+  values_alone node items declared followers before stack followed none is =
+      ap (outputs_of_stack plan) (is ∙ ap (λ (s : List Delivery). s ++ reverse (flat_map (deliveries_to followers) (map element_of items))) none)
+      ∙ ap (flat_map (outputs_of_delivery plan)) (reverse-reverse (flat_map (deliveries_to followers) (map element_of items)))
+      ∙ ap (λ fs. flat_map (outputs_of_delivery plan) (flat_map (deliveries_to fs) (map element_of items))) followed
       ∙ sym (chains_delivered node (map element_of items))
       ∙ flat_map-map (chain plan node) element_of items
       ∙ sym (flat_map-map (λ v. chain plan node (from_source v)) timed_value items)

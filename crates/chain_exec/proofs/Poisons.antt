@@ -14,12 +14,12 @@ use Rattle.chain_exec.specs.Causes.{IsCallRefused}
 use Rattle.chain_exec.specs.declared.refusal.ExecRefusal.{ExecRefusal}
 use Rattle.chain_exec.specs.declared.refusal.ExecRefusal.TheVariants.{Faulted, NoMemory}
 
--- what arrived is no poison
+-- arrivals in front of outputs don't change which poison is first
 pub first_after_arrivals : (arrivals : List Arrival) (outputs : List Output) → first_poison (map Arrives arrivals ++ outputs) ≡ first_poison outputs
 first_after_arrivals [] outputs = refl
 first_after_arrivals (a ∷ more) outputs = first_after_arrivals more outputs
 
--- two ways of having the same outputs, some of which arrived
+-- outputs that are the same with arrivals in front of them have the same first poison
 pub same_first : (here there : List Arrival) (xs ys : List Output) → map Arrives here ++ xs ≡ map Arrives there ++ ys → first_poison xs ≡ first_poison ys
 same_first here there xs ys same = sym (first_after_arrivals here xs) ∙ ap first_poison same ∙ first_after_arrivals there ys
 
@@ -58,7 +58,7 @@ refused_in_whole strict start before after part whole kept first (Faulted at Rea
 refused_in_whole strict start before after part whole kept first NoMemory is = tt
 
 module _ {X : Type 0} (brings : X → List Output) (xs : List X) (i : ℕ) (x : X) (inside : i < length xs) (is : x ≡ get_or xs i x) where
-  -- what a batch brings: what the items before this one do, what it does, and the rest
+  -- the outputs of a batch are those of the items before i, of item i, and of the items after it
   pub batch_at : flat_map brings xs ≡ flat_map brings (take i xs) ++ (brings x ++ flat_map brings (drop (i + 1) xs))
   batch_at =
       let split : drop i xs ≡ get_or xs i x ∷ drop (i + 1) xs = rw add-one (drop-cons xs i x inside) in

@@ -1,4 +1,4 @@
--- Elements on their way to nodes that take them, and what they bring there.
+-- Elements on their way to nodes that take them, and their outputs from there.
 use Rattle.std.specs.Prelude.{ℕ, List, map, reverse}
 use Rattle.std.specs.List.{flat_map}
 use Rattle.beam_values.specs.declared.element.Element.{Element}
@@ -18,9 +18,10 @@ deliveries_to nodes e = map (λ node. record { node = node; element = e }) nodes
 abbrev pub element_of : Timed → Element
 element_of timed = from_source (timed_value timed)
 
-abbrev pub brought_by : Plan → Delivery → List Output
-brought_by plan delivery = taken_by plan delivery.element delivery.node
+-- the outputs of an element that its node takes
+abbrev pub outputs_of_delivery : Plan → Delivery → List Output
+outputs_of_delivery plan delivery = taken_by plan delivery.element delivery.node
 
--- what a stack of them brings; the last one is on top
-abbrev pub brought_by_all : Plan → List Delivery → List Output
-brought_by_all plan stack = flat_map (brought_by plan) (reverse stack)
+-- the outputs of a stack of deliveries; the last one is on top
+abbrev pub outputs_of_stack : Plan → List Delivery → List Output
+outputs_of_stack plan stack = flat_map (outputs_of_delivery plan) (reverse stack)

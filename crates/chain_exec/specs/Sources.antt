@@ -37,7 +37,7 @@ IsHeldFor work opening pager = reads_file work ≡ true → IsPagerOf opening pa
 abbrev pub IsCounted : SourceWork → Paged → Type 0
 IsCounted source pager = reads_file source.work ≡ false → positions_in source.work source.args [] ≡ pager.len
 
--- this is known to be the text of the item: of a file that was opened it is told, and what is counted or made has none
+-- `text` is the item's text: of an opened file its told bytes, of what is counted or made none
 pub record IsText (work : SourceKind) (opening : Option Opening) (len : ℕ) (text : List ℕ) : Type 0 where
   pub told : reads_file work ≡ true → opening ≡ Some (record { len = len; text = Some text })
   pub whole : reads_file work ≡ true → length text ≡ len
@@ -47,12 +47,12 @@ pub record IsText (work : SourceKind) (opening : Option Opening) (len : ℕ) (te
 abbrev pub looked_at : SourceKind → Paged → Paged
 looked_at work pager = if reads_file work then pager else record pager { base = 0; bytes = [] }
 
--- that is enough to work a position
+-- the bytes looked at are enough to work position p
 abbrev pub IsLookAt : SourceWork → Paged → ℕ → Type 0
 IsLookAt source pager p =
     IsView source.work source.args (looked_at source.work pager).bytes (looked_at source.work pager).base (looked_at source.work pager).len p
 
--- and it is a look at this text
+-- the bytes looked at are part of this text
 abbrev pub IsLookInto : List ℕ → SourceWork → Paged → Type 0
 IsLookInto text source pager =
     IsViewOf text source.work source.args (looked_at source.work pager).bytes (looked_at source.work pager).base (looked_at source.work pager).len

@@ -7,7 +7,7 @@ ghost use Rattle.beam_model.specs.Spread.{emission_outputs, first_poison};
 ghost use Rattle.dofn_traits.specs.Calls.{AddsOutputs};
 ghost use Rattle.pipeline_graph.specs.Rules.{HasSettings};
 ghost use Rattle.chain_exec.specs.Causes.{observed_shelf, IsCallRefused};
-ghost use Rattle.chain_exec.specs.Deliveries.{brought_by, brought_by_all};
+ghost use Rattle.chain_exec.specs.Deliveries.{outputs_of_delivery, outputs_of_stack};
 ghost use Rattle.chain_exec.specs.Passing.{put_out, stops_of, stops_of_all, IsPassRefused, Passes};
 ghost use Rattle.chain_exec.specs.Positions.{emission_of};
 ghost use Rattle.chain_exec.specs.Unused.{IsUnused};
@@ -84,12 +84,12 @@ impl Buffers {
         requires outputs { self.old.outputs ≡ [] }
         requires windows { self.old.windows ≡ [] }
         ensures unused { OnOk result (IsUnused self.new) }
-        ensures staged { OnOk result (map Arrives staging.new.arrivals ≡ map Arrives staging.old.arrivals ++ brought_by_all graph.now self.old.stack) }
+        ensures staged { OnOk result (map Arrives staging.new.arrivals ≡ map Arrives staging.old.arrivals ++ outputs_of_stack graph.now self.old.stack) }
         ensures only { staging.new ≡ record staging.old { arrivals = staging.new.arrivals } }
-        ensures refused { IfErr result (IsCallRefused (observed_shelf F.strict F.faults shelf.old shelf.new) (brought_by_all graph.now self.old.stack)) }
+        ensures refused { IfErr result (IsCallRefused (observed_shelf F.strict F.faults shelf.old shelf.new) (outputs_of_stack graph.now self.old.stack)) }
         ensures counts { F.faults shelf.old ≤ F.faults shelf.new }
         ensures strict { F.strict shelf.new ≡ F.strict shelf.old }
-        ensures unharmed { F.strict shelf.old ≡ true → first_poison (brought_by_all graph.now self.old.stack) ≡ None
+        ensures unharmed { F.strict shelf.old ≡ true → first_poison (outputs_of_stack graph.now self.old.stack) ≡ None
             → F.faults shelf.new ≡ F.faults shelf.old }
     {
         while let Some(delivery) = self.stack.pop() {
@@ -111,14 +111,14 @@ impl Buffers {
         requires windows { self.old.windows ≡ [] }
         ensures outputs { OnOk result (self.new.outputs ≡ []) }
         ensures windows { OnOk result (self.new.windows ≡ []) }
-        ensures staged { OnOk result (map Arrives staging.new.arrivals ++ brought_by_all graph.now self.new.stack
-            ≡ map Arrives staging.old.arrivals ++ (brought_by graph.now delivery ++ brought_by_all graph.now self.old.stack)) }
+        ensures staged { OnOk result (map Arrives staging.new.arrivals ++ outputs_of_stack graph.now self.new.stack
+            ≡ map Arrives staging.old.arrivals ++ (outputs_of_delivery graph.now delivery ++ outputs_of_stack graph.now self.old.stack)) }
         ensures less { OnOk result (stops_of_all graph.now self.new.stack < stops_of graph.now delivery + stops_of_all graph.now self.old.stack) }
         ensures only { staging.new ≡ record staging.old { arrivals = staging.new.arrivals } }
-        ensures refused { IfErr result (IsCallRefused (observed_shelf F.strict F.faults shelf.old shelf.new) (brought_by graph.now delivery)) }
+        ensures refused { IfErr result (IsCallRefused (observed_shelf F.strict F.faults shelf.old shelf.new) (outputs_of_delivery graph.now delivery)) }
         ensures counts { F.faults shelf.old ≤ F.faults shelf.new }
         ensures strict { F.strict shelf.new ≡ F.strict shelf.old }
-        ensures unharmed { F.strict shelf.old ≡ true → first_poison (brought_by graph.now delivery) ≡ None → F.faults shelf.new ≡ F.faults shelf.old }
+        ensures unharmed { F.strict shelf.old ≡ true → first_poison (outputs_of_delivery graph.now delivery) ≡ None → F.faults shelf.new ≡ F.faults shelf.old }
     {
         let Delivery { node, element } = delivery;
         // An element is on its way to nodes of the plan alone.

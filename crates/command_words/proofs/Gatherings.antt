@@ -65,7 +65,7 @@ run_is (a ∷ []) options = refl
 run_is (a ∷ (b ∷ [])) options = refl
 run_is (a ∷ (b ∷ (c ∷ words))) options = refl
 
--- what was gathered of the parts of a command decides what it asks for
+-- the gathered parts of `panes` ask for the same as the parts themselves
 pub asks_for_panes : (parts : Option (List Part)) (g : Gathering) → Some g ≡ option_map gathering_of parts
     → panes_gathered g ≡ option_and_then (λ parts. panes_of (positional_words parts) (options_of parts)) parts
 asks_for_panes None g h = cc
@@ -73,6 +73,7 @@ asks_for_panes (Some parts) g h =
     let same : g ≡ gathering_of parts = cc in
     ap panes_gathered same ∙ panes_are (positional_words parts) (options_gathered (gathering_of parts)) ∙ ap (panes_of (positional_words parts)) (options_are parts)
 
+-- the same of `run`
 pub asks_for_run : (parts : Option (List Part)) (g : Gathering) → Some g ≡ option_map gathering_of parts
     → run_gathered g ≡ option_and_then (λ parts. run_of (positional_words parts) (options_of parts)) parts
 asks_for_run None g h = cc

@@ -191,7 +191,7 @@ rules_are_met [] asked h = cc
 rules_are_met (program ∷ []) asked h = cc
 rules_are_met (program ∷ (name ∷ words)) asked h = named_by program name words asked _ _ _ _ refl refl refl refl h
 
--- What an answer says where it is that of the definition.
+-- What follows where an answer is the one that the definition gives.
 
 pub refused_by_the_rules : (words : List (List ℕ)) (answer : Result Command Usage) → shown_answer answer ≡ command_of words → IsErr answer ↔ IsRefused words
 refused_by_the_rules words (Ok command) h = (λ refused. cc, λ nothing. absurd (nothing (shown_command command) (rules_are_met words (shown_command command) (sym h))))

@@ -75,7 +75,7 @@ options_of parts =
 abbrev pub is_file_name : List ℕ → Bool
 is_file_name word = nat_le 1 (length word) && nat_le (length word) 4096
 
--- the size of a window is 1 to 31536000000000 milliseconds
+-- the size of a window is 1 to `greatest_length` milliseconds
 abbrev pub size_of : List ℕ → Option ℤ
 size_of word = option_map pos (number_within 1 (or_zero greatest_length) word)
 

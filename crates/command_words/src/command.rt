@@ -11,9 +11,10 @@ use crate::number::number_within;
 use crate::setting::Setting;
 use crate::usage::Usage;
 use beam_values::Options;
+use windowing::GREATEST_LENGTH;
 
 /// The greatest size of a window, in milliseconds.
-const GREATEST_SIZE: u64 = 31_536_000_000_000;
+const GREATEST_SIZE: u64 = GREATEST_LENGTH as u64;
 
 /// The greatest length of a file's name, in bytes.
 const LONGEST_NAME: usize = 4096;

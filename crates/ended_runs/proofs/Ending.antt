@@ -36,7 +36,7 @@ pub outcome_covered : (b : BookData) (o : Outcome) → ArePartitioned b → IsWe
 outcome_covered b o partitioned formed through of place =
     ap (λ (d : List Done). times_done d place) of.done ∙ done_covers b partitioned formed through place ∙ ap (λ (f : List FileLen). min 1 (times_listed f place)) (sym of.files)
 
--- what flows and what arrived, of a book that is through
+-- the flow and the arrivals of a book that is through
 module _ (told : List FileText) (b : BookData) (lengths : AreTold told b) (partitioned : ArePartitioned b) (formed : IsWellFormed b) (through : IsThrough b)
     (balanced : IsBalanced told b) where
   none_held : held_chains b ≡ []
@@ -52,10 +52,10 @@ module _ (told : List FileText) (b : BookData) (lengths : AreTold told b) (parti
       let all = spread_all b.plan (items told b.plan) in
       let done = spread_dones b.plan (items told b.plan) b.done in
       let flows = pane_chains b.plan b.panes in
-      let came = map Arrives (arrivals_of b.cells b.dropped [] b.written) in
-      bag_trans (flow b.plan (items told b.plan) b.panes []) (done ++ flows) came
+      let arrived = map Arrives (arrivals_of b.cells b.dropped [] b.written) in
+      bag_trans (flow b.plan (items told b.plan) b.panes []) (done ++ flows) arrived
       (bag_append all done (flows ++ []) flows (bag_sym done all all_done) (bag_from_same (flows ++ []) flows (append-nil flows)))
-      (bag_trans (done ++ flows) (came ++ held_chains b) came balanced (bag_from_same (came ++ held_chains b) came (ap (λ (l : List Output). came ++ l) none_held ∙ append-nil came)))
+      (bag_trans (done ++ flows) (arrived ++ held_chains b) arrived balanced (bag_from_same (arrived ++ held_chains b) arrived (ap (λ (l : List Output). arrived ++ l) none_held ∙ append-nil arrived)))
 
 -- the cells of an outcome stand in another order
 arrived_alike : (cells others : List Cell) (dropped : List Dropped) (written : List Arrival) → IsSameBag cells others

@@ -57,7 +57,7 @@ module _ (rules : GroupRules) (node : ℕ) (key : Value) (mark : ℕ → ℤ) (l
     dropped_commits = h.dropped_commits;
     pane_commits = h.pane_commits;
     onward = λ c within v stands. let next = h.onward c within v (back c v stands) in (next.0, onto (suc c) next.0 next.1, next.2);
-    placed = λ c within v came. let at = h.placed c within v (ap (λ (f : Interval → Bool). f v) (arrives_alike rules mark taken others same c) ∙ came) in (at.0, onto c at.0 at.1, at.2);
+    placed = λ c within v now. let at = h.placed c within v (ap (λ (f : Interval → Bool). f v) (arrives_alike rules mark taken others same c) ∙ now) in (at.0, onto c at.0 at.1, at.2);
     fired = λ c w first within stands.
         fired_moved rules node key c (mark c) w (entries_upto rules w c taken) (entries_upto rules w c others) (panes_before c panes) (panes_in c w panes) (upto_alike w c)
         (h.fired c w first within (back c w stands));

@@ -66,8 +66,8 @@ abbrev pub IsSpanWell : Interval → Type 0
 IsSpanWell w = (least_time <ℤ w.end) × (w.start <ℤ w.end)
 
 module _ (rules : GroupRules) (mark : ℕ → ℤ) (taken : List Taken) (own : All (λ t. IsSpanWell t.element.span) taken) where
-  came_well : (c : ℕ) (w : Interval) → arrives taken c w ≡ true → IsSpanWell w
-  came_well c w came = by (passing (λ t. t.commit == c && same_span t.element.span w) taken (from_count (λ t. t.commit == c && same_span t.element.span w) taken came))
+  arrived_well : (c : ℕ) (w : Interval) → arrives taken c w ≡ true → IsSpanWell w
+  arrived_well c w arrived = by (passing (λ t. t.commit == c && same_span t.element.span w) taken (from_count (λ t. t.commit == c && same_span t.element.span w) taken arrived))
     where
       by : (k : ℕ) × (d : Taken) × (k < length taken) × (((get_or taken k d).commit == c && same_span (get_or taken k d).element.span w) ≡ true) → IsSpanWell w
       by (k, d, inside, passes) =
@@ -81,10 +81,10 @@ module _ (rules : GroupRules) (mark : ℕ → ℤ) (taken : List Taken) (own : A
       by before true (inl stood) = before w stood.0
       by before true (inr session) =
           let last = session.ends in
-          let well : IsSpanWell last.0 = elim last.1 [ inl stood ↦ before last.0 stood.0 | inr came ↦ came_well (suc c) last.0 came ] in
+          let well : IsSpanWell last.0 = elim last.1 [ inl stood ↦ before last.0 stood.0 | inr arrived ↦ arrived_well (suc c) last.0 arrived ] in
           (subst (λ (z : ℤ). least_time <ℤ z) last.2 well.0, session.ordered)
       by before false (inl stood) = before w stood
-      by before false (inr came) = came_well (suc c) w came
+      by before false (inr arrived) = arrived_well (suc c) w arrived
 
 -- ---- one key
 

@@ -429,7 +429,7 @@ module _ (merges : Bool) (node : ℕ) (key : Value) (mark : ℕ → ℤ) (last :
               on_off false e f = absurd (cc)
 
       arrived : (c : ℕ) (v : Interval) → arrives taken (suc c) v ≡ true → mark c <ℤ v.end
-      arrived c v came = by (passing (λ t. t.commit == suc c && same_span t.element.span v) taken (counted came))
+      arrived c v own = by (passing (λ t. t.commit == suc c && same_span t.element.span v) taken (counted own))
         where
           counted : arrives taken (suc c) v ≡ true → list_any (λ t. t.commit == suc c && same_span t.element.span v) taken ≡ true
           counted e = from_count (λ t. t.commit == suc c && same_span t.element.span v) taken e
@@ -453,10 +453,10 @@ module _ (merges : Bool) (node : ℕ) (key : Value) (mark : ℕ → ℤ) (last :
       next c is true (inl stood) = stood_first c is stood.0
       next c is true (inr session) = elim session.ends.1 [
         | inl open_one ↦ subst (λ (z : ℤ). mark c <ℤ z) session.ends.2 (open_end c session.ends.0 open_one.1)
-        | inr came ↦ subst (λ (z : ℤ). mark c <ℤ z) session.ends.2 (arrived c session.ends.0 came)
+        | inr own ↦ subst (λ (z : ℤ). mark c <ℤ z) session.ends.2 (arrived c session.ends.0 own)
       ]
       next c is false (inl stood) = stood_first c is stood
-      next c is false (inr came) = arrived c p.element.span came
+      next c is false (inr own) = arrived c p.element.span own
 
       by : (n : ℕ) → n ≡ p.commit → mark (p.commit - 1) <ℤ p.element.span.end
       by zero is = let some = fired.first in absurd (omega (arith, is, some))
@@ -619,11 +619,11 @@ module _ (node : ℕ) (key : Value) (mark : ℕ → ℤ) (last : ℕ) (taken dro
   abbrev OwnStands : ℕ → Interval → Type 0
   OwnStands c w = Stands (record { merges = false; trigger = default_trigger }) mark (arrives taken) c w
 
-  -- an own window stood first when it came
-  came : (c : ℕ) (w : Interval) → OwnStands c w → list_any (λ t. same_span t.element.span w) taken ≡ true
-  came zero w stands = absurd stands
-  came (suc c) w (inl stood) = came c w stood
-  came (suc c) w (inr new) =
+  -- a window that stands where none merge is the own window of an entry
+  stands_taken : (c : ℕ) (w : Interval) → OwnStands c w → list_any (λ t. same_span t.element.span w) taken ≡ true
+  stands_taken zero w stands = absurd stands
+  stands_taken (suc c) w (inl stood) = stands_taken c w stood
+  stands_taken (suc c) w (inr new) =
       any_test (λ t. t.commit == suc c && same_span t.element.span w) (λ t. same_span t.element.span w) (λ t e. (and_parts (t.commit == suc c) (same_span t.element.span w) e).1) taken
       (from_count (λ t. t.commit == suc c && same_span t.element.span w) taken new)
 
@@ -691,7 +691,7 @@ module _ (node : ℕ) (key : Value) (mark : ℕ → ℤ) (last : ℕ) (taken dro
               let fired = all_fired false node key mark last taken dropped panes history rises k d inside in
               any_counted (λ t. same_span t.element.span w) taken
               (subst (λ (v : Interval). list_any (λ t. same_span t.element.span v) taken ≡ true) (span_sound (get_or panes k d).element.span w same)
-              (came (get_or panes k d).commit (get_or panes k d).element.span fired.stands))
+              (stands_taken (get_or panes k d).commit (get_or panes k d).element.span fired.stands))
 
   -- and an element belongs to its own window alone
   pub own_alone : All (IsLone false node key mark last taken dropped panes history rises) taken

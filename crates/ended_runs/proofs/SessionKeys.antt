@@ -1,4 +1,4 @@
--- One key of a Group of sessions, where what comes begins no earlier than the mark: the windows of its panes are the sessions of all that came.
+-- One key of a Group of sessions, where no later window begins before the mark: the windows of its panes are the sessions of all own windows.
 use Rattle.std.proofs.Common.{◌≡◌, ◌⊎◌, inl, inr, ℕ, zero, suc, ◌-◌, ◌<◌, ◌≤◌, ℤ, true, List, length, get_or, refl, sym, ap, subst, ◌∙◌, arith}
 use Rattle.std.specs.Prelude.{◌==◌, ◌&&◌, ◌≤ℤ◌, nat_le}
 use Rattle.std.specs.List.{All, count_by}
@@ -26,40 +26,40 @@ module _ (node : ℕ) (key : Value) (mark : ℕ → ℤ) (last : ℕ) (taken dro
   abbrev MergedStands : ℕ → Interval → Type 0
   MergedStands c w = Stands (record { merges = true; trigger = default_trigger }) mark (arrives taken) c w
 
-  -- an own window of an element that came by this commit
-  pub record CameBy (c : ℕ) (s : Interval) : Type 0 where
+  -- an own window of an element that arrived by commit c
+  pub record ArrivedBy (c : ℕ) (s : Interval) : Type 0 where
     pub k : ℕ
     pub d : Taken
     pub inside : k < length taken
     pub within : (get_or taken k d).commit ≤ c
     pub is : (get_or taken k d).element.span ≡ s
 
-  -- or later than this one
-  record CameAfter (c : ℕ) (s : Interval) : Type 0 where
+  -- an own window of an element that arrived after commit c
+  record ArrivedAfter (c : ℕ) (s : Interval) : Type 0 where
     k : ℕ
     d : Taken
     inside : k < length taken
     after : c < (get_or taken k d).commit
     is : (get_or taken k d).element.span ≡ s
 
-  pub came_some : (c : ℕ) (s : Interval) → CameBy c s → IsNonEmpty s
-  came_some c s came = subst IsNonEmpty came.is (some came.k came.d came.inside)
+  pub arrived_some : (c : ℕ) (s : Interval) → ArrivedBy c s → IsNonEmpty s
+  arrived_some c s arrived = subst IsNonEmpty arrived.is (some arrived.k arrived.d arrived.inside)
 
-  -- what comes after a commit begins no earlier than its mark
-  later_begins : (c : ℕ) (s : Interval) → CameAfter c s → mark c ≤ℤ s.start
-  later_begins c s came =
-      let t = get_or taken came.k came.d in
-      let in_time = all_in_time true node key mark last taken dropped panes history rises came.k came.d came.inside in
-      let begins = timely came.k came.d came.inside in
-      let after = came.after in
+  -- an own window that arrives after a commit begins no earlier than its mark
+  later_begins : (c : ℕ) (s : Interval) → ArrivedAfter c s → mark c ≤ℤ s.start
+  later_begins c s arrived =
+      let t = get_or taken arrived.k arrived.d in
+      let in_time = all_in_time true node key mark last taken dropped panes history rises arrived.k arrived.d arrived.inside in
+      let begins = timely arrived.k arrived.d arrived.inside in
+      let after = arrived.after in
       let within = in_time.within in
       let rise = rises c (t.commit - 1) (omega (arith, after)) (omega (arith, within)) in
-      subst (λ (v : Interval). mark c ≤ℤ v.start) came.is (omega (arith, ints, rise, begins))
+      subst (λ (v : Interval). mark c ≤ℤ v.start) arrived.is (omega (arith, ints, rise, begins))
 
-  arrived_after : (c : ℕ) (s : Interval) → arrives taken (suc c) s ≡ true → CameAfter c s
-  arrived_after c s came = by (passing (λ t. t.commit == suc c && same_span t.element.span s) taken (from_count (λ t. t.commit == suc c && same_span t.element.span s) taken came))
+  arrived_after : (c : ℕ) (s : Interval) → arrives taken (suc c) s ≡ true → ArrivedAfter c s
+  arrived_after c s arrived = by (passing (λ t. t.commit == suc c && same_span t.element.span s) taken (from_count (λ t. t.commit == suc c && same_span t.element.span s) taken arrived))
     where
-      by : (k : ℕ) × (d : Taken) × (k < length taken) × (((get_or taken k d).commit == suc c && same_span (get_or taken k d).element.span s) ≡ true) → CameAfter c s
+      by : (k : ℕ) × (d : Taken) × (k < length taken) × (((get_or taken k d).commit == suc c && same_span (get_or taken k d).element.span s) ≡ true) → ArrivedAfter c s
       by (k, d, inside, passes) =
           let parts = and_parts ((get_or taken k d).commit == suc c) (same_span (get_or taken k d).element.span s) passes in
           let at : (get_or taken k d).commit ≡ suc c = eqb-true (get_or taken k d).commit (suc c) parts.0 in
@@ -77,28 +77,28 @@ module _ (node : ℕ) (key : Value) (mark : ℕ → ℤ) (last : ℕ) (taken dro
   -- ---- what stands
 
   pub record AreStanding (c : ℕ) : Type 0 where
-    pub each : (w : Interval) → MergedStands c w → IsSessionOf (CameBy c) w
-    pub cover : (s : Interval) → CameBy c s → (w : Interval) × MergedStands c w × LiesIn s w
+    pub each : (w : Interval) → MergedStands c w → IsSessionOf (ArrivedBy c) w
+    pub cover : (s : Interval) → ArrivedBy c s → (w : Interval) × MergedStands c w × LiesIn s w
 
   abbrev ArrivesNow : ℕ → Interval → Type 0
   ArrivesNow c s = arrives taken c s ≡ true
 
-  to_next : (c : ℕ) (s : Interval) → CameBy c s ⊎ ArrivesNow (suc c) s → CameBy (suc c) s
-  to_next c s (inl came) = let low = came.within in record { k = came.k; d = came.d; inside = came.inside; within = omega (arith, low); is = came.is }
+  to_next : (c : ℕ) (s : Interval) → ArrivedBy c s ⊎ ArrivesNow (suc c) s → ArrivedBy (suc c) s
+  to_next c s (inl arrived) = let low = arrived.within in record { k = arrived.k; d = arrived.d; inside = arrived.inside; within = omega (arith, low); is = arrived.is }
   to_next c s (inr new) = by (passing (λ t. t.commit == suc c && same_span t.element.span s) taken (from_count (λ t. t.commit == suc c && same_span t.element.span s) taken new))
     where
-      by : (k : ℕ) × (d : Taken) × (k < length taken) × (((get_or taken k d).commit == suc c && same_span (get_or taken k d).element.span s) ≡ true) → CameBy (suc c) s
+      by : (k : ℕ) × (d : Taken) × (k < length taken) × (((get_or taken k d).commit == suc c && same_span (get_or taken k d).element.span s) ≡ true) → ArrivedBy (suc c) s
       by (k, d, inside, passes) =
           let parts = and_parts ((get_or taken k d).commit == suc c) (same_span (get_or taken k d).element.span s) passes in
           let at : (get_or taken k d).commit ≡ suc c = eqb-true (get_or taken k d).commit (suc c) parts.0 in
           record { k = k; d = d; inside = inside; within = omega (arith, at); is = span_sound (get_or taken k d).element.span s parts.1 }
 
-  from_next : (c : ℕ) (s : Interval) → CameBy (suc c) s → CameBy c s ⊎ ArrivesNow (suc c) s
-  from_next c s came = elim (cases_lt c (get_or taken came.k came.d).commit) [
+  from_next : (c : ℕ) (s : Interval) → ArrivedBy (suc c) s → ArrivedBy c s ⊎ ArrivesNow (suc c) s
+  from_next c s arrived = elim (cases_lt c (get_or taken arrived.k arrived.d).commit) [
     | inl now ↦
-        let low = came.within in
-        inr (subst (ArrivesNow (suc c)) came.is (arrived_now (suc c) came.k came.d came.inside (omega (arith, now, low))))
-    | inr before ↦ inl (record { k = came.k; d = came.d; inside = came.inside; within = before; is = came.is })
+        let low = arrived.within in
+        inr (subst (ArrivesNow (suc c)) arrived.is (arrived_now (suc c) arrived.k arrived.d arrived.inside (omega (arith, now, low))))
+    | inr before ↦ inl (record { k = arrived.k; d = arrived.d; inside = arrived.inside; within = before; is = arrived.is })
   ]
 
   standing_next : (c : ℕ) → suc c ≤ last → AreStanding c → AreStanding (suc c)
@@ -107,19 +107,19 @@ module _ (node : ℕ) (key : Value) (mark : ℕ → ℤ) (last : ℕ) (taken dro
       later : (s : Interval) → ArrivesNow (suc c) s → mark c ≤ℤ s.start
       later s new = later_begins c s (arrived_after c s new)
 
-      each : (w : Interval) → MergedStands (suc c) w → IsSessionOf (CameBy (suc c)) w
+      each : (w : Interval) → MergedStands (suc c) w → IsSessionOf (ArrivedBy (suc c)) w
       each w (inl gone) =
-          session_moved (λ s. CameBy c s ⊎ ArrivesNow (suc c) s) (CameBy (suc c)) w (to_next c) (from_next c)
-          (session_stays (CameBy c) (ArrivesNow (suc c)) (mark c) w (now.each w gone.0) (gone_ends (mark c) w gone.1) later)
+          session_moved (λ s. ArrivedBy c s ⊎ ArrivesNow (suc c) s) (ArrivedBy (suc c)) w (to_next c) (from_next c)
+          (session_stays (ArrivedBy c) (ArrivesNow (suc c)) (mark c) w (now.each w gone.0) (gone_ends (mark c) w gone.1) later)
       each w (inr session) =
-          session_moved (λ s. CameBy c s ⊎ ArrivesNow (suc c) s) (CameBy (suc c)) w (to_next c) (from_next c)
-          (merged_session (CameBy c) (ArrivesNow (suc c)) (MergedStands c) (mark c) now.each now.cover later w session)
+          session_moved (λ s. ArrivedBy c s ⊎ ArrivesNow (suc c) s) (ArrivedBy (suc c)) w (to_next c) (from_next c)
+          (merged_session (ArrivedBy c) (ArrivesNow (suc c)) (MergedStands c) (mark c) now.each now.cover later w session)
 
       deeper : (s t w : Interval) → LiesIn s t → LiesIn t w → LiesIn s w
       deeper s t w h k = let a = h.0 in let b = h.1 in let x = k.0 in let y = k.1 in (omega (arith, ints, a, x), omega (arith, ints, b, y))
 
-      cover : (s : Interval) → CameBy (suc c) s → (w : Interval) × MergedStands (suc c) w × LiesIn s w
-      cover s came = elim (from_next c s came) [
+      cover : (s : Interval) → ArrivedBy (suc c) s → (w : Interval) × MergedStands (suc c) w × LiesIn s w
+      cover s arrived = elim (from_next c s arrived) [
         | inl before ↦
             let at = now.cover s before in
             let next = history.onward c within at.0 at.1 in
@@ -127,13 +127,13 @@ module _ (node : ℕ) (key : Value) (mark : ℕ → ℤ) (last : ℕ) (taken dro
         | inr new ↦ history.placed (suc c) within s new
       ]
 
-  -- after each commit the windows that stand are the sessions of all that came so far
+  -- after each commit the windows that stand are the sessions of all own windows so far
   pub standing : (c : ℕ) → c ≤ last → AreStanding c
   standing zero within = record {
     each = λ w stands. absurd stands;
-    cover = λ s came.
-        let first = (all_in_time true node key mark last taken dropped panes history rises came.k came.d came.inside).first in
-        let low = came.within in
+    cover = λ s arrived.
+        let first = (all_in_time true node key mark last taken dropped panes history rises arrived.k arrived.d arrived.inside).first in
+        let low = arrived.within in
         absurd (never first low);
   }
     where
@@ -142,24 +142,24 @@ module _ (node : ℕ) (key : Value) (mark : ℕ → ℤ) (last : ℕ) (taken dro
   standing (suc c) within = standing_next c within (standing c (omega (arith, within)))
 
   -- a session whose end the mark has passed stays one to the end
-  pub to_end : (c : ℕ) → c ≤ last → (w : Interval) → IsSessionOf (CameBy c) w → w.end ≤ℤ mark c → IsSessionOf (CameBy last) w
+  pub to_end : (c : ℕ) → c ≤ last → (w : Interval) → IsSessionOf (ArrivedBy c) w → w.end ≤ℤ mark c → IsSessionOf (ArrivedBy last) w
   to_end c within w session passed =
-      session_moved (λ s. CameBy c s ⊎ CameAfter c s) (CameBy last) w to from (session_stays (CameBy c) (CameAfter c) (mark c) w session passed (later_begins c))
+      session_moved (λ s. ArrivedBy c s ⊎ ArrivedAfter c s) (ArrivedBy last) w to from (session_stays (ArrivedBy c) (ArrivedAfter c) (mark c) w session passed (later_begins c))
     where
-      to : (s : Interval) → CameBy c s ⊎ CameAfter c s → CameBy last s
-      to s (inl came) = let low = came.within in record { k = came.k; d = came.d; inside = came.inside; within = omega (arith, low, within); is = came.is }
-      to s (inr came) =
-          let upto = (all_in_time true node key mark last taken dropped panes history rises came.k came.d came.inside).within in
-          record { k = came.k; d = came.d; inside = came.inside; within = upto; is = came.is }
+      to : (s : Interval) → ArrivedBy c s ⊎ ArrivedAfter c s → ArrivedBy last s
+      to s (inl arrived) = let low = arrived.within in record { k = arrived.k; d = arrived.d; inside = arrived.inside; within = omega (arith, low, within); is = arrived.is }
+      to s (inr arrived) =
+          let upto = (all_in_time true node key mark last taken dropped panes history rises arrived.k arrived.d arrived.inside).within in
+          record { k = arrived.k; d = arrived.d; inside = arrived.inside; within = upto; is = arrived.is }
 
-      from : (s : Interval) → CameBy last s → CameBy c s ⊎ CameAfter c s
-      from s came = elim (cases_lt c (get_or taken came.k came.d).commit) [
-        | inl after ↦ inr (record { k = came.k; d = came.d; inside = came.inside; after = after; is = came.is })
-        | inr before ↦ inl (record { k = came.k; d = came.d; inside = came.inside; within = before; is = came.is })
+      from : (s : Interval) → ArrivedBy last s → ArrivedBy c s ⊎ ArrivedAfter c s
+      from s arrived = elim (cases_lt c (get_or taken arrived.k arrived.d).commit) [
+        | inl after ↦ inr (record { k = arrived.k; d = arrived.d; inside = arrived.inside; after = after; is = arrived.is })
+        | inr before ↦ inl (record { k = arrived.k; d = arrived.d; inside = arrived.inside; within = before; is = arrived.is })
       ]
 
   abbrev pub IsFinal : Interval → Type 0
-  IsFinal w = IsSessionOf (CameBy last) w
+  IsFinal w = IsSessionOf (ArrivedBy last) w
 
   -- ---- panes
 
@@ -170,7 +170,7 @@ module _ (node : ℕ) (key : Value) (mark : ℕ → ℤ) (last : ℕ) (taken dro
 
   pub own_lone : All (IsLone true node key mark last taken dropped panes history rises) taken
   own_lone k d inside p q first second own other =
-      one_that_holds (CameBy last) (get_or taken k d).element.span q.element.span p.element.span (some k d inside)
+      one_that_holds (ArrivedBy last) (get_or taken k d).element.span q.element.span p.element.span (some k d inside)
       (lies_from (get_or taken k d).element.span q.element.span other) (lies_from (get_or taken k d).element.span p.element.span own) (pane_final q second) (pane_final p first)
 
   pub key_whole : (p : Pane) → IsFiredPane true node key mark last taken dropped panes history rises p → IsWhole true node key mark last taken dropped panes history rises p
@@ -186,17 +186,17 @@ module _ (node : ℕ) (key : Value) (mark : ℕ → ℤ) (last : ℕ) (taken dro
       (at.0, at.1, (standing last (omega arith)).each at.0 at.1, at.2)
 
   module _ (final : mark last ≡ final_mark) (early : All (λ t. t.element.span.end ≤ℤ final_mark) taken) where
-    -- each session of all that came has fired
+    -- each session of all own windows has fired
     pub final_fires : (w : Interval) → IsFinal w → 1 ≤ count_by (is_of_window w) panes
     final_fires w session =
-        let s = first_lies (CameBy last) w (came_some last) session in
-        let came = s.1 in
-        let at = covered came.k came.d came.inside in
-        let lies : LiesIn (get_or taken came.k came.d).element.span w = subst (λ (v : Interval). LiesIn v w) (sym came.is) s.2 in
-        let same : at.0 ≡ w = one_that_holds (CameBy last) (get_or taken came.k came.d).element.span at.0 w (some came.k came.d came.inside) at.3 lies at.2 session in
+        let s = first_lies (ArrivedBy last) w (arrived_some last) session in
+        let arrived = s.1 in
+        let at = covered arrived.k arrived.d arrived.inside in
+        let lies : LiesIn (get_or taken arrived.k arrived.d).element.span w = subst (λ (v : Interval). LiesIn v w) (sym arrived.is) s.2 in
+        let same : at.0 ≡ w = one_that_holds (ArrivedBy last) (get_or taken arrived.k arrived.d).element.span at.0 w (some arrived.k arrived.d arrived.inside) at.3 lies at.2 session in
         let stands : MergedStands last w = subst (MergedStands last) same at.1 in
         let ends = session.ends in
-        let in_time = all_in_time true node key mark last taken dropped panes history rises came.k came.d came.inside in
+        let in_time = all_in_time true node key mark last taken dropped panes history rises arrived.k arrived.d arrived.inside in
         let first = in_time.first in
         let upto = in_time.within in
         let passed : w.end ≤ℤ mark last = subst (λ (m : ℤ). w.end ≤ℤ m) (sym final) (subst (λ (z : ℤ). z ≤ℤ final_mark) (ap (λ (v : Interval). v.end) ends.1.is ∙ ends.2) (early ends.1.k ends.1.d ends.1.inside)) in

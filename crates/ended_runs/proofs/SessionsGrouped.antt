@@ -28,7 +28,7 @@ use Rattle.group_cells.proofs.WindowTests.{lies_from, lies_test, same_interval, 
 use Rattle.book_core.proofs.Through.{passes_have}
 use Rattle.ended_runs.proofs.Grouped.{lift_node, pane_elements, sum_alike, sum_at, taken_elements}
 use Rattle.ended_runs.proofs.Passing.{all_fired, all_in_time, from_count, once_fired, passing}
-use Rattle.ended_runs.proofs.SessionKeys.{CameBy, IsFinal, covered, final_fires, key_whole, pane_final}
+use Rattle.ended_runs.proofs.SessionKeys.{ArrivedBy, IsFinal, covered, final_fires, key_whole, pane_final}
 use Rattle.ended_runs.proofs.SessionsStay.{first_lies}
 
 -- ---- lists
@@ -90,14 +90,14 @@ module _ (node : ℕ) (mark : ℕ → ℤ) (last : ℕ) (taken dropped : List Ta
   abbrev IsFinalOf : Value → Interval → Type 0
   IsFinalOf key w = IsFinal node key mark last (taken_at node key taken) (taken_at node key dropped) (panes_at node key panes) (histories key) rises (key_timely key) (key_some key) w
 
-  abbrev Came : Value → Interval → Type 0
-  Came key s = CameBy node key mark last (taken_at node key taken) (taken_at node key dropped) (panes_at node key panes) (histories key) rises (key_timely key) (key_some key) last s
+  abbrev ArrivedOfKey : Value → Interval → Type 0
+  ArrivedOfKey key s = ArrivedBy node key mark last (taken_at node key taken) (taken_at node key dropped) (panes_at node key panes) (histories key) rises (key_timely key) (key_some key) last s
 
-  came_own : (key : Value) (s : Interval) → Came key s → Contains (own_spans (spelling key)) s
-  came_own key s came = contains_map (λ (t : Taken). t.element.span) (taken_at node key taken) came.k came.d s came.inside came.is
+  arrived_own : (key : Value) (s : Interval) → ArrivedOfKey key s → Contains (own_spans (spelling key)) s
+  arrived_own key s arrived = contains_map (λ (t : Taken). t.element.span) (taken_at node key taken) arrived.k arrived.d s arrived.inside arrived.is
 
-  own_came : (key : Value) (s : Interval) → Contains (own_spans (spelling key)) s → Came key s
-  own_came key s own =
+  own_arrived : (key : Value) (s : Interval) → Contains (own_spans (spelling key)) s → ArrivedOfKey key s
+  own_arrived key s own =
       let at = map_contains (λ (t : Taken). t.element.span) (taken_at node key taken) s own in
       record {
         k = at.0;
@@ -108,10 +108,10 @@ module _ (node : ℕ) (mark : ℕ → ℤ) (last : ℕ) (taken dropped : List Ta
       }
 
   final_end : (key : Value) (w : Interval) → IsFinalOf key w → IsEnd (spelling key) w
-  final_end key w session = session_moved (Came key) (Contains (own_spans (spelling key))) w (came_own key) (own_came key) session
+  final_end key w session = session_moved (ArrivedOfKey key) (Contains (own_spans (spelling key))) w (arrived_own key) (own_arrived key) session
 
   end_final : (key : Value) (w : Interval) → IsEnd (spelling key) w → IsFinalOf key w
-  end_final key w session = session_moved (Contains (own_spans (spelling key))) (Came key) w (own_came key) (came_own key) session
+  end_final key w session = session_moved (Contains (own_spans (spelling key))) (ArrivedOfKey key) w (own_arrived key) (arrived_own key) session
 
   own_some : (key : Value) (s : Interval) → Contains (own_spans (spelling key)) s → IsNonEmpty s
   own_some key s own =

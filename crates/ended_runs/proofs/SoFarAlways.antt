@@ -49,7 +49,7 @@ use Rattle.book_core.proofs.EarlyAlways.{IsEarlyPane, reached_early}
 use Rattle.book_core.proofs.Formed.{reached_formed}
 use Rattle.book_core.proofs.HeldMoves.{back_moves, enroll_moves, fired_held, set_moves, take_moves}
 use Rattle.book_core.proofs.HeldOnce.{commit_bag, none_held, reached_held}
-use Rattle.book_core.proofs.HoldBags.{all_holds}
+use Rattle.book_core.specs.Indexes.{all_holds}
 use Rattle.book_core.proofs.Reaching.{reached_more}
 use Rattle.book_core.proofs.RisingMarks.{reached_marked, reached_marks}
 use Rattle.book_core.proofs.SeenAlways.{reached_seen}

@@ -12,7 +12,7 @@ use Rattle.beam_values.specs.declared.fault.FaultNote.{FaultNote}
 use Rattle.beam_values.specs.declared.file_text.FileText.{FileText}
 use Rattle.beam_values.specs.declared.piece.Piece.{Piece}
 use Rattle.beam_values.specs.declared.plan.Plan.{Plan}
-use Rattle.beam_model.specs.Coverings.{item_at}
+use Rattle.beam_model.specs.Coverings.{item_at, spread_of}
 use Rattle.beam_model.specs.Positions.{SourceItem, item_len, items}
 use Rattle.beam_model.specs.Spread.{is_poison, outputs_at}
 use Rattle.beam_model.specs.Flow.{batch_outputs}
@@ -23,7 +23,7 @@ use Rattle.book_core.specs.Facts.{AreKept, IsHeldPane}
 use Rattle.book_core.specs.Jobs.{Due, GivenBack, Oldest, first_due, job_of, without_due}
 use Rattle.book_core.specs.Runs.{AreTold, HonestRun, HonestlyReached, MadeStep}
 use Rattle.book_core.specs.Steps.{Action, Enroll, Take, Claim, Split, Commit, Fail, Stop, Answer, Enrolled, TakenJob, Nothing, Finished, Stopped, Claimed, SplitAt, Committed, Noted, NoMemory, IsTaking, IsWorking, Step}
-use Rattle.book_core.specs.Work.{IsPoisonJob, Known, items_told, outputs_of_item}
+use Rattle.book_core.specs.Work.{IsPoisonJob, Surroundings, items_told}
 use Rattle.book_core.specs.declared.live.Batch.{Batch}
 use Rattle.book_core.specs.declared.live.Live.{Live}
 use Rattle.book_core.specs.declared.live.Live.TheVariants as live
@@ -35,7 +35,7 @@ use Rattle.book_core.proofs.Slotted.{All-append_right, All-of_flat_map}
 use Rattle.ended_runs.specs.Unpoisoned.{TakesNoPoison}
 use Rattle.ended_runs.proofs.Poisons.{any_in_front}
 use Rattle.ended_runs.proofs.Stopped.{honest_more, opening_reached}
-use Rattle.ended_runs.proofs.Unpoisoned.{IsUnpoisoned, take_keeps}
+use Rattle.ended_runs.proofs.Unpoisoned.{WorksNoPoison, take_keeps}
 
 all_both : {X : Type 0} (P Q R : X → Type 0) → ((x : X) → P x → Q x → R x) → (xs : List X) → All P xs → All Q xs → All R xs
 all_both P Q R holds [] ps qs = All-nil R
@@ -63,7 +63,7 @@ stopped_shape : (spent : Bool) (b : BookData) (note : FaultNote) → shape_of (s
 stopped_shape true b note = refl
 stopped_shape false b note = refl
 
-module _ (known : Known) (told : List FileText) (tells : known.told ≡ Some told) (strict : known.strict ≡ true) where
+module _ (known : Surroundings) (told : List FileText) (tells : known.told ≡ Some told) (strict : known.strict ≡ true) where
   -- what a slot works is no poison
   abbrev IsCleanJob : Plan → List Pane → Live → Type 0
   IsCleanJob plan panes job = IsPoisonJob known.told plan (job_of panes job) → ⊥
@@ -77,8 +77,8 @@ module _ (known : Known) (told : List FileText) (tells : known.told ≡ Some tol
 
   -- ---- a range that is cut
 
-  cut_poison : (plan : Plan) (from at to : ℕ) (item : Option SourceItem) → at < to → list_any is_poison (outputs_of_item plan (record { from = from; to = at }) item) ≡ true
-      → list_any is_poison (outputs_of_item plan (record { from = from; to = to }) item) ≡ true
+  cut_poison : (plan : Plan) (from at to : ℕ) (item : Option SourceItem) → at < to → list_any is_poison (spread_of plan (record { from = from; to = at }) item) ≡ true
+      → list_any is_poison (spread_of plan (record { from = from; to = to }) item) ≡ true
   cut_poison plan from at to None inside any = any
   cut_poison plan from at to (Some item) inside any = elim (cases_lt at from) [
     | inl before ↦ absurd (false≢true (sym (ap (list_any is_poison) (spread-empty (outputs_at plan item) from at (omega (arith, before)))) ∙ any))
@@ -178,7 +178,7 @@ module _ (known : Known) (told : List FileText) (tells : known.told ≡ Some tol
         (record { plan = onward.plan ∙ same.plan; files = onward.files ∙ same.files; options = onward.options ∙ same.options })
         (step_clean b run.0 made.slot made.action made.answer run.1 (kept b reached) (λ new slot job. takes b new slot job reached same) clean)
 
-    pub works_no_poison : (b : BookData) → HonestlyReached known b → HasSamePlan end b → IsUnpoisoned known told tells strict b
+    pub works_no_poison : (b : BookData) → HonestlyReached known b → HasSamePlan end b → WorksNoPoison known told tells strict b
     works_no_poison b reached same slot job works =
         let first = reached.opening.is in
         let own = subst (HasSamePlan end) (sym first) (record { plan = same.plan; files = same.files; options = same.options }) in
@@ -187,7 +187,7 @@ module _ (known : Known) (told : List FileText) (tells : known.told ≡ Some tol
 
 -- ---- from what is taken
 
-module _ (known : Known) (told : List FileText) (tells : known.told ≡ Some told) (end : BookData) (lengths : AreTold told end) (none : TakesNoPoison known end.plan end.options) where
+module _ (known : Surroundings) (told : List FileText) (tells : known.told ≡ Some told) (end : BookData) (lengths : AreTold told end) (none : TakesNoPoison known end.plan end.options) where
   -- each book of a run to this one is of its plan, its options and its files
   pub takes_none : (b new : BookData) (slot : ℕ) (job : Job) → HonestlyReached known b → HasSamePlan end b → IsTaking b slot job new → IsPoisonJob known.told b.plan job → ⊥
   takes_none b new slot job reached same step poison =

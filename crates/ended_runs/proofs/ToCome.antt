@@ -52,7 +52,7 @@ use Rattle.book_core.specs.declared.live.Live.TheVariants as live
 use Rattle.book_core.specs.declared.live.WaitingPane.{WaitingPane}
 use Rattle.book_core.proofs.CellsKept.{IsOfSource, batch_at_group, found_has, items_of_sources}
 use Rattle.book_core.proofs.EarlyEnds.{items_set}
-use Rattle.book_core.proofs.HoldBags.{all_holds}
+use Rattle.book_core.specs.Indexes.{all_holds}
 use Rattle.book_core.proofs.Slots.{All-slice_get}
 use Rattle.book_core.proofs.Slotted.{All-append_left, All-append_right, All-flat_at, All-of_flat_map}
 use Rattle.book_core.proofs.Through.{passes_have}

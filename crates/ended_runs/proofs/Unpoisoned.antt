@@ -13,7 +13,7 @@ use Rattle.beam_values.specs.declared.outcome.StopCause.TheVariants as stop
 use Rattle.beam_values.specs.declared.piece.Piece.{Piece}
 use Rattle.beam_values.specs.declared.plan.Plan.{Plan}
 use Rattle.beam_values.proofs.Spreads.{spread-single}
-use Rattle.beam_model.specs.Coverings.{item_at}
+use Rattle.beam_model.specs.Coverings.{item_at, spread_of}
 use Rattle.beam_model.specs.Positions.{SourceItem}
 use Rattle.beam_model.specs.Spread.{is_poison, outputs_at, first_poison}
 use Rattle.beam_model.specs.Flow.{batch_outputs}
@@ -24,7 +24,7 @@ use Rattle.book_core.specs.Facts.{AreAttemptsCounted, AreKept, IsBelowLimit, IsS
 use Rattle.book_core.specs.Jobs.{Due, GivenBack, Oldest, Next, attempted_of, due_or_piece, first_due, job_of, without_due, without_first}
 use Rattle.book_core.specs.Runs.{HonestRun, HonestlyReached, IsHonestAction, MadeStep}
 use Rattle.book_core.specs.Steps.{Action, Enroll, Take, Claim, Split, Commit, Fail, Stop, Answer, Enrolled, TakenJob, Nothing, Finished, Stopped, Claimed, SplitAt, Committed, Noted, NoMemory, IsWorking, Step}
-use Rattle.book_core.specs.Work.{IsHonestCall, IsPoisonAttempt, IsPoisonJob, Known, is_known, items_told, outputs_of_item}
+use Rattle.book_core.specs.Work.{IsHonestCall, IsPoisonAttempt, IsPoisonJob, Surroundings, is_known, items_told}
 use Rattle.book_core.specs.declared.live.Batch.{Batch}
 use Rattle.book_core.specs.declared.live.Live.{Live}
 use Rattle.book_core.specs.declared.live.Live.TheVariants as live
@@ -35,9 +35,9 @@ use Rattle.ended_runs.proofs.Stopped.{honest_more, none_by_memory, opening_reach
 
 -- ---- what fails on poison is poison
 
-module _ (known : Known) (told : List FileText) (tells : known.told ≡ Some told) (plan : Plan) (panes : List Pane) where
+module _ (known : Surroundings) (told : List FileText) (tells : known.told ≡ Some told) (plan : Plan) (panes : List Pane) where
   attempt_poison : (piece : Piece) (p at : ℕ) (item : Option SourceItem) → piece.range.from ≤ p → p < piece.range.to
-      → first_poison (outputs_of_item plan (record { from = p; to = p + 1 }) item) ≡ Some at → list_any is_poison (outputs_of_item plan piece.range item) ≡ true
+      → first_poison (spread_of plan (record { from = p; to = p + 1 }) item) ≡ Some at → list_any is_poison (spread_of plan piece.range item) ≡ true
   attempt_poison piece p at None low high first = absurd cc
   attempt_poison piece p at (Some item) low high first =
       let here = spread-single (outputs_at plan item) p in
@@ -152,13 +152,13 @@ module _ (b : BookData) (slot at : ℕ) (job : Live) (works : IsWorking b slot j
 
 -- ---- one step
 
-module _ (known : Known) (told : List FileText) (tells : known.told ≡ Some told) (strict : known.strict ≡ true) where
+module _ (known : Surroundings) (told : List FileText) (tells : known.told ≡ Some told) (strict : known.strict ≡ true) where
   -- no slot works a poison job
-  abbrev pub IsUnpoisoned : BookData → Type 0
-  IsUnpoisoned b = (slot : ℕ) (job : Live) → IsWorking b slot job → IsPoisonJob known.told b.plan (job_of b.panes job) → ⊥
+  abbrev pub WorksNoPoison : BookData → Type 0
+  WorksNoPoison b = (slot : ℕ) (job : Live) → IsWorking b slot job → IsPoisonJob known.told b.plan (job_of b.panes job) → ⊥
 
   step_reads : (b new : BookData) (slot : ℕ) (action : Action) (answer : Answer) → Step known.told b slot action answer new → IsHonestAction known b slot action
-      → AreKept b → IsUnpoisoned b → AreReads (counts_of b) → AreReads (counts_of new)
+      → AreKept b → WorksNoPoison b → AreReads (counts_of b) → AreReads (counts_of new)
   step_reads b new slot Enroll (Enrolled number) step honest kept never h = same_counts b new (ap counts_of step.2) h
   step_reads b new slot Enroll NoMemory step honest kept never h = same_counts b new (ap counts_of step) h
   step_reads b new slot Take (TakenJob job) step honest kept never h =
@@ -186,7 +186,7 @@ module _ (known : Known) (told : List FileText) (tells : known.told ≡ Some tol
 
   -- ---- all steps
 
-  module _ (kept : (b : BookData) → HonestlyReached known b → AreKept b) (end : BookData) (never : (b : BookData) → HonestlyReached known b → HasSamePlan end b → IsUnpoisoned b) where
+  module _ (kept : (b : BookData) → HonestlyReached known b → AreKept b) (end : BookData) (never : (b : BookData) → HonestlyReached known b → HasSamePlan end b → WorksNoPoison b) where
     run_reads : (steps : List MadeStep) (b last : BookData) → HonestRun known b steps last → HonestlyReached known b → HasSamePlan end b → AreReads (counts_of b) → AreReads (counts_of last)
     run_reads [] b last run reached same h = subst (λ (x : BookData). AreReads (counts_of x)) (sym run) h
     run_reads (made ∷ later) b last run reached same h =

@@ -183,8 +183,8 @@ module _ (laws : KnownLaws) (no_stateful : NoStateful) (told : List FileText) (b
   abbrev is_met_at : Arrival → Bool
   is_met_at a = a.node == to || is_above b.plan a.node to
 
-  abbrev came : List Arrival
-  came = map taken_as (taken_by b.cells) ++ b.written
+  abbrev all_arrivals : List Arrival
+  all_arrivals = map taken_as (taken_by b.cells) ++ b.written
 
   -- what plain grouping meets, and the panes from the Groups above
   abbrev met : List Arrival
@@ -257,7 +257,7 @@ module _ (laws : KnownLaws) (no_stateful : NoStateful) (told : List FileText) (b
         neither true u e f = absurd (cc)
         neither false u e f = f
 
-    arrivals_weigh : sum_by arrival_weight (arrivals_of b.cells b.dropped [] b.written) ≡ sum_by arrival_weight came
+    arrivals_weigh : sum_by arrival_weight (arrivals_of b.cells b.dropped [] b.written) ≡ sum_by arrival_weight all_arrivals
     arrivals_weigh =
         let one = sum_by-append arrival_weight (flat_map cell_arrivals b.cells) (map dropped_arrival b.dropped ++ b.written) in
         let two = sum_by-append arrival_weight (map dropped_arrival b.dropped) b.written in
@@ -276,7 +276,7 @@ module _ (laws : KnownLaws) (no_stateful : NoStateful) (told : List FileText) (b
         let fourth = ap (sum_by met_weight) (append-nil (pane_chains b.plan b.panes)) in
         let fifth = sum_by-map met_weight Arrives (arrivals_of b.cells b.dropped [] b.written) in
         let sixth = sum_by-map w Arrives met in
-        let seventh = sum_by-filter (λ (a : Arrival). w (Arrives a)) is_met_at came in
+        let seventh = sum_by-filter (λ (a : Arrival). w (Arrives a)) is_met_at all_arrivals in
         omega (arith, first, second, panes_weigh, flows, third, fourth, fifth, sixth, seventh, arrivals_weigh)
 
   -- ---- at the nodes
@@ -285,7 +285,7 @@ module _ (laws : KnownLaws) (no_stateful : NoStateful) (told : List FileText) (b
   met_groups g above =
       ap (map (λ (a : Arrival). a.element))
       (filter_twice (is_at g) is_met_at
-      (λ a at. or_second (a.node == to) (is_above b.plan a.node to) (subst (λ (n : ℕ). is_above b.plan n to ≡ true) (sym (eqb-true a.node g at)) above.1)) came
+      (λ a at. or_second (a.node == to) (is_above b.plan a.node to) (subst (λ (n : ℕ). is_above b.plan n to ≡ true) (sym (eqb-true a.node g at)) above.1)) all_arrivals
       ∙ filter-append (is_at g) (map taken_as (taken_by b.cells)) b.written
       ∙ ap (λ (l : List Arrival). filter (is_at g) (map taken_as (taken_by b.cells)) ++ l) (filter_none (is_at g) b.written none_written)
       ∙ append-nil (filter (is_at g) (map taken_as (taken_by b.cells))))
@@ -306,7 +306,7 @@ module _ (laws : KnownLaws) (no_stateful : NoStateful) (told : List FileText) (b
   unfolding taken_as
   met_here =
       ap (map (λ (a : Arrival). a.element))
-      (filter_twice (is_at to) is_met_at (λ a at. or_first (a.node == to) (is_above b.plan a.node to) at) came
+      (filter_twice (is_at to) is_met_at (λ a at. or_first (a.node == to) (is_above b.plan a.node to) at) all_arrivals
       ∙ filter-append (is_at to) (map taken_as (taken_by b.cells)) b.written
       ∙ ap (λ (l : List Arrival). l ++ filter (is_at to) b.written)
       (filter_none (is_at to) (map taken_as (taken_by b.cells))
@@ -381,11 +381,11 @@ module _ (laws : KnownLaws) (no_stateful : NoStateful) (told : List FileText) (b
   met_some : All (λ a. IsNonEmpty a.element.span) met
   unfolding taken_as
   met_some k d inside =
-      All-filter is_met_at (λ a. is_met_at a ≡ true → IsNonEmpty a.element.span) came
+      All-filter is_met_at (λ a. is_met_at a ≡ true → IsNonEmpty a.element.span) all_arrivals
       (All-append (λ a. is_met_at a ≡ true → IsNonEmpty a.element.span) (map taken_as (taken_by b.cells)) b.written
       (All-map (λ a. is_met_at a ≡ true → IsNonEmpty a.element.span) taken_as (taken_by b.cells)
       (λ j e within is. (so_far.taken j e within (not_here (get_or (taken_by b.cells) j e).node (taken_groups j e within) is)).some))
-      so_far.some_written) k d inside (filter_passes is_met_at came k d inside)
+      so_far.some_written) k d inside (filter_passes is_met_at all_arrivals k d inside)
     where
       not_here : (n : ℕ) → is_group b.plan n ≡ true → (n == to || is_above b.plan n to) ≡ true → is_above b.plan n to ≡ true
       not_here n group is = subst (λ (t : Bool). (t || is_above b.plan n to) ≡ true) (not_write n group) is

@@ -6,11 +6,11 @@ use Rattle.book_core.specs.Changes.{note_of}
 use Rattle.book_core.specs.Jobs.{attempted_of, job_of}
 use Rattle.book_core.specs.Runs.{HonestRun, HonestlyReached, MadeStep}
 use Rattle.book_core.specs.Steps.{IsWorking}
-use Rattle.book_core.specs.Work.{Known, IsHonest}
+use Rattle.book_core.specs.Work.{Surroundings, IsHonest}
 use Rattle.book_core.specs.declared.live.Live.{Live}
 
 -- In an earlier book of the run a slot worked a job; it is of that job that the note tells, and its fail was honest. It was the last attempt that the job had.
-pub record IsHonestStop (known : Known) (b : BookData) (note : FaultNote) : Type 0 where
+pub record IsHonestStop (known : Surroundings) (b : BookData) (note : FaultNote) : Type 0 where
   pub before : BookData
   pub reached : HonestlyReached known before
   pub steps : List MadeStep

@@ -19,7 +19,7 @@ ghost use Rattle.book_core.specs.Book.{BookData};
 ghost use Rattle.book_core.specs.Calls.{IsOutcomeOf};
 ghost use Rattle.book_core.specs.Changes.{done_cmp};
 ghost use Rattle.book_core.specs.Runs.{AreTold, HonestlyReached, IsThrough, Reached};
-ghost use Rattle.book_core.specs.Work.{Known};
+ghost use Rattle.book_core.specs.Work.{Surroundings};
 ghost use Rattle.ended_runs.specs.EndedRuns.{IsEndedRun};
 ghost use Rattle.ended_runs.specs.Stops.{IsHonestStop};
 ghost use Rattle.ended_runs.specs.Storable.{ArePanesStorable};
@@ -125,7 +125,7 @@ pub fn an_early_trigger_splits_a_pane()
 /// A run that was given up by a fault met that fault: some job of it failed there honestly, as often as
 /// it may.
 pub fn stops_are_honest()
-    ensures { (known : Known) (b : BookData) (note : FaultNote) → HonestlyReached known b → b.stopped ≡ Some (stop.Spent note)
+    ensures { (known : Surroundings) (b : BookData) (note : FaultNote) → HonestlyReached known b → b.stopped ≡ Some (stop.Spent note)
         → IsHonestStop known b note }
 {
     attempts_are_counted();
@@ -134,9 +134,9 @@ pub fn stops_are_honest()
 /// Where the files are told and calls fail on poison alone, no call fails in a run that takes no poison.
 /// So it is given up only by reads, of which at least as many failed as a job has attempts.
 pub fn runs_without_poison_fail_by_reads()
-    ensures calls { (known : Known) (told : List FileText) (b : BookData) → known.told ≡ Some told → known.strict ≡ true → AreTold told b
+    ensures calls { (known : Surroundings) (told : List FileText) (b : BookData) → known.told ≡ Some told → known.strict ≡ true → AreTold told b
         → TakesNoPoison known b.plan b.options → HonestlyReached known b → b.calls ≡ 0 }
-    ensures reads { (known : Known) (told : List FileText) (b : BookData) (note : FaultNote) → known.told ≡ Some told → known.strict ≡ true → AreTold told b
+    ensures reads { (known : Surroundings) (told : List FileText) (b : BookData) (note : FaultNote) → known.told ≡ Some told → known.strict ≡ true → AreTold told b
         → TakesNoPoison known b.plan b.options → HonestlyReached known b → b.stopped ≡ Some (stop.Spent note) → b.options.attempts ≤ b.reads }
 {
     reached_books_are_kept();

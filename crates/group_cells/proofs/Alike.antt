@@ -46,14 +46,14 @@ same_group n k node key = node == n && bytes_eq (spelling key) (spelling k)
 pub group_itself : (n : ℕ) (k : Value) → same_group n k n k ≡ true
 group_itself n k = both_true _ _ ((Decides-eqb n n).1 refl) (key_itself k)
 
--- what is of a node and key is of another exactly where these are one
+-- where m, l and `node`, `key` are one node and key, both compare alike with n, k
 pub group_through : (n : ℕ) (k : Value) (node : ℕ) (key : Value) (m : ℕ) (l : Value) → same_group node key m l ≡ true → same_group n k m l ≡ same_group n k node key
 group_through n k node key m l e =
     let both = and_parts (m == node) (bytes_eq (spelling l) (spelling key)) e in
     ap (λ x. x == n && bytes_eq (spelling l) (spelling k)) ((Decides-eqb m node).0 both.0)
     ∙ ap (λ x. node == n && bytes_eq x (spelling k)) ((bytes_eq-Decides (spelling l) (spelling key)).0 both.1)
 
--- and is asked for alike
+-- where n, k and `node`, `key` are one node and key, m, l compares alike with both
 pub group_asked : (n : ℕ) (k : Value) (node : ℕ) (key : Value) (m : ℕ) (l : Value) → same_group n k node key ≡ true → same_group node key m l ≡ same_group n k m l
 group_asked n k node key m l e =
     let both = and_parts (node == n) (bytes_eq (spelling key) (spelling k)) e in

@@ -25,7 +25,7 @@ use Rattle.group_cells.specs.Arrivals.{arrived, with_arrival, with_arrivals, mer
 use Rattle.group_cells.specs.Commits.{CellPlace, cell_place, elements_keyed, is_taken, is_at_group, arrives_in_time}
 use Rattle.group_cells.specs.Looking.{is_cell_of}
 use Rattle.group_cells.specs.Placing.{Opening, is_same_key, fresh_cell, with_entry, opened_all}
-use Rattle.group_cells.specs.Plain.{AreAllPlaced, ArePlaced, IsFit}
+use Rattle.group_cells.specs.Plain.{AreAllPlaced, ArePlaced, IsFit, is_arrival_at}
 use Rattle.group_cells.specs.Rounds.{AreWindowsFor, entry_of, open_windows}
 use Rattle.group_cells.proofs.Alike.{and_parts, both_true, key_itself}
 use Rattle.group_cells.proofs.PlainRounds.{in_time_keyed}
@@ -58,30 +58,27 @@ no_filter p q r h (x ∷ xs) = by (p x) (q x) (r x) refl refl (no_filter p q r h
 
 -- ---- which arrivals are left for later
 
-abbrev at_key : ℕ → Value → Arrival → Bool
-at_key n k a = a.node == n && is_keyed k a.element
-
-node_is : (n : ℕ) (k : Value) (a : Arrival) → at_key n k a ≡ true → a.node ≡ n
+node_is : (n : ℕ) (k : Value) (a : Arrival) → is_arrival_at n k a ≡ true → a.node ≡ n
 node_is n k a e = (Decides-eqb a.node n).0 (and_parts (a.node == n) (is_keyed k a.element) e).0
 
 all_merge : (plan : Plan) (before : List StageMarks) (n : ℕ) (k : Value) → (rules_of plan n).merges ≡ true → (arrivals : List Arrival)
     → elements_keyed n k (filter (merging plan before) arrivals) ≡ elements_keyed n k (filter (is_taken plan before) arrivals)
 all_merge plan before n k merges arrivals =
     ap (map (λ (a : Arrival). a.element))
-    (both_filters (is_taken plan before) (λ a. (rules_of plan a.node).merges) (at_key n k) (λ a e f. ap (λ m. (rules_of plan m).merges) (node_is n k a e) ∙ merges) arrivals)
+    (both_filters (is_taken plan before) (λ a. (rules_of plan a.node).merges) (is_arrival_at n k) (λ a e f. ap (λ m. (rules_of plan m).merges) (node_is n k a e) ∙ merges) arrivals)
 
 none_taken : (plan : Plan) (before : List StageMarks) (n : ℕ) (k : Value) → is_group plan n ≡ false → (arrivals : List Arrival)
     → elements_keyed n k (filter (merging plan before) arrivals) ≡ elements_keyed n k (filter (is_taken plan before) arrivals)
 none_taken plan before n k none arrivals =
     ap (map (λ (a : Arrival). a.element))
-    (both_filters (is_taken plan before) (λ a. (rules_of plan a.node).merges) (at_key n k)
+    (both_filters (is_taken plan before) (λ a. (rules_of plan a.node).merges) (is_arrival_at n k)
     (λ a e f. absurd (false≢true (sym none ∙ ap (is_group plan) (sym (node_is n k a e)) ∙ (and_parts (is_at_group plan a) (arrives_in_time plan before a) f).0))) arrivals)
 
 none_merge : (plan : Plan) (before : List StageMarks) (n : ℕ) (k : Value) → (rules_of plan n).merges ≡ false → (arrivals : List Arrival)
     → elements_keyed n k (filter (merging plan before) arrivals) ≡ []
 none_merge plan before n k unmerged arrivals =
     ap (map (λ (a : Arrival). a.element))
-    (no_filter (is_taken plan before) (λ a. (rules_of plan a.node).merges) (at_key n k) (λ a e. ap (λ m. (rules_of plan m).merges) (node_is n k a e) ∙ unmerged) arrivals)
+    (no_filter (is_taken plan before) (λ a. (rules_of plan a.node).merges) (is_arrival_at n k) (λ a e. ap (λ m. (rules_of plan m).merges) (node_is n k a e) ∙ unmerged) arrivals)
 
 -- where nothing comes and no window merges, nothing changes
 none_placed : (rules : GroupRules) (before : ℤ) (node : ℕ) (key : Value) (c : ℕ) (cells placed : List Cell) → rules.merges ≡ false → ArePlaced rules before node key c [] cells placed → placed ≡ cells
@@ -98,10 +95,10 @@ none_placed rules before node key c cells placed unmerged h =
 
 keyed_elements : (n : ℕ) (k : Value) (arrivals : List Arrival) → AreKeyed n k (elements_keyed n k arrivals)
 keyed_elements n k [] = tt
-keyed_elements n k (a ∷ arrivals) = by (at_key n k a) refl (keyed_elements n k arrivals)
+keyed_elements n k (a ∷ arrivals) = by (is_arrival_at n k a) refl (keyed_elements n k arrivals)
   where
-    by : (t : Bool) → at_key n k a ≡ t → AreKeyed n k (elements_keyed n k arrivals)
-        → AreKeyed n k (map (λ (b : Arrival). b.element) (cond t (a ∷ filter (at_key n k) arrivals) (filter (at_key n k) arrivals)))
+    by : (t : Bool) → is_arrival_at n k a ≡ t → AreKeyed n k (elements_keyed n k arrivals)
+        → AreKeyed n k (map (λ (b : Arrival). b.element) (cond t (a ∷ filter (is_arrival_at n k) arrivals) (filter (is_arrival_at n k) arrivals)))
     by true e ih = (both_true (n == n) (is_keyed k a.element) ((Decides-eqb n n).1 refl) (and_parts (a.node == n) (is_keyed k a.element) e).1, ih)
     by false e ih = ih
 

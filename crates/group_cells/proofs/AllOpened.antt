@@ -42,7 +42,7 @@ module _ (rules : GroupRules) (node : ℕ) (panes : List Pane) (S T : Interval �
     (carries : (s w own : Interval) → is_absorbed rules before s w ≡ true → fits rules.merges own w ≡ true → fits rules.merges own s ≡ true)
     (itself : (s : Interval) → is_absorbed rules before s s ≡ false)
     (unfired : (s : Interval) → T s → S s ⊎ All (λ p. is_of_window s p ≡ false) panes) where
-  -- the windows that may stand on the way: those that stood, and those that were opened, each after it absorbed what it absorbs; what is to stay is there
+  -- Of the windows A between two openings: each stood before, or is to stand and absorbs none of A; and each that stood and is to stand is in A.
   record Goes (A : Interval → Type 0) : Type 0 where
     from : (w : Interval) → A w → S w ⊎ (T w × ((v : Interval) → A v → is_absorbed rules before w v ≡ false))
     stay : (w : Interval) → S w → T w → A w

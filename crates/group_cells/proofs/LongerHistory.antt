@@ -57,7 +57,7 @@ Arrives taken c w = arrives taken c w ≡ true
 abbrev at : ℕ → Interval → Taken → Bool
 at d w e = e.commit == d && same_span e.element.span w
 
--- what a later commit brings changes nothing of what stood
+-- a later commit leaves unchanged which windows stood after the commits before
 module _ (rules : GroupRules) (mark new_mark : ℕ → ℤ) (c : ℕ) (taken news all : List Taken)
     (marks_same : (i : ℕ) → i ≤ c → new_mark i ≡ mark i) (moved : IsSameBag all (taken ++ news))
     (old_commits : count_by (λ e. nat_lt c e.commit) taken ≡ 0) (new_commits : All (λ e. e.commit ≡ suc c) news) where

@@ -22,16 +22,12 @@ use Rattle.group_cells.proofs.Alike.{and_parts, same_group}
 use Rattle.group_cells.proofs.Unmerged.{arrived_all}
 use Rattle.group_cells.proofs.Arriving.{arrived_elsewhere, arrived_here}
 
--- one element among the cells of its node and key
-abbrev pub with_own : GroupRules → ℕ → ℕ → List Cell → Element → List Cell
-with_own rules n c cells e = cond rules.merges cells (arrived n (key_of e) e.span (entry_of c e) cells)
-
--- an element in time among all cells
-abbrev with_taken : GroupRules → ℕ → ℕ → List Cell → Element → List Cell
+-- an element in time among all cells, or among those of its node and key
+abbrev pub with_taken : GroupRules → ℕ → ℕ → List Cell → Element → List Cell
 with_taken rules m c cells e = cond rules.merges cells (arrived m (key_of e) e.span (entry_of c e) cells)
 
 taken_own : (rules : GroupRules) (n : ℕ) (k : Value) (c : ℕ) (e : Element) (cells : List Cell) → same_group n k n (key_of e) ≡ true
-    → filter (is_cell_at_key n k) (with_taken rules n c cells e) ≡ with_own rules n c (filter (is_cell_at_key n k) cells) e
+    → filter (is_cell_at_key n k) (with_taken rules n c cells e) ≡ with_taken rules n c (filter (is_cell_at_key n k) cells) e
 taken_own rules n k c e cells same = by_merges rules.merges
   where
     by_merges : (b : Bool) → filter (is_cell_at_key n k) (cond b cells (arrived n (key_of e) e.span (entry_of c e) cells))
@@ -64,7 +60,7 @@ one_at plan before c m e cells = cond (is_group plan m && in_time_at plan before
 
 pub one_here : (plan : Plan) (before : List StageMarks) (c n : ℕ) (k : Value) (a : Arrival) (cells : List Cell) → is_group plan n ≡ true → same_group n k a.node (key_of a.element) ≡ true
     → filter (is_cell_at_key n k) (with_arrival plan before c cells a)
-    ≡ cond (in_time_at plan before n a.element) (with_own (rules_of plan n) n c (filter (is_cell_at_key n k) cells) a.element) (filter (is_cell_at_key n k) cells)
+    ≡ cond (in_time_at plan before n a.element) (with_taken (rules_of plan n) n c (filter (is_cell_at_key n k) cells) a.element) (filter (is_cell_at_key n k) cells)
 one_here plan before c n k a cells group same =
     let both = and_parts (a.node == n) (bytes_eq (spelling (key_of a.element)) (spelling k)) same in
     let at : a.node ≡ n = (Decides-eqb a.node n).0 both.0 in
@@ -75,14 +71,14 @@ one_here plan before c n k a cells group same =
   where
     by_time : (b : Bool) → same_group n k n (key_of a.element) ≡ true
         → filter (is_cell_at_key n k) (cond b (with_taken (rules_of plan n) n c cells a.element) cells)
-        ≡ cond b (with_own (rules_of plan n) n c (filter (is_cell_at_key n k) cells) a.element) (filter (is_cell_at_key n k) cells)
+        ≡ cond b (with_taken (rules_of plan n) n c (filter (is_cell_at_key n k) cells) a.element) (filter (is_cell_at_key n k) cells)
     by_time true here = taken_own (rules_of plan n) n k c a.element cells here
     by_time false here = refl
 
 -- those in time, one by one
 pub project : (plan : Plan) (before : List StageMarks) (c n : ℕ) (k : Value) → is_group plan n ≡ true → (arrivals : List Arrival) (cells : List Cell)
     → filter (is_cell_at_key n k) (with_arrivals plan before c cells arrivals)
-    ≡ fold (with_own (rules_of plan n) n c) (filter (is_cell_at_key n k) cells) (filter (in_time_at plan before n) (elements_keyed n k arrivals))
+    ≡ fold (with_taken (rules_of plan n) n c) (filter (is_cell_at_key n k) cells) (filter (in_time_at plan before n) (elements_keyed n k arrivals))
 project plan before c n k group [] cells = refl
 project plan before c n k group (a ∷ arrivals) cells =
     project plan before c n k group arrivals (with_arrival plan before c cells a)
@@ -92,19 +88,19 @@ project plan before c n k group (a ∷ arrivals) cells =
     rest = filter (in_time_at plan before n) (elements_keyed n k arrivals)
 
     by_test : (t u : Bool) → same_group n k a.node (key_of a.element) ≡ t → in_time_at plan before n a.element ≡ u
-        → fold (with_own (rules_of plan n) n c) (filter (is_cell_at_key n k) (with_arrival plan before c cells a)) (filter (in_time_at plan before n) (elements_keyed n k arrivals))
-        ≡ fold (with_own (rules_of plan n) n c) (filter (is_cell_at_key n k) cells)
+        → fold (with_taken (rules_of plan n) n c) (filter (is_cell_at_key n k) (with_arrival plan before c cells a)) (filter (in_time_at plan before n) (elements_keyed n k arrivals))
+        ≡ fold (with_taken (rules_of plan n) n c) (filter (is_cell_at_key n k) cells)
         (filter (in_time_at plan before n) (map (λ arrival. arrival.element) (cond t (a ∷ filter (λ arrival. arrival.node == n && is_keyed k arrival.element) arrivals) (filter (λ arrival. arrival.node == n && is_keyed k arrival.element) arrivals))))
     by_test false u e f =
-        ap (λ l. fold (with_own (rules_of plan n) n c) l (filter (in_time_at plan before n) (elements_keyed n k arrivals))) (one_elsewhere plan before c n k a cells e)
+        ap (λ l. fold (with_taken (rules_of plan n) n c) l (filter (in_time_at plan before n) (elements_keyed n k arrivals))) (one_elsewhere plan before c n k a cells e)
     by_test true true e f =
-        ap (λ l. fold (with_own (rules_of plan n) n c) l (filter (in_time_at plan before n) (elements_keyed n k arrivals)))
-        (one_here plan before c n k a cells group e ∙ ap (λ b. cond b (with_own (rules_of plan n) n c (filter (is_cell_at_key n k) cells) a.element) (filter (is_cell_at_key n k) cells)) f)
-        ∙ sym (ap (λ b. fold (with_own (rules_of plan n) n c) (filter (is_cell_at_key n k) cells) (cond b (a.element ∷ filter (in_time_at plan before n) (elements_keyed n k arrivals)) (filter (in_time_at plan before n) (elements_keyed n k arrivals)))) f)
+        ap (λ l. fold (with_taken (rules_of plan n) n c) l (filter (in_time_at plan before n) (elements_keyed n k arrivals)))
+        (one_here plan before c n k a cells group e ∙ ap (λ b. cond b (with_taken (rules_of plan n) n c (filter (is_cell_at_key n k) cells) a.element) (filter (is_cell_at_key n k) cells)) f)
+        ∙ sym (ap (λ b. fold (with_taken (rules_of plan n) n c) (filter (is_cell_at_key n k) cells) (cond b (a.element ∷ filter (in_time_at plan before n) (elements_keyed n k arrivals)) (filter (in_time_at plan before n) (elements_keyed n k arrivals)))) f)
     by_test true false e f =
-        ap (λ l. fold (with_own (rules_of plan n) n c) l (filter (in_time_at plan before n) (elements_keyed n k arrivals)))
-        (one_here plan before c n k a cells group e ∙ ap (λ b. cond b (with_own (rules_of plan n) n c (filter (is_cell_at_key n k) cells) a.element) (filter (is_cell_at_key n k) cells)) f)
-        ∙ sym (ap (λ b. fold (with_own (rules_of plan n) n c) (filter (is_cell_at_key n k) cells) (cond b (a.element ∷ filter (in_time_at plan before n) (elements_keyed n k arrivals)) (filter (in_time_at plan before n) (elements_keyed n k arrivals)))) f)
+        ap (λ l. fold (with_taken (rules_of plan n) n c) l (filter (in_time_at plan before n) (elements_keyed n k arrivals)))
+        (one_here plan before c n k a cells group e ∙ ap (λ b. cond b (with_taken (rules_of plan n) n c (filter (is_cell_at_key n k) cells) a.element) (filter (is_cell_at_key n k) cells)) f)
+        ∙ sym (ap (λ b. fold (with_taken (rules_of plan n) n c) (filter (is_cell_at_key n k) cells) (cond b (a.element ∷ filter (in_time_at plan before n) (elements_keyed n k arrivals)) (filter (in_time_at plan before n) (elements_keyed n k arrivals)))) f)
 
 -- at a node that is no Group nothing arrives
 pub project_none : (plan : Plan) (before : List StageMarks) (c n : ℕ) (k : Value) → is_group plan n ≡ false → (arrivals : List Arrival) (cells : List Cell)
@@ -120,15 +116,15 @@ project_none plan before c n k none (a ∷ arrivals) cells =
         ap (λ m. filter (is_cell_at_key n k) (one_at plan before c m a.element cells)) at
         ∙ ap (λ b. filter (is_cell_at_key n k) (cond (b && in_time_at plan before n a.element) (with_taken (rules_of plan n) n c cells a.element) cells)) none
 
-own_only : (rules : GroupRules) (n c : ℕ) → rules.merges ≡ true → (es : List Element) (cells : List Cell) → fold (with_own rules n c) cells es ≡ cells
+own_only : (rules : GroupRules) (n c : ℕ) → rules.merges ≡ true → (es : List Element) (cells : List Cell) → fold (with_taken rules n c) cells es ≡ cells
 own_only rules n c merges [] cells = refl
 own_only rules n c merges (e ∷ es) cells =
-    ap (λ b. fold (with_own rules n c) (cond b cells (arrived n (key_of e) e.span (entry_of c e) cells)) es) merges ∙ own_only rules n c merges es cells
+    ap (λ b. fold (with_taken rules n c) (cond b cells (arrived n (key_of e) e.span (entry_of c e) cells)) es) merges ∙ own_only rules n c merges es cells
 
-own_all : (rules : GroupRules) (n c : ℕ) → rules.merges ≡ false → (es : List Element) (cells : List Cell) → fold (with_own rules n c) cells es ≡ arrived_all n c es cells
+own_all : (rules : GroupRules) (n c : ℕ) → rules.merges ≡ false → (es : List Element) (cells : List Cell) → fold (with_taken rules n c) cells es ≡ arrived_all n c es cells
 own_all rules n c unmerged [] cells = refl
 own_all rules n c unmerged (e ∷ es) cells =
-    ap (λ b. fold (with_own rules n c) (cond b cells (arrived n (key_of e) e.span (entry_of c e) cells)) es) unmerged
+    ap (λ b. fold (with_taken rules n c) (cond b cells (arrived n (key_of e) e.span (entry_of c e) cells)) es) unmerged
     ∙ own_all rules n c unmerged es (arrived n (key_of e) e.span (entry_of c e) cells)
 
 -- where windows merge, nothing changes yet

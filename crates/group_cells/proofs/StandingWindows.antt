@@ -44,7 +44,7 @@ MergedNext trigger mark stood arrived w = StandsNext (merging_rules trigger) mar
 -- ---- one commit
 
 module _ (trigger : Trigger) (gap mark : ℤ) (some : pos 0 <ℤ gap) (stood arrived : Interval → Type 0) (in_time : (v : Interval) → arrived v → IsInTime trigger gap mark v) where
-  -- what merges ends later than what is expired
+  -- a window that takes part in merging ends later than an expired one
   pub ends_later : (w v : Interval) → IsExpired trigger mark w → Merging trigger mark stood arrived v → w.end <ℤ v.end
   ends_later w v gone (inl s) = let a = open_ends trigger mark v s.1 in let b = expired_ends trigger mark w gone in omega (arith, ints)
   ends_later w v gone (inr c) = let a = open_ends trigger mark v (in_time v c).in_time in let b = expired_ends trigger mark w gone in omega (arith, ints)
@@ -146,7 +146,7 @@ module _ (trigger : Trigger) (gap : ℤ) (some : pos 0 <ℤ gap) (mark : ℕ →
     open_apart (suc c) within a b (inr x) (inr y) p q = one_or_apart (Merging trigger (mark c) (stands c) (λ v. arrived (suc c) v ≡ true)) a b x y
 
   module _ (onward : (c : ℕ) → suc c ≤ last → (v : Interval) → stands c v → (w : Interval) × stands (suc c) w × LiesIn v w) where
-    -- what stood at some time lies in what stands
+    -- a window that stood after commit d lies in one that stands after commit c, the same or a later one
     pub still : (d c : ℕ) → d ≤ c → c ≤ last → (v : Interval) → stands d v → (w : Interval) × stands c w × LiesIn v w
     still d zero early within v h = let at : d ≡ 0 = omega arith in absurd (subst (λ (n : ℕ). stands n v) at h)
     still d (suc c) early within v h = elim (cases_lt d (suc c)) [

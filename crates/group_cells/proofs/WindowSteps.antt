@@ -21,17 +21,17 @@ IsIn w (x ∷ xs) = (w ≡ x) ⊎ IsIn w xs
 
 -- What is asked of the windows that stand before and after a commit (`S` and `T`), where a cell is opened for each of the listed ones.
 pub record IsStep (rules : GroupRules) (mark : ℕ → ℤ) (arrived : ℕ → Interval → Bool) (c : ℕ) (new : Interval → Type 0) (S T : Interval → Type 0) (ls : List Interval) : Type 0 where
-  -- what stood at some time and stands after the commit stood before it
+  -- a window that stood after some earlier commit and stands after this one stood right before it
   pub still : (d : ℕ) → d ≤ c → (w : Interval) → Stands rules mark arrived d w → T w → S w
   -- an own window belongs to one window
   pub alone : (own : Interval) → ((d : ℕ) × (d ≤ c) × (arrived d own ≡ true)) ⊎ new own → (a b : Interval) → T a → T b → fits rules.merges own a ≡ true → fits rules.merges own b ≡ true → a ≡ b
-  -- what is absorbed doesn't stand after it, and lies in what absorbs it
+  -- a window that a standing one absorbs doesn't stand afterwards, and lies in the window that absorbs it
   pub gone : (s w : Interval) → T s → is_absorbed rules (mark c) s w ≡ true → T w → ⊥
   pub alone_before : (s w : Interval) → S s → S w → is_absorbed rules (mark c) s w ≡ true → ⊥
   pub lies : (s w : Interval) → is_absorbed rules (mark c) s w ≡ true → LiesIn w s
   pub carries : (s w own : Interval) → is_absorbed rules (mark c) s w ≡ true → fits rules.merges own w ≡ true → fits rules.merges own s ≡ true
   pub not_itself : (s : Interval) → is_absorbed rules (mark c) s s ≡ false
-  -- what stands after it: what stood and isn't absorbed, and the listed ones
+  -- afterwards stand the listed windows, and those of before that none of them absorbs
   pub stays : (w : Interval) → S w → ((s : Interval) → IsIn s ls → is_absorbed rules (mark c) s w ≡ false) → T w
   pub each : (s : Interval) → IsIn s ls → T s
   pub only : (w : Interval) → T w → S w ⊎ IsIn w ls

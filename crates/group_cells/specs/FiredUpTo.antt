@@ -33,7 +33,7 @@ IsNoneDue rules node mark cells from_ to_ = (place : ℕ) (cell : Cell) → from
 abbrev pub AreAllDue : GroupRules → ℕ → ℤ → List Cell → List ℕ → Type 0
 AreAllDue rules node mark cells places = (place : ℕ) (cell : Cell) → slice_get cells place ≡ Some cell → IsSome (firing_at rules node mark cell) → Contains places place
 
--- and up to a later place, with one cell more: it is passed, or there is none at its place
+-- firing has gone on from `done` to `next`, past `place`, or there is no cell at `place`
 pub record IsFiredPast (rules : GroupRules) (node c : ℕ) (mark : ℤ) (cells : List Cell) (place done next : ℕ) (new : List Cell) (fired : List Pane) : Type 0 where
   pub upto : AreFiredUpTo rules node c mark cells next new fired
   pub on : done ≤ next

@@ -37,8 +37,8 @@ pub fn is_open(rules: &Rules, before: Mark, cell: &Cell) -> bool
     cell.merged_into.is_none() && !is_dropped(&rules.trigger, cell.span.end(), before)
 }
 
-/// The windows of one Group and key for which there are to be cells, of which `own` are those of the
-/// entries that come.
+/// The windows of one Group and key for which there are to be cells. `own` are the own windows of the
+/// entries that arrive.
 pub fn windows_for(
     alloc: Global,
     rules: &Rules,

@@ -24,7 +24,7 @@ use Rattle.plan_reader.specs.Documents.{array_of, checked, plan_of, version_of}
 use Rattle.plan_reader.specs.Forms.{◌>>=◌, one_by_one, or_absent, needed, string_in, text_in, word_in, strings_in, pair_in, any_number_in, within, number_in, bool_in, value_of}
 use Rattle.plan_reader.specs.Nodes.{name_of, names_of, inputs_in, inputs_of, kind_of, node_of, nodes_of}
 use Rattle.plan_reader.specs.Refusals.{Meaning}
-use Rattle.plan_reader.specs.Settings.{work_at, number_at, number_or, files_at, source_files, counts_at, source_args, lag_of, estimator_in, estimator_at, source_of, number_args, text_args, function_args, pardo_of, state_args, stateful_of, allowed, fixed_in, sliding_in, sessions_in, windows_of, strategy_in, window_of, early_in, early_at, mode_at, group_of, write_of, settings_of}
+use Rattle.plan_reader.specs.Settings.{work_at, number_at, number_or, files_at, source_files, counts_at, source_args, lag_of, estimator_in, estimator_at, source_of, number_args, text_args, function_args, pardo_of, state_args, stateful_of, allowed, fixed_in, sliding_in, sessions_in, windows_of, strategy_in, window_of, early_in, early_at, mode_at, group_of, write_of, settings_of, longest}
 
 -- a refusal of the JSON value
 abbrev pub IsOfValue : PlanRefusal → Type 0
@@ -142,7 +142,7 @@ text_judges node d = search (then, needed_judges, text, judged)
 
 function_judges : (work : FnKind) (node : ℕ) (d : Data) → Judges (function_args work node d)
 function_judges function.Field node d = number_judges 0 1000 node d
-function_judges function.Shift node d = number_judges 0 31536000000000 node d
+function_judges function.Shift node d = number_judges 0 longest node d
 function_judges function.KeepPrefix node d = text_judges node d
 function_judges _ node d = judged _
 
@@ -151,7 +151,7 @@ pardo_judges node d = search (then, work, function_judges, judged)
 
 state_judges : (work : StateKind) (node : ℕ) (d : Data) → Judges (state_args work node d)
 state_judges state.BatchUntil node d = number_judges 1 1000000 node d
-state_judges state.LatestThenEmit node d = number_judges 0 31536000000000 node d
+state_judges state.LatestThenEmit node d = number_judges 0 longest node d
 state_judges _ node d = judged _
 
 stateful_judges : (node : ℕ) (d : Data) → Judges (stateful_of node d)

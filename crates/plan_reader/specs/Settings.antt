@@ -5,7 +5,7 @@ use Rattle.std.specs.Option.{option_map_or}
 use Rattle.serde_json.specs.Data.{Data}
 use Rattle.serde_json.specs.Find.{as_str}
 use Rattle.beam_values.specs.Checked.{is_file_name}
-use Rattle.beam_values.specs.Strategies.{is_allowed}
+use Rattle.beam_values.specs.Strategies.{is_allowed, greatest_length}
 use Rattle.beam_values.specs.declared.plan.Args.{Args}
 use Rattle.beam_values.specs.declared.plan.Args.TheVariants.{Nothing, Text, Number, Two}
 use Rattle.beam_values.specs.declared.plan.Estimator.{Estimator}
@@ -32,10 +32,11 @@ use Rattle.plan_reader.specs.Forms.{◌>>=◌, one_by_one, value_of, needed, or_
 use Rattle.plan_reader.specs.Places.{in_node}
 use Rattle.plan_reader.specs.Refusals.{Meaning}
 use Rattle.plan_reader.specs.Words.{meaning_in, sources, functions, stateful_functions, estimators, modes}
+use Rattle.beam_values.specs.Windows.{or_zero}
 
 -- the greatest length of a window, a period, a gap, a lag, a lateness, a shift and a delay, and the greatest count of a trigger
 abbrev pub longest : ℕ
-longest = 31536000000000
+longest = or_zero greatest_length
 
 abbrev pub greatest_count : ℕ
 greatest_count = 4294967295

@@ -8,10 +8,10 @@ use Rattle.beam_values.specs.declared.plan.Plan.{Plan}
 use Rattle.book_core.specs.Book.{BookData}
 use Rattle.book_core.specs.Runs.{HonestRun, HonestlyReached, IsHonestAction, IsOpening, MadeStep}
 use Rattle.book_core.specs.Steps.{Action, Answer, Step}
-use Rattle.book_core.specs.Work.{Known}
+use Rattle.book_core.specs.Work.{Surroundings}
 use Rattle.book_core.proofs.Reaching.{HasSamePlan, step_same}
 
-module _ (known : Known) where
+module _ (known : Surroundings) where
   run_more : (steps : List MadeStep) (b mid end : BookData) (made : MadeStep) → HonestRun known b steps mid → Step known.told mid made.slot made.action made.answer end
       → IsHonestAction known mid made.slot made.action → HonestRun known b (steps ++ made ∷ []) end
   run_more [] b mid end made run step honest = (

@@ -25,7 +25,7 @@ use Rattle.chain_exec.specs.Causes.{IsCallRefused, ObservedShelf}
 use Rattle.chain_exec.specs.declared.refusal.ExecRefusal.{ExecRefusal}
 use Rattle.chain_exec.specs.declared.refusal.ExecRefusal.TheVariants.{Faulted, NoMemory}
 use Rattle.run_engine.specs.Bundles.{HasClaimed, HasTaken, IsJobRefused, IsSpanRefused, OnlyClaims}
-use Rattle.run_engine.specs.PlanRun.{known_of}
+use Rattle.run_engine.specs.PlanRun.{surroundings_of}
 use Rattle.run_engine.proofs.Claims.{works_now}
 
 -- ---- what was taken
@@ -74,8 +74,8 @@ module _ (b : BookData) (slot : ℕ) (piece : Piece) (works : IsWorking b slot (
     refused.0,
     (live.Span piece attempted, new_works),
     λ l there. let here = new_works in let same : live.Span piece attempted ≡ l = cc in
-        subst (λ (x : Live). IsHonest (known_of shelf store) new.plan (job_of new.panes x) (attempted_of x) at cause) same
-        (subst (λ (p : Plan). IsHonest (known_of shelf store) p (job.Span piece) attempted at cause) (sym plan_same) refused.1),
+        subst (λ (x : Live). IsHonest (surroundings_of shelf store) new.plan (job_of new.panes x) (attempted_of x) at cause) same
+        (subst (λ (p : Plan). IsHonest (surroundings_of shelf store) p (job.Span piece) attempted at cause) (sym plan_same) refused.1),
   )
 
   pub span_goes : GoesOn (live.Span piece attempted) → GoesOnAt new slot
@@ -121,10 +121,10 @@ module _ (b : BookData) (slot node : ℕ) (panes : List Pane) (taken : IsBatchTa
     refused.0,
     (live.Batch taken.batch, taken.works),
     λ l there. let here = taken.works in let same : live.Batch taken.batch ≡ l = cc in
-        subst (λ (x : Live). IsHonest (known_of shelf store) b.plan (job_of b.panes x) (attempted_of x) at Call) same (by shelf.strict refl refused.1),
+        subst (λ (x : Live). IsHonest (surroundings_of shelf store) b.plan (job_of b.panes x) (attempted_of x) at Call) same (by shelf.strict refl refused.1),
   )
     where
       by : (strict : Bool) → shelf.strict ≡ strict → (shelf.strict ≡ true → first_poison (batch_outputs b.plan node panes) ≡ Some at)
-          → IsHonest (known_of shelf store) b.plan (job_of b.panes (live.Batch taken.batch)) None at Call
+          → IsHonest (surroundings_of shelf store) b.plan (job_of b.panes (live.Batch taken.batch)) None at Call
       by false is poison = inl is
       by true is poison = inr (ap first_poison (sym outputs_same) ∙ poison is)

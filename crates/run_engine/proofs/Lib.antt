@@ -1,7 +1,7 @@
 pub mod Working
 mod Opens
 mod Readers
-mod Brought
+mod BarrierReach
 mod PieceWork
 mod Honest
 mod Claims

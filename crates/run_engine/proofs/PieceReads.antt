@@ -18,13 +18,13 @@ use Rattle.beam_values.specs.declared.plan.Plan.{Plan}
 use Rattle.beam_values.specs.declared.plan.SourceKind.{SourceKind}
 use Rattle.beam_values.specs.declared.plan.SourceKind.TheVariants.{Lines, TimedLines, Count, Made}
 use Rattle.beam_values.proofs.Spreads.{spread-single}
-use Rattle.beam_model.specs.Coverings.{AreDistinct, is_item, item_at}
+use Rattle.beam_model.specs.Coverings.{AreDistinct, is_item, item_at, spread_of}
 use Rattle.beam_model.specs.Positions.{SourceItem, emission, positions_in}
 use Rattle.beam_model.specs.Spread.{emission_outputs, outputs_at, spread_range, first_poison}
 use Rattle.beam_model.proofs.Coverings.{plan_distinct}
 use Rattle.beam_ports.specs.Files.{KeepsOpenings, Opening}
 use Rattle.beam_ports.specs.Observed.{ObservedStore}
-use Rattle.book_core.specs.Work.{IsGiven, IsHonest, IsHonestCall, IsPoisonAttempt, IsWorkOn, IsWorkOnItem, IsWorkOnRange, is_file_source, is_known, is_told, items_told, outputs_of_item, reads_file_in, worked_to}
+use Rattle.book_core.specs.Work.{IsGiven, IsHonest, IsHonestCall, IsPoisonAttempt, IsWorkOn, IsWorkOnItem, IsWorkOnRange, is_file_source, is_known, is_told, items_told, reads_file_in, worked_to}
 use Rattle.bundle_commit.specs.declared.job.Job.TheVariants as job
 use Rattle.bundle_commit.specs.declared.job.Receipt.{Receipt}
 use Rattle.chain_exec.specs.Causes.{ObservedShelf}
@@ -180,10 +180,10 @@ module _ (told : Option (List FileText)) (opened : ℕ → Option Opening) (plan
       let r = refused.refused (record { work = read.0.work; args = read.0.args }) piece_source in
       (r.0, subst (λ (t : Option (List FileText)). IsHonest (record { told = t; strict = shelf.strict }) plan (job.Span piece) attempted at Call) (sym files) (by shelf.strict refl (is_known told plan piece.node) refl r.1))
     where
-      outputs : (p : ℕ) → outputs_of_item plan (record { from = p; to = p + 1 }) (item_at (items_told told plan) piece.node piece.item)
+      outputs : (p : ℕ) → spread_of plan (record { from = p; to = p + 1 }) (item_at (items_told told plan) piece.node piece.item)
           ≡ emission_outputs plan piece.node (emission read.0.work read.0.args read.0.file p)
       outputs p =
-          ap (outputs_of_item plan (record { from = p; to = p + 1 })) piece_item
+          ap (spread_of plan (record { from = p; to = p + 1 })) piece_item
           ∙ ap (λ (item : SourceItem). spread_range plan item p (p + 1)) (sym item_same)
           ∙ spread-single (outputs_at plan (item_of piece (record { work = read.0.work; args = read.0.args }) read.0.file)) p
 

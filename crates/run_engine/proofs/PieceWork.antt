@@ -28,7 +28,7 @@ use Rattle.bundle_commit.specs.declared.job.Receipt.{Receipt}
 use Rattle.group_cells.proofs.Counting.{All-unmap}
 use Rattle.pipeline_graph.specs.Rules.{HasSettings}
 use Rattle.book_core.specs.Book.{tracker_of}
-use Rattle.book_core.specs.Work.{IsPlausible, IsWorkOn, is_brought, seen_over, worked_to}
+use Rattle.book_core.specs.Work.{IsPlausible, IsWorkOn, reaches_barrier, seen_over, worked_to}
 use Rattle.book_core.proofs.EarlyEnds.{IsEarlyOutput, WindowsOfKind, emitted_early}
 use Rattle.book_core.proofs.EarlyTimes.{IsEarlyEmission}
 use Rattle.book_core.proofs.Gaps.{AreStrategies, IsGapped}
@@ -38,7 +38,7 @@ use Rattle.chain_exec.specs.Positions.{IsTimely, IsWorked}
 use Rattle.chain_exec.specs.Sources.{SourceWork, source_at, source_in}
 use Rattle.chain_exec.specs.declared.position.Step.{Step}
 use Rattle.run_engine.specs.Bundles.{IsFit, IsPieceWorked, item_of}
-use Rattle.run_engine.proofs.Brought.{IsBrought, emission_brought}
+use Rattle.run_engine.proofs.BarrierReach.{ReachesBarrier, emission_reaches}
 use Rattle.run_engine.proofs.Working.{IsClaimed, Quiet, spread_more, spread_rest}
 
 -- ---- what was seen
@@ -102,7 +102,7 @@ module _ (e : Estimator) (item : SourceItem) where
 
 -- ---- what the positions of a known text bring
 
--- what was staged is what the positions up to the last attempted one bring, and those from there up to the next one bring nothing
+-- the receipt has the outputs of all positions up to the last attempted one and what was seen over them, and the positions from there up to p emit nothing
 pub record IsWorkedSoFar (plan : Plan) (piece : Piece) (item : SourceItem) (attempted : Option ℕ) (p : ℕ) (receipt : Receipt) : Type 0 where
   pub arrived : map Arrives receipt.arrivals ≡ spread_range plan item piece.range.from (first_unattempted piece.range.from attempted)
   pub seen : receipt.seen ≡ seen_over (estimator_of plan piece.node) item piece.range.from (first_unattempted piece.range.from attempted) piece.seen
@@ -143,7 +143,7 @@ module _ (plan : Plan) (piece : Piece) (source : SourceWork) (text : List ℕ) w
         quiet = λ q above below. between_nothing source.work source.args text p q (omega arith) (omega (arith, next_is));
       }
 
-  -- what was worked is the work on the range up to any offset where nothing more is brought
+  -- a receipt of the positions up to the last attempted one is the work up to any offset before p, since the positions between emit nothing
   pub work_done : (attempted : Option ℕ) (p upto : ℕ) (receipt : Receipt) → IsClaimed (tracker_of piece None) (tracker_of piece attempted) p
       → IsWorkedSoFar plan piece item attempted p receipt → first_unattempted piece.range.from attempted ≤ upto → upto ≤ p → IsWorkOn plan piece upto item receipt
   work_done attempted p upto receipt claims known low high =
@@ -185,7 +185,7 @@ pub fit_plausible : (plan : Plan) (piece : Piece) (receipt : Receipt) → IsFitS
 fit_plausible plan piece receipt known time =
     let each = All-unmap (IsFit plan piece.node) Arrives receipt.arrivals known.outputs in
     record {
-      brought = λ k d inside. (each k d inside).0;
+      at_barriers = λ k d inside. (each k d inside).0;
       gaps = λ k d inside. (each k d inside).1;
       ends = λ k d inside. (each k d inside).2;
       seen = known.seen;
@@ -194,9 +194,9 @@ fit_plausible plan piece receipt known time =
 
 -- ---- what a source emits is fit
 
-fit_of : (plan : Plan) (node : ℕ) (o : Output) → IsBrought plan node o → IsGapped plan o → IsEarlyOutput o → IsFit plan node o
-fit_of plan node (Arrives arrival) brought gapped early = (brought, gapped, early.1)
-fit_of plan node (PoisonAt at) brought gapped early = tt
+fit_of : (plan : Plan) (node : ℕ) (o : Output) → ReachesBarrier plan node o → IsGapped plan o → IsEarlyOutput o → IsFit plan node o
+fit_of plan node (Arrives arrival) reaches gapped early = (reaches, gapped, early.1)
+fit_of plan node (PoisonAt at) reaches gapped early = tt
 
 gapped_of : (plan : Plan) → AreStrategies plan → (n : ℕ) (node : Node) → slice_get plan.nodes n ≡ Some node → is_source_kind node.kind ≡ true → (e : Emission)
     → All (IsGapped plan) (emission_outputs plan n e)
@@ -211,8 +211,8 @@ pub emission_fit : WindowsOfKind → (plan : Plan) → AreStrategies plan → ((
     → (n : ℕ) (node : Node) → slice_get plan.nodes n ≡ Some node → is_source_kind node.kind ≡ true → n < length plan.nodes
     → (e : Emission) → IsTimely e → All (IsFit plan n) (emission_outputs plan n e)
 emission_fit windows plan strategies settings n node here is low e timely =
-    let brought = emission_brought plan n low e in
+    let reaches = emission_reaches plan n low e in
     let gapped = gapped_of plan strategies n node here is e in
     let early = emitted_early windows plan settings n e (early_of e timely) in
     let outputs = emission_outputs plan n e in
-    λ k d inside. fit_of plan n (get_or outputs k d) (brought k d inside) (gapped k d inside) (early k d inside)
+    λ k d inside. fit_of plan n (get_or outputs k d) (reaches k d inside) (gapped k d inside) (early k d inside)

@@ -28,7 +28,7 @@ use Rattle.book_core.specs.Jobs.{Due, GivenBack, Oldest, Next, attempted_of, due
 use Rattle.book_core.specs.Left.{rounds_left}
 use Rattle.book_core.specs.Runs.{IsEnded, IsHonestAction, IsOpening, IsThrough, Reached}
 use Rattle.book_core.specs.Steps.{Action, Answer, Commit, Committed, Enroll, Enrolled, Fail, IsCommitting, IsFailing, IsFailure, IsFree, IsIdle, IsRunning, IsTaking, IsWithinLimits, IsWorking, Retried, Spent, Step}
-use Rattle.book_core.specs.Work.{Known}
+use Rattle.book_core.specs.Work.{Surroundings}
 use Rattle.book_core.specs.declared.live.Live.{Live}
 use Rattle.book_core.specs.declared.live.Live.TheVariants as live
 use Rattle.book_core.proofs.AllKept.{honest_reached}
@@ -41,7 +41,7 @@ use Rattle.bundle_commit.specs.declared.job.Receipt.{Receipt}
 use Rattle.chain_exec.specs.Causes.{ObservedShelf}
 use Rattle.chain_exec.proofs.Poisons.{rose_after}
 use Rattle.run_engine.specs.Bundles.{AreFaultsCounted, HasTaken, IsEndOf, IsJobDone, IsRunOf, IsWorkEnd, IsSpentBy, OnlyClaims, StaysBelow, StaysOfRun}
-use Rattle.run_engine.specs.PlanRun.{IsCountedAs, IsOutcomeWhere, IsPlanEnd, IsStoppedBy, known_of}
+use Rattle.run_engine.specs.PlanRun.{IsCountedAs, IsOutcomeWhere, IsPlanEnd, IsStoppedBy, surroundings_of}
 use Rattle.run_engine.specs.declared.status.RunEnd.{RunEnd}
 use Rattle.run_engine.specs.declared.status.Status.{Status}
 use Rattle.run_engine.proofs.Honest.{honest_more, honest_opening}
@@ -49,7 +49,7 @@ use Rattle.run_engine.proofs.Honest.{honest_more, honest_opening}
 -- ---- the book stays that of the run
 
 -- a step that leaves as many slots
-pub step_of_run : (known : Known) (b new : BookData) (slot : ℕ) (action : Action) (answer : Answer) → Step known.told b slot action answer new → IsHonestAction known b slot action
+pub step_of_run : (known : Surroundings) (b new : BookData) (slot : ℕ) (action : Action) (answer : Answer) → Step known.told b slot action answer new → IsHonestAction known b slot action
     → length new.slots ≡ length b.slots → StaysOfRun known b new
 step_of_run known b new slot action answer step honest slots = λ plan files options run.
     let same = step_same known.told b new slot action answer step in
@@ -61,7 +61,7 @@ step_of_run known b new slot action answer step honest slots = λ plan files opt
       one = slots ∙ run.one;
     }
 
-pub claims_of_run : (known : Known) (b new : BookData) → OnlyClaims b new → StaysOfRun known b new
+pub claims_of_run : (known : Surroundings) (b new : BookData) → OnlyClaims b new → StaysOfRun known b new
 claims_of_run known b new claims = λ plan files options run. record {
   reached = claims.reached known run.reached;
   of_plan = claims.plan ∙ run.of_plan;
@@ -70,7 +70,7 @@ claims_of_run known b new claims = λ plan files options run. record {
   one = claims.slots ∙ run.one;
 }
 
-pub onward_of_run : (known : Known) (b mid new : BookData) → StaysOfRun known b mid → StaysOfRun known mid new → StaysOfRun known b new
+pub onward_of_run : (known : Surroundings) (b mid new : BookData) → StaysOfRun known b mid → StaysOfRun known mid new → StaysOfRun known b new
 onward_of_run known b mid new one two = λ plan files options run. two plan files options (one plan files options run)
 
 -- ---- slots
@@ -371,7 +371,7 @@ module _ (shelf : ObservedShelf) (store : ObservedStore) (low : shelf.before ≤
 pub job_committed : (shelf : ObservedShelf) (store : ObservedStore) → shelf.before ≤ shelf.after → store.before ≤ store.after → (b mid new : BookData) (slot : ℕ) (receipt : Receipt)
     → length b.slots ≡ 1 → OnlyClaims b mid → IsCommitting store.files mid slot receipt new × IsWithinLimits new → rounds_left new < rounds_left mid → IsJobDone shelf store slot b new
 job_committed shelf store low low' b mid new slot receipt one claims step less =
-    let known = known_of shelf store in
+    let known = surroundings_of shelf store in
     let freed = commit_frees store.files mid slot receipt new step.0 in
     record {
       one = freed.slots ∙ claims.slots ∙ one;
@@ -382,10 +382,10 @@ job_committed shelf store low low' b mid new slot receipt one claims step less =
     }
 
 pub job_failed : (shelf : ObservedShelf) (store : ObservedStore) → shelf.before ≤ shelf.after → store.before ≤ store.after → (b mid new : BookData) (slot at : ℕ) (cause : Cause) (answer : Answer)
-    → length b.slots ≡ 1 → OnlyClaims b mid → IsCountedAs shelf store cause → IsHonestAction (known_of shelf store) mid slot (Fail at cause) → IsFailing mid slot at cause answer new
+    → length b.slots ≡ 1 → OnlyClaims b mid → IsCountedAs shelf store cause → IsHonestAction (surroundings_of shelf store) mid slot (Fail at cause) → IsFailing mid slot at cause answer new
     → rounds_left new < rounds_left mid → IsJobDone shelf store slot b new
 job_failed shelf store low low' b mid new slot at cause answer one claims rose honest step less =
-    let known = known_of shelf store in
+    let known = surroundings_of shelf store in
     let freed = fail_frees shelf store low low' mid slot at cause answer new step in
     record {
       one = freed.slots ∙ claims.slots ∙ one;
@@ -413,14 +413,14 @@ spent_onward shelf mid_shelf store mid_store same same' low low' note b spent = 
 
 -- ---- its beginning
 
-pub record IsBegun (known : Known) (plan : Plan) (files : List FileLen) (options : Options) (slot : ℕ) (b : BookData) : Type 0 where
+pub record IsBegun (known : Surroundings) (plan : Plan) (files : List FileLen) (options : Options) (slot : ℕ) (b : BookData) : Type 0 where
   pub run : IsRunOf known plan files options b
   pub free : IsFree b slot
   pub running : IsRunning b
   pub calls : b.calls ≡ 0
   pub reads : b.reads ≡ 0
 
-pub run_begun : (known : Known) (plan : Plan) (files : List FileLen) (options : Options) (b new : BookData) (slot : ℕ) → IsOpening plan files options b → Step known.told b slot Enroll (Enrolled slot) new
+pub run_begun : (known : Surroundings) (plan : Plan) (files : List FileLen) (options : Options) (b new : BookData) (slot : ℕ) → IsOpening plan files options b → Step known.told b slot Enroll (Enrolled slot) new
     → IsBegun known plan files options slot new
 run_begun known plan files options b new slot opening step =
     let same = step_same known.told b new slot Enroll (Enrolled slot) step in
@@ -449,9 +449,9 @@ ThroughLaw = (told : Option (List FileText)) (b : BookData) → Reached told b �
 
 module _ (law : ThroughLaw) (shelf : ObservedShelf) (store : ObservedStore) (plan : Plan) (files : List FileLen) (options : Options) (begun b : BookData)
     (lengths : WhereTold store.files (λ told. files ≡ map item_len (items told plan))) (calls : begun.calls ≡ 0) (reads : begun.reads ≡ 0)
-    (run : IsRunOf (known_of shelf store) plan files options b) (counts : AreFaultsCounted shelf store begun b) where
+    (run : IsRunOf (surroundings_of shelf store) plan files options b) (counts : AreFaultsCounted shelf store begun b) where
   outcome_where : (P : BookData → Type 0) → P b → (o : Outcome) → IsOutcomeOf b o → All (λ pane. IsStorable pane.element.value) o.panes
-      → IsOutcomeWhere (known_of shelf store) plan options P o
+      → IsOutcomeWhere (surroundings_of shelf store) plan options P o
   outcome_where P holds o is storable = record {
     book = b;
     reached = run.reached;
@@ -466,7 +466,7 @@ module _ (law : ThroughLaw) (shelf : ObservedShelf) (store : ObservedStore) (pla
   pub plan_end : (spent : Option FaultNote) (end : RunEnd) → IsWorkEnd shelf store b spent → IsEndOf b spent end → IsPlanEnd shelf store plan options end.status end.outcome
   plan_end None end ended is =
       subst (λ (s : Status). IsPlanEnd shelf store plan options s end.outcome) (sym is.tells)
-      (is.outcome, is.some, outcome_where IsEnded (record { running = ended.0; through = law store.files b (honest_reached (known_of shelf store) b run.reached) ended.1 ended.2 }) is.outcome is.of_book is.storable)
+      (is.outcome, is.some, outcome_where IsEnded (record { running = ended.0; through = law store.files b (honest_reached (surroundings_of shelf store) b run.reached) ended.1 ended.2 }) is.outcome is.of_book is.storable)
   plan_end (Some note) end ended is =
       let low = counts.calls shelf.before (omega arith) (omega (arith, calls)) in
       let low' = counts.reads store.before (omega arith) (omega (arith, reads)) in

@@ -24,7 +24,7 @@ use Rattle.book_core.specs.Jobs.{attempted_of, job_of, next_job}
 use Rattle.book_core.specs.Left.{rounds_left}
 use Rattle.book_core.specs.Runs.{HonestlyReached, IsHonestAction}
 use Rattle.book_core.specs.Steps.{Fail, IsFree, IsIdle, IsRunning, IsWorking}
-use Rattle.book_core.specs.Work.{Known, IsHonest, IsPlausible, IsWorkOn, is_brought, worked_to}
+use Rattle.book_core.specs.Work.{Surroundings, IsHonest, IsPlausible, IsWorkOn, reaches_barrier, worked_to}
 use Rattle.book_core.specs.declared.live.Live.{Live}
 use Rattle.book_core.specs.declared.live.Live.TheVariants as live
 use Rattle.bundle_commit.specs.declared.job.Job.{Job}
@@ -41,7 +41,7 @@ use Rattle.sdf_library.specs.Paging.{Paged}
 use Rattle.run_engine.specs.declared.status.RunEnd.{RunEnd}
 use Rattle.run_engine.specs.declared.status.Status.{Status}
 use Rattle.run_engine.specs.declared.status.Status.TheVariants as status
-use Rattle.run_engine.specs.PlanRun.{IsCountedAs, known_of}
+use Rattle.run_engine.specs.PlanRun.{IsCountedAs, surroundings_of}
 
 -- ---- a piece
 
@@ -49,10 +49,11 @@ use Rattle.run_engine.specs.PlanRun.{IsCountedAs, known_of}
 abbrev pub item_of : Piece → SourceWork → List ℕ → SourceItem
 item_of piece source text = record { node = piece.node; item = piece.item; work = source.work; args = source.args; file = text; left_out = [] }
 
--- an output gets where outputs of the source can get, and in windows that a time can have there
+-- An output is poison, or arrives at a barrier that the source reaches. A window at a Group of sessions is as long as the gap, and none ends later than one
+-- of the greatest time can.
 abbrev pub IsFit : Plan → ℕ → Output → Type 0
 IsFit plan source (Arrives arrival) =
-    (is_brought plan source arrival.node ≡ true) × HasGap plan arrival × (arrival.element.span.end ≤ℤ (greatest_time +ℤ greatest_length))
+    (reaches_barrier plan source arrival.node ≡ true) × HasGap plan arrival × (arrival.element.span.end ≤ℤ (greatest_time +ℤ greatest_length))
 IsFit plan source (PoisonAt node) = Unit {0}
 
 -- a position of this source can be worked with this pager
@@ -73,9 +74,10 @@ IsRefusedAt shelf store plan node opening len p refusal = ForSome (source_at pla
 -- the slot attempted positions of its piece, up to this one if any, and nothing else changed
 pub record HasClaimed (b : BookData) (slot : ℕ) (piece : Piece) (attempted : Option ℕ) (new : BookData) : Type 0 where
   pub is : new ≡ with_slot b slot (Some (live.Span piece attempted))
-  pub reached : (known : Known) → HonestlyReached known b → HonestlyReached known new
+  pub reached : (known : Surroundings) → HonestlyReached known b → HonestlyReached known new
 
--- What positions brought, up to the last attempted one: where the text is known just what it gives, and else what may come. What was seen is a time by its type.
+-- The receipt of a piece up to its last attempted position. Where the text is known it has the outputs of these positions, and in any case it is plausible;
+-- what was seen is a time by its type.
 pub record IsPieceWorked (plan : Plan) (opening : Option Opening) (len : ℕ) (piece : Piece) (attempted : Option ℕ) (receipt : Receipt) : Type 0 where
   pub told : ForSome (source_at plan piece.node) (λ source. (text : List ℕ) → IsText source.work opening len text
       → IsWorkOn plan piece (worked_to piece attempted) (item_of piece source text) receipt)
@@ -93,7 +95,7 @@ pub record IsPieceRefused (shelf : ObservedShelf) (store : StoreCounts) (plan : 
 -- Work on a piece was refused: it failed, that was counted, and may be told of its last attempted position as an honest fail. Or there was no memory.
 abbrev pub IsSpanRefused : ObservedShelf → ObservedStore → Plan → Piece → Option ℕ → ExecRefusal → Type 0
 IsSpanRefused shelf store plan piece attempted (Faulted at cause) =
-    IsCountedAs shelf store cause × IsHonest (known_of shelf store) plan (job.Span piece) attempted at cause
+    IsCountedAs shelf store cause × IsHonest (surroundings_of shelf store) plan (job.Span piece) attempted at cause
 IsSpanRefused shelf store plan piece attempted NoMemory = Unit {0}
 
 -- ---- a job
@@ -107,7 +109,7 @@ pub record HasTaken (b : BookData) (slot : ℕ) (job : Job) : Type 0 where
 
 -- claims changed nothing but what the slot has attempted
 pub record OnlyClaims (b new : BookData) : Type 0 where
-  pub reached : (known : Known) → HonestlyReached known b → HonestlyReached known new
+  pub reached : (known : Surroundings) → HonestlyReached known b → HonestlyReached known new
   pub plan : new.plan ≡ b.plan
   pub files : new.files ≡ b.files
   pub options : new.options ≡ b.options
@@ -120,13 +122,13 @@ pub record OnlyClaims (b new : BookData) : Type 0 where
 -- The job's work was refused: it failed, that was counted, and may be told of the book as an honest fail. Or there was no memory.
 abbrev pub IsJobRefused : ObservedShelf → ObservedStore → BookData → ℕ → ExecRefusal → Type 0
 IsJobRefused shelf store b slot (Faulted at cause) =
-    IsCountedAs shelf store cause × CanFail b slot × IsHonestAction (known_of shelf store) b slot (Fail at cause)
+    IsCountedAs shelf store cause × CanFail b slot × IsHonestAction (surroundings_of shelf store) b slot (Fail at cause)
 IsJobRefused shelf store b slot NoMemory = Unit {0}
 
 -- ---- the run
 
 -- a book of this run, which has one slot
-pub record IsRunOf (known : Known) (plan : Plan) (files : List FileLen) (options : Options) (b : BookData) : Type 0 where
+pub record IsRunOf (known : Surroundings) (plan : Plan) (files : List FileLen) (options : Options) (b : BookData) : Type 0 where
   pub reached : HonestlyReached known b
   pub of_plan : b.plan ≡ plan
   pub of_files : b.files ≡ files
@@ -134,7 +136,7 @@ pub record IsRunOf (known : Known) (plan : Plan) (files : List FileLen) (options
   pub one : length b.slots ≡ 1
 
 -- whatever run the old book is of, the new one is of it too
-abbrev pub StaysOfRun : Known → BookData → BookData → Type 0
+abbrev pub StaysOfRun : Surroundings → BookData → BookData → Type 0
 StaysOfRun known b new = (plan : Plan) (files : List FileLen) (options : Options) → IsRunOf known plan files options b → IsRunOf known plan files options new
 
 -- faults that a book counts are at most those that were counted outside since the count there was `first`
@@ -156,7 +158,7 @@ pub record IsSpentBy (shelf : ObservedShelf) (store : ObservedStore) (note : Fau
 pub record IsJobDone (shelf : ObservedShelf) (store : ObservedStore) (slot : ℕ) (b new : BookData) : Type 0 where
   pub one : length new.slots ≡ 1
   pub free : IsFree new slot
-  pub run : StaysOfRun (known_of shelf store) b new
+  pub run : StaysOfRun (surroundings_of shelf store) b new
   pub counted : AreFaultsCounted shelf store b new
   pub fewer : rounds_left new < rounds_left b
 

@@ -14,17 +14,17 @@ use Rattle.beam_ports.specs.Observed.{ObservedStore, WhereTold}
 use Rattle.book_core.specs.Book.{BookData}
 use Rattle.book_core.specs.Calls.{IsOutcomeOf}
 use Rattle.book_core.specs.Runs.{AreTold, HonestlyReached, IsEnded}
-use Rattle.book_core.specs.Work.{Known}
+use Rattle.book_core.specs.Work.{Surroundings}
 use Rattle.chain_exec.specs.Causes.{ObservedShelf}
 use Rattle.run_engine.specs.declared.status.Status.{Status}
 use Rattle.run_engine.specs.declared.status.Status.TheVariants as status
 
--- what is known of a run outside its book: the files, where the store tells them, and whether the shelf fails on poison alone
-abbrev pub known_of : ObservedShelf → ObservedStore → Known
-known_of shelf store = record { told = store.files; strict = shelf.strict }
+-- the surroundings of a run: the files, where the store tells them, and whether the shelf fails on poison alone
+abbrev pub surroundings_of : ObservedShelf → ObservedStore → Surroundings
+surroundings_of shelf store = record { told = store.files; strict = shelf.strict }
 
--- An outcome is the data of a book that a run of this plan reached by honest fails, and of which this holds.
-pub record IsOutcomeWhere (known : Known) (plan : Plan) (options : Options) (P : BookData → Type 0) (o : Outcome) : Type 0 where
+-- The outcome is the data of a book for which P holds, and which a run of this plan reached whose fails are all honest.
+pub record IsOutcomeWhere (known : Surroundings) (plan : Plan) (options : Options) (P : BookData → Type 0) (o : Outcome) : Type 0 where
   pub book : BookData
   pub reached : HonestlyReached known book
   pub of_plan : book.plan ≡ plan
@@ -32,7 +32,7 @@ pub record IsOutcomeWhere (known : Known) (plan : Plan) (options : Options) (P :
   pub lengths : WhereTold known.told (λ told. AreTold told book)
   pub is : P book
   pub of_book : IsOutcomeOf book o
-  -- as a program can hold them
+  -- the numbers in panes have 64 bits
   pub storable : All (λ pane. IsStorable pane.element.value) o.panes
 
 -- the book was stopped by a fail with this note, and the store counted each read that failed
@@ -54,9 +54,9 @@ pub record IsSpent (shelf : ObservedShelf) (store : ObservedStore) (attempts : �
 -- Ok: the book is ended. A work fault: a fail stopped it, and its data is handed out. Else there was no memory, and nothing is.
 abbrev pub IsPlanEnd : ObservedShelf → ObservedStore → Plan → Options → Status → Option Outcome → Type 0
 IsPlanEnd shelf store plan options status.Ok outcome =
-    (o : Outcome) × (outcome ≡ Some o) × IsOutcomeWhere (known_of shelf store) plan options IsEnded o
+    (o : Outcome) × (outcome ≡ Some o) × IsOutcomeWhere (surroundings_of shelf store) plan options IsEnded o
 IsPlanEnd shelf store plan options (status.WorkFault note) outcome =
-    ((o : Outcome) × (outcome ≡ Some o) × IsOutcomeWhere (known_of shelf store) plan options (IsStoppedBy store note) o)
+    ((o : Outcome) × (outcome ≡ Some o) × IsOutcomeWhere (surroundings_of shelf store) plan options (IsStoppedBy store note) o)
     × IsSpent shelf store options.attempts note
 IsPlanEnd shelf store plan options status.NoMemory outcome = outcome ≡ None
 IsPlanEnd shelf store plan options _ outcome = ⊥

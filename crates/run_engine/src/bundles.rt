@@ -16,7 +16,7 @@ ghost use Rattle.chain_exec.specs.Positions.{IsNextOf, IsTimely};
 ghost use Rattle.chain_exec.specs.Sources.{source_at};
 ghost use Rattle.run_engine.specs.Bundles.{CanRead, HasClaimed, HasTaken, HasWorked, IsFit, IsJobRefused, IsPieceRefused, IsPieceWorked, IsRefusedAt, IsSpanRefused, OnlyClaims};
 ghost use Rattle.run_engine.specs.Outside.{IsKitKept};
-ghost use Rattle.run_engine.specs.PlanRun.{known_of};
+ghost use Rattle.run_engine.specs.PlanRun.{surroundings_of};
 ghost use Rattle.run_engine.specs.Reading.{AreReaders};
 
 use crate::reading::{Reader, place_of};

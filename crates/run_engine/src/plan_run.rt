@@ -9,7 +9,7 @@ ghost use Rattle.run_engine.specs.Bundles.{AreFaultsCounted, HasTaken, IsEndOf, 
 ghost use Rattle.run_engine.specs.Kits.{FirstBecomes, IsOfFirst, OthersStay};
 ghost use Rattle.run_engine.specs.Openings.{AreOpened, file_names};
 ghost use Rattle.run_engine.specs.Outside.{IsKitKept};
-ghost use Rattle.run_engine.specs.PlanRun.{IsPlanEnd, known_of};
+ghost use Rattle.run_engine.specs.PlanRun.{IsPlanEnd, surroundings_of};
 ghost use Rattle.run_engine.specs.Reading.{AreReaders};
 
 use crate::bundles::{Workbench, work_job};
@@ -129,7 +129,7 @@ fn work<F: Shelf, S: Store>(
     requires readers { AreReaders (S.files store.old) (S.opened store.old) book.old.plan bench.old.readers.items }
     ensures ended { IfOk result (IsWorkEnd (observed_shelf F.strict F.faults shelf.old shelf.new)
         (observed_store S.files S.faults store.old store.new) book.new) }
-    ensures run { OnOk result (StaysOfRun (known_of (observed_shelf F.strict F.faults shelf.old shelf.new)
+    ensures run { OnOk result (StaysOfRun (surroundings_of (observed_shelf F.strict F.faults shelf.old shelf.new)
         (observed_store S.files S.faults store.old store.new)) book.old book.new) }
     ensures counted { OnOk result (AreFaultsCounted (observed_shelf F.strict F.faults shelf.old shelf.new)
         (observed_store S.files S.faults store.old store.new) book.old book.new) }

@@ -7,6 +7,7 @@ use crate::nodes::read_function;
 use beam_values::{Args, Bytes, Element, FnKind, List};
 use dofn_library::{ElementWork, Strict, work};
 use dofn_traits::{CallRefusal, DoFn};
+use windowing::GREATEST_LENGTH;
 
 /// What a function gives of elements, and how many faults it counted: `FUNCTION ARGUMENT; ELEMENT;
 /// ELEMENT`.
@@ -21,7 +22,7 @@ pub fn answer_function(case: &mut Case<'_>) {
             give_each::<work::KeepPrefix>(&Args::Text(prefix), case);
         }
         FnKind::Shift => {
-            let delay = case.number::<i64>().clamp(0, 31_536_000_000_000);
+            let delay = case.number::<i64>().clamp(0, GREATEST_LENGTH);
             give_each::<work::Shift>(&Args::Number(delay), case);
         }
         FnKind::KeyField => give_each::<work::KeyField>(&Args::Nothing, case),

@@ -16,18 +16,10 @@ pub fn answer_grouped(case: &mut Case<'_>) {
         }
         add_elements(&strategy, &mut elements, case);
     }
-    match panes_of(case.alloc(), &strategy, elements) {
+    match grouped(case.alloc(), &strategy, elements) {
         Ok(panes) => say_panes(panes.as_slice(), case),
         Err(refused) => case.no_memory(refused),
     }
-}
-
-fn panes_of(
-    alloc: Global,
-    strategy: &Strategy,
-    elements: List<Element>,
-) -> Result<List<Element>, NoMemory> {
-    grouped(alloc, strategy, elements)
 }
 
 // An element for each window of the time.

@@ -12,6 +12,7 @@ use dofn_library::{StateWork, Strict, work};
 use dofn_traits::StatefulFn;
 use keyed_state::KeyState;
 use timer_core::Timers;
+use windowing::GREATEST_LENGTH;
 
 // A function with state, and the state and the timers of one key and window.
 #[derive(Drop)]
@@ -34,7 +35,7 @@ pub fn answer_stateful(case: &mut Case<'_>) {
             call_each::<work::BatchUntil>(&Args::Number(count), case);
         }
         StateKind::LatestThenEmit => {
-            let delay = case.number::<i64>().clamp(0, 31_536_000_000_000);
+            let delay = case.number::<i64>().clamp(0, GREATEST_LENGTH);
             call_each::<work::LatestThenEmit>(&Args::Number(delay), case);
         }
     }

@@ -5,6 +5,7 @@ use crate::case::Case;
 use beam_values::{Estimator, Time};
 use retry_core::{Next, next_attempt};
 use watermarks::{mark_of, observe};
+use windowing::GREATEST_LENGTH;
 
 /// What an estimator has seen after a position, and its mark then: `ESTIMATOR; SEEN; TIME|none;
 /// DECLARED|none`.
@@ -36,7 +37,7 @@ fn within_limits(estimator: Estimator) -> Estimator
     ensures { is_estimator_allowed result ≡ true }
 {
     match estimator {
-        Estimator::Lag(lag) => Estimator::Lag(lag.clamp(0, 31_536_000_000_000)),
+        Estimator::Lag(lag) => Estimator::Lag(lag.clamp(0, GREATEST_LENGTH)),
         estimator => estimator,
     }
 }

@@ -56,15 +56,8 @@ fn read_piece(case: &mut Case<'_>) -> Piece {
         node,
         item,
         range,
-        seen: if is_fresh { least_time() } else { case.time() },
+        seen: if is_fresh { Time::LEAST } else { case.time() },
         attempts: if is_fresh { 0 } else { case.number() },
-    }
-}
-
-fn least_time() -> Time {
-    match Time::new(Time::LEAST_MS) {
-        Some(time) => time,
-        None => unreachable!(),
     }
 }
 
@@ -90,7 +83,7 @@ fn say_piece(piece: Piece, case: &mut Case<'_>) {
     case.say_number(piece.node);
     case.say_number(piece.item);
     case.say_range(piece.range);
-    if piece.attempts != 0 || piece.seen != least_time() {
+    if piece.attempts != 0 || piece.seen != Time::LEAST {
         case.say_number(piece.seen.ms());
         case.say_number(piece.attempts);
     }

@@ -3,7 +3,7 @@ use Rattle.std.specs.Prelude.{None}
 use Rattle.bundle_commit.specs.declared.job.Job.TheVariants as job
 use Rattle.book_core.specs.Calls.{answer_of}
 use Rattle.book_core.specs.Steps.{CanCommit, IsTaking, Step, Take}
-use Rattle.book_core.specs.Work.{is_brought, is_known}
+use Rattle.book_core.specs.Work.{reaches_barrier, is_known}
 use Rattle.book_core.specs.declared.live.Taken.{Taken}
 use Rattle.book_core.proofs.Worked.{claimed_works, committed_free, plausible_at, range_can, taken_plan, taken_range}
 use Rattle.book_core.proofs.tests.work_range.Goals as goal
@@ -27,7 +27,7 @@ commit-requires c =
     range_can c.args.book.now c.take.new.self c.claim.new.self c.args.slot c.args.last c.in-Some.piece c.claim.result _ step (c.claim.ensures None)
     (subst (λ (n : ℕ). is_known None c.args.book.now.plan n ≡ false) (sym (c.if-not-fits.ensures.node refl)) c.requires.unknown)
     (plausible_at c.args.book.now.plan 2 c.in-Some.piece _
-    (subst (λ (n : ℕ). is_brought c.args.book.now.plan n 2 ≡ true) (sym (c.if-not-fits.ensures.node refl)) c.requires.brought)
+    (subst (λ (n : ℕ). reaches_barrier c.args.book.now.plan n 2 ≡ true) (sym (c.if-not-fits.ensures.node refl)) c.requires.reaches)
     c.requires.fixed c.requires.at c.requires.ends (c.if-not-fits.ensures.seen refl) c.if-not-fits.ensures.time) refl in
     can
 
@@ -39,7 +39,7 @@ returns-clause-free c =
     range_can c.args.book.now c.take.new.self c.claim.new.self c.args.slot c.args.last c.in-Some.piece c.claim.result _ step (c.claim.ensures None)
     (subst (λ (n : ℕ). is_known None c.args.book.now.plan n ≡ false) (sym (c.if-not-fits.ensures.node refl)) c.requires.unknown)
     (plausible_at c.args.book.now.plan 2 c.in-Some.piece _
-    (subst (λ (n : ℕ). is_brought c.args.book.now.plan n 2 ≡ true) (sym (c.if-not-fits.ensures.node refl)) c.requires.brought)
+    (subst (λ (n : ℕ). reaches_barrier c.args.book.now.plan n 2 ≡ true) (sym (c.if-not-fits.ensures.node refl)) c.requires.reaches)
     c.requires.fixed c.requires.at c.requires.ends (c.if-not-fits.ensures.seen refl) c.if-not-fits.ensures.time) refl in
     (committed_free c.claim.new.self c.commit.new.self c.args.slot None _ (c.in-Ok.ensures.ok None can).0).0
 
@@ -51,7 +51,7 @@ returns-clause-plan c =
     range_can c.args.book.now c.take.new.self c.claim.new.self c.args.slot c.args.last c.in-Some.piece c.claim.result _ step (c.claim.ensures None)
     (subst (λ (n : ℕ). is_known None c.args.book.now.plan n ≡ false) (sym (c.if-not-fits.ensures.node refl)) c.requires.unknown)
     (plausible_at c.args.book.now.plan 2 c.in-Some.piece _
-    (subst (λ (n : ℕ). is_brought c.args.book.now.plan n 2 ≡ true) (sym (c.if-not-fits.ensures.node refl)) c.requires.brought)
+    (subst (λ (n : ℕ). reaches_barrier c.args.book.now.plan n 2 ≡ true) (sym (c.if-not-fits.ensures.node refl)) c.requires.reaches)
     c.requires.fixed c.requires.at c.requires.ends (c.if-not-fits.ensures.seen refl) c.if-not-fits.ensures.time) refl in
     (committed_free c.claim.new.self c.commit.new.self c.args.slot None _ (c.in-Ok.ensures.ok None can).0).1
     ∙ (claimed_works c.take.new.self c.claim.new.self c.args.slot c.args.last c.in-Some.piece c.claim.result (taken_range c.args.book.now c.take.new.self c.args.slot c.in-Some.piece step) (c.claim.ensures None)).1

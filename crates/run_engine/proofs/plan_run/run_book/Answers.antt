@@ -6,9 +6,9 @@ use Rattle.beam_values.specs.declared.file_text.FileText.{FileText}
 use Rattle.beam_values.specs.declared.piece.FileLen.{FileLen}
 use Rattle.beam_values.specs.declared.plan.Plan.{Plan}
 use Rattle.book_core.specs.Runs.{AreLengthsOf}
-use Rattle.book_core.specs.Work.{Known}
+use Rattle.book_core.specs.Work.{Surroundings}
 use Rattle.chain_exec.specs.Causes.{observed_shelf}
-use Rattle.run_engine.specs.PlanRun.{known_of}
+use Rattle.run_engine.specs.PlanRun.{surroundings_of}
 use Rattle.run_engine.specs.Reading.{AreReaders, AreToldReaders, length_in}
 use Rattle.run_engine.specs.declared.reading.Reader.{Reader}
 use Rattle.run_engine.proofs.Opens.{if_ok}
@@ -26,28 +26,28 @@ opening-requires-clause-lengths g c =
 pub work-requires-clause-one : goal.work-requires-clause-one
 work-requires-clause-one g c κs within =
     let store = c.args.store.now in
-    let known : Known = record { told = g.S.Store.files store; strict = g.F.Shelf.strict c.args.shelf.now } in
+    let known : Surroundings = record { told = g.S.Store.files store; strict = g.F.Shelf.strict c.args.shelf.now } in
     let begun = run_begun known c.args.graph c.in_ok-lengths.lengths c.args.options.now c.in_ok-book.book c.enroll.new.self c.in_ok-slot.slot c.in_ok-book.ensures (c.in_ok-slot.ensures.ok (g.S.Store.files store)) in
     begun.run.one
 
 pub work-requires-clause-free : goal.work-requires-clause-free
 work-requires-clause-free g c κs within =
     let store = c.args.store.now in
-    let known : Known = record { told = g.S.Store.files store; strict = g.F.Shelf.strict c.args.shelf.now } in
+    let known : Surroundings = record { told = g.S.Store.files store; strict = g.F.Shelf.strict c.args.shelf.now } in
     let begun = run_begun known c.args.graph c.in_ok-lengths.lengths c.args.options.now c.in_ok-book.book c.enroll.new.self c.in_ok-slot.slot c.in_ok-book.ensures (c.in_ok-slot.ensures.ok (g.S.Store.files store)) in
     begun.free
 
 pub work-requires-clause-running : goal.work-requires-clause-running
 work-requires-clause-running g c κs within =
     let store = c.args.store.now in
-    let known : Known = record { told = g.S.Store.files store; strict = g.F.Shelf.strict c.args.shelf.now } in
+    let known : Surroundings = record { told = g.S.Store.files store; strict = g.F.Shelf.strict c.args.shelf.now } in
     let begun = run_begun known c.args.graph c.in_ok-lengths.lengths c.args.options.now c.in_ok-book.book c.enroll.new.self c.in_ok-slot.slot c.in_ok-book.ensures (c.in_ok-slot.ensures.ok (g.S.Store.files store)) in
     begun.running
 
 pub work-requires-clause-readers : goal.work-requires-clause-readers
 work-requires-clause-readers g c κs within =
     let store = c.args.store.now in
-    let known : Known = record { told = g.S.Store.files store; strict = g.F.Shelf.strict c.args.shelf.now } in
+    let known : Surroundings = record { told = g.S.Store.files store; strict = g.F.Shelf.strict c.args.shelf.now } in
     let begun = run_begun known c.args.graph c.in_ok-lengths.lengths c.args.options.now c.in_ok-book.book c.enroll.new.self c.in_ok-slot.slot c.in_ok-book.ensures (c.in_ok-slot.ensures.ok (g.S.Store.files store)) in
     let are = c.in_ok-bench.ensures (g.S.Store.files store) (g.S.Store.opened store) c.requires.opened in
     subst (λ (p : Plan). AreReaders (g.S.Store.files store) (g.S.Store.opened store) p c.in_ok-bench.bench.readers.items) (sym begun.run.of_plan) are
@@ -55,7 +55,7 @@ work-requires-clause-readers g c κs within =
 pub returns-clause-ended : goal.returns-clause-ended
 returns-clause-ended g c =
     let store = c.args.store.now in
-    let known : Known = record { told = g.S.Store.files store; strict = g.F.Shelf.strict c.args.shelf.now } in
+    let known : Surroundings = record { told = g.S.Store.files store; strict = g.F.Shelf.strict c.args.shelf.now } in
     let begun = run_begun known c.args.graph c.in_ok-lengths.lengths c.args.options.now c.in_ok-book.book c.enroll.new.self c.in_ok-slot.slot c.in_ok-book.ensures (c.in_ok-slot.ensures.ok (g.S.Store.files store)) in
     let opened = g.S.Store.opened store in
     let readers = c.in_ok-bench.bench.readers.items in

@@ -7,7 +7,7 @@ use Rattle.book_core.specs.Book.{BookData}
 use Rattle.book_core.specs.Calls.{Makes, answer_of}
 use Rattle.book_core.specs.Jobs.{next_job}
 use Rattle.book_core.specs.Steps.{IsIdle, IsRunning, Take, TakenJob}
-use Rattle.book_core.specs.Work.{Known}
+use Rattle.book_core.specs.Work.{Surroundings}
 use Rattle.book_core.specs.declared.live.Taken.{Taken}
 use Rattle.book_core.proofs.Reaching.{step_same}
 use Rattle.chain_exec.specs.Causes.{observed_shelf}
@@ -97,7 +97,7 @@ returns-in-Some-clause-run g c =
     let mid_shelf = observed_shelf g.F.Shelf.strict g.F.Shelf.faults c.turns.shelf c.do_job-done.new.shelf in
     let mid_store = observed_store g.S.Store.files g.S.Store.faults c.turns.store c.do_job-done.new.store in
     let ended = c.in_ok-spent-in-Job.ensures in
-    let all : Known = record { told = g.S.Store.files c.args.store.now; strict = g.F.Shelf.strict c.args.shelf.now } in
+    let all : Surroundings = record { told = g.S.Store.files c.args.store.now; strict = g.F.Shelf.strict c.args.shelf.now } in
     onward_of_run all c.args.book.now new c.do_job-done.new.book
     (onward_of_run all c.args.book.now b new known.run (step_of_run all b new slot Take (TakenJob c.in-Job.job) (makes all.told) tt taken.slots))
     (run_known (g.S.Store.files c.turns.store) (g.S.Store.files c.args.store.now) (g.F.Shelf.strict c.turns.shelf) (g.F.Shelf.strict c.args.shelf.now) known.kept.reading.files known.kept.strict new
@@ -139,7 +139,7 @@ returns-in-Finished-clause-run g c =
     let b = c.turns.book in
     let makes = subst (λ (t : Taken). Makes b c.args.slot Take (answer_of t) c.take.new.self) c.in-Finished.is c.in_ok-job.ensures.ok in
     let step = makes None in
-    let all : Known = record { told = g.S.Store.files c.args.store.now; strict = g.F.Shelf.strict c.args.shelf.now } in
+    let all : Surroundings = record { told = g.S.Store.files c.args.store.now; strict = g.F.Shelf.strict c.args.shelf.now } in
     subst (λ (x : BookData). StaysOfRun all c.args.book.now x) (sym step.4) known.run
 
 pub returns-in-Finished-clause-counted : goal.returns-in-Finished-clause-counted
@@ -191,7 +191,7 @@ turns-preserved g c =
     let mid_shelf = observed_shelf g.F.Shelf.strict g.F.Shelf.faults c.turns.shelf c.do_job-done.new.shelf in
     let mid_store = observed_store g.S.Store.files g.S.Store.faults c.turns.store c.do_job-done.new.store in
     let ended = c.in_ok-spent-in-Job.ensures in
-    let all : Known = record { told = g.S.Store.files c.args.store.now; strict = g.F.Shelf.strict c.args.shelf.now } in record {
+    let all : Surroundings = record { told = g.S.Store.files c.args.store.now; strict = g.F.Shelf.strict c.args.shelf.now } in record {
       one = ended.done.one;
       free = ended.done.free;
       running = subst (λ (s : Option FaultNote). IsJobEnd mid_shelf mid_store c.do_job-done.new.book s) c.in-None.is ended.ended;

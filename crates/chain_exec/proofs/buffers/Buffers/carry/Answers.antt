@@ -4,8 +4,8 @@ use Rattle.beam_model.specs.Chains.{Arrives}
 use Rattle.beam_model.specs.Spread.{first_poison}
 use Rattle.bundle_commit.specs.declared.job.Receipt.{Receipt}
 use Rattle.chain_exec.specs.Causes.{IsCallRefused}
-use Rattle.chain_exec.specs.Deliveries.{brought_by, brought_by_all}
-use Rattle.chain_exec.proofs.Passings.{brought_top}
+use Rattle.chain_exec.specs.Deliveries.{outputs_of_delivery, outputs_of_stack}
+use Rattle.chain_exec.proofs.Passings.{top_first}
 use Rattle.chain_exec.proofs.Poisons.{first_in_front, none_in_front, refused_in_whole, same_first}
 use Rattle.chain_exec.proofs.buffers.Buffers.carry.Goals as goal
 
@@ -14,8 +14,8 @@ loop-delivery-preserved g c =
     let plan = c.args.graph.now in
     let l = c.loop-delivery in
     let d = c.in-Some.delivery in
-    let top = brought_top plan l.self.stack c.pop.new.self d c.in-Some.ensures in
-    let first = same_first l.staging.arrivals c.args.staging.now.arrivals (brought_by_all plan l.self.stack) (brought_by_all plan c.args.self.now.stack) l.invariant.staged in
+    let top = top_first plan l.self.stack c.pop.new.self d c.in-Some.ensures in
+    let first = same_first l.staging.arrivals c.args.staging.now.arrivals (outputs_of_stack plan l.self.stack) (outputs_of_stack plan c.args.self.now.stack) l.invariant.staged in
     record {
       outputs = c.in_ok-take.ensures.outputs;
       windows = c.in_ok-take.ensures.windows;
@@ -24,7 +24,7 @@ loop-delivery-preserved g c =
       counts = omega (arith, l.invariant.counts, c.take.ensures.counts);
       strict = c.take.ensures.strict ∙ l.invariant.strict;
       unharmed = λ strict none. c.take.ensures.unharmed (l.invariant.strict ∙ strict)
-          (none_in_front (brought_by plan d) (brought_by_all plan c.pop.new.self) (sym (ap first_poison top) ∙ first ∙ none)) ∙ l.invariant.unharmed strict none;
+          (none_in_front (outputs_of_delivery plan d) (outputs_of_stack plan c.pop.new.self) (sym (ap first_poison top) ∙ first ∙ none)) ∙ l.invariant.unharmed strict none;
     }
 
 pub returns-in_err-take-clause-refused : goal.returns-in_err-take-clause-refused
@@ -32,22 +32,22 @@ returns-in_err-take-clause-refused g c =
     let plan = c.args.graph.now in
     let l = c.loop-delivery in
     let d = c.in-Some.delivery in
-    let top = brought_top plan l.self.stack c.pop.new.self d c.in-Some.ensures in
-    let first = same_first l.staging.arrivals c.args.staging.now.arrivals (brought_by_all plan l.self.stack) (brought_by_all plan c.args.self.now.stack) l.invariant.staged in
+    let top = top_first plan l.self.stack c.pop.new.self d c.in-Some.ensures in
+    let first = same_first l.staging.arrivals c.args.staging.now.arrivals (outputs_of_stack plan l.self.stack) (outputs_of_stack plan c.args.self.now.stack) l.invariant.staged in
     let e = c.in_err-take.field-0.0 in
-    let refused = subst (λ (s : Bool). IsCallRefused (record { strict = s; before = g.F.Shelf.faults l.shelf; after = g.F.Shelf.faults c.take.new.shelf }) (brought_by plan d) e) l.invariant.strict
+    let refused = subst (λ (s : Bool). IsCallRefused (record { strict = s; before = g.F.Shelf.faults l.shelf; after = g.F.Shelf.faults c.take.new.shelf }) (outputs_of_delivery plan d) e) l.invariant.strict
     c.in_err-take.ensures.refused in
     let p = err_from_is_err_and c.from_residual.result c.from_residual.ensures.1 in
     rw (p.1, p.2) (refused_in_whole (g.F.Shelf.strict c.args.shelf.now) (g.F.Shelf.faults c.args.shelf.now) (g.F.Shelf.faults l.shelf) (g.F.Shelf.faults c.take.new.shelf)
-    (brought_by plan d) (brought_by_all plan c.args.self.now.stack) l.invariant.counts
-    (λ at is. sym first ∙ ap first_poison top ∙ first_in_front (brought_by plan d) (brought_by_all plan c.pop.new.self) at is) e refused)
+    (outputs_of_delivery plan d) (outputs_of_stack plan c.args.self.now.stack) l.invariant.counts
+    (λ at is. sym first ∙ ap first_poison top ∙ first_in_front (outputs_of_delivery plan d) (outputs_of_stack plan c.pop.new.self) at is) e refused)
 
 pub returns-in_err-take-clause-unharmed : goal.returns-in_err-take-clause-unharmed
 returns-in_err-take-clause-unharmed g c = λ strict none.
     let plan = c.args.graph.now in
     let l = c.loop-delivery in
     let d = c.in-Some.delivery in
-    let top = brought_top plan l.self.stack c.pop.new.self d c.in-Some.ensures in
-    let first = same_first l.staging.arrivals c.args.staging.now.arrivals (brought_by_all plan l.self.stack) (brought_by_all plan c.args.self.now.stack) l.invariant.staged in
+    let top = top_first plan l.self.stack c.pop.new.self d c.in-Some.ensures in
+    let first = same_first l.staging.arrivals c.args.staging.now.arrivals (outputs_of_stack plan l.self.stack) (outputs_of_stack plan c.args.self.now.stack) l.invariant.staged in
     c.take.ensures.unharmed (l.invariant.strict ∙ strict)
-    (none_in_front (brought_by plan d) (brought_by_all plan c.pop.new.self) (sym (ap first_poison top) ∙ first ∙ none)) ∙ l.invariant.unharmed strict none
+    (none_in_front (outputs_of_delivery plan d) (outputs_of_stack plan c.pop.new.self) (sym (ap first_poison top) ∙ first ∙ none)) ∙ l.invariant.unharmed strict none

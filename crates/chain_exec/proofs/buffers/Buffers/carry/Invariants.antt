@@ -1,7 +1,7 @@
 use Rattle.std.proofs.Common.{◌≡◌, ◌≤◌, ◌++◌, [], true, None, map}
 use Rattle.beam_model.specs.Chains.{Arrives}
 use Rattle.beam_model.specs.Spread.{first_poison}
-use Rattle.chain_exec.specs.Deliveries.{brought_by_all}
+use Rattle.chain_exec.specs.Deliveries.{outputs_of_stack}
 use Rattle.chain_exec.specs.Passing.{stops_of_all}
 use Rattle.chain_exec.proofs.buffers.Buffers.carry.Given as goal
 
@@ -9,11 +9,11 @@ abbrev pub invariant-loop-delivery : goal.invariant-loop-delivery
 invariant-loop-delivery g l = record {
   outputs : l.self.outputs ≡ [];
   windows : l.self.windows ≡ [];
-  staged : map Arrives l.staging.arrivals ++ brought_by_all l.graph l.self.stack ≡ map Arrives l.initial.staging.arrivals ++ brought_by_all l.graph l.initial.self.stack;
+  staged : map Arrives l.staging.arrivals ++ outputs_of_stack l.graph l.self.stack ≡ map Arrives l.initial.staging.arrivals ++ outputs_of_stack l.graph l.initial.self.stack;
   only : l.staging ≡ record l.initial.staging { arrivals = l.staging.arrivals };
   counts : g.F.Shelf.faults l.initial.shelf ≤ g.F.Shelf.faults l.shelf;
   strict : g.F.Shelf.strict l.shelf ≡ g.F.Shelf.strict l.initial.shelf;
-  unharmed : g.F.Shelf.strict l.initial.shelf ≡ true → first_poison (brought_by_all l.graph l.initial.self.stack) ≡ None
+  unharmed : g.F.Shelf.strict l.initial.shelf ≡ true → first_poison (outputs_of_stack l.graph l.initial.self.stack) ≡ None
       → g.F.Shelf.faults l.shelf ≡ g.F.Shelf.faults l.initial.shelf;
 }
 
