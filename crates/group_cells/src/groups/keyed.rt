@@ -1,8 +1,8 @@
 //! Lists by Group and key: the arrivals of a commit, and the places of the cells that stand at Groups of
 //! sessions.
 
-ghost use Rattle.std.specs.Prelude.{◌≡◌, ◌+◌, ◌∷◌, ◌++◌, ◌≤◌, [], length, List as ListOf, if◌then◌else◌, IfOk, OnOk, IfSome, IfNone, IsSome};
-ghost use Rattle.std.specs.Ordering.{as_partial_cmp, eq_by_cmp, is_eq, on, then_cmp};
+ghost use Rattle.std.specs.Prelude.{◌≡◌, ◌+◌, ◌∷◌, ◌++◌, [], length, List as ListOf, if◌then◌else◌, IfOk, OnOk};
+ghost use Rattle.std.specs.Ordering.{as_partial_cmp, eq_by_cmp, is_eq};
 ghost use Rattle.std.specs.Cmp.{partial_order_from_own_ties};
 ghost use Rattle.std.specs.Cmp.Rules.{comparing};
 ghost use Rattle.std.proofs.Common.{rules};
