@@ -8,7 +8,7 @@ use Rattle.turn_desk.specs.declared.held.Note.{Note}
 use Rattle.turn_desk.specs.declared.view.Stage.TheVariants.{Idle}
 use Rattle.turn_desk.specs.declared.view.View.{View}
 use Rattle.turn_desk.specs.declared.view.Slot.{Slot}
-use Rattle.turn_desk.specs.Notes.{size_of, opening_note}
+use Rattle.turn_desk.specs.Notes.{size_of, opening_note, IsSound}
 use Rattle.turn_desk.specs.Rule.{IsPresent, IsAside, IsInLine, size_in, Stands, Turns, view_at}
 use Rattle.turn_desk.proofs.Numbers.{opening_sound}
 use Rattle.turn_desk.proofs.Stages.{busy_present, present_size, size_positive}
@@ -49,11 +49,11 @@ module _ {V A C : Type 0} (fits : V → C → Note A → Type 0) (constant : C) 
 
   -- with one pass that has all numbers the slot is home, and its value fits that pass's note
   pub closes : (s : State (Slot V A) W) (id : ℕ) (v : W) → Rule s → get_elem? s.views id ≡ some v → v.stage ≡ Idle → size_of v.note ≡ 4294967296
-      → (x : V) × (slot : Slot V A) × (get_elem? s.homes 0 ≡ some (some slot)) × (slot.value ≡ Some x) × fits x constant v.note
+      → (x : V) × (slot : Slot V A) × (get_elem? s.homes 0 ≡ some (some slot)) × (slot.value ≡ Some x) × fits x constant v.note × IsSound v.note
   closes s id v r at idle whole =
       let present : IsPresent v.stage = subst IsPresent (sym idle) tt in let mine = r.each id v at present in
       let size : size_in v ≡ size_of v.note = present_size (size_of v.note) v.stage present in ⊎_elim
-      (λ home. (r.value, home.0.0, ap (λ (hs : List (Maybe (Slot V A))). get_elem? hs 0) home.0.1, home.0.2, mine.fitting))
+      (λ home. (r.value, home.0.0, ap (λ (hs : List (Maybe (Slot V A))). get_elem? hs 0) home.0.1, home.0.2, mine.fitting, mine.sound))
       (λ busy.
       let there : IsPresent busy.2.stage = busy_present busy.2.stage busy.4 in
       let away : ¬ (id ≡ busy.1) = λ e. busy.4 (subst (λ (x : W). IsAside x.stage) (same_at s.views id v busy.2 at (subst (λ (k : ℕ). get_elem? s.views k ≡ some busy.2) (sym e) busy.3)) (subst IsAside (sym idle) tt)) in

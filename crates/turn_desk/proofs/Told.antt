@@ -40,10 +40,10 @@ module _ {V A C : Type 0} (fits : V → C → Note A → Type 0) (constant : C) 
 
   -- the value that the slot has at the end
   pub ends_with : (id : ℕ) (v : View V A C) (words : List ℕ) (slots : List (Slot V A)) (slot : Slot V A) → Final (Seen (Turns fits constant) id v) words slots → v.stage ≡ Idle → size_of v.note ≡ 4294967296
-      → get_elem? slots 0 ≡ some slot → (x : V) × (slot.value ≡ Some x) × fits x constant v.note
+      → get_elem? slots 0 ≡ some slot → (x : V) × (slot.value ≡ Some x) × fits x constant v.note × IsSound v.note
   ends_with id v words slots slot last idle whole at = let end = closes fits constant last.0 id v last.1.0 last.1.1 idle whole in
       let same : end.1 ≡ slot = some-injective end.1 slot (sym (last.4 0 end.1 end.2) ∙ at) in
-      (end.0, sym (ap (λ (z : Slot V A). z.value) same) ∙ end.3, end.4)
+      (end.0, sym (ap (λ (z : Slot V A). z.value) same) ∙ end.3, end.4, end.5)
 
   module _ (moves : C → V → Note A → V → Note A → Type 0)
       (keeps_own : (c : C) (x y : V) (m n : Note A) → IsSound m → fits x c m → moves c x m y n → fits y c n × HasSameNumbers m n)

@@ -38,13 +38,29 @@ impl<V: Held> Desk<V> {
         ensures constant { IfOk result (λ r. constant_of r.0 ≡ constant) }
         ensures note { IfOk result (λ r. note_of r.1 ≡ opening_note V.opening) }
     {
+        let constant = Unseen::of();
+        Desk::new_with(alloc, value, constant)
+    }
+
+    /// [`Desk::new`] with a constant that the caller's proof has picked before.
+    pub fn new_with(
+        alloc: Global,
+        value: V,
+        constant: Unseen<V::Constant>,
+    ) -> Result<(Desk<V>, Pass<V>), NoMemory>
+    where
+        V: Drop,
+        requires { V.fits value constant.value (opening_note V.opening) }
+        ensures desk { IfOk result (λ r. IsPassOf r.0 r.1) }
+        ensures constant { IfOk result (λ r. constant_of r.0 ≡ constant.value) }
+        ensures note { IfOk result (λ r. note_of r.1 ≡ opening_note V.opening) }
+    {
         let mut slots = Vec::new(alloc);
         slots.push(Slot {
             value: Some(value),
             note: Unseen::of(),
         })?;
-        let about = Unseen::of();
-        match Table::new(alloc, &[0, 0], slots, &about) {
+        match Table::new(alloc, &[0, 0], slots, &constant) {
             Ok((table, seat)) => Ok((Desk { table }, Pass { seat })),
             Err(Refused { slots: _ }) => Err(NoMemory),
         }
@@ -147,7 +163,8 @@ impl<V: Held> Desk<V> {
     pub fn close(self, pass: Pass<V>) -> V
         requires desk { IsPassOf self pass }
         requires all { size_of (note_of pass) ≡ 4294967296 }
-        ensures { V.fits result (constant_of self) (note_of pass) }
+        ensures sound { IsSound (note_of pass) }
+        ensures fits { V.fits result (constant_of self) (note_of pass) }
     {
         let Desk { table } = self;
         let Pass { seat } = pass;

@@ -24,3 +24,4 @@ pub use change::Change;
 pub use desk::{Desk, Pass, Turn};
 pub use error::NoMemory;
 pub use held::{Held, Note};
+pub use unseen::Unseen;
