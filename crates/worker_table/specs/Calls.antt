@@ -1,0 +1,135 @@
+-- What the calls of a table ask of a pass, and what they tell it.
+use Rattle.std.specs.Prelude.{◌≡◌, ℕ, zero, suc, ◌+◌, ◌<◌, Bool, true, false, List, [], ◌∷◌, length, Option, Some, None, Result, Ok, Err}
+use Rattle.beam_values.specs.Tracking.{MayClaim, is_granted}
+use Rattle.beam_values.specs.declared.fault.Cause.{Cause}
+use Rattle.beam_values.specs.declared.piece.Piece.{Piece}
+use Rattle.beam_values.specs.declared.plan.Plan.{Plan}
+use Rattle.bundle_commit.specs.declared.job.Job.{Job}
+use Rattle.bundle_commit.specs.declared.job.Job.TheVariants as job
+use Rattle.bundle_commit.specs.declared.job.Receipt.{Receipt}
+use Rattle.book_core.specs.Book.{BookData, tracker_of}
+use Rattle.book_core.specs.Calls.{Makes, answer_of}
+use Rattle.book_core.specs.Steps.{Action, Answer, Committed, Fail, IsNextFor, NoMemory, Split, SplitAt}
+use Rattle.book_core.specs.Work.{IsGiven, IsHonest}
+use Rattle.book_core.specs.declared.live.Failure.{Failure}
+use Rattle.book_core.specs.declared.live.Failure.TheVariants as failure
+use Rattle.book_core.specs.declared.live.Taken.{Taken}
+use Rattle.book_core.specs.declared.live.Taken.TheVariants as taken
+use Rattle.worker_table.specs.Fits.{IsShortened}
+use Rattle.worker_table.specs.Moves.{Deed, FindsNone, Helps, calls_after, reads_after}
+use Rattle.worker_table.specs.Notes.{Setting, Owner, owner_of, KnownJob, Ending, HasFinished, IsStopped, Entry}
+use Rattle.worker_table.specs.declared.help.Help.{Help}
+use Rattle.worker_table.specs.declared.help.Help.TheVariants as help
+
+-- ---- what is asked of the job as the pass knows it
+
+abbrev pub MayClaimIn : Job → Option ℕ → ℕ → Type 0
+MayClaimIn (job.Span piece) attempted p = MayClaim (tracker_of piece attempted) p
+MayClaimIn _ attempted p = ⊥
+
+-- a range whose tracker may claim the position
+abbrev pub CanClaimAs : Option KnownJob → ℕ → Type 0
+CanClaimAs None p = ⊥
+CanClaimAs (Some known) p = MayClaimIn known.job known.attempted p
+
+-- the receipt is what the plan gives for the job, of whatever the files are and of the files that are told
+abbrev pub CanCommitAs : Setting → Option KnownJob → Receipt → Type 0
+CanCommitAs setting None receipt = ⊥
+CanCommitAs setting (Some known) receipt =
+    IsGiven None setting.plan known.job known.attempted receipt × IsGiven setting.known.told setting.plan known.job known.attempted receipt
+
+-- the fail is honest of the job
+abbrev pub CanFailAs : Setting → Option KnownJob → ℕ → Cause → Type 0
+CanFailAs setting None at cause = ⊥
+CanFailAs setting (Some known) at cause = IsHonest setting.known setting.plan known.job known.attempted at cause
+
+-- ---- what is answered, as a step says it
+
+abbrev pub take_answer : {E : Type 0} → Result Taken E → Answer
+take_answer (Ok taken) = answer_of taken
+take_answer (Err e) = NoMemory
+
+abbrev pub commit_answer : {U E : Type 0} → Result U E → Answer
+commit_answer (Ok u) = Committed
+commit_answer (Err e) = NoMemory
+
+-- ---- what the pass knows then
+
+-- a batch is of a node of the plan; no job is of a key
+abbrev pub IsJobOfPlan : Plan → Job → Type 0
+IsJobOfPlan plan (job.Span piece) = Unit {0}
+IsJobOfPlan plan (job.Batch node first panes attempts) = node < length plan.nodes
+IsJobOfPlan plan _ = ⊥
+
+abbrev pub IsTakenOfPlan : Plan → Taken → Type 0
+IsTakenOfPlan plan (taken.Job job) = IsJobOfPlan plan job
+IsTakenOfPlan plan _ = Unit {0}
+
+pub record HasSameFails (e e' : Entry) : Type 0 where
+  pub calls : e'.calls ≡ e.calls
+  pub reads : e'.reads ≡ e.reads
+
+-- The job that is handed out is the pass's, and nothing of it was attempted. Where no job was left the pass has finished, and where the book is stopped, it is.
+abbrev pub AfterTake : {E : Type 0} → Setting → Result Taken E → Entry → Entry → Type 0
+AfterTake setting (Ok (taken.Job job)) e e' =
+    (e'.job ≡ Some (record { job = job; attempted = None })) × IsJobOfPlan setting.plan job × (e'.owes_split ≡ e.owes_split) × (e'.ending ≡ e.ending)
+AfterTake setting (Ok taken.Nothing) e e' = (e'.job ≡ None) × (e'.owes_split ≡ true) × (e'.ending ≡ e.ending)
+AfterTake setting (Ok taken.Finished) e e' = (e'.job ≡ None) × (e'.owes_split ≡ e.owes_split) × (e'.ending ≡ HasFinished)
+AfterTake setting (Ok taken.Stopped) e e' = (e'.job ≡ None) × (e'.owes_split ≡ e.owes_split) × (e'.ending ≡ IsStopped)
+AfterTake setting (Err none) e e' = (e'.job ≡ None) × (e'.owes_split ≡ e.owes_split) × (e'.ending ≡ e.ending)
+
+-- The range attempted the position, which was granted where it lies in it. Others may have shortened it, behind what was attempted before.
+pub record AfterClaim (known : Option KnownJob) (p : ℕ) (granted : Bool) (after : Option KnownJob) : Type 0 where
+  pub noted : Piece
+  pub attempted : Option ℕ
+  pub was : known ≡ Some (record { job = job.Span noted; attempted = attempted })
+  pub now : Piece
+  pub short : IsShortened noted attempted now
+  pub is : after ≡ Some (record { job = job.Span now; attempted = Some p })
+  pub answer : granted ≡ is_granted (tracker_of now attempted) p
+
+abbrev pub AfterCommit : {U E : Type 0} → Result U E → Entry → Type 0
+AfterCommit (Ok u) e' = e'.job ≡ None
+AfterCommit (Err e) e' = Unit {0}
+
+abbrev pub ending_by : Failure → Ending → Ending
+ending_by failure.Retry ending = ending
+ending_by (failure.Spent note) ending = IsStopped
+
+-- the job is given back, and the pass has one fail more; where that was the last one, it is stopped
+pub record AfterFail (at : ℕ) (cause : Cause) (failure : Failure) (e e' : Entry) : Type 0 where
+  pub job : e'.job ≡ None
+  pub calls : e'.calls ≡ calls_after (Fail at cause) e.calls
+  pub reads : e'.reads ≡ reads_after (Fail at cause) e.reads
+  pub ending : e'.ending ≡ ending_by failure e.ending
+
+-- the pass has this slot, no job and no fails; or it has none
+abbrev pub AfterEnroll : {E : Type 0} → Result ℕ E → Entry → Type 0
+AfterEnroll (Ok i) e' = (e'.slot ≡ Some i) × (e'.job ≡ None) × (e'.calls ≡ 0) × (e'.reads ≡ 0)
+AfterEnroll (Err e) e' = e'.slot ≡ None
+
+-- ---- what is asked of the book
+
+-- an idle slot helps another: none was found, or its range was split, or there was no memory for that
+abbrev pub Helping : BookData → ℕ → Help → BookData → Type 0
+Helping b slot help.Nobody b' = IsNextFor b slot None × (b' ≡ b)
+Helping b slot (help.Cut other at) b' = IsNextFor b slot (Some other) × Makes b other (Split 1 2) (SplitAt (Some at)) b'
+Helping b slot (help.Refused other) b' = IsNextFor b slot (Some other) × (b' ≡ b)
+
+abbrev pub help_deed : Help → Deed
+help_deed help.Nobody = FindsNone
+help_deed (help.Cut other at) = Helps other (SplitAt (Some at))
+help_deed (help.Refused other) = Helps other NoMemory
+
+-- the owners after a fail that was made through a slot
+abbrev pub failed_at : List Owner → ℕ → ℕ → Cause → List Owner
+failed_at [] i at cause = []
+failed_at (o ∷ os) zero at cause = owner_of o.number (calls_after (Fail at cause) o.calls) (reads_after (Fail at cause) o.reads) ∷ os
+failed_at (o ∷ os) (suc i) at cause = o ∷ failed_at os i at cause
+
+-- what is answered: where the range was split
+abbrev pub IsHelpAnswer : {E : Type 0} → Help → Result (Option ℕ) E → Type 0
+IsHelpAnswer help.Nobody (Ok None) = Unit {0}
+IsHelpAnswer (help.Cut other at) (Ok (Some p)) = p ≡ at
+IsHelpAnswer (help.Refused other) (Err e) = Unit {0}
+IsHelpAnswer _ _ = ⊥

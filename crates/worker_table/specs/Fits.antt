@@ -1,0 +1,97 @@
+-- When the book and the owners of its slots are what a note says of them.
+use Rattle.std.specs.Prelude.{◌≡◌, ◌≢◌, ℕ, ◌<◌, ◌≤◌, List, [], ◌∷◌, length, slice_get, Option, Some, None}
+use Rattle.std.specs.List.{All, AllByRecursion, sum_by}
+use Rattle.beam_values.specs.Tracking.{first_unattempted}
+use Rattle.beam_values.specs.declared.cell.Pane.{Pane}
+use Rattle.beam_values.specs.declared.piece.Piece.{Piece}
+use Rattle.bundle_commit.specs.declared.job.Job.TheVariants as job
+use Rattle.turn_desk.specs.declared.held.Note.{Note}
+use Rattle.book_core.specs.Book.{BookData, last_commit, slot_at}
+use Rattle.book_core.specs.Changes.{cut_to}
+use Rattle.book_core.specs.Jobs.{job_of, next_job}
+use Rattle.book_core.specs.Runs.{HonestlyReached}
+use Rattle.book_core.specs.Steps.{IsIdle, IsRunning}
+use Rattle.book_core.specs.declared.live.Batch.{Batch}
+use Rattle.book_core.specs.declared.live.Live.{Live}
+use Rattle.book_core.specs.declared.live.Live.TheVariants as live
+use Rattle.worker_table.specs.Notes.{Setting, Owner, owner_of, KnownJob, Ending, GoesOn, HasFinished, IsStopped, Entry}
+
+-- ---- a job that others may have shortened
+
+-- A range that a pass knows, and the same range now: others may have split it, behind what was attempted. Of `[0, 100)` with 49 attempted, that is a range
+-- `[0, to)` with `to` from 50 to 100; with 100 attempted it is `[0, 100)`.
+pub record IsShortened (noted : Piece) (attempted : Option ℕ) (now : Piece) : Type 0 where
+  pub same : now ≡ cut_to noted (record { from = noted.range.from; to = now.range.to })
+  pub below : now.range.to ≤ noted.range.to
+  pub above : first_unattempted noted.range.from attempted ≤ noted.range.to → first_unattempted noted.range.from attempted ≤ now.range.to
+  pub past : noted.range.to < first_unattempted noted.range.from attempted → now.range.to ≡ noted.range.to
+
+-- each pane of the batch is in the list
+abbrev pub AreAllFired : List Pane → Batch → Type 0
+AreAllFired panes batch = All (λ waiting. waiting.pane < length panes) batch.panes
+
+-- what a slot works is the job that its pass knows
+abbrev pub IsKnownAs : List Pane → KnownJob → Live → Type 0
+IsKnownAs panes known (live.Span now attempted) =
+    (noted : Piece) × (known ≡ record { job = job.Span noted; attempted = attempted }) × IsShortened noted attempted now
+IsKnownAs panes known (live.Batch batch) =
+    (known ≡ record { job = job_of panes (live.Batch batch); attempted = None }) × AreAllFired panes batch
+
+-- the pass knows a job where its slot works one
+abbrev pub IsJobOf : List Pane → Option KnownJob → Option (Option Live) → Type 0
+IsJobOf panes None (Some None) = Unit {0}
+IsJobOf panes (Some known) (Some (Some now)) = IsKnownAs panes known now
+IsJobOf panes _ _ = ⊥
+
+-- ---- how a pass ended
+
+-- no job is left, and none is worked
+abbrev pub HasNoJobLeft : BookData → Type 0
+HasNoJobLeft b = (next_job b ≡ None) × IsIdle b
+
+abbrev pub IsEndingOf : BookData → Ending → Type 0
+IsEndingOf b GoesOn = Unit {0}
+IsEndingOf b HasFinished = HasNoJobLeft b
+IsEndingOf b IsStopped = IsRunning b → ⊥
+
+-- ---- what a note says
+
+-- the pass has no slot and no job, and nothing failed; or the slot is the pass's, with its job and its fails
+abbrev pub IsSlotOf : BookData → List Owner → ℕ → Option KnownJob → ℕ → ℕ → Option ℕ → Type 0
+IsSlotOf b owners number known calls reads None = (known ≡ None) × (calls ≡ 0) × (reads ≡ 0)
+IsSlotOf b owners number known calls reads (Some i) = (slice_get owners i ≡ Some (owner_of number calls reads)) × IsJobOf b.panes known (slot_at b i)
+
+pub record FitsEntry (b : BookData) (owners : List Owner) (number : ℕ) (e : Entry) : Type 0 where
+  -- no other slot is the pass's
+  pub alone : (i : ℕ) (owner : Owner) → slice_get owners i ≡ Some owner → owner.number ≡ number → e.slot ≡ Some i
+  pub slot : IsSlotOf b owners number e.job e.calls e.reads e.slot
+  pub seen : e.seen ≤ last_commit b
+  pub ending : IsEndingOf b e.ending
+
+abbrev pub FitEntries : BookData → List Owner → List ℕ → List Entry → Type 0
+FitEntries b owners [] [] = Unit {0}
+FitEntries b owners (n ∷ ns) (e ∷ es) = FitsEntry b owners n e × FitEntries b owners ns es
+FitEntries b owners _ _ = ⊥
+
+abbrev pub OwnsNone : List Owner → ℕ → Type 0
+OwnsNone owners number = (i : ℕ) (owner : Owner) → slice_get owners i ≡ Some owner → owner.number ≢ number
+
+-- the book was reached by honest fails from the opening of this plan with these lengths and options
+pub record IsBookOf (setting : Setting) (b : BookData) : Type 0 where
+  pub reached : HonestlyReached setting.known b
+  pub plan : b.plan ≡ setting.plan
+  pub files : b.files ≡ setting.files
+  pub options : b.options ≡ setting.options
+
+-- Each slot has an owner, and the book counts no more fails than were made through its slots.
+pub record AreOwners (b : BookData) (owners : List Owner) : Type 0 where
+  pub each : length owners ≡ length b.slots
+  pub calls : b.calls ≤ sum_by (λ owner. owner.calls) owners
+  pub reads : b.reads ≤ sum_by (λ owner. owner.reads) owners
+  pub numbers : AllByRecursion (λ owner. owner.number < 4294967296) owners
+
+pub record Fits (setting : Setting) (b : BookData) (owners : List Owner) (note : Note (List Entry)) : Type 0 where
+  pub book : IsBookOf setting b
+  pub owners_of : AreOwners b owners
+  pub entries : FitEntries b owners note.numbers note.about
+  pub free : (n : ℕ) → 0 < n → n ≤ note.free → OwnsNone owners n

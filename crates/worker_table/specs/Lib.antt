@@ -1,0 +1,12 @@
+pub mod Notes
+pub mod Fits
+pub mod Moves
+pub mod Places
+pub mod Frames
+pub mod Honest
+pub mod Known
+pub mod Laws
+pub mod Turns
+pub mod Calls
+pub mod Passes
+pub mod Ends
