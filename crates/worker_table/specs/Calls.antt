@@ -16,7 +16,7 @@ use Rattle.book_core.specs.declared.live.Failure.TheVariants as failure
 use Rattle.book_core.specs.declared.live.Taken.{Taken}
 use Rattle.book_core.specs.declared.live.Taken.TheVariants as taken
 use Rattle.worker_table.specs.Fits.{IsShortened}
-use Rattle.worker_table.specs.Moves.{Deed, FindsNone, Helps, calls_after, reads_after}
+use Rattle.worker_table.specs.Moves.{Deed, Rests, Enrolls, FindsNone, Helps, calls_after, reads_after}
 use Rattle.worker_table.specs.Notes.{Setting, Owner, owner_of, KnownJob, Ending, HasFinished, IsStopped, Entry}
 use Rattle.worker_table.specs.declared.help.Help.{Help}
 use Rattle.worker_table.specs.declared.help.Help.TheVariants as help
@@ -65,9 +65,17 @@ abbrev pub IsTakenOfPlan : Plan → Taken → Type 0
 IsTakenOfPlan plan (taken.Job job) = IsJobOfPlan plan job
 IsTakenOfPlan plan _ = Unit {0}
 
-pub record HasSameFails (e e' : Entry) : Type 0 where
+-- the slot is the same, and no job failed
+pub record KeepsSlot (e e' : Entry) : Type 0 where
+  pub slot : e'.slot ≡ e.slot
   pub calls : e'.calls ≡ e.calls
   pub reads : e'.reads ≡ e.reads
+
+-- and what the pass owes and how it ended
+pub record GoesOnAs (e e' : Entry) : Type 0 where
+  pub keeps : KeepsSlot e e'
+  pub owes : e'.owes_split ≡ e.owes_split
+  pub ending : e'.ending ≡ e.ending
 
 -- The job that is handed out is the pass's, and nothing of it was attempted. Where no job was left the pass has finished, and where the book is stopped, it is.
 abbrev pub AfterTake : {E : Type 0} → Setting → Result Taken E → Entry → Entry → Type 0
@@ -102,11 +110,26 @@ pub record AfterFail (at : ℕ) (cause : Cause) (failure : Failure) (e e' : Entr
   pub calls : e'.calls ≡ calls_after (Fail at cause) e.calls
   pub reads : e'.reads ≡ reads_after (Fail at cause) e.reads
   pub ending : e'.ending ≡ ending_by failure e.ending
+  pub slot : e'.slot ≡ e.slot
+  pub owes : e'.owes_split ≡ e.owes_split
 
 -- the pass has this slot, no job and no fails; or it has none
 abbrev pub AfterEnroll : {E : Type 0} → Result ℕ E → Entry → Type 0
 AfterEnroll (Ok i) e' = (e'.slot ≡ Some i) × (e'.job ≡ None) × (e'.calls ≡ 0) × (e'.reads ≡ 0)
 AfterEnroll (Err e) e' = e'.slot ≡ None
+
+-- what a split of another slot's range leaves of the pass
+pub record AfterHelp (e e' : Entry) : Type 0 where
+  pub keeps : KeepsSlot e e'
+  pub job : e'.job ≡ e.job
+  pub owes : e'.owes_split ≡ false
+  pub ending : e'.ending ≡ e.ending
+
+pub record AfterStop (e e' : Entry) : Type 0 where
+  pub keeps : KeepsSlot e e'
+  pub job : e'.job ≡ e.job
+  pub owes : e'.owes_split ≡ e.owes_split
+  pub ending : e'.ending ≡ IsStopped
 
 -- ---- what is asked of the book
 
@@ -115,6 +138,10 @@ abbrev pub Helping : BookData → ℕ → Help → BookData → Type 0
 Helping b slot help.Nobody b' = IsNextFor b slot None × (b' ≡ b)
 Helping b slot (help.Cut other at) b' = IsNextFor b slot (Some other) × Makes b other (Split 1 2) (SplitAt (Some at)) b'
 Helping b slot (help.Refused other) b' = IsNextFor b slot (Some other) × (b' ≡ b)
+
+abbrev pub enroll_deed : {E : Type 0} → Result ℕ E → Deed
+enroll_deed (Ok i) = Enrolls i
+enroll_deed (Err e) = Rests
 
 abbrev pub help_deed : Help → Deed
 help_deed help.Nobody = FindsNone

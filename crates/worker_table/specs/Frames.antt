@@ -64,13 +64,13 @@ stopped_left b stopped left = let due = none_due b left.0 in (none_next (record 
 
 -- ---- changes that leave the lists by which others know the book
 
-record KeepsLists (b c : BookData) : Type 0 where
-  slots : c.slots ≡ b.slots
-  commits : c.commits ≡ b.commits
-  panes : c.panes ≡ b.panes
-  stopped : c.stopped ≡ b.stopped
-  calls : c.calls ≡ b.calls
-  reads : c.reads ≡ b.reads
+pub record KeepsLists (b c : BookData) : Type 0 where
+  pub slots : c.slots ≡ b.slots
+  pub commits : c.commits ≡ b.commits
+  pub panes : c.panes ≡ b.panes
+  pub stopped : c.stopped ≡ b.stopped
+  pub calls : c.calls ≡ b.calls
+  pub reads : c.reads ≡ b.reads
 
 pieces_keep : (b : BookData) (pieces : List Piece) (next : Next) → without_first b pieces ≡ Some next → KeepsLists b next.rest
 pieces_keep b [] next h = absurd (cc)
@@ -82,7 +82,7 @@ due_keep : (b : BookData) (due : Due) → KeepsLists b (without_due b due).rest
 due_keep b (GivenBack batch) = record { slots = refl; commits = refl; panes = refl; stopped = refl; calls = refl; reads = refl }
 due_keep b (Oldest batch) = record { slots = refl; commits = refl; panes = refl; stopped = refl; calls = refl; reads = refl }
 
-next_keep : (b : BookData) (due : Option Due) (next : Next) → due_or_piece b due ≡ Some next → KeepsLists b next.rest
+pub next_keep : (b : BookData) (due : Option Due) (next : Next) → due_or_piece b due ≡ Some next → KeepsLists b next.rest
 next_keep b (Some due) next h = let is : without_due b due ≡ next = cc in subst (λ (n : Next). KeepsLists b n.rest) is (due_keep b due)
 next_keep b None next h = pieces_keep b b.pending next h
 
@@ -92,14 +92,14 @@ back_keeps b (live.Batch batch) = record { slots = refl; commits = refl; panes =
 
 -- ---- a fail
 
-record LeavesAtFail (b : BookData) (slot at : ℕ) (cause : Cause) (spent : Bool) (new : BookData) : Type 0 where
-  slots : new.slots ≡ slice_set b.slots slot None
-  commits : new.commits ≡ b.commits
-  panes : new.panes ≡ b.panes
-  stopped : (IsRunning b → ⊥) → IsRunning new → ⊥
-  spent_stops : spent ≡ true → IsRunning new → ⊥
-  calls : new.calls ≤ calls_after (Fail at cause) b.calls
-  reads : new.reads ≤ reads_after (Fail at cause) b.reads
+pub record LeavesAtFail (b : BookData) (slot at : ℕ) (cause : Cause) (spent : Bool) (new : BookData) : Type 0 where
+  pub slots : new.slots ≡ slice_set b.slots slot None
+  pub commits : new.commits ≡ b.commits
+  pub panes : new.panes ≡ b.panes
+  pub stopped : (IsRunning b → ⊥) → IsRunning new → ⊥
+  pub spent_stops : spent ≡ true → IsRunning new → ⊥
+  pub calls : new.calls ≤ calls_after (Fail at cause) b.calls
+  pub reads : new.reads ≤ reads_after (Fail at cause) b.reads
 
 or_some : (kept : Option StopCause) (new : StopCause) → or_stopped kept new ≡ None → ⊥
 or_some None new e = none_some new e
@@ -128,7 +128,7 @@ cause_leaves b back slot at Read false note keeps = record {
   calls = let k = keeps.calls in omega (arith, k); reads = let k = keeps.reads in omega (arith, k);
 }
 
-fail_leaves : (b : BookData) (slot at : ℕ) (job : Live) (cause : Cause) → LeavesAtFail b slot at cause (ends_run b job cause) (failed b slot job at cause)
+pub fail_leaves : (b : BookData) (slot at : ℕ) (job : Live) (cause : Cause) → LeavesAtFail b slot at cause (ends_run b job cause) (failed b slot job at cause)
 fail_leaves b slot at job cause = cause_leaves b (given_back (with_slot b slot None) job) slot at cause (ends_run b job cause) (note_of job at cause) (back_keeps (with_slot b slot None) job)
 
 -- ---- what a step leaves

@@ -16,6 +16,11 @@ entry_in (e ∷ es) = e
 abbrev pub first_entry : Note (List Entry) → Entry
 first_entry note = entry_in note.about
 
+-- the pass's own number
+abbrev pub number_in : List ℕ → ℕ
+number_in [] = 0
+number_in (n ∷ ns) = n
+
 -- One turn: the book that it lent, the book that it gave back, and the new note, which is that after the deed. The old entry fits the book that was lent.
 pub record Turned (setting : Setting) (m n : Note (List Entry)) (deed : Deed) (makes : BookData → BookData → Type 0) : Type 0 where
   pub lent : BookData

@@ -1,10 +1,10 @@
 //! What a pass does in its turn at the desk.
-ghost use Rattle.std.specs.Prelude.{◌≡◌, None, Some, IfErr, IfOk};
+ghost use Rattle.std.specs.Prelude.{◌≡◌, None, Some, IfErr};
 ghost use Rattle.turn_desk.specs.Seen.{constant_of, note_of, IsPassOf};
 ghost use Rattle.book_core.specs.Calls.{failure_of};
 ghost use Rattle.book_core.specs.Steps.{Claim, Claimed, Commit, Fail, Take};
-ghost use Rattle.worker_table.specs.Calls.{CanClaimAs, CanCommitAs, CanFailAs, IsTakenOfPlan, IsHelpAnswer, commit_answer, take_answer};
-ghost use Rattle.worker_table.specs.Turns.{HasEnrolled, HasHelped, HasStepped, HasStopped, first_entry};
+ghost use Rattle.worker_table.specs.Calls.{AfterClaim, AfterCommit, AfterEnroll, AfterFail, AfterHelp, AfterStop, AfterTake, CanClaimAs, CanCommitAs, CanFailAs, GoesOnAs, IsHelpAnswer, KeepsSlot, commit_answer, take_answer};
+ghost use Rattle.worker_table.specs.Turns.{HasEnrolled, HasHelped, HasStepped, HasStopped, KeepsOthers, first_entry};
 
 use crate::did::{owned_by, seen_as};
 use crate::held::Shared;
@@ -20,6 +20,8 @@ pub fn enroll<R: Wait>(desk: &Desk<Shared>, rt: &R, own: Pass<Shared>) -> (Resul
     requires slot { (first_entry (note_of own)).slot ≡ None }
     ensures table { IsPassOf desk.now result.1 }
     ensures turn { HasEnrolled (constant_of desk.now) (note_of own) (note_of result.1) result.0 }
+    ensures told { AfterEnroll result.0 (first_entry (note_of result.1)) }
+    ensures others { KeepsOthers (note_of own) (note_of result.1) }
 {
     let mut turn = desk.take(rt, own);
     let owners = owned_by(&turn, &0);
@@ -39,7 +41,9 @@ pub fn take_job<R: Wait>(
     requires free { (first_entry (note_of own)).job ≡ None }
     ensures table { IsPassOf desk.now result.1 }
     ensures turn { HasStepped (constant_of desk.now) (note_of own) (note_of result.1) slot Take (take_answer result.0) }
-    ensures job { IfOk result.0 (IsTakenOfPlan (constant_of desk.now).plan) }
+    ensures told { AfterTake (constant_of desk.now) result.0 (first_entry (note_of own)) (first_entry (note_of result.1)) }
+    ensures stays { KeepsSlot (first_entry (note_of own)) (first_entry (note_of result.1)) }
+    ensures others { KeepsOthers (note_of own) (note_of result.1) }
 {
     let mut turn = desk.take(rt, own);
     let answer = turn.value().take(slot);
@@ -59,6 +63,9 @@ pub fn claim<R: Wait>(
     requires may { CanClaimAs (first_entry (note_of own)).job p }
     ensures table { IsPassOf desk.now result.1 }
     ensures turn { HasStepped (constant_of desk.now) (note_of own) (note_of result.1) slot (Claim p) (Claimed result.0) }
+    ensures told { AfterClaim (first_entry (note_of own)).job p result.0 (first_entry (note_of result.1)).job }
+    ensures stays { GoesOnAs (first_entry (note_of own)) (first_entry (note_of result.1)) }
+    ensures others { KeepsOthers (note_of own) (note_of result.1) }
 {
     let mut turn = desk.take(rt, own);
     let granted = turn.value().claim(slot, p);
@@ -76,6 +83,8 @@ pub fn split_other<R: Wait>(
     requires slot { (first_entry (note_of own)).slot ≡ Some slot }
     ensures table { IsPassOf desk.now result.1 }
     ensures turn { HasHelped (constant_of desk.now) (note_of own) (note_of result.1) slot result.0 }
+    ensures told { AfterHelp (first_entry (note_of own)) (first_entry (note_of result.1)) }
+    ensures others { KeepsOthers (note_of own) (note_of result.1) }
 {
     let mut turn = desk.take(rt, own);
     let help = turn.value().help(slot);
@@ -105,6 +114,9 @@ pub fn commit<R: Wait>(
     requires given { CanCommitAs (constant_of desk.now) (first_entry (note_of own)).job receipt }
     ensures table { IsPassOf desk.now result.1 }
     ensures turn { HasStepped (constant_of desk.now) (note_of own) (note_of result.1) slot Commit (commit_answer result.0) }
+    ensures told { AfterCommit result.0 (first_entry (note_of result.1)) }
+    ensures stays { GoesOnAs (first_entry (note_of own)) (first_entry (note_of result.1)) }
+    ensures others { KeepsOthers (note_of own) (note_of result.1) }
     ensures back { IfErr result.0 (λ unplaced. unplaced.receipt ≡ receipt) }
 {
     let mut turn = desk.take(rt, own);
@@ -126,6 +138,8 @@ pub fn fail<R: Wait>(
     requires honest { CanFailAs (constant_of desk.now) (first_entry (note_of own)).job at cause }
     ensures table { IsPassOf desk.now result.1 }
     ensures turn { HasStepped (constant_of desk.now) (note_of own) (note_of result.1) slot (Fail at cause) (failure_of result.0) }
+    ensures told { AfterFail at cause result.0 (first_entry (note_of own)) (first_entry (note_of result.1)) }
+    ensures others { KeepsOthers (note_of own) (note_of result.1) }
 {
     let mut turn = desk.take(rt, own);
     let failure = turn.value().fail(slot, at, cause);
@@ -137,6 +151,8 @@ pub fn stop<R: Wait>(desk: &Desk<Shared>, rt: &R, own: Pass<Shared>) -> Pass<Sha
     requires table { IsPassOf desk.now own }
     ensures table { IsPassOf desk.now result }
     ensures turn { HasStopped (constant_of desk.now) (note_of own) (note_of result) }
+    ensures told { AfterStop (first_entry (note_of own)) (first_entry (note_of result)) }
+    ensures others { KeepsOthers (note_of own) (note_of result) }
 {
     let mut turn = desk.take(rt, own);
     turn.value().stop();

@@ -2,8 +2,7 @@
 ghost use Rattle.std.specs.Prelude.{◌≡◌, None, IsSome, IsSomeAnd, IfErr, false};
 ghost use Rattle.book_core.specs.Calls.{failure_of};
 ghost use Rattle.book_core.specs.Steps.{Claim, Claimed, Commit, Fail, Take};
-ghost use Rattle.worker_table.specs.Calls.{AfterClaim, AfterCommit, AfterEnroll, AfterFail, AfterTake, CanClaimAs, CanCommitAs, CanFailAs, HasSameFails, commit_answer, take_answer};
-ghost use Rattle.worker_table.specs.Notes.{IsStopped};
+ghost use Rattle.worker_table.specs.Calls.{AfterClaim, AfterCommit, AfterEnroll, AfterFail, AfterHelp, AfterStop, AfterTake, CanClaimAs, CanCommitAs, CanFailAs, GoesOnAs, KeepsSlot, commit_answer, take_answer};
 ghost use Rattle.worker_table.specs.Passes.{IsOf, entry_of, job_known, note_of_pass, setting_of, slot_of};
 ghost use Rattle.worker_table.specs.Turns.{HasEnrolled, HasHelped, HasStepped, HasStopped, KeepsOthers};
 
@@ -43,9 +42,8 @@ impl Table {
         requires owes { (entry_of pass.old).owes_split ≡ false }
         ensures table { IsOf self.now pass.new }
         ensures turn { IsSomeAnd (slot_of pass.old) (λ i. HasStepped (setting_of self.now) (note_of_pass pass.old) (note_of_pass pass.new) i Take (take_answer result)) }
-        ensures slot { slot_of pass.new ≡ slot_of pass.old }
         ensures told { AfterTake (setting_of self.now) result (entry_of pass.old) (entry_of pass.new) }
-        ensures fails { HasSameFails (entry_of pass.old) (entry_of pass.new) }
+        ensures stays { KeepsSlot (entry_of pass.old) (entry_of pass.new) }
         ensures others { KeepsOthers (note_of_pass pass.old) (note_of_pass pass.new) }
     {
         let (Some(own), Some(slot)) = (pass.pass.take(), pass.slot) else {
@@ -63,10 +61,8 @@ impl Table {
         requires may { CanClaimAs (job_known pass.old) p }
         ensures table { IsOf self.now pass.new }
         ensures turn { IsSomeAnd (slot_of pass.old) (λ i. HasStepped (setting_of self.now) (note_of_pass pass.old) (note_of_pass pass.new) i (Claim p) (Claimed result)) }
-        ensures slot { slot_of pass.new ≡ slot_of pass.old }
         ensures told { AfterClaim (job_known pass.old) p result (job_known pass.new) }
-        ensures goes { ((entry_of pass.new).ending ≡ (entry_of pass.old).ending) × ((entry_of pass.new).owes_split ≡ (entry_of pass.old).owes_split) }
-        ensures fails { HasSameFails (entry_of pass.old) (entry_of pass.new) }
+        ensures stays { GoesOnAs (entry_of pass.old) (entry_of pass.new) }
         ensures others { KeepsOthers (note_of_pass pass.old) (note_of_pass pass.new) }
     {
         let (Some(own), Some(slot)) = (pass.pass.take(), pass.slot) else {
@@ -84,11 +80,7 @@ impl Table {
         requires slot { IsSome (slot_of pass.old) }
         ensures table { IsOf self.now pass.new }
         ensures turn { IsSomeAnd (slot_of pass.old) (λ i. HasHelped (setting_of self.now) (note_of_pass pass.old) (note_of_pass pass.new) i result) }
-        ensures slot { slot_of pass.new ≡ slot_of pass.old }
-        ensures job { job_known pass.new ≡ job_known pass.old }
-        ensures owes { (entry_of pass.new).owes_split ≡ false }
-        ensures goes { (entry_of pass.new).ending ≡ (entry_of pass.old).ending }
-        ensures fails { HasSameFails (entry_of pass.old) (entry_of pass.new) }
+        ensures told { AfterHelp (entry_of pass.old) (entry_of pass.new) }
         ensures others { KeepsOthers (note_of_pass pass.old) (note_of_pass pass.new) }
     {
         let (Some(own), Some(slot)) = (pass.pass.take(), pass.slot) else {
@@ -106,11 +98,9 @@ impl Table {
         requires given { CanCommitAs (setting_of self.now) (job_known pass.old) receipt }
         ensures table { IsOf self.now pass.new }
         ensures turn { IsSomeAnd (slot_of pass.old) (λ i. HasStepped (setting_of self.now) (note_of_pass pass.old) (note_of_pass pass.new) i Commit (commit_answer result)) }
-        ensures slot { slot_of pass.new ≡ slot_of pass.old }
         ensures told { AfterCommit result (entry_of pass.new) }
         ensures back { IfErr result (λ unplaced. unplaced.receipt ≡ receipt) }
-        ensures goes { ((entry_of pass.new).ending ≡ (entry_of pass.old).ending) × ((entry_of pass.new).owes_split ≡ (entry_of pass.old).owes_split) }
-        ensures fails { HasSameFails (entry_of pass.old) (entry_of pass.new) }
+        ensures stays { GoesOnAs (entry_of pass.old) (entry_of pass.new) }
         ensures others { KeepsOthers (note_of_pass pass.old) (note_of_pass pass.new) }
     {
         let (Some(own), Some(slot)) = (pass.pass.take(), pass.slot) else {
@@ -128,9 +118,7 @@ impl Table {
         requires honest { CanFailAs (setting_of self.now) (job_known pass.old) at cause }
         ensures table { IsOf self.now pass.new }
         ensures turn { IsSomeAnd (slot_of pass.old) (λ i. HasStepped (setting_of self.now) (note_of_pass pass.old) (note_of_pass pass.new) i (Fail at cause) (failure_of result)) }
-        ensures slot { slot_of pass.new ≡ slot_of pass.old }
         ensures told { AfterFail at cause result (entry_of pass.old) (entry_of pass.new) }
-        ensures owes { (entry_of pass.new).owes_split ≡ (entry_of pass.old).owes_split }
         ensures others { KeepsOthers (note_of_pass pass.old) (note_of_pass pass.new) }
     {
         let (Some(own), Some(slot)) = (pass.pass.take(), pass.slot) else {
@@ -146,11 +134,7 @@ impl Table {
         requires table { IsOf self.now pass.old }
         ensures table { IsOf self.now pass.new }
         ensures turn { HasStopped (setting_of self.now) (note_of_pass pass.old) (note_of_pass pass.new) }
-        ensures slot { slot_of pass.new ≡ slot_of pass.old }
-        ensures job { job_known pass.new ≡ job_known pass.old }
-        ensures ending { (entry_of pass.new).ending ≡ IsStopped }
-        ensures owes { (entry_of pass.new).owes_split ≡ (entry_of pass.old).owes_split }
-        ensures fails { HasSameFails (entry_of pass.old) (entry_of pass.new) }
+        ensures told { AfterStop (entry_of pass.old) (entry_of pass.new) }
         ensures others { KeepsOthers (note_of_pass pass.old) (note_of_pass pass.new) }
     {
         let Some(own) = pass.pass.take() else {

@@ -1,0 +1,4 @@
+pub mod Carried
+pub mod Stepping
+pub mod Turning
+pub mod Tells
