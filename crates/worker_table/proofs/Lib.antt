@@ -2,3 +2,6 @@ pub mod Carried
 pub mod Stepping
 pub mod Turning
 pub mod Tells
+pub mod Opened
+pub mod Counting
+pub mod Batches
