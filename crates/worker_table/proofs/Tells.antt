@@ -202,15 +202,27 @@ none_yet : (b : BookData) (owners : List Owner) (number : ℕ) (known : Option K
 none_yet b owners number known calls reads None e fit = fit
 none_yet b owners number known calls reads (Some i) e fit = let w : Some i ≡ None = e in cc
 
-pub enroll_tells : {E : Type 0} (setting : Setting) (m n : Note (List Entry)) (answer : Result ℕ E) → (first_entry m).slot ≡ None → HasEnrolled setting m n answer → AfterEnroll answer (first_entry n)
+pub enroll_tells : {E : Type 0} (setting : Setting) (m n : Note (List Entry)) (answer : Result ℕ E) → (first_entry m).slot ≡ None → HasEnrolled setting m n answer → AfterEnroll answer (first_entry m) (first_entry n)
 enroll_tells {E} setting m n (Ok i) none turn =
-    let f = none_yet turn.lent turn.owners turn.number (first_entry m).job (first_entry m).calls (first_entry m).reads (first_entry m).slot none turn.fit.slot in (
-      ap (λ (e : Entry). e.slot) turn.first,
-      ap (λ (e : Entry). e.job) turn.first ∙ f.0,
-      ap (λ (e : Entry). e.calls) turn.first ∙ f.1,
-      ap (λ (e : Entry). e.reads) turn.first ∙ f.2,
-    )
-enroll_tells {E} setting m n (Err e) none turn = ap (λ (e : Entry). e.slot) turn.first ∙ none
+    let f = none_yet turn.lent turn.owners turn.number (first_entry m).job (first_entry m).calls (first_entry m).reads (first_entry m).slot none turn.fit.slot in
+    record {
+      slot = ap (λ (e : Entry). e.slot) turn.first;
+      job = ap (λ (e : Entry). e.job) turn.first ∙ f.0;
+      calls = ap (λ (e : Entry). e.calls) turn.first ∙ f.1;
+      reads = ap (λ (e : Entry). e.reads) turn.first ∙ f.2;
+      owes = ap (λ (e : Entry). e.owes_split) turn.first;
+      ending = ap (λ (e : Entry). e.ending) turn.first;
+    }
+enroll_tells {E} setting m n (Err refused) none turn =
+    let f = none_yet turn.lent turn.owners turn.number (first_entry m).job (first_entry m).calls (first_entry m).reads (first_entry m).slot none turn.fit.slot in
+    record {
+      slot = ap (λ (e : Entry). e.slot) turn.first ∙ none;
+      job = ap (λ (e : Entry). e.job) turn.first ∙ f.0;
+      calls = ap (λ (e : Entry). e.calls) turn.first ∙ f.1;
+      reads = ap (λ (e : Entry). e.reads) turn.first ∙ f.2;
+      owes = ap (λ (e : Entry). e.owes_split) turn.first;
+      ending = ap (λ (e : Entry). e.ending) turn.first;
+    }
 
 -- ---- what stays of the note
 

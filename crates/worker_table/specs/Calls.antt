@@ -114,9 +114,17 @@ pub record AfterFail (at : ℕ) (cause : Cause) (failure : Failure) (e e' : Entr
   pub owes : e'.owes_split ≡ e.owes_split
 
 -- the pass has this slot, no job and no fails; or it has none
-abbrev pub AfterEnroll : {E : Type 0} → Result ℕ E → Entry → Type 0
-AfterEnroll (Ok i) e' = (e'.slot ≡ Some i) × (e'.job ≡ None) × (e'.calls ≡ 0) × (e'.reads ≡ 0)
-AfterEnroll (Err e) e' = e'.slot ≡ None
+abbrev pub HasGot : {E : Type 0} → Result ℕ E → Entry → Type 0
+HasGot (Ok i) e' = e'.slot ≡ Some i
+HasGot (Err e) e' = e'.slot ≡ None
+
+pub record AfterEnroll {E : Type 0} (answer : Result ℕ E) (e e' : Entry) : Type 0 where
+  pub slot : HasGot answer e'
+  pub job : e'.job ≡ None
+  pub calls : e'.calls ≡ 0
+  pub reads : e'.reads ≡ 0
+  pub owes : e'.owes_split ≡ e.owes_split
+  pub ending : e'.ending ≡ e.ending
 
 -- what a split of another slot's range leaves of the pass
 pub record AfterHelp (e e' : Entry) : Type 0 where

@@ -20,7 +20,7 @@ pub fn enroll<R: Wait>(desk: &Desk<Shared>, rt: &R, own: Pass<Shared>) -> (Resul
     requires slot { (first_entry (note_of own)).slot ≡ None }
     ensures table { IsPassOf desk.now result.1 }
     ensures turn { HasEnrolled (constant_of desk.now) (note_of own) (note_of result.1) result.0 }
-    ensures told { AfterEnroll result.0 (first_entry (note_of result.1)) }
+    ensures told { AfterEnroll result.0 (first_entry (note_of own)) (first_entry (note_of result.1)) }
     ensures others { KeepsOthers (note_of own) (note_of result.1) }
 {
     let mut turn = desk.take(rt, own);

@@ -20,7 +20,7 @@ impl Table {
         requires slot { slot_of pass.old ≡ None }
         ensures table { IsOf self.now pass.new }
         ensures turn { HasEnrolled (setting_of self.now) (note_of_pass pass.old) (note_of_pass pass.new) result }
-        ensures told { AfterEnroll result (entry_of pass.new) }
+        ensures told { AfterEnroll result (entry_of pass.old) (entry_of pass.new) }
         ensures others { KeepsOthers (note_of_pass pass.old) (note_of_pass pass.new) }
     {
         let Some(own) = pass.pass.take() else {
