@@ -21,7 +21,8 @@ mod held;
 mod pass;
 mod steps;
 mod table;
+#[cfg(test)]
+mod tests;
 mod turns;
 
-pub use held::{Entries, OwnerList, Shared, TableSetting};
 pub use pass::{Table, WorkerPass};

@@ -1,6 +1,6 @@
 //! Two passes of one table, each in a thread of its own.
 
-ghost use Rattle.std.specs.Prelude.{◌≡◌, ◌+◌, ◌<◌, All, [], ◌∷◌, IfOk, None, false, vec_len};
+ghost use Rattle.std.specs.Prelude.{◌≡◌, ◌+◌, ◌<◌, All, [], ◌∷◌, IfOk, OnOk, None, false};
 ghost use Rattle.beam_model.specs.Positions.{items};
 ghost use Rattle.turn_desk.specs.Notes.{size_of};
 ghost use Rattle.book_core.specs.Runs.{AreLengthsOf};
@@ -90,6 +90,20 @@ fn fail_and_stop<R: Wait>(rt: &R, table: &Table, mut pass: WorkerPass) -> Worker
     pass
 }
 
+// Joins a pass into this one, if one came back.
+fn join_last(table: &Table, pass: &mut WorkerPass, mut ended: Vec<WorkerPass>) -> Result<(), Fail>
+    requires table { IsOf table.now pass.old }
+    requires ended { All (λ p. IsOf table.now p × (size_of (note_of_pass p) ≡ 1)) ended.items }
+    ensures table { IsOf table.now pass.new }
+    ensures size { OnOk result (size_of (note_of_pass pass.new) ≡ size_of (note_of_pass pass.old) + 1) }
+{
+    let Some(other) = ended.pop() else {
+        return Err("no pass".into());
+    };
+    table.join_pass(pass, other);
+    Ok(())
+}
+
 #[test]
 fn two_threads_fail_a_job_and_stop(rt: HostRuntime) -> Result<(), Fail> {
     let alloc = rt.alloc();
@@ -106,5 +120,8 @@ fn two_threads_fail_a_job_and_stop(rt: HostRuntime) -> Result<(), Fail> {
             ensures { IsOf shared.entry.now result × (size_of (note_of_pass result) ≡ 1) }
         { fail_and_stop(&rt, shared, pass) },
     )?;
+    join_last(&table, &mut first, ended)?;
+    let outcome = table.close(first).outcome()?;
+    assert!(rt; matches!(outcome.stopped, Some(StopCause::NoMemory)));
     Ok(())
 }
