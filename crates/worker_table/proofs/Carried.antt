@@ -47,9 +47,9 @@ worked_same : (noted now : Piece) (attempted : Option ℕ) → IsShortened noted
 worked_same noted now attempted short =
     ap (λ (p : Piece). min (first_unattempted p.range.from attempted) now.range.to) short.same
     ∙ (let below = short.below in
-      let above : first_unattempted noted.range.from attempted ≤ noted.range.to → first_unattempted noted.range.from attempted ≤ now.range.to = short.above in
-      let past : noted.range.to < first_unattempted noted.range.from attempted → now.range.to ≡ noted.range.to = short.past in
-      least (first_unattempted noted.range.from attempted) noted.range.to now.range.to below above past)
+    let above : first_unattempted noted.range.from attempted ≤ noted.range.to → first_unattempted noted.range.from attempted ≤ now.range.to = short.above in
+    let past : noted.range.to < first_unattempted noted.range.from attempted → now.range.to ≡ noted.range.to = short.past in
+    least (first_unattempted noted.range.from attempted) noted.range.to now.range.to below above past)
   where
     least : (next to end : ℕ) → end ≤ to → (next ≤ to → next ≤ end) → (to < next → end ≡ to) → min next end ≡ min next to
     least next to end below above past = grind arith

@@ -41,9 +41,9 @@ just_none n (x ∷ xs) h = let r = just_none n xs h.1 in let d = h.0 in grind (a
 just_once : (n : ℕ) (xs : List ℕ) → AreDistinct xs → just n xs ≤ 1
 just_once n [] h = omega arith
 just_once n (x ∷ xs) h = elim (is_or_not x n) as (λ _. just n (x ∷ xs) ≤ 1) [
-    | inl e ↦ let r = just_none n xs (subst (λ z. Each (λ y. y ≢ z) xs) e h.0) in grind (arith, nat_tests)
-    | inr d ↦ let r = just_once n xs h.1 in grind (arith, nat_tests)
-  ]
+  | inl e ↦ let r = just_none n xs (subst (λ z. Each (λ y. y ≢ z) xs) e h.0) in grind (arith, nat_tests)
+  | inr d ↦ let r = just_once n xs h.1 in grind (arith, nat_tests)
+]
 
 -- of the numbers that are not free, none but 0 is at most the greatest free one
 below_free : (free n : ℕ) (xs : List ℕ) → n ≤ free → Each (IsNotFree free) xs → below (n + 1) xs ≡ just 0 xs
@@ -73,21 +73,21 @@ HasNumber (x ∷ xs) k = (x ≡ k) ⊎ HasNumber xs k
 has_or_not : (k : ℕ) (xs : List ℕ) → HasNumber xs k ⊎ Each (λ y. y ≢ k) xs
 has_or_not k [] = inr tt
 has_or_not k (x ∷ xs) = elim (is_or_not x k) as (λ _. HasNumber (x ∷ xs) k ⊎ Each (λ y. y ≢ k) (x ∷ xs)) [
-    | inl e ↦ inl (inl e)
-    | inr d ↦ elim (has_or_not k xs) as (λ _. HasNumber (x ∷ xs) k ⊎ Each (λ y. y ≢ k) (x ∷ xs)) [ | inl h ↦ inl (inr h) | inr n ↦ inr (d, n) ]
-  ]
+  | inl e ↦ inl (inl e)
+  | inr d ↦ elim (has_or_not k xs) as (λ _. HasNumber (x ∷ xs) k ⊎ Each (λ y. y ≢ k) (x ∷ xs)) [ inl h ↦ inl (inr h) | inr n ↦ inr (d, n) ]
+]
 
 -- a list that with its free numbers has as many as there are has each that is not free
 has_all : (total free k : ℕ) (xs : List ℕ) → free < total → AreDistinct xs → Each (λ x. x < total) xs → Each (IsNotFree free) xs → length xs + free ≡ total → k < total → IsNotFree free k → HasNumber xs k
 has_all total free k xs some distinct within taken all less own = elim (has_or_not k xs) as (λ _. HasNumber xs k) [
-    | inl h ↦ h
-    | inr none ↦
-        let m : (gap : ℕ) → free + 1 + gap ≡ total → ⊥ = λ gap e.
-            let b = below_most free gap (k ∷ xs) (none, distinct) (own, taken) in
-            let a = all_below (free + 1 + gap) (k ∷ xs) (subst (λ z. k < z) (sym e) less, subst (λ z. Each (λ x. x < z) xs) (sym e) within) in
-            omega (arith, a, b, e, all) in
-        absurd (m (total - (free + 1)) (omega arith))
-  ]
+  | inl h ↦ h
+  | inr none ↦
+      let m : (gap : ℕ) → free + 1 + gap ≡ total → ⊥ = λ gap e.
+      let b = below_most free gap (k ∷ xs) (none, distinct) (own, taken) in
+      let a = all_below (free + 1 + gap) (k ∷ xs) (subst (λ z. k < z) (sym e) less, subst (λ z. Each (λ x. x < z) xs) (sym e) within) in
+      omega (arith, a, b, e, all) in
+      absurd (m (total - (free + 1)) (omega arith))
+]
 
 -- ---- what the owners of a list of numbers have
 
@@ -147,9 +147,9 @@ module _ (f : Owner → ℕ) (h : Entry → ℕ) (agree : (n : ℕ) (e : Entry) 
   hits_one : (ns : List ℕ) (o : Owner) → HasNumber ns o.number → f o ≤ hits ns o
   hits_one [] o has = absurd has
   hits_one (n ∷ ns) o has = elim has as (λ _. f o ≤ hits (n ∷ ns) o) [
-      | inl e ↦ let m : only_if (nat_eq o.number n) o ≡ f o = grind (arith, nat_tests) in omega (arith, m)
-      | inr k ↦ let r = hits_one ns o k in omega arith
-    ]
+    | inl e ↦ let m : only_if (nat_eq o.number n) o ≡ f o = grind (arith, nat_tests) in omega (arith, m)
+    | inr k ↦ let r = hits_one ns o k in omega arith
+  ]
 
   sum_owned : (ns : List ℕ) (os : List Owner) → ((i : ℕ) (o : Owner) → slice_get os i ≡ Some o → HasNumber ns o.number) → sum_by f os ≤ owned_by ns os
   sum_owned ns [] has = omega arith
@@ -165,7 +165,7 @@ module _ (f : Owner → ℕ) (h : Entry → ℕ) (agree : (n : ℕ) (e : Entry) 
       → ((n : ℕ) → 0 < n → n ≤ m.free → (i : ℕ) (o : Owner) → slice_get owners i ≡ Some o → o.number ≢ n) → sum_by f owners ≤ sum_by h m.about
   sum_within b owners m sound all numbers fit free =
       let s = sum_owned m.numbers owners (λ i o at. has_all 4294967296 m.free o.number m.numbers sound.free sound.distinct sound.below sound.taken all (number_at owners i o numbers at)
-        (λ low. elim (is_or_not o.number 0) as (λ _. o.number ≡ 0) [ | inl z ↦ z | inr d ↦ absurd (free o.number (omega (arith, d)) low i o at refl) ])) in
+      (λ low. elim (is_or_not o.number 0) as (λ _. o.number ≡ 0) [ inl z ↦ z | inr d ↦ absurd (free o.number (omega (arith, d)) low i o at refl) ])) in
       let e = entries_owned b owners m.numbers m.about fit in
       omega arith
 

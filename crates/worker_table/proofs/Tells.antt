@@ -68,9 +68,8 @@ module _ (setting : Setting) (m n : Note (List Entry)) (i : ℕ) where
       let there : slot_at turn.back i ≡ Some (Some step.next.job) = ap (λ (b : BookData). slot_at b i) step.is ∙ set_here step.next.rest.slots i None (Some step.next.job) free in
       let panes : turn.back.panes ≡ turn.lent.panes = ap (λ (b : BookData). b.panes) step.is ∙ keeps.panes in
       let is : Some (record { job = job_of turn.back.panes step.next.job; attempted = attempted_of step.next.job }) ≡ Some (record { job = job; attempted = None }) =
-          (λ k. Some (record { job = job_of (panes k) step.next.job; attempted = next_fresh turn.lent (first_due turn.lent) step.next step.is_next k }))
-          ∙ (λ k. Some (record { job = sym step.handed k; attempted = None })) in
-      (
+      (λ k. Some (record { job = job_of (panes k) step.next.job; attempted = next_fresh turn.lent (first_due turn.lent) step.next step.is_next k }))
+      ∙ (λ k. Some (record { job = sym step.handed k; attempted = None })) in (
         told_by Take (take_answer {E = E} (Ok (taken.Job job))) turn ∙ ap (known_in turn.back.panes) there ∙ is,
         of_plan,
         ap (λ (e : Entry). e.owes_split) turn.first,
@@ -102,7 +101,7 @@ module _ (setting : Setting) (m n : Note (List Entry)) (i : ℕ) where
       let step = turn.made in
       let fit = subst (IsSlotOf turn.lent turn.owners turn.number (first_entry m).job (first_entry m).calls (first_entry m).reads) slot turn.fit.slot in
       let there : slot_at turn.back i ≡ Some (Some (live.Span step.piece (Some p))) =
-          ap (λ (b : BookData). slot_at b i) step.is ∙ set_here turn.lent.slots i (Some (live.Span step.piece step.attempted)) (Some (live.Span step.piece (Some p))) step.works in
+      ap (λ (b : BookData). slot_at b i) step.is ∙ set_here turn.lent.slots i (Some (live.Span step.piece step.attempted)) (Some (live.Span step.piece (Some p))) step.works in
       by (first_entry m).job (subst (IsJobOf turn.lent.panes (first_entry m).job) step.works fit.1) (told_by (Claim p) (Claimed granted) turn ∙ ap (known_in turn.back.panes) there)
     where
       by : (known : Option KnownJob) → IsJobOf turn.lent.panes known (Some (Some (live.Span turn.made.piece turn.made.attempted)))

@@ -68,9 +68,14 @@ module _ (setting : Setting) (L x : Shared) (m : Note (List Entry)) (same : x �
         → Does setting.known (number_in m.numbers) (first_entry m) x.book.value x.owners.value (Steps i action answer) y.book.value y.owners.value
     quiet_does i action answer calls reads slot own honest step owners =
         let n : ℕ = number_in m.numbers in
-        let e : Entry = first_entry m in
-        (slot, own, step, honest, owners ∙ sym (set_as_it_was x.owners.value i (owner_of n e.calls e.reads) (owner_of n (calls_after action e.calls) (reads_after action e.reads)) (slot_now i slot).0
-        (λ j. owner_of n (calls e.calls j) (reads e.reads j))))
+        let e : Entry = first_entry m in (
+          slot,
+          own,
+          step,
+          honest,
+          owners ∙ sym (set_as_it_was x.owners.value i (owner_of n e.calls e.reads) (owner_of n (calls_after action e.calls) (reads_after action e.reads)) (slot_now i slot).0
+              (λ j. owner_of n (calls e.calls j) (reads e.reads j))),
+        )
 
     pub fail_does : (i at : ℕ) (cause : Cause) (answer : Answer) → (first_entry m).slot ≡ Some i → IsHonestAction setting.known x.book.value i (Fail at cause)
         → Step setting.known.told x.book.value i (Fail at cause) answer y.book.value → y.owners.value ≡ failed_at x.owners.value i at cause

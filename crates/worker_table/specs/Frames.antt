@@ -108,24 +108,40 @@ or_some (Some kept) new e = none_some kept e
 cause_leaves : (b back : BookData) (slot at : ℕ) (cause : Cause) (spent : Bool) (note : FaultNote) → KeepsLists (with_slot b slot None) back
     → LeavesAtFail b slot at cause spent (stopped_where spent (counted back cause) note)
 cause_leaves b back slot at Call true note keeps = record {
-  slots = keeps.slots; commits = keeps.commits; panes = keeps.panes;
-  stopped = λ h running. or_some back.stopped (stop.Spent note) running; spent_stops = λ e running. or_some back.stopped (stop.Spent note) running;
-  calls = let k = keeps.calls in omega (arith, k); reads = let k = keeps.reads in omega (arith, k);
+  slots = keeps.slots;
+  commits = keeps.commits;
+  panes = keeps.panes;
+  stopped = λ h running. or_some back.stopped (stop.Spent note) running;
+  spent_stops = λ e running. or_some back.stopped (stop.Spent note) running;
+  calls = let k = keeps.calls in omega (arith, k);
+  reads = let k = keeps.reads in omega (arith, k);
 }
 cause_leaves b back slot at Read true note keeps = record {
-  slots = keeps.slots; commits = keeps.commits; panes = keeps.panes;
-  stopped = λ h running. or_some back.stopped (stop.Spent note) running; spent_stops = λ e running. or_some back.stopped (stop.Spent note) running;
-  calls = let k = keeps.calls in omega (arith, k); reads = let k = keeps.reads in omega (arith, k);
+  slots = keeps.slots;
+  commits = keeps.commits;
+  panes = keeps.panes;
+  stopped = λ h running. or_some back.stopped (stop.Spent note) running;
+  spent_stops = λ e running. or_some back.stopped (stop.Spent note) running;
+  calls = let k = keeps.calls in omega (arith, k);
+  reads = let k = keeps.reads in omega (arith, k);
 }
 cause_leaves b back slot at Call false note keeps = record {
-  slots = keeps.slots; commits = keeps.commits; panes = keeps.panes;
-  stopped = λ h running. h (sym keeps.stopped ∙ running); spent_stops = λ e running. cc;
-  calls = let k = keeps.calls in omega (arith, k); reads = let k = keeps.reads in omega (arith, k);
+  slots = keeps.slots;
+  commits = keeps.commits;
+  panes = keeps.panes;
+  stopped = λ h running. h (sym keeps.stopped ∙ running);
+  spent_stops = λ e running. cc;
+  calls = let k = keeps.calls in omega (arith, k);
+  reads = let k = keeps.reads in omega (arith, k);
 }
 cause_leaves b back slot at Read false note keeps = record {
-  slots = keeps.slots; commits = keeps.commits; panes = keeps.panes;
-  stopped = λ h running. h (sym keeps.stopped ∙ running); spent_stops = λ e running. cc;
-  calls = let k = keeps.calls in omega (arith, k); reads = let k = keeps.reads in omega (arith, k);
+  slots = keeps.slots;
+  commits = keeps.commits;
+  panes = keeps.panes;
+  stopped = λ h running. h (sym keeps.stopped ∙ running);
+  spent_stops = λ e running. cc;
+  calls = let k = keeps.calls in omega (arith, k);
+  reads = let k = keeps.reads in omega (arith, k);
 }
 
 pub fail_leaves : (b : BookData) (slot at : ℕ) (job : Live) (cause : Cause) → LeavesAtFail b slot at cause (ends_run b job cause) (failed b slot job at cause)

@@ -66,8 +66,8 @@ all_fired b node (w ∷ ws) h =
 live_fired : (b : BookData) (i : ℕ) (batch : Batch) → AreHeldOnce b → IsWorking b i (live.Batch batch) → AreAllFired b.panes batch
 live_fired b i batch kept works =
     let worked : All (IsHeldPane b) (flat_map held_in (live_batches b)) =
-        All-append_right (IsHeldPane b) (flat_map held_in b.returned) (flat_map held_in (live_batches b))
-        (All-append_right (IsHeldPane b) (queued b) (flat_map held_in b.returned ++ flat_map held_in (live_batches b)) kept.panes) in
+    All-append_right (IsHeldPane b) (flat_map held_in b.returned) (flat_map held_in (live_batches b))
+    (All-append_right (IsHeldPane b) (queued b) (flat_map held_in b.returned ++ flat_map held_in (live_batches b)) kept.panes) in
     let each = All-of_flat_map (IsHeldPane b) held_in (live_batches b) worked in
     let here : All (λ x. All (IsHeldPane b) (held_in x)) (batch ∷ []) = All-flat_at batch_of b.slots i (λ x. All (IsHeldPane b) (held_in x)) (Some (live.Batch batch)) works each in
     all_fired b batch.node batch.panes (All-head (λ x. All (IsHeldPane b) (held_in x)) batch [] here)

@@ -112,9 +112,9 @@ reads_add action n = omega arith
 
 none_set : (owners : List Owner) (i k : ℕ) (new : Owner) → new.number ≢ k → OwnsNone owners k → OwnsNone (slice_set owners i new) k
 none_set owners i k new apart none j o at n = elim (is_or_not j i) as (λ _. ⊥) [
-    | inl f ↦ let z : slice_get (slice_set owners i new) i ≡ Some o = sym (ap (slice_get (slice_set owners i new)) f) ∙ at in apart (ap (λ (x : Owner). x.number) (set_only owners i new o z) ∙ n)
-    | inr d ↦ none j o (sym (set_elsewhere owners i j new d) ∙ at) n
-  ]
+  | inl f ↦ let z : slice_get (slice_set owners i new) i ≡ Some o = sym (ap (slice_get (slice_set owners i new)) f) ∙ at in apart (ap (λ (x : Owner). x.number) (set_only owners i new o z) ∙ n)
+  | inr d ↦ none j o (sym (set_elsewhere owners i j new d) ∙ at) n
+]
 
 -- a step of the pass's own slot
 module _ (setting : Setting) (b b' : BookData) (owners : List Owner) (number i : ℕ) (action : Action) (answer : Answer) (e : Entry)
@@ -240,7 +240,7 @@ module _ (setting : Setting) (b b' : BookData) (owners : List Owner) (number i :
       let nothing = subst (IsSlotOf b owners number e.job e.calls e.reads) slot fit.slot in
       let here : slot_at b' i ≡ Some None = ap (λ (x : BookData). slot_at x i) step.2 ∙ end_here b.slots None i step.0 in
       let owns : slice_get (owners ++ gets ∷ []) i ≡ Some (owner_of number e.calls e.reads) =
-          end_here owners gets i (step.0 ∙ sym owned.each) ∙ (λ k. Some (owner_of number (sym nothing.1 k) (sym nothing.2 k))) in
+      end_here owners gets i (step.0 ∙ sym owned.each) ∙ (λ k. Some (owner_of number (sym nothing.1 k) (sym nothing.2 k))) in
       let free : IsJobOf b'.panes e.job (slot_at b' i) = subst (λ (z : Option KnownJob × Option (Option Live)). IsJobOf b'.panes z.0 z.1) (λ k. (sym nothing.0 k, sym here k)) tt in
       record {
         alone = λ j o at m. elim (is_or_not j i) as (λ _. Some i ≡ Some j) [

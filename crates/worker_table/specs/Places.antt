@@ -10,7 +10,7 @@ pub is_or_not : (j i : ℕ) → (j ≡ i) ⊎ (j ≢ i)
 is_or_not zero zero = inl refl
 is_or_not zero (suc i) = inr (λ e. omega (arith, e))
 is_or_not (suc j) zero = inr (λ e. omega (arith, e))
-is_or_not (suc j) (suc i) = elim (is_or_not j i) as (λ _. (suc j ≡ suc i) ⊎ (suc j ≢ suc i)) [ | inl e ↦ inl (ap suc e) | inr d ↦ inr (λ e. d (omega (arith, e))) ]
+is_or_not (suc j) (suc i) = elim (is_or_not j i) as (λ _. (suc j ≡ suc i) ⊎ (suc j ≢ suc i)) [ inl e ↦ inl (ap suc e) | inr d ↦ inr (λ e. d (omega (arith, e))) ]
 
 pub set_here : {X : Type 0} (xs : List X) (i : ℕ) (x y : X) → slice_get xs i ≡ Some x → slice_get (slice_set xs i y) i ≡ Some y
 set_here [] i x y h = cc

@@ -41,9 +41,7 @@ pub fn seen_as<A, B>(_asked: &A, _answered: &B) -> Did
     ghost deed: { Deed }
     ensures { result.deed.value ≡ deed }
 {
-    Did {
-        deed: Unseen::of(),
-    }
+    Did { deed: Unseen::of() }
 }
 
 /// A list of owners, which the proof of the call picks from these values.

@@ -3,12 +3,7 @@
 pub enum Help {
     Nobody,
     /// The range of that slot was split there.
-    Cut {
-        other: u32,
-        at: u64,
-    },
+    Cut { other: u32, at: u64 },
     /// There was no memory to split the range of that slot.
-    Refused {
-        other: u32,
-    },
+    Refused { other: u32 },
 }

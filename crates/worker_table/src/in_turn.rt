@@ -15,7 +15,11 @@ use bundle_commit::Receipt;
 use std::sync::Wait;
 use turn_desk::{Desk, Pass};
 
-pub fn enroll<R: Wait>(desk: &Desk<Shared>, rt: &R, own: Pass<Shared>) -> (Result<u32, NoMemory>, Pass<Shared>)
+pub fn enroll<R: Wait>(
+    desk: &Desk<Shared>,
+    rt: &R,
+    own: Pass<Shared>,
+) -> (Result<u32, NoMemory>, Pass<Shared>)
     requires table { IsPassOf desk.now own }
     requires slot { (first_entry (note_of own)).slot ≡ None }
     ensures table { IsPassOf desk.now result.1 }

@@ -15,9 +15,9 @@
 #![tactic(auto)]
 
 mod did;
+mod held;
 mod help;
 mod in_turn;
-mod held;
 mod pass;
 mod steps;
 mod table;

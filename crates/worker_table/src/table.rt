@@ -92,10 +92,7 @@ impl Table {
         ensures reads { result.reads ≤ sum_by (λ entry. entry.reads) (note_of_pass pass).about }
     {
         let Table { desk } = self;
-        let WorkerPass {
-            pass: own,
-            slot: _,
-        } = pass;
+        let WorkerPass { pass: own, slot: _ } = pass;
         let Some(own) = own else {
             unreachable!();
         };

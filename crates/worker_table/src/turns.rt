@@ -75,7 +75,11 @@ impl Table {
 
     /// The pass helps the slot whose range has the most left: it is split at a half. Answers where, or none where no
     /// other slot works a range that can be split.
-    pub fn split_other<R: Wait>(&self, rt: &R, pass: &mut WorkerPass) -> Result<Option<u64>, NoMemory>
+    pub fn split_other<R: Wait>(
+        &self,
+        rt: &R,
+        pass: &mut WorkerPass,
+    ) -> Result<Option<u64>, NoMemory>
         requires table { IsOf self.now pass.old }
         requires slot { IsSome (slot_of pass.old) }
         ensures table { IsOf self.now pass.new }
@@ -92,7 +96,12 @@ impl Table {
     }
 
     /// Places the receipt of the pass's job. Where there is no memory nothing is changed, and the receipt is handed back.
-    pub fn commit<R: Wait>(&self, rt: &R, pass: &mut WorkerPass, receipt: Receipt) -> Result<(), Unplaced>
+    pub fn commit<R: Wait>(
+        &self,
+        rt: &R,
+        pass: &mut WorkerPass,
+        receipt: Receipt,
+    ) -> Result<(), Unplaced>
         requires table { IsOf self.now pass.old }
         requires slot { IsSome (slot_of pass.old) }
         requires given { CanCommitAs (setting_of self.now) (job_known pass.old) receipt }

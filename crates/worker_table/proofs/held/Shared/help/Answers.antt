@@ -15,5 +15,5 @@ pub returns-in-Ok-Some-clause-step : goal.returns-in-Ok-Some-clause-step
 returns-in-Ok-Some-clause-step c = (
   subst (λ (b : BookData). IsNextFor b c.args.slot (Some c.in-Some.other)) c.deref.ensures c.in-Some.ensures,
   subst (λ (b : BookData). Makes b c.in-Some.other (Split 1 2) (SplitAt (Some c.in-Ok-Some.at)) c.split.new.self) c.deref_mut.ensures.value
-  (λ told. subst (λ o. Makes c.deref_mut.result.now c.in-Some.other (Split 1 2) (SplitAt o) c.split.new.self) c.in-Ok-Some.field-0-is c.in-Ok-Some.ensures.ok told),
+      (λ told. subst (λ o. Makes c.deref_mut.result.now c.in-Some.other (Split 1 2) (SplitAt o) c.split.new.self) c.in-Ok-Some.field-0-is c.in-Ok-Some.ensures.ok told),
 )
