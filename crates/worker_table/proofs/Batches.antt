@@ -1,5 +1,5 @@
 -- A batch that is taken is of a Group of the plan.
-use Rattle.std.proofs.Common.{◌≡◌, ℕ, ◌<◌, List, length, sym, ap, ◌∙◌, subst}
+use Rattle.std.proofs.Common.{◌≡◌, ℕ, List, sym, ap, ◌∙◌, subst}
 use Rattle.std.specs.Prelude.{Option, Some, None, Result, Ok, Err, IfOk, slice_get}
 use Rattle.beam_values.specs.declared.cell.Pane.{Pane}
 use Rattle.bundle_commit.specs.declared.job.Job.{Job}

@@ -1,5 +1,5 @@
 -- What holds of a job as its pass knows it holds of the job as the book has it: others have at most shortened its range.
-use Rattle.std.proofs.Common.{◌≡◌, ◌⊎◌, inl, inr, ℕ, ◌+◌, ◌-◌, ◌<◌, ◌≤◌, min, Bool, true, false, List, [], ◌∷◌, refl, sym, ap, ◌∙◌, subst, arith}
+use Rattle.std.proofs.Common.{◌≡◌, inl, inr, ℕ, ◌<◌, ◌≤◌, min, Bool, true, false, List, refl, sym, ap, ◌∙◌, subst, arith}
 use Rattle.std.specs.Prelude.{Option, Some, None, Result, Ok, Err, OnOk, IfErr}
 use Rattle.beam_values.specs.Intervals.{Offsets}
 use Rattle.beam_values.specs.Tracking.{MayClaim, first_unattempted}
@@ -11,7 +11,6 @@ use Rattle.beam_values.specs.declared.piece.Piece.{Piece}
 use Rattle.beam_values.specs.declared.plan.Plan.{Plan}
 use Rattle.beam_model.specs.Coverings.{item_at}
 use Rattle.beam_model.specs.Positions.{SourceItem}
-use Rattle.bundle_commit.specs.declared.job.Job.{Job}
 use Rattle.bundle_commit.specs.declared.job.Job.TheVariants as job
 use Rattle.bundle_commit.specs.declared.job.Receipt.{Receipt}
 use Rattle.book_core.specs.Book.{BookData, slot_at, tracker_of}
@@ -20,7 +19,7 @@ use Rattle.book_core.specs.Changes.{cut_to}
 use Rattle.book_core.specs.Jobs.{attempted_of, job_of}
 use Rattle.book_core.specs.Runs.{IsHonestAction}
 use Rattle.book_core.specs.Steps.{CanCommit, Commit, Committed, Fail, IsFree, IsWorking, Step}
-use Rattle.book_core.specs.Work.{Known, IsGiven, IsHonest, IsHonestCall, IsPlausible, IsPoisonAttempt, IsWorkOn, IsWorkOnItem, IsWorkOnRange, is_known, items_told, worked_to}
+use Rattle.book_core.specs.Work.{Known, IsGiven, IsHonest, IsWorkOn, IsWorkOnItem, IsWorkOnRange, is_known, items_told, worked_to}
 use Rattle.book_core.specs.declared.live.Live.{Live}
 use Rattle.book_core.specs.declared.live.Live.TheVariants as live
 use Rattle.book_core.specs.declared.live.Unplaced.{Unplaced}

@@ -1,13 +1,13 @@
 -- A book without a slot was reached by honest fails, since it has had no job; and it counts none.
-use Rattle.std.proofs.Common.{◌≡◌, ℕ, ◌+◌, ◌<◌, ◌≤◌, List, [], ◌∷◌, ◌++◌, length, length-append, refl, sym, ap, subst, ◌∙◌, arith}
+use Rattle.std.proofs.Common.{◌≡◌, ℕ, ◌≤◌, List, [], ◌∷◌, length, length-append, refl, ap, arith}
 use Rattle.std.specs.Prelude.{Option, None}
 use Rattle.std.proofs.lemmas.Option.{slice_get_within}
 use Rattle.beam_values.specs.declared.file_text.FileText.{FileText}
 use Rattle.book_core.specs.Book.{BookData}
-use Rattle.book_core.specs.Runs.{HonestRun, HonestlyReached, IsHonestAction, MadeStep, Reached, Run}
+use Rattle.book_core.specs.Runs.{HonestRun, IsHonestAction, MadeStep, Reached, Run}
 use Rattle.book_core.specs.Steps.{Action, Enroll, Fail, Answer, Enrolled, NoMemory, Step}
 use Rattle.book_core.specs.Work.{Known}
-use Rattle.worker_table.specs.Fits.{Fits, IsBookOf}
+use Rattle.worker_table.specs.Fits.{Fits}
 use Rattle.worker_table.specs.Frames.{step_fails, step_slots}
 use Rattle.worker_table.specs.Laws.{opening_fits}
 use Rattle.worker_table.specs.Notes.{fresh, setting_for}

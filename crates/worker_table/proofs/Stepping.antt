@@ -1,10 +1,9 @@
 -- What the book's own calls say of a step, for the book that is held.
-use Rattle.std.proofs.Common.{◌≡◌, ℕ, ◌<◌, ◌≤◌, List, length, refl, sym, ap, ◌∙◌, subst, arith}
-use Rattle.std.specs.Prelude.{Option, Some, None, Result, Ok, Err, IfOk, OnOk, OnErr, slice_get, slice_set}
+use Rattle.std.proofs.Common.{◌≡◌, ℕ, List, ◌∙◌, subst, arith}
+use Rattle.std.specs.Prelude.{Option, None, Result, Ok, Err, IfOk, OnOk, OnErr}
 use Rattle.beam_values.specs.declared.file_text.FileText.{FileText}
-use Rattle.bundle_commit.specs.declared.job.Job.{Job}
 use Rattle.bundle_commit.specs.declared.job.Receipt.{Receipt}
-use Rattle.book_core.specs.Book.{BookData, slot_at}
+use Rattle.book_core.specs.Book.{BookData}
 use Rattle.book_core.specs.Calls.{Makes, answer_of}
 use Rattle.book_core.specs.Steps.{CanCommit, Commit, Committed, IsCommitting, IsFree, IsMostLeft, IsWithinLimits, Split, SplitAt, Step, Take}
 use Rattle.book_core.specs.declared.live.Taken.{Taken}

@@ -1,26 +1,25 @@
 -- What each call tells its pass, from the turn that it made.
-use Rattle.std.proofs.Common.{◌≡◌, ℕ, ◌+◌, List, [], ◌∷◌, ◌++◌, length, Bool, true, false, refl, sym, ap, ◌∙◌, subst, arith}
-use Rattle.std.specs.Prelude.{Option, Some, None, Result, Ok, Err, IfOk, slice_get, slice_set}
+use Rattle.std.proofs.Common.{◌≡◌, ℕ, List, [], ◌∷◌, length, Bool, refl, sym, ap, ◌∙◌, subst}
+use Rattle.std.specs.Prelude.{Option, Some, None, Result, Ok, Err, IfOk, slice_get}
 use Rattle.beam_values.specs.declared.cell.Pane.{Pane}
 use Rattle.beam_values.specs.declared.fault.Cause.{Cause}
 use Rattle.beam_values.specs.declared.piece.Piece.{Piece}
-use Rattle.bundle_commit.specs.declared.job.Job.{Job}
 use Rattle.bundle_commit.specs.declared.job.Job.TheVariants as job
 use Rattle.turn_desk.specs.declared.held.Note.{Note}
 use Rattle.book_core.specs.Book.{BookData, slot_at}
 use Rattle.book_core.specs.Calls.{failure_of}
-use Rattle.book_core.specs.Jobs.{Due, GivenBack, Oldest, Next, attempted_of, due_or_piece, first_due, job_of, next_job, without_due, without_first}
-use Rattle.book_core.specs.Steps.{Action, Answer, Claim, Claimed, Commit, Fail, Spent, Take}
+use Rattle.book_core.specs.Jobs.{Due, GivenBack, Oldest, Next, attempted_of, due_or_piece, first_due, job_of, without_due, without_first}
+use Rattle.book_core.specs.Steps.{Action, Answer, Claim, Claimed, Commit, Fail, Take}
 use Rattle.book_core.specs.declared.live.Failure.{Failure}
 use Rattle.book_core.specs.declared.live.Failure.TheVariants as failure
 use Rattle.book_core.specs.declared.live.Live.{Live}
 use Rattle.book_core.specs.declared.live.Live.TheVariants as live
 use Rattle.book_core.specs.declared.live.Taken.{Taken}
 use Rattle.book_core.specs.declared.live.Taken.TheVariants as taken
-use Rattle.worker_table.specs.Calls.{AfterClaim, AfterCommit, AfterEnroll, AfterFail, AfterHelp, AfterStop, AfterTake, GoesOnAs, IsTakenOfPlan, KeepsSlot, commit_answer, ending_by, take_answer}
+use Rattle.worker_table.specs.Calls.{AfterClaim, AfterCommit, AfterEnroll, AfterFail, AfterHelp, AfterStop, AfterTake, GoesOnAs, IsTakenOfPlan, KeepsSlot, commit_answer, take_answer}
 use Rattle.worker_table.specs.Fits.{IsJobOf, IsSlotOf}
-use Rattle.worker_table.specs.Frames.{KeepsLists, next_keep, fail_leaves}
-use Rattle.worker_table.specs.Moves.{Deed, calls_after, ending_after, first_after, known_at, known_in, note_after, reads_after}
+use Rattle.worker_table.specs.Frames.{next_keep, fail_leaves}
+use Rattle.worker_table.specs.Moves.{Deed, calls_after, first_after, known_at, known_in, reads_after}
 use Rattle.worker_table.specs.Notes.{Setting, Owner, Entry, KnownJob}
 use Rattle.worker_table.specs.Places.{set_here}
 use Rattle.worker_table.specs.Turns.{HasEnrolled, HasHelped, HasStepped, HasStopped, KeepsOthers, Turned, first_entry, later_of}

@@ -1,18 +1,17 @@
 -- From a turn's step on the book to the move that it is, and to what the call says of its turn.
-use Rattle.std.proofs.Common.{◌≡◌, ℕ, ◌+◌, ◌<◌, ◌≤◌, zero, suc, List, [], ◌∷◌, ◌++◌, length, Bool, true, false, refl, sym, ap, ◌∙◌, subst, arith}
-use Rattle.std.specs.Prelude.{Option, Some, None, Result, Ok, Err, OnOk, OnErr, IfOk, IfErr, slice_get, slice_set}
+use Rattle.std.proofs.Common.{◌≡◌, ℕ, ◌<◌, zero, suc, List, [], ◌∷◌, ◌++◌, length, refl, sym, ap, ◌∙◌, subst, arith}
+use Rattle.std.specs.Prelude.{Option, Some, None, Result, Ok, Err, OnErr, IfOk, slice_get, slice_set}
 use Rattle.beam_values.specs.declared.fault.Cause.{Cause}
-use Rattle.beam_values.specs.declared.fault.Cause.TheVariants.{Call, Read}
 use Rattle.beam_values.specs.declared.file_text.FileText.{FileText}
 use Rattle.book_core.specs.Calls.{Makes}
 use Rattle.turn_desk.specs.declared.held.Note.{Note}
 use Rattle.turn_desk.specs.Notes.{IsSound}
 use Rattle.book_core.specs.Book.{BookData, slot_at}
 use Rattle.book_core.specs.Runs.{IsHonestAction}
-use Rattle.book_core.specs.Steps.{Action, Answer, Enroll, Enrolled, Fail, IsNextFor, NoMemory, Noted, Split, SplitAt, Step, Stop}
+use Rattle.book_core.specs.Steps.{Action, Answer, Enroll, Enrolled, Fail, IsNextFor, NoMemory, Split, SplitAt, Step}
 use Rattle.worker_table.specs.Calls.{Helping, IsHelpAnswer, enroll_deed, failed_at, help_deed}
 use Rattle.worker_table.specs.Fits.{Fits, FitEntries, FitsEntry, IsBookOf, IsJobOf, IsSlotOf}
-use Rattle.worker_table.specs.Moves.{Deed, Rests, Steps, Stops, Enrolls, FindsNone, Helps, Does, FirstDoes, IsOwnAction, Moves, calls_after, entry_after, first_after, note_after, reads_after}
+use Rattle.worker_table.specs.Moves.{Deed, Rests, Steps, Enrolls, FindsNone, Helps, Does, FirstDoes, IsOwnAction, Moves, calls_after, entry_after, first_after, note_after, reads_after}
 use Rattle.worker_table.specs.Notes.{Setting, Owner, owner_of, Entry}
 use Rattle.worker_table.specs.Places.{set_as_it_was}
 use Rattle.worker_table.specs.Turns.{HasEnrolled, HasHelped, Turned, entry_in, first_entry, number_in}

@@ -1,5 +1,5 @@
 -- What the calls of a table ask of a pass, and what they tell it.
-use Rattle.std.specs.Prelude.{◌≡◌, ℕ, zero, suc, ◌+◌, ◌<◌, Bool, true, false, List, [], ◌∷◌, length, Option, Some, None, Result, Ok, Err}
+use Rattle.std.specs.Prelude.{◌≡◌, ℕ, zero, suc, ◌<◌, Bool, true, false, List, [], ◌∷◌, length, Option, Some, None, Result, Ok, Err}
 use Rattle.beam_values.specs.Tracking.{MayClaim, is_granted}
 use Rattle.beam_values.specs.declared.fault.Cause.{Cause}
 use Rattle.beam_values.specs.declared.piece.Piece.{Piece}
@@ -9,7 +9,7 @@ use Rattle.bundle_commit.specs.declared.job.Job.TheVariants as job
 use Rattle.bundle_commit.specs.declared.job.Receipt.{Receipt}
 use Rattle.book_core.specs.Book.{BookData, tracker_of}
 use Rattle.book_core.specs.Calls.{Makes, answer_of}
-use Rattle.book_core.specs.Steps.{Action, Answer, Committed, Fail, IsNextFor, NoMemory, Split, SplitAt}
+use Rattle.book_core.specs.Steps.{Answer, Committed, Fail, IsNextFor, NoMemory, Split, SplitAt}
 use Rattle.book_core.specs.Work.{IsGiven, IsHonest}
 use Rattle.book_core.specs.declared.live.Failure.{Failure}
 use Rattle.book_core.specs.declared.live.Failure.TheVariants as failure

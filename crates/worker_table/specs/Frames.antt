@@ -1,9 +1,8 @@
 -- What a step of one slot leaves of the rest of the book.
-use Rattle.std.proofs.Common.{◌≡◌, ◌≢◌, ℕ, ◌+◌, ◌-◌, ◌<◌, ◌≤◌, List, [], ◌∷◌, ◌++◌, length, length-append, append-nil, true, false, Bool, min, refl, sym, ap, ◌∙◌, subst, arith}
+use Rattle.std.proofs.Common.{◌≡◌, ◌≢◌, ℕ, ◌≤◌, List, [], ◌∷◌, ◌++◌, length, length-append, append-nil, true, false, Bool, refl, sym, ap, ◌∙◌, subst, arith}
 use Rattle.std.specs.Prelude.{Option, Some, None, slice_get, slice_set}
 use Rattle.std.specs.List.{flat_map}
 use Rattle.std.proofs.lemmas.List.Concat.{flat_map-append}
-use Rattle.beam_ports.specs.Counts.{raised}
 use Rattle.beam_values.specs.declared.cell.Pane.{Pane}
 use Rattle.beam_values.specs.declared.fault.Cause.{Cause}
 use Rattle.beam_values.specs.declared.fault.Cause.TheVariants.{Call, Read}
@@ -16,7 +15,7 @@ use Rattle.group_cells.specs.Commits.{as_commit}
 use Rattle.book_core.specs.Book.{BookData, batch_of, last_commit, piece_of, slot_at}
 use Rattle.book_core.specs.Changes.{with_slot, counted, ends_run, failed, given_back, note_of, or_stopped, stopped_where}
 use Rattle.book_core.specs.Jobs.{Due, GivenBack, Oldest, Next, due_or_piece, first_due, next_job, without_due, without_first}
-use Rattle.book_core.specs.Steps.{Action, Enroll, Take, Claim, Split, Commit, Fail, Stop, Answer, Enrolled, TakenJob, Nothing, Finished, Stopped, Claimed, SplitAt, Committed, Retried, Spent, Noted, NoMemory, Step, IsWorking, IsIdle, IsRunning}
+use Rattle.book_core.specs.Steps.{Action, Enroll, Take, Claim, Split, Commit, Fail, Stop, Answer, Enrolled, TakenJob, Nothing, Finished, Stopped, Claimed, SplitAt, Committed, Spent, Noted, NoMemory, Step, IsWorking, IsIdle, IsRunning}
 use Rattle.book_core.specs.declared.live.Live.{Live}
 use Rattle.book_core.specs.declared.live.Live.TheVariants as live
 use Rattle.worker_table.specs.Fits.{HasNoJobLeft, IsEndingOf}

@@ -1,16 +1,12 @@
 -- One more step leads from a book that honest fails reached to another, and a batch that is worked is of panes that fired.
-use Rattle.std.proofs.Common.{◌≡◌, ℕ, ◌<◌, List, [], ◌∷◌, ◌++◌, length, map, refl, sym, subst, ◌∙◌}
-use Rattle.std.specs.Prelude.{Option, Some, None}
+use Rattle.std.proofs.Common.{ℕ, ◌<◌, List, [], ◌∷◌, ◌++◌, length, refl, subst, ◌∙◌}
+use Rattle.std.specs.Prelude.{Some}
 use Rattle.std.specs.List.{All, flat_map}
 use Rattle.std.proofs.lemmas.List.Elements.{All-nil, All-cons, All-head, All-tail}
 use Rattle.std.proofs.lemmas.Option.{slice_get_within}
-use Rattle.beam_values.specs.declared.cell.Pane.{Pane}
-use Rattle.beam_values.specs.declared.options.Options.{Options}
-use Rattle.beam_values.specs.declared.piece.FileLen.{FileLen}
-use Rattle.beam_values.specs.declared.plan.Plan.{Plan}
-use Rattle.book_core.specs.Book.{BookData, HeldPane, batch_of, held_at, held_in, held, live_batches, queued}
+use Rattle.book_core.specs.Book.{BookData, batch_of, held_at, held_in, live_batches, queued}
 use Rattle.book_core.specs.Facts.{AreHeldOnce, IsHeldPane}
-use Rattle.book_core.specs.Runs.{HonestRun, HonestlyReached, IsHonestAction, IsOpening, MadeStep}
+use Rattle.book_core.specs.Runs.{HonestRun, HonestlyReached, IsHonestAction, MadeStep}
 use Rattle.book_core.specs.Steps.{Action, Answer, IsWorking, Step}
 use Rattle.book_core.specs.Work.{Known}
 use Rattle.book_core.specs.declared.live.Batch.{Batch}
@@ -18,7 +14,7 @@ use Rattle.book_core.specs.declared.live.Live.TheVariants as live
 use Rattle.book_core.specs.declared.live.WaitingPane.{WaitingPane}
 use Rattle.book_core.proofs.AllKept.{honest_reached}
 use Rattle.book_core.proofs.HeldOnce.{reached_held}
-use Rattle.book_core.proofs.Reaching.{HasSamePlan, opening_of, step_same}
+use Rattle.book_core.proofs.Reaching.{opening_of, step_same}
 use Rattle.book_core.proofs.Slotted.{All-append_right, All-flat_at, All-of_flat_map}
 use Rattle.worker_table.specs.Fits.{AreAllFired, IsBookOf}
 use Rattle.worker_table.specs.Notes.{Setting}

@@ -1,23 +1,22 @@
 -- A job that a pass knows stays known while others change the book.
-use Rattle.std.proofs.Common.{◌≡◌, ◌≢◌, ℕ, ◌+◌, ◌-◌, ◌*◌, ◌/◌, ◌<◌, ◌≤◌, max, List, [], ◌∷◌, ◌++◌, length, length-append, refl, sym, ap, ◌∙◌, subst, arith}
+use Rattle.std.proofs.Common.{◌≡◌, ℕ, ◌<◌, ◌≤◌, List, [], ◌∷◌, ◌++◌, length, length-append, refl, sym, ap, ◌∙◌, subst, arith}
 use Rattle.std.specs.Prelude.{Option, Some, None, slice_get}
 use Rattle.std.specs.List.{All, flat_map}
 use Rattle.std.proofs.lemmas.List.Concat.{flat_map-cons}
 use Rattle.std.proofs.lemmas.List.Elements.{All-nil, All-cons, All-head, All-tail}
-use Rattle.beam_values.specs.Intervals.{Offsets}
 use Rattle.beam_values.specs.Tracking.{first_unattempted, split_point_of}
 use Rattle.beam_values.specs.declared.cell.Pane.{Pane}
 use Rattle.beam_values.specs.declared.piece.Piece.{Piece}
 use Rattle.bundle_commit.specs.declared.job.Job.{Job}
 use Rattle.bundle_commit.specs.declared.job.Job.TheVariants as job
-use Rattle.book_core.specs.Book.{BookData, pane_at, panes_of, slot_at, tracker_of}
+use Rattle.book_core.specs.Book.{pane_at, panes_of, tracker_of}
 use Rattle.book_core.specs.Changes.{cut_to}
 use Rattle.book_core.specs.Jobs.{first_pane, job_of}
 use Rattle.book_core.specs.declared.live.Batch.{Batch}
 use Rattle.book_core.specs.declared.live.Live.{Live}
 use Rattle.book_core.specs.declared.live.Live.TheVariants as live
 use Rattle.book_core.specs.declared.live.WaitingPane.{WaitingPane}
-use Rattle.worker_table.specs.Fits.{AreAllFired, IsJobOf, IsKnownAs, IsShortened}
+use Rattle.worker_table.specs.Fits.{AreAllFired, IsJobOf, IsShortened}
 use Rattle.worker_table.specs.Moves.{known_in}
 use Rattle.worker_table.specs.Notes.{KnownJob}
 use Rattle.worker_table.specs.Places.{front_stays}

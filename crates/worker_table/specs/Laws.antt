@@ -1,28 +1,25 @@
 -- The four laws of the book under the desk: a deed leaves what it asks for of the pass that moves, of all others and of the numbers that are free.
-use Rattle.std.proofs.Common.{◌≡◌, ◌≢◌, ◌⊎◌, inl, inr, ℕ, zero, suc, ◌+◌, ◌<◌, ◌≤◌, List, [], ◌∷◌, ◌++◌, length, length-append, Bool, true, refl, sym, ap, ◌∙◌, subst, arith}
+use Rattle.std.proofs.Common.{◌≡◌, ◌≢◌, inl, inr, ℕ, zero, suc, ◌+◌, ◌<◌, ◌≤◌, List, [], ◌∷◌, ◌++◌, length, length-append, Bool, refl, sym, ap, ◌∙◌, subst, arith}
 use Rattle.std.specs.Prelude.{Option, Some, None, slice_get, slice_set}
-use Rattle.std.specs.List.{sum_by}
 use Rattle.std.proofs.lemmas.List.Sums.{sum_by_push}
 use Rattle.std.proofs.lemmas.Option.{slice_get_within}
 use native.Mathlib.Decide.{dec_le}
-use Rattle.beam_values.specs.declared.fault.Cause.{Cause}
 use Rattle.beam_values.specs.declared.fault.Cause.TheVariants.{Call, Read}
 use Rattle.beam_values.specs.declared.outcome.StopCause.TheVariants as stop
 use Rattle.turn_desk.specs.declared.held.Note.{Note}
 use Rattle.turn_desk.specs.Notes.{Each, AreDistinct, IsNotFree, IsSound, IsApart, HasSameNumbers, kept_part, given_part, joined_note}
-use Rattle.book_core.specs.Book.{BookData, last_commit, slot_at, tracker_of}
+use Rattle.book_core.specs.Book.{BookData, last_commit, slot_at}
 use Rattle.book_core.specs.Changes.{cut_to, or_stopped}
 use Rattle.book_core.specs.Runs.{IsHonestAction}
-use Rattle.book_core.specs.Steps.{Action, Answer, Enroll, Enrolled, Fail, IsNextFor, IsRunning, IsWorking, NoMemory, Noted, Split, SplitAt, Step, Stop}
-use Rattle.book_core.specs.declared.live.Batch.{Batch}
+use Rattle.book_core.specs.Steps.{Action, Answer, Enroll, Enrolled, Fail, IsRunning, NoMemory, Noted, Split, SplitAt, Step, Stop}
 use Rattle.book_core.specs.declared.live.Live.{Live}
 use Rattle.book_core.specs.declared.live.Live.TheVariants as live
-use Rattle.worker_table.specs.Fits.{AreOwners, Fits, FitEntries, FitsEntry, HasNoJobLeft, IsBookOf, IsEndingOf, IsJobOf, IsSlotOf, OwnsNone}
+use Rattle.worker_table.specs.Fits.{AreOwners, Fits, FitEntries, FitsEntry, IsBookOf, IsJobOf, IsSlotOf, OwnsNone}
 use Rattle.worker_table.specs.Frames.{Frame, ending_made, ending_stays, step_fails, step_frame, step_slots}
 use Rattle.worker_table.specs.Honest.{book_more, worked_fired}
 use Rattle.worker_table.specs.Known.{known_later, known_now, known_split, split_behind}
-use Rattle.worker_table.specs.Moves.{Deed, Rests, Steps, Stops, Enrolls, FindsNone, Helps, Does, FirstDoes, IsOwnAction, Moves, calls_after, entry_after, first_after, known_at, note_after, reads_after}
-use Rattle.worker_table.specs.Notes.{Setting, Owner, owner_of, KnownJob, Ending, Entry, LastTurn, fresh}
+use Rattle.worker_table.specs.Moves.{Deed, Rests, Steps, Stops, Enrolls, FindsNone, Helps, Does, FirstDoes, IsOwnAction, Moves, calls_after, entry_after, first_after, known_at, reads_after}
+use Rattle.worker_table.specs.Notes.{Setting, Owner, owner_of, KnownJob, Entry, LastTurn, fresh}
 use Rattle.worker_table.specs.Places.{each_behind, each_set, end_elsewhere, end_here, is_or_not, set_elsewhere, set_here, set_length, set_only, sum_set}
 
 -- ---- passes that don't move

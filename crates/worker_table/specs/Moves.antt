@@ -1,15 +1,15 @@
 -- What a pass may do in a turn: one deed, from which the change of the book and the new note follow.
-use Rattle.std.specs.Prelude.{◌≡◌, ℕ, ◌+◌, Bool, true, false, List, [], ◌∷◌, ◌++◌, length, slice_set, unwrap_or, Option, Some, None}
+use Rattle.std.specs.Prelude.{◌≡◌, ℕ, ◌+◌, Bool, true, false, List, [], ◌∷◌, ◌++◌, slice_set, unwrap_or, Option, Some, None}
 use Rattle.beam_values.specs.declared.cell.Pane.{Pane}
 use Rattle.beam_values.specs.declared.fault.Cause.TheVariants.{Call, Read}
 use Rattle.turn_desk.specs.declared.held.Note.{Note}
 use Rattle.book_core.specs.Book.{BookData, last_commit, slot_at}
 use Rattle.book_core.specs.Jobs.{attempted_of, job_of}
-use Rattle.book_core.specs.Runs.{IsHonestAction, MadeStep}
+use Rattle.book_core.specs.Runs.{IsHonestAction}
 use Rattle.book_core.specs.Steps.{Action, Answer, Enroll, Enrolled, Fail, Finished, IsNextFor, Noted, Nothing, Spent, Split, Step, Stop, Stopped, Take}
 use Rattle.book_core.specs.Work.{Known}
 use Rattle.book_core.specs.declared.live.Live.{Live}
-use Rattle.worker_table.specs.Notes.{Setting, Owner, owner_of, KnownJob, Ending, GoesOn, HasFinished, IsStopped, LastTurn, Entry}
+use Rattle.worker_table.specs.Notes.{Owner, owner_of, KnownJob, Ending, HasFinished, IsStopped, LastTurn, Entry}
 
 pub data Deed : Type 0 where
   -- there was no memory for a slot, so nothing is changed

@@ -1,8 +1,7 @@
 -- What one turn of a pass did.
-use Rattle.std.specs.Prelude.{◌≡◌, ℕ, zero, suc, List, [], ◌∷◌, length, Option, Some, None, Result, Ok, Err}
+use Rattle.std.specs.Prelude.{◌≡◌, ℕ, List, [], ◌∷◌, length, Option, Some, None, Result, Ok, Err}
 use Rattle.turn_desk.specs.declared.held.Note.{Note}
 use Rattle.book_core.specs.Book.{BookData}
-use Rattle.book_core.specs.Calls.{Makes}
 use Rattle.book_core.specs.Steps.{Action, Answer, Enroll, Enrolled, IsNextFor, NoMemory, Noted, Split, SplitAt, Step, Stop}
 use Rattle.worker_table.specs.Fits.{FitsEntry, IsBookOf}
 use Rattle.worker_table.specs.Moves.{Deed, Rests, Steps, Stops, Enrolls, FindsNone, Helps, entry_after, note_after}

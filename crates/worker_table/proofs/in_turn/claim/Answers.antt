@@ -1,5 +1,5 @@
 use Rattle.std.proofs.Common.{refl, ◌∙◌}
-use Rattle.book_core.specs.Steps.{Claim, Claimed, Step}
+use Rattle.book_core.specs.Steps.{Claim, Claimed}
 use Rattle.worker_table.specs.Moves.{Steps}
 use Rattle.worker_table.proofs.Carried.{can_claim}
 use Rattle.worker_table.proofs.Turning.{job_now, moves_given, quiet_does, turn_given}

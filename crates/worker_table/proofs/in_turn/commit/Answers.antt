@@ -1,5 +1,5 @@
 use Rattle.std.proofs.Common.{refl, ◌∙◌}
-use Rattle.book_core.specs.Steps.{Commit, Step}
+use Rattle.book_core.specs.Steps.{Commit}
 use Rattle.worker_table.specs.Calls.{commit_answer}
 use Rattle.worker_table.specs.Moves.{Steps}
 use Rattle.worker_table.proofs.Carried.{can_commit_as, commit_step}

@@ -1,5 +1,4 @@
-use Rattle.std.proofs.Common.{◌≡◌, refl, ap, sym, subst, ◌∙◌, ◌++◌, ◌∷◌, [], ℕ, List}
-use Rattle.std.specs.Prelude.{IfOk}
+use Rattle.std.proofs.Common.{sym, ◌∙◌}
 use Rattle.worker_table.specs.Calls.{enroll_deed}
 use Rattle.worker_table.proofs.Turning.{enroll_does, enroll_given, enroll_step, enroll_turn, moves_given}
 use Rattle.worker_table.proofs.Tells.{enroll_keeps, enroll_tells}

@@ -1,6 +1,6 @@
-use Rattle.std.proofs.Common.{refl, ◌∙◌}
+use Rattle.std.proofs.Common.{◌∙◌}
 use Rattle.book_core.specs.Calls.{failure_of}
-use Rattle.book_core.specs.Steps.{Fail, Step}
+use Rattle.book_core.specs.Steps.{Fail}
 use Rattle.worker_table.specs.Moves.{Steps}
 use Rattle.worker_table.proofs.Carried.{can_fail, fails_honestly}
 use Rattle.worker_table.proofs.Turning.{book_now, fail_does, job_now, moves_given, turn_given}

@@ -1,8 +1,7 @@
-use Rattle.std.proofs.Common.{refl, ◌∙◌}
+use Rattle.std.proofs.Common.{◌∙◌}
 use Rattle.worker_table.specs.Calls.{help_deed}
 use Rattle.worker_table.proofs.Turning.{help_does, help_turn, moves_given}
 use Rattle.worker_table.proofs.Tells.{help_keeps, help_tells}
-use Rattle.turn_desk.specs.Seen.{constant_of}
 use Rattle.worker_table.proofs.in_turn.split_other.Goals as goal
 
 pub give-requires-clause-moves : goal.give-requires-clause-moves

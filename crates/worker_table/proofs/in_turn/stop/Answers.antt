@@ -1,5 +1,4 @@
-use Rattle.std.proofs.Common.{refl, ◌∙◌}
-use Rattle.book_core.specs.Steps.{Noted, Step, Stop}
+use Rattle.std.proofs.Common.{◌∙◌}
 use Rattle.worker_table.specs.Moves.{Stops}
 use Rattle.worker_table.proofs.Turning.{moves_given, turn_given}
 use Rattle.worker_table.proofs.Tells.{keeps_others, stop_tells}

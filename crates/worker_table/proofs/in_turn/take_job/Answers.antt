@@ -1,7 +1,7 @@
-use Rattle.std.proofs.Common.{refl, ap, subst, sym, ◌∙◌}
+use Rattle.std.proofs.Common.{refl, subst, ◌∙◌}
 use Rattle.std.specs.Prelude.{IfOk}
 use Rattle.beam_values.specs.declared.plan.Plan.{Plan}
-use Rattle.book_core.specs.Steps.{Take, Step}
+use Rattle.book_core.specs.Steps.{Take}
 use Rattle.book_core.proofs.Reaching.{step_same}
 use Rattle.worker_table.specs.Calls.{IsTakenOfPlan, take_answer}
 use Rattle.worker_table.specs.Moves.{Steps}

@@ -1,4 +1,4 @@
-use Rattle.std.proofs.Common.{subst, ◌∙◌}
+use Rattle.std.proofs.Common.{subst}
 use Rattle.std.specs.Prelude.{Some}
 use Rattle.book_core.specs.Book.{BookData}
 use Rattle.book_core.specs.Calls.{Makes}
