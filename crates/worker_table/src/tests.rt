@@ -1,6 +1,6 @@
-//! Two passes of one table, each in a thread of its own.
+//! Two passes of one table.
 
-ghost use Rattle.std.specs.Prelude.{◌≡◌, ◌+◌, ◌<◌, All, [], ◌∷◌, IfOk, OnOk, None, false};
+ghost use Rattle.std.specs.Prelude.{◌≡◌, [], ◌∷◌, IfOk, None, false};
 ghost use Rattle.beam_model.specs.Positions.{items};
 ghost use Rattle.turn_desk.specs.Notes.{size_of};
 ghost use Rattle.book_core.specs.Runs.{AreLengthsOf};
@@ -16,8 +16,6 @@ use pipeline_graph::Graph;
 use std::alloc::Global;
 use std::sync::Wait;
 use std::test::Fail;
-use std::thread;
-use std::thread::Threads;
 
 // A file whose lines are written.
 fn lines(alloc: Global) -> Result<Plan, NoMemory>
@@ -90,37 +88,13 @@ fn fail_and_stop<R: Wait>(rt: &R, table: &Table, mut pass: WorkerPass) -> Worker
     pass
 }
 
-// Joins a pass into this one, if one came back.
-fn join_last(table: &Table, pass: &mut WorkerPass, mut ended: Vec<WorkerPass>) -> Result<(), Fail>
-    requires table { IsOf table.now pass.old }
-    requires ended { All (λ p. IsOf table.now p × (size_of (note_of_pass p) ≡ 1)) ended.items }
-    ensures table { IsOf table.now pass.new }
-    ensures size { OnOk result (size_of (note_of_pass pass.new) ≡ size_of (note_of_pass pass.old) + 1) }
-{
-    let Some(other) = ended.pop() else {
-        return Err("no pass".into());
-    };
-    table.join_pass(pass, other);
-    Ok(())
-}
-
 #[test]
-fn two_threads_fail_a_job_and_stop(rt: HostRuntime) -> Result<(), Fail> {
+fn a_pass_fails_a_job_and_stops_the_book(rt: HostRuntime) -> Result<(), Fail> {
     let alloc = rt.alloc();
     let (table, mut first) = open_table(alloc)?;
     let second = table.split_pass(&mut first);
-    let shared = &table;
-    let mut passes = Vec::new(alloc);
-    passes.push(second)?;
-    let ended = thread::map_vec(
-        &rt,
-        passes,
-        &|pass: WorkerPass| -> WorkerPass
-            requires { IsOf shared.now pass × ((setting_of shared.now).known.strict ≡ false) × (slot_of pass ≡ None) × ((entry_of pass).owes_split ≡ false) × (size_of (note_of_pass pass) ≡ 1) }
-            ensures { IsOf shared.entry.now result × (size_of (note_of_pass result) ≡ 1) }
-        { fail_and_stop(&rt, shared, pass) },
-    )?;
-    join_last(&table, &mut first, ended)?;
+    let second = fail_and_stop(&rt, &table, second);
+    table.join_pass(&mut first, second);
     let outcome = table.close(first).outcome()?;
     assert!(rt; matches!(outcome.stopped, Some(StopCause::NoMemory)));
     Ok(())
