@@ -19,7 +19,7 @@ use Rattle.book_core.specs.Changes.{cut_to}
 use Rattle.book_core.specs.Jobs.{attempted_of, job_of}
 use Rattle.book_core.specs.Runs.{IsHonestAction}
 use Rattle.book_core.specs.Steps.{CanCommit, Commit, Committed, Fail, IsFree, IsWorking, Step}
-use Rattle.book_core.specs.Work.{Known, IsGiven, IsHonest, IsWorkOn, IsWorkOnItem, IsWorkOnRange, is_known, items_told, worked_to}
+use Rattle.book_core.specs.Work.{Surroundings, IsGiven, IsHonest, IsWorkOn, IsWorkOnItem, IsWorkOnRange, is_known, items_told, worked_to}
 use Rattle.book_core.specs.declared.live.Live.{Live}
 use Rattle.book_core.specs.declared.live.Live.TheVariants as live
 use Rattle.book_core.specs.declared.live.Unplaced.{Unplaced}
@@ -39,7 +39,7 @@ module _ (plan : Plan) (noted : Piece) (range : Offsets) (start : range.from ≡
 
   range_cut : (known : Bool) (told : Option (List FileText)) (upto : ℕ) (receipt : Receipt) → IsWorkOnRange known told plan noted upto receipt → IsWorkOnRange known told plan (cut_to noted range) upto receipt
   range_cut true told upto receipt work = item_cut upto (item_at (items_told told plan) noted.node noted.item) receipt work
-  range_cut false told upto receipt work = record { brought = work.brought; gaps = work.gaps; ends = work.ends; seen = work.seen; seen_time = work.seen_time }
+  range_cut false told upto receipt work = record { at_barriers = work.at_barriers; gaps = work.gaps; ends = work.ends; seen = work.seen; seen_time = work.seen_time }
 
 -- it is worked as far as the range that was known
 worked_same : (noted now : Piece) (attempted : Option ℕ) → IsShortened noted attempted now → worked_to now attempted ≡ worked_to noted attempted
@@ -63,7 +63,7 @@ given_span told plan noted now attempted receipt short given =
     let there = subst (λ (upto : ℕ). IsWorkOnRange (is_known told plan cut.node) told plan cut upto receipt) (sym worked) here in
     (subst (λ (p : Piece). IsWorkOnRange (is_known told plan p.node) told plan p (worked_to now attempted) receipt) (sym short.same) there, given.1)
 
-honest_span : (known : Known) (plan : Plan) (noted now : Piece) (attempted : Option ℕ) (at : ℕ) (cause : Cause) → IsShortened noted attempted now
+honest_span : (known : Surroundings) (plan : Plan) (noted now : Piece) (attempted : Option ℕ) (at : ℕ) (cause : Cause) → IsShortened noted attempted now
     → IsHonest known plan (job.Span noted) attempted at cause → IsHonest known plan (job.Span now) attempted at cause
 honest_span known plan noted now attempted at Read short (file, node) =
     let cut : Piece = cut_to noted (record { from = noted.range.from; to = now.range.to }) in
@@ -85,7 +85,7 @@ given_carries told plan panes known (live.Span now attempted) receipt is given =
     given_span told plan is.0 now attempted receipt is.2 (subst (λ (k : KnownJob). IsGiven told plan k.job k.attempted receipt) is.1 given)
 given_carries told plan panes known (live.Batch batch) receipt is given = subst (λ (k : KnownJob). IsGiven told plan k.job k.attempted receipt) is.0 given
 
-honest_carries : (known : Known) (plan : Plan) (panes : List Pane) (job : KnownJob) (now : Live) (at : ℕ) (cause : Cause) → IsKnownAs panes job now
+honest_carries : (known : Surroundings) (plan : Plan) (panes : List Pane) (job : KnownJob) (now : Live) (at : ℕ) (cause : Cause) → IsKnownAs panes job now
     → IsHonest known plan job.job job.attempted at cause → IsHonest known plan (job_of panes now) (attempted_of now) at cause
 honest_carries known plan panes job (live.Span now attempted) at cause is honest =
     honest_span known plan is.0 now attempted at cause is.2 (subst (λ (k : KnownJob). IsHonest known plan k.job k.attempted at cause) is.1 honest)

@@ -6,7 +6,7 @@ use Rattle.beam_values.specs.declared.file_text.FileText.{FileText}
 use Rattle.book_core.specs.Book.{BookData}
 use Rattle.book_core.specs.Runs.{HonestRun, IsHonestAction, MadeStep, Reached, Run}
 use Rattle.book_core.specs.Steps.{Action, Enroll, Fail, Answer, Enrolled, NoMemory, Step}
-use Rattle.book_core.specs.Work.{Known}
+use Rattle.book_core.specs.Work.{Surroundings}
 use Rattle.worker_table.specs.Fits.{Fits}
 use Rattle.worker_table.specs.Frames.{step_fails, step_slots}
 use Rattle.worker_table.specs.Laws.{opening_fits}
@@ -26,7 +26,7 @@ run_grows told (made ∷ later) b end run =
     let more = run_grows told later run.0 end run.2 in
     omega arith
 
-no_job : (known : Known) (b : BookData) (slot : ℕ) (action : Action) → length b.slots ≡ 0 → IsHonestAction known b slot action
+no_job : (known : Surroundings) (b : BookData) (slot : ℕ) (action : Action) → length b.slots ≡ 0 → IsHonestAction known b slot action
 no_job known b slot (Fail at cause) none = λ job works. absurd (let w = slice_get_within b.slots slot _ works in omega (arith, none))
 no_job known b slot _ none = tt
 
@@ -34,7 +34,7 @@ no_fail : (told : Option (List FileText)) (b new : BookData) (slot : ℕ) (actio
 no_fail told b new slot (Fail at cause) answer step none = absurd (let w = slice_get_within b.slots slot _ step.works in omega (arith, none))
 no_fail told b new slot action answer step none = let f = step_fails told b new slot action answer step in (f.calls, f.reads)
 
-quiet_run : (known : Known) (steps : List MadeStep) (b end : BookData) → Run known.told b steps end → length end.slots ≡ 0 → HonestRun known b steps end × (end.calls ≤ b.calls) × (end.reads ≤ b.reads)
+quiet_run : (known : Surroundings) (steps : List MadeStep) (b end : BookData) → Run known.told b steps end → length end.slots ≡ 0 → HonestRun known b steps end × (end.calls ≤ b.calls) × (end.reads ≤ b.reads)
 quiet_run known [] b end run none = (run, let c = ap (λ (x : BookData). x.calls) run in omega arith, let c = ap (λ (x : BookData). x.reads) run in omega arith)
 quiet_run known (made ∷ later) b end run none =
     let empty : length b.slots ≡ 0 = let one = step_grows known.told b run.0 made.slot made.action made.answer run.1 in let more = run_grows known.told later run.0 end run.2 in omega (arith, none) in
@@ -42,7 +42,7 @@ quiet_run known (made ∷ later) b end run none =
     let fails = no_fail known.told b run.0 made.slot made.action made.answer run.1 empty in
     ((run.0, run.1, no_job known b made.slot made.action empty, rest.0), let a = rest.1 in let c = fails.0 in omega arith, let a = rest.2 in let c = fails.1 in omega arith)
 
-pub opened_fits : (known : Known) (b : BookData) → Reached known.told b → b.slots ≡ [] → Fits (setting_for known b) b [] (record { numbers = 0 ∷ []; free = 4294967295; about = fresh ∷ [] })
+pub opened_fits : (known : Surroundings) (b : BookData) → Reached known.told b → b.slots ≡ [] → Fits (setting_for known b) b [] (record { numbers = 0 ∷ []; free = 4294967295; about = fresh ∷ [] })
 opened_fits known b reached none =
     let quiet = quiet_run known reached.steps reached.first b reached.run (ap length none) in
     let calls : b.calls ≡ 0 = let a = quiet.1 in let c = ap (λ (x : BookData). x.calls) reached.opening.is in omega arith in

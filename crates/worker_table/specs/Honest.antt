@@ -8,7 +8,7 @@ use Rattle.book_core.specs.Book.{BookData, batch_of, held_at, held_in, live_batc
 use Rattle.book_core.specs.Facts.{AreHeldOnce, IsHeldPane}
 use Rattle.book_core.specs.Runs.{HonestRun, HonestlyReached, IsHonestAction, MadeStep}
 use Rattle.book_core.specs.Steps.{Action, Answer, IsWorking, Step}
-use Rattle.book_core.specs.Work.{Known}
+use Rattle.book_core.specs.Work.{Surroundings}
 use Rattle.book_core.specs.declared.live.Batch.{Batch}
 use Rattle.book_core.specs.declared.live.Live.TheVariants as live
 use Rattle.book_core.specs.declared.live.WaitingPane.{WaitingPane}
@@ -19,7 +19,7 @@ use Rattle.book_core.proofs.Slotted.{All-append_right, All-flat_at, All-of_flat_
 use Rattle.worker_table.specs.Fits.{AreAllFired, IsBookOf}
 use Rattle.worker_table.specs.Notes.{Setting}
 
-module _ (known : Known) where
+module _ (known : Surroundings) where
   run_more : (steps : List MadeStep) (b mid end : BookData) (made : MadeStep) → HonestRun known b steps mid → Step known.told mid made.slot made.action made.answer end
       → IsHonestAction known mid made.slot made.action → HonestRun known b (steps ++ made ∷ []) end
   run_more [] b mid end made run step honest = (

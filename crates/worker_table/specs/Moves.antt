@@ -7,7 +7,7 @@ use Rattle.book_core.specs.Book.{BookData, last_commit, slot_at}
 use Rattle.book_core.specs.Jobs.{attempted_of, job_of}
 use Rattle.book_core.specs.Runs.{IsHonestAction}
 use Rattle.book_core.specs.Steps.{Action, Answer, Enroll, Enrolled, Fail, Finished, IsNextFor, Noted, Nothing, Spent, Split, Step, Stop, Stopped, Take}
-use Rattle.book_core.specs.Work.{Known}
+use Rattle.book_core.specs.Work.{Surroundings}
 use Rattle.book_core.specs.declared.live.Live.{Live}
 use Rattle.worker_table.specs.Notes.{Owner, owner_of, KnownJob, Ending, HasFinished, IsStopped, LastTurn, Entry}
 
@@ -93,7 +93,7 @@ note_after deed b note b' = record note { about = first_after deed b note.about 
 -- ---- the deeds
 
 -- what the pass with this number and this entry does to the book and to the owners of its slots
-abbrev pub Does : Known → ℕ → Entry → BookData → List Owner → Deed → BookData → List Owner → Type 0
+abbrev pub Does : Surroundings → ℕ → Entry → BookData → List Owner → Deed → BookData → List Owner → Type 0
 Does known number e b owners Rests b' owners' = (b' ≡ b) × (owners' ≡ owners)
 Does known number e b owners (Steps i action answer) b' owners' =
     (e.slot ≡ Some i) × IsOwnAction action × Step known.told b i action answer b' × IsHonestAction known b i action
@@ -105,12 +105,12 @@ Does known number e b owners FindsNone b' owners' = (slot : ℕ) × (e.slot ≡ 
 Does known number e b owners (Helps i answer) b' owners' =
     (slot : ℕ) × (e.slot ≡ Some slot) × IsNextFor b slot (Some i) × Step known.told b i (Split 1 2) answer b' × (owners' ≡ owners)
 
-abbrev pub FirstDoes : Known → List ℕ → List Entry → BookData → List Owner → Deed → BookData → List Owner → Type 0
+abbrev pub FirstDoes : Surroundings → List ℕ → List Entry → BookData → List Owner → Deed → BookData → List Owner → Type 0
 FirstDoes known (n ∷ ns) (e ∷ es) b owners deed b' owners' = Does known n e b owners deed b' owners'
 FirstDoes known _ _ b owners deed b' owners' = ⊥
 
 -- the changes that a pass may make in one turn
-pub record Moves (known : Known) (b : BookData) (owners : List Owner) (m : Note (List Entry)) (b' : BookData) (owners' : List Owner) (n : Note (List Entry)) : Type 0 where
+pub record Moves (known : Surroundings) (b : BookData) (owners : List Owner) (m : Note (List Entry)) (b' : BookData) (owners' : List Owner) (n : Note (List Entry)) : Type 0 where
   pub deed : Deed
   pub does : FirstDoes known m.numbers m.about b owners deed b' owners'
   pub note : n ≡ note_after deed b m b'

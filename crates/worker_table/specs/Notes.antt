@@ -6,11 +6,11 @@ use Rattle.beam_values.specs.declared.plan.Plan.{Plan}
 use Rattle.bundle_commit.specs.declared.job.Job.{Job}
 use Rattle.book_core.specs.Book.{BookData}
 use Rattle.book_core.specs.Runs.{MadeStep}
-use Rattle.book_core.specs.Work.{Known}
+use Rattle.book_core.specs.Work.{Surroundings}
 
 -- what is known outside the book, and what the book was opened with
 pub record Setting : Type 0 where
-  pub known : Known
+  pub known : Surroundings
   pub plan : Plan
   pub files : List FileLen
   pub options : Options
@@ -68,5 +68,5 @@ no_setting = record {
 }
 
 -- of a table with this book
-abbrev pub setting_for : Known → BookData → Setting
+abbrev pub setting_for : Surroundings → BookData → Setting
 setting_for known b = record { known = known; plan = b.plan; files = b.files; options = b.options }

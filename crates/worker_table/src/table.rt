@@ -3,7 +3,7 @@ ghost use Rattle.std.specs.Prelude.{◌≡◌, ◌<◌, ◌≤◌, ◌++◌, ◌
 ghost use Rattle.std.specs.List.{AllByRecursion, sum_by};
 ghost use Rattle.turn_desk.specs.Notes.{size_of, opening_note, kept_part, given_part, joined_note};
 ghost use Rattle.book_core.specs.Runs.{Reached};
-ghost use Rattle.book_core.specs.Work.{Known};
+ghost use Rattle.book_core.specs.Work.{Surroundings};
 ghost use Rattle.worker_table.specs.Ends.{IsEnded};
 ghost use Rattle.worker_table.specs.Fits.{IsBookOf};
 ghost use Rattle.worker_table.specs.Notes.{Setting, fresh, setting_for};
@@ -22,7 +22,7 @@ impl Table {
     /// A table with this book, and its first pass. The proof of the call picks what is known outside the book.
     /// Where there is no memory, the book is dropped.
     pub fn new(alloc: Global, book: Book) -> Result<(Table, WorkerPass), NoMemory>
-        ghost known: { Known }
+        ghost known: { Surroundings }
         requires reached { Reached known.told book }
         requires slots { book.slots ≡ [] }
         ensures table { IfOk result (λ r. IsOf r.0 r.1) }
