@@ -6,3 +6,4 @@ pub mod PlanFiles
 pub mod Pipelines
 pub mod Promises
 pub mod Completeness
+pub mod Clauses

@@ -1,18 +1,17 @@
-ghost use Rattle.std.specs.Prelude.{◌≡◌, ◌<◌, ℕ, None, IsSome, length, map};
-ghost use Rattle.beam_values.specs.Files.{first_named};
+ghost use Rattle.std.specs.Prelude.{◌≡◌, ◌<◌, ℕ, None, length, map};
 ghost use Rattle.beam_ports.specs.Observed.{observed_sink, observed_store, WhereTold};
 ghost use Rattle.beam_model.specs.Account.{IsAccounted};
 ghost use Rattle.beam_model.specs.Covers.{IsCovered};
-ghost use Rattle.beam_model.specs.Plain.{ArePlainlyWritten, ArePlainlyWrittenWhere};
+ghost use Rattle.beam_model.specs.Plain.{ArePlainlyWrittenWhere};
 ghost use Rattle.beam_model.specs.Positions.{items, item_len};
 ghost use Rattle.chain_exec.specs.Causes.{observed_shelf};
 ghost use Rattle.command_words.specs.Commands.{command_of, words_of, Run as RunOf};
 ghost use Rattle.book_core.specs.Runs.{AreOptions};
-ghost use Rattle.beam_command.specs.Promises.{AsksPanes, HasLegalPanes, IsPlanAsked};
+ghost use Rattle.beam_command.specs.Promises.{HasLegalPanes, IsPlanAsked};
 ghost use Rattle.beam_command.specs.Ends.{AreFound, IsRun, IsEndOf, IsHelpEnd, IsNoted, IsNotedUpTo, IsPipelineEnd, StaysOrNoMemory};
-ghost use Rattle.beam_command.specs.Kits.{kit_files, kit_shelf, kit_store, observed_first};
-ghost use Rattle.beam_command.specs.Completeness.{AreFaultsFew, AsksForPoison, AreReadFaultsFew, FailsOnPoison, HasCleanInputs, HasInputs, HasNotFailed, IsEndOfClean, IsEndOfPoison, IsStrict, WherePanes, WherePipeline};
-ghost use Rattle.run_engine.specs.Openings.{IsNoSourceOrNoMemory};
+ghost use Rattle.beam_command.specs.Kits.{kit_files, observed_first};
+ghost use Rattle.beam_command.specs.Completeness.{AsksForPoison};
+ghost use Rattle.beam_command.specs.Clauses.{asked_by, EndsAsAsked, ArePanesPlain, EndsWhereAbsent, EndsWherePoison, EndsWhereClean, EndsWhereFewFaults, EndsWhereNoPoison};
 
 use crate::notes::{fixed_line, note_line};
 use crate::pipeline::{ended, run_graph, written};
@@ -50,11 +49,11 @@ pub fn beam_main<F: Shelf, S: Store, W: Sink, N: Sink>(
     notes: &mut N,
 ) -> RunEnd
     requires { 0 < length kits.old.items }
-    ensures ends { IsEndOf (command_of (words_of words.now)) (observed_first F.strict F.faults S.files S.faults W.faults W.taken kits.old.items kits.new.items out.old out.new)
-        result.status result.outcome }
+    ensures ends { EndsAsAsked (asked_by words.now)
+        (observed_first F.strict F.faults S.files S.faults W.faults W.taken kits.old.items kits.new.items out.old out.new) result }
 
     // The outcome is of the plan that is asked for and of the files that it names, which are there.
-    ensures plan { IsRun result (λ o. IsPlanAsked (kit_files S.files kits.old.items) (command_of (words_of words.now)) o.plan) }
+    ensures plan { IsRun result (λ o. IsPlanAsked (kit_files S.files kits.old.items) (asked_by words.now) o.plan) }
     ensures found { IsRun result (λ o. AreFound (kit_files S.files kits.old.items) o.plan) }
     ensures lengths { IsRun result (λ o. WhereTold (kit_files S.files kits.old.items) (λ told. o.files ≡ map item_len (items told o.plan))) }
 
@@ -70,41 +69,32 @@ pub fn beam_main<F: Shelf, S: Store, W: Sink, N: Sink>(
     // At each Write with the default trigger and sound estimators above it: what was written is plain
     // grouping of the whole input, and nothing was dropped. So it is always for `panes`.
     ensures plain { IsRun result (λ o. WhereTold (kit_files S.files kits.old.items) (λ told. ArePlainlyWrittenWhere (items told o.plan) o)) }
-    ensures panes_plain { AsksPanes (command_of (words_of words.now))
-        → IsRun result (λ o. WhereTold (kit_files S.files kits.old.items) (λ told. ArePlainlyWritten (items told o.plan) o)) }
+    ensures panes_plain { ArePanesPlain (kit_files S.files kits.old.items) (asked_by words.now) result }
 
     // Where the store does not fail and tells its files, the file decides how `panes` ends: it isn't there;
     // or a line is poison, over a shelf that fails on poison alone.
-    ensures absent { WherePanes (command_of (words_of words.now)) (λ file size options. HasNotFailed (kit_store S.files S.faults kits.old.items kits.new.items)
-        → WhereTold (kit_files S.files kits.old.items) (λ told. first_named file told ≡ None → IsNoSourceOrNoMemory file result.status)) }
-    ensures poison { WherePanes (command_of (words_of words.now)) (λ file size options. HasNotFailed (kit_store S.files S.faults kits.old.items kits.new.items)
-        → IsStrict (kit_shelf F.strict F.faults kits.old.items kits.new.items)
-        → WhereTold (kit_files S.files kits.old.items) (λ told. IsSome (first_named file told)
-        → AsksForPoison told (command_of (words_of words.now)) → IsEndOfPoison options result.status)) }
+    ensures absent { EndsWhereAbsent (kit_files S.files kits.old.items) (asked_by words.now)
+        (observed_first F.strict F.faults S.files S.faults W.faults W.taken kits.old.items kits.new.items out.old out.new) result.status }
+    ensures poison { EndsWherePoison (kit_files S.files kits.old.items) (asked_by words.now)
+        (observed_first F.strict F.faults S.files S.faults W.faults W.taken kits.old.items kits.new.items out.old out.new) result.status }
 
     // A file without poison comes to its end, over a shelf that fails on poison alone or does not fail, where
     // fewer faults of the store and of `out` are counted than a job has attempts.
-    ensures clean { WherePanes (command_of (words_of words.now)) (λ file size options.
-        AreReadFaultsFew options.attempts (observed_first F.strict F.faults S.files S.faults W.faults W.taken kits.old.items kits.new.items out.old out.new)
-        → FailsOnPoison (kit_shelf F.strict F.faults kits.old.items kits.new.items)
-        → WhereTold (kit_files S.files kits.old.items) (λ told. IsSome (first_named file told)
-        → (AsksForPoison told (command_of (words_of words.now)) → ⊥) → IsEndOfClean result.status)) }
+    ensures clean { EndsWhereClean (kit_files S.files kits.old.items) (asked_by words.now)
+        (observed_first F.strict F.faults S.files S.faults W.faults W.taken kits.old.items kits.new.items out.old out.new) result.status }
 
     // No pipeline ends Ok of which a position is poison.
-    ensures not_ok { WhereTold (kit_files S.files kits.old.items) (λ told. AsksForPoison told (command_of (words_of words.now)) → result.status ≡ Status.Ok → ⊥) }
+    ensures not_ok { WhereTold (kit_files S.files kits.old.items) (λ told. AsksForPoison told (asked_by words.now) → result.status ≡ Status.Ok → ⊥) }
 
     // Where all its files are there and fewer faults are counted than a job has attempts, a pipeline comes
     // to its end, unless there is no memory.
-    ensures complete { WherePipeline (command_of (words_of words.now)) (λ asked options. WhereTold (kit_files S.files kits.old.items) (λ told. HasInputs told asked
-        → AreFaultsFew options.attempts (observed_first F.strict F.faults S.files S.faults W.faults W.taken kits.old.items kits.new.items out.old out.new)
-        → IsEndOfClean result.status)) }
+    ensures complete { EndsWhereFewFaults (kit_files S.files kits.old.items) (asked_by words.now)
+        (observed_first F.strict F.faults S.files S.faults W.faults W.taken kits.old.items kits.new.items out.old out.new) result.status }
 
     // So it does over a shelf that fails on poison alone, however often it fails, where no run of the plan
     // takes a job that is poison and fewer faults of the store and of `out` are counted.
-    ensures complete_strict { WherePipeline (command_of (words_of words.now)) (λ asked options. IsStrict (kit_shelf F.strict F.faults kits.old.items kits.new.items)
-        → WhereTold (kit_files S.files kits.old.items) (λ told. HasCleanInputs told asked options
-        → AreReadFaultsFew options.attempts (observed_first F.strict F.faults S.files S.faults W.faults W.taken kits.old.items kits.new.items out.old out.new)
-        → IsEndOfClean result.status)) }
+    ensures complete_strict { EndsWhereNoPoison (kit_files S.files kits.old.items) (asked_by words.now)
+        (observed_first F.strict F.faults S.files S.faults W.faults W.taken kits.old.items kits.new.items out.old out.new) result.status }
 
     ensures noted { IsNoted result.status (observed_sink N.faults N.taken notes.old notes.new) }
     ensures kits { length kits.new.items ≡ length kits.old.items }
