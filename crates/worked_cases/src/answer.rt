@@ -6,6 +6,7 @@ use crate::elements::answer_row;
 use crate::functions::answer_function;
 use crate::graphs::answer_graph;
 use crate::grouping::answer_grouped;
+use crate::groups::answer_groups;
 use crate::keyed::answer_stateful;
 use crate::lines::{answer_key, answer_line, answer_time, answer_timed};
 use crate::marks::{answer_attempt, answer_seen};
@@ -86,6 +87,7 @@ pub fn answer_block<'a>(script: &mut Script<'a>, case: &mut Case<'a>) {
         "outcome" => answer_outcome(script, case),
         "summary" => answer_summary(script, case),
         "graph" => answer_graph(script, case),
+        "groups" => answer_groups(script, case),
         "command" => answer_command(script, case),
         _ => case.fail("a line is KIND INPUT => EXPECTED"),
     }

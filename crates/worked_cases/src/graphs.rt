@@ -1,9 +1,11 @@
-ghost use Rattle.std.specs.Prelude.{◌≡◌, length};
+ghost use Rattle.std.specs.Prelude.{◌≡◌, length, IfOk};
+ghost use Rattle.beam_values.specs.Marks.{AreMarks};
+ghost use Rattle.watermarks.specs.Holds.{hold_at};
 
 use crate::case::Case;
 use crate::nodes::read_node;
 use crate::running::Script;
-use crate::triggers::{read_mark, say_mark};
+use crate::triggers::{read_marks, say_mark};
 use crate::windows::say_strategy;
 use beam_values::{Duplicate, GraphRefusal, List, Mark, NoMemory, Node, Plan, StageMarks};
 use pipeline_graph::{CheckRefusal, Graph, refusal_number};
@@ -48,15 +50,7 @@ fn add_line(case: &mut Case<'_>, drawn: &mut Drawn) {
             case.keep(&mut drawn.nodes, node);
         }
         "again" => repeat_last(case, &mut drawn.nodes),
-        "holds" => {
-            for _ in 0..case.left() {
-                if case.is_over() {
-                    break;
-                }
-                let hold = read_mark(case);
-                case.keep(&mut drawn.holds, hold);
-            }
-        }
+        "holds" => drawn.holds = read_marks(case),
         "out" => {
             let text = case.line_rest();
             case.expect(text.as_slice());
@@ -128,8 +122,10 @@ fn say_marks(graph: &Graph, holds: &[Mark], case: &mut Case<'_>) {
     }
 }
 
-fn marks_of(alloc: Global, graph: &Graph, holds: &[Mark]) -> Result<Vec<StageMarks>, AllocError>
+/// The marks of all nodes, from the least hold of each.
+pub fn marks_of(alloc: Global, graph: &Graph, holds: &[Mark]) -> Result<Vec<StageMarks>, AllocError>
     requires { length holds.now ≡ length graph.now.nodes }
+    ensures { IfOk result (λ marks. AreMarks graph.now (hold_at holds.now) marks.items) }
 {
     let unknown = StageMarks {
         mark_in: Mark::FINAL,

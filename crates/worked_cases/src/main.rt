@@ -10,6 +10,7 @@
 #![tactic(auto)]
 
 mod answer;
+mod bodies;
 mod case;
 mod coders;
 mod commands;
@@ -19,6 +20,7 @@ mod expanded;
 mod functions;
 mod graphs;
 mod grouping;
+mod groups;
 mod holds;
 mod keyed;
 mod lines;

@@ -1,5 +1,5 @@
 use crate::case::Case;
-use beam_values::{Mark, Mode, Trigger};
+use beam_values::{List, Mark, Mode, Trigger};
 use pane_triggers::{Fire, fire, is_dropped, next_mark};
 
 // What a cell is fired by, and what it is.
@@ -71,7 +71,7 @@ fn read_watched(case: &mut Case<'_>) -> Watched {
     }
 }
 
-/// `default`, or what differs from it: `early N`, `late N`, `lateness N`.
+/// `default`, or what differs from it: `early N`, `late N`, `lateness N`, `accumulating`.
 pub fn read_trigger(case: &mut Case<'_>) -> Trigger {
     let mut trigger = Trigger {
         early: None,
@@ -88,7 +88,8 @@ pub fn read_trigger(case: &mut Case<'_>) -> Trigger {
             "early" => trigger.early = Some(case.number()),
             "late" => trigger.late = case.number(),
             "lateness" => trigger.lateness = case.number(),
-            _ => case.fail("a trigger has early, late and lateness"),
+            "accumulating" => trigger.mode = Mode::Accumulating,
+            _ => case.fail("a trigger has early, late, lateness and accumulating"),
         }
     }
     trigger
@@ -103,6 +104,19 @@ pub fn read_mark(case: &mut Case<'_>) -> Mark {
         return Mark::FINAL;
     }
     Mark::at(case.time())
+}
+
+/// All marks that are left.
+pub fn read_marks(case: &mut Case<'_>) -> List<Mark> {
+    let mut marks = List::new(case.alloc());
+    for _ in 0..case.left() {
+        if case.is_over() {
+            break;
+        }
+        let mark = read_mark(case);
+        case.keep(&mut marks, mark);
+    }
+    marks
 }
 
 pub fn say_mark(mark: Mark, case: &mut Case<'_>) {
