@@ -1,0 +1,13 @@
+pub mod Answered
+pub mod Working
+pub mod BarrierReach
+pub mod PieceWork
+pub mod Claims
+pub mod PieceReads
+pub mod Told
+pub mod Readers
+pub mod Jobs
+pub mod Rounds
+pub mod Halves
+pub mod Crews
+pub mod Ended

@@ -1,0 +1,143 @@
+-- From job to job of a worker: what stays noted, and how its fails are counted.
+use Rattle.std.proofs.Common.{◌≡◌, ◌⊎◌, inl, inr, ℕ, ◌+◌, ◌-◌, ◌<◌, ◌≤◌, min, Bool, true, false, cond, List, refl, sym, ap, subst, ◌∙◌, arith}
+use Rattle.std.specs.Prelude.{Option, Some, None, IsSomeAnd, nat_le, unwrap_or}
+use Rattle.std.proofs.lemmas.Bool.Decides.{nat_tests}
+use Rattle.beam_values.specs.declared.fault.Cause.{Cause}
+use Rattle.beam_values.specs.declared.fault.Cause.TheVariants.{Call, Read}
+use Rattle.beam_values.specs.declared.file_text.FileText.{FileText}
+use Rattle.beam_ports.specs.Counts.{Rose, greatest_count, rise}
+use Rattle.beam_ports.specs.Observed.{ObservedStore}
+use Rattle.book_core.specs.Book.{BookData}
+use Rattle.book_core.specs.Steps.{Action, Answer, Fail, Noted, Step, Stop}
+use Rattle.chain_exec.specs.Causes.{ObservedShelf}
+use Rattle.retry_core.specs.Shares.{risen, share_after}
+use Rattle.retry_core.specs.declared.share.FaultShare.{FaultShare}
+use Rattle.turn_desk.specs.declared.held.Note.{Note}
+use Rattle.worker_table.specs.Calls.{GoesOnAs, KeepsSlot}
+use Rattle.worker_table.specs.Fits.{FitsEntry, IsSlotOf}
+use Rattle.worker_table.specs.Moves.{Deed, Steps, Stops, calls_after, entry_after, made_in, reads_after}
+use Rattle.worker_table.specs.Notes.{Entry, Owner, Setting}
+use Rattle.worker_table.specs.Turns.{HasStepped, HasStopped, KeepsOthers, Turned, first_entry}
+use Rattle.worker_loop.specs.Bundles.{IsCountedAs, OnlyClaims}
+use Rattle.worker_loop.specs.Workers.{CountsOn, FailsOnce, HasMadeLast, RisesWith, share_with}
+
+-- ---- what stays noted
+
+pub others_same : (m : Note (List Entry)) → KeepsOthers m m
+others_same m = record { numbers = refl; free = refl; others = refl; count = refl }
+
+pub others_onward : (m n o : Note (List Entry)) → KeepsOthers m n → KeepsOthers n o → KeepsOthers m o
+others_onward m n o one two = record {
+  numbers = two.numbers ∙ one.numbers;
+  free = two.free ∙ one.free;
+  others = two.others ∙ one.others;
+  count = two.count ∙ one.count;
+}
+
+pub keeps_onward : (e f k : Entry) → KeepsSlot e f → KeepsSlot f k → KeepsSlot e k
+keeps_onward e f k one two = record { slot = two.slot ∙ one.slot; calls = two.calls ∙ one.calls; reads = two.reads ∙ one.reads }
+
+pub claims_same : (m : Note (List Entry)) → OnlyClaims m m
+claims_same m = record { stays = record { keeps = record { slot = refl; calls = refl; reads = refl }; owes = refl; ending = refl }; others = others_same m }
+
+pub claims_onward : (m n o : Note (List Entry)) → OnlyClaims m n → OnlyClaims n o → OnlyClaims m o
+claims_onward m n o one two = record {
+  stays = record {
+    keeps = keeps_onward (first_entry m) (first_entry n) (first_entry o) one.stays.keeps two.stays.keeps;
+    owes = two.stays.owes ∙ one.stays.owes;
+    ending = two.stays.ending ∙ one.stays.ending;
+  };
+  others = others_onward m n o one.others two.others;
+}
+
+-- ---- the last turn
+
+pub stepped_last : (setting : Setting) (m n : Note (List Entry)) (slot : ℕ) (action : Action) (answer : Answer) → (first_entry n).slot ≡ Some slot → HasStepped setting m n slot action answer
+    → HasMadeLast setting (first_entry n) action answer
+stepped_last setting m n slot action answer at turn =
+    let same : slot ≡ unwrap_or (first_entry n).slot 0 = ap (λ (s : Option ℕ). unwrap_or s 0) (sym at) in
+    record {
+      lent = turn.lent;
+      back = turn.back;
+      book = turn.book;
+      made = subst (λ (i : ℕ). Step setting.known.told turn.lent i action answer turn.back) same turn.made;
+      last = ap (λ (e : Entry). e.last) turn.first ∙ ap (λ (i : ℕ). made_in turn.lent i action answer) same;
+    }
+
+pub stopped_last : (setting : Setting) (m n : Note (List Entry)) → (first_entry n).slot ≡ (first_entry m).slot → HasStopped setting m n → HasMadeLast setting (first_entry n) Stop Noted
+stopped_last setting m n at turn = record {
+  lent = turn.lent;
+  back = turn.back;
+  book = turn.book;
+  made = turn.made;
+  last = ap (λ (e : Entry). e.last) turn.first ∙ ap (λ (s : Option ℕ). made_in turn.lent (unwrap_or s 0) Stop Noted) (sym at);
+}
+
+-- ---- fails, as they are counted
+
+pub fails_none : (shelf : ObservedShelf) (store : ObservedStore) (e f : Entry) → KeepsSlot e f → FailsOnce shelf store e f
+fails_none shelf store e f keeps = record { calls = inl keeps.calls; reads = inl keeps.reads }
+
+pub fails_one : (shelf : ObservedShelf) (store : ObservedStore) (e mid f : Entry) (at : ℕ) (cause : Cause) → KeepsSlot e mid → f.calls ≡ calls_after (Fail at cause) mid.calls
+    → f.reads ≡ reads_after (Fail at cause) mid.reads → IsCountedAs shelf store cause → FailsOnce shelf store e f
+fails_one shelf store e mid f at Call keeps calls reads rose = record { calls = inr (calls ∙ ap (λ (n : ℕ). n + 1) keeps.calls, rose); reads = inl (reads ∙ keeps.reads) }
+fails_one shelf store e mid f at Read keeps calls reads rose = record { calls = inl (calls ∙ keeps.calls); reads = inr (reads ∙ ap (λ (n : ℕ). n + 1) keeps.reads, rose) }
+
+pub counts_same : (share : FaultShare) (e f : Entry) → KeepsSlot e f → CountsOn share share e f
+counts_same share e f keeps = λ first is.
+    is ∙ ap (λ (n : ℕ). share_with first n e.reads) (sym keeps.calls) ∙ ap (λ (n : ℕ). share_with first f.calls n) (sym keeps.reads)
+
+risen_more : (count n : ℕ) → risen (risen count n) 1 ≡ risen count (n + 1)
+risen_more count n = omega arith
+
+pub counts_one : (share later : FaultShare) (e mid f : Entry) (at : ℕ) (cause : Cause) → KeepsSlot e mid → f.calls ≡ calls_after (Fail at cause) mid.calls
+    → f.reads ≡ reads_after (Fail at cause) mid.reads → later ≡ share_after share cause 1 → CountsOn share later e f
+counts_one share later e mid f at Call keeps calls reads is = λ first was.
+    is ∙ ap (λ (s : FaultShare). share_after s Call 1) was
+    ∙ ap (λ (n : ℕ). record { calls = n; reads = risen first.reads e.reads }) (risen_more first.calls e.calls)
+    ∙ ap (λ (n : ℕ). share_with first n e.reads) (sym (calls ∙ ap (λ (n : ℕ). n + 1) keeps.calls))
+    ∙ ap (λ (n : ℕ). share_with first f.calls n) (sym (reads ∙ keeps.reads))
+counts_one share later e mid f at Read keeps calls reads is = λ first was.
+    is ∙ ap (λ (s : FaultShare). share_after s Read 1) was
+    ∙ ap (λ (n : ℕ). record { calls = risen first.calls e.calls; reads = n }) (risen_more first.reads e.reads)
+    ∙ ap (λ (n : ℕ). share_with first e.calls n) (sym (reads ∙ ap (λ (n : ℕ). n + 1) keeps.reads))
+    ∙ ap (λ (n : ℕ). share_with first n f.reads) (sym (calls ∙ keeps.calls))
+
+-- a number of fails that are at most the rise of a count since its first value stays so
+pub rises_on : (first before after fails later : ℕ) → first ≤ before → before ≤ after → fails ≤ rise first before → RisesWith fails later before after → later ≤ greatest_count → later ≤ rise first after
+rises_on first before after fails later low high was (inl same) few = kept (nat_le greatest_count before) (nat_le greatest_count after) refl refl
+  where
+    kept : (b a : Bool) → nat_le greatest_count before ≡ b → nat_le greatest_count after ≡ a → later ≤ rise first after
+    kept true true is_b is_a = grind (arith, nat_tests)
+    kept true false is_b is_a = grind (arith, nat_tests)
+    kept false true is_b is_a = grind (arith, nat_tests)
+    kept false false is_b is_a = grind (arith, nat_tests)
+rises_on first before after fails later low high was (inr (one, rose)) few = kept (nat_le greatest_count before) (nat_le greatest_count after) refl refl
+  where
+    kept : (b a : Bool) → nat_le greatest_count before ≡ b → nat_le greatest_count after ≡ a → later ≤ rise first after
+    kept true true is_b is_a = grind (arith, nat_tests)
+    kept true false is_b is_a = grind (arith, nat_tests)
+    kept false true is_b is_a = grind (arith, nat_tests)
+    kept false false is_b is_a = grind (arith, nat_tests)
+
+-- at most one more
+pub rises_few : (fails later before after : ℕ) → RisesWith fails later before after → later ≤ fails + 1
+rises_few fails later before after (inl same) = omega arith
+rises_few fails later before after (inr (one, rose)) = omega arith
+
+-- a turn of whichever slot the pass has
+pub stepped_at : (setting : Setting) (m n : Note (List Entry)) (at : Option ℕ) (action : Action) (answer : Answer) → IsSomeAnd at (λ slot. HasStepped setting m n slot action answer)
+    → (first_entry n).slot ≡ at → HasMadeLast setting (first_entry n) action answer
+stepped_at setting m n None action answer turn same = absurd turn
+stepped_at setting m n (Some slot) action answer turn same = stepped_last setting m n slot action answer same turn
+
+-- a pass without a slot has no fails
+pub fails_of_none : (b : BookData) (owners : List Owner) (number : ℕ) (e : Entry) → FitsEntry b owners number e → e.slot ≡ None → (e.calls ≡ 0) × (e.reads ≡ 0)
+fails_of_none b owners number e fit none = let slot = subst (IsSlotOf b owners number e.job e.calls e.reads) none fit.slot in (slot.1, slot.2)
+
+-- a share that counts no more fails is as it was
+pub share_same : (share : FaultShare) (calls reads : ℕ) → share.calls ≤ greatest_count → share.reads ≤ greatest_count → calls ≡ 0 → reads ≡ 0 → share ≡ share_with share calls reads
+share_same share calls reads low low' none none' =
+    let one : share.calls ≡ risen share.calls calls = omega arith in
+    let two : share.reads ≡ risen share.reads reads = omega arith in
+    ap (λ (n : ℕ). record { calls = n; reads = share.reads }) one ∙ ap (λ (n : ℕ). record { calls = risen share.calls calls; reads = n }) two

@@ -1,0 +1,109 @@
+use Rattle.std.proofs.Common.{rules, ◌≡◌, ℕ, ◌+◌, ◌≤◌, List, refl, sym, ap, subst, ◌∙◌, arith}
+use Rattle.std.specs.Prelude.{IsSome}
+use Rattle.beam_values.specs.declared.plan.Plan.{Plan}
+use Rattle.beam_ports.specs.Counts.{greatest_count}
+use Rattle.beam_ports.specs.declared.store.Opened.{Opened}
+use Rattle.worker_table.specs.Notes.{Entry}
+use Rattle.worker_table.specs.Passes.{entry_of, note_of_pass, setting_of}
+use Rattle.worker_loop.specs.Openings.{AreOpened, file_names}
+use Rattle.worker_loop.proofs.Answered.{kit_onward, kit_same}
+use Rattle.worker_loop.proofs.Rounds.{fails_of_none, others_onward, rises_few, rises_on, share_same}
+use Rattle.worker_loop.proofs.Told.{opened_known}
+use Rattle.worker_loop.proofs.shop.Shop.work.Goals as goal
+
+pub returns-in_default-clause-share : goal.returns-in_default-clause-share
+returns-in_default-clause-share g c =
+    let turn = c.in_default.ensures.turn in
+    let none = fails_of_none turn.lent turn.owners turn.number (entry_of c.args.pass.now) turn.fit c.requires.slot in
+    let calls = c.give_up.ensures.keeps.calls ∙ ap (λ (e : Entry). e.calls) turn.first ∙ none.0 in
+    let reads = c.give_up.ensures.keeps.reads ∙ ap (λ (e : Entry). e.reads) turn.first ∙ none.1 in
+    share_same c.args.share.now (entry_of c.give_up.new.pass).calls (entry_of c.give_up.new.pass).reads c.counts_have_64_bits.ensures.calls c.counts_have_64_bits.ensures.reads calls reads
+
+pub returns-in_default-workbench-clause-share : goal.returns-in_default-workbench-clause-share
+returns-in_default-workbench-clause-share g c =
+    let told = c.in-Ok.ensures.told in
+    let keeps = c.give_up-in_default-workbench.ensures.keeps in
+    share_same c.args.share.now (entry_of c.give_up-in_default-workbench.new.pass).calls (entry_of c.give_up-in_default-workbench.new.pass).reads c.counts_have_64_bits.ensures.calls c.counts_have_64_bits.ensures.reads (keeps.calls ∙ told.2) (keeps.reads ∙ told.3)
+
+pub loop-init : goal.loop-init
+loop-init g c =
+    let setting = setting_of c.args.self.now.table.now in
+    let opened = g.S.Store.opened c.args.kit.now.store in
+    let known = setting.known.told in
+    let names = file_names setting.plan in
+    let told = c.in-Ok.ensures.told in
+    let are = opened_known known (g.S.Store.files c.args.kit.now.store) opened names c.args.kit.now.files c.requires.kit.told c.requires.kit.opened in
+    let shown = subst (λ (l : List Opened). AreOpened known opened names l) (sym c.as_slice.ensures) are in
+    let left : c.into_iter-iterator.result.left ≤ greatest_count = search rules in
+    record {
+      table = c.in-Ok.ensures.table;
+      slot = subst IsSome (sym told.0) refl;
+      free = told.1;
+      owes = ap (λ (e : Entry). e.owes_split) c.in-Ok.ensures.turn.first ∙ c.requires.owes;
+      others = c.in-Ok.ensures.others;
+      readers = c.in-Ok-workbench.ensures known opened (subst (λ (p : Plan). AreOpened known opened (file_names p) c.as_slice.result.now) (sym c.requires.plan) shown);
+      kept = kit_same g.F.Shelf.faults g.F.Shelf.strict g.S.Store.faults g.S.Store.files g.S.Store.opened c.args.kit.now.shelf c.args.kit.now.store;
+      files = refl;
+      share = share_same c.args.share.now (entry_of c.enroll.new.pass).calls (entry_of c.enroll.new.pass).reads c.counts_have_64_bits.ensures.calls c.counts_have_64_bits.ensures.reads told.2 told.3;
+      counted = record { calls = let none = told.2 in omega arith; reads = let none = told.3 in omega arith };
+      few_calls = let none = told.2 in omega (arith, left);
+      few_reads = let none = told.3 in omega (arith, left);
+    }
+
+pub returns-in-Some-end-clause-counted : goal.returns-in-Some-end-clause-counted
+returns-in-Some-end-clause-counted g c =
+    let i = c.loop.invariant in
+    let fails = c.round-end.ensures.fails in
+    let faults = g.F.Shelf.faults in
+    let read_faults = g.S.Store.faults in
+    let e = entry_of c.loop.pass in
+    let later = entry_of c.round-end.new.pass in
+    let less : c.next.new.self.left + 1 ≤ c.loop.iterator'.left = search rules in
+    record {
+      calls =
+          let few : later.calls ≤ greatest_count = omega (arith, less, i.few_calls, rises_few e.calls later.calls (faults c.loop.kit.shelf) (faults c.round-end.new.shelf) fails.calls) in
+          rises_on (faults c.args.kit.now.shelf) (faults c.loop.kit.shelf) (faults c.round-end.new.shelf) e.calls later.calls i.kept.counts c.round-end.ensures.kept.counts i.counted.calls fails.calls few;
+      reads =
+          let few : later.reads ≤ greatest_count = omega (arith, less, i.few_reads, rises_few e.reads later.reads (read_faults c.loop.kit.store) (read_faults c.round-end.new.store) fails.reads) in
+          rises_on (read_faults c.args.kit.now.store) (read_faults c.loop.kit.store) (read_faults c.round-end.new.store) e.reads later.reads i.kept.reading.counts c.round-end.ensures.kept.reading.counts i.counted.reads
+          fails.reads few;
+    }
+
+pub returns-in-Some-end-clause-kept : goal.returns-in-Some-end-clause-kept
+returns-in-Some-end-clause-kept g c =
+    kit_onward g.F.Shelf.faults g.F.Shelf.strict g.S.Store.faults g.S.Store.files g.S.Store.opened c.args.kit.now.shelf c.loop.kit.shelf c.round-end.new.shelf c.args.kit.now.store c.loop.kit.store c.round-end.new.store
+    c.loop.invariant.kept c.round-end.ensures.kept
+
+pub loop-preserved : goal.loop-preserved
+loop-preserved g c =
+    let i = c.loop.invariant in
+    let fails = c.round-end.ensures.fails in
+    let faults = g.F.Shelf.faults in
+    let read_faults = g.S.Store.faults in
+    let e = entry_of c.loop.pass in
+    let later = entry_of c.round-end.new.pass in
+    let less : c.next.new.self.left + 1 ≤ c.loop.iterator'.left = search rules in
+    let more_calls = rises_few e.calls later.calls (faults c.loop.kit.shelf) (faults c.round-end.new.shelf) fails.calls in
+    let more_reads = rises_few e.reads later.reads (read_faults c.loop.kit.store) (read_faults c.round-end.new.store) fails.reads in
+    let few_calls : later.calls + c.next.new.self.left ≤ greatest_count = omega (arith, less, i.few_calls, more_calls) in
+    let few_reads : later.reads + c.next.new.self.left ≤ greatest_count = omega (arith, less, i.few_reads, more_reads) in
+    record {
+      table = c.round-end.ensures.table;
+      slot = subst IsSome (sym c.round-end.ensures.slot) i.slot;
+      free = c.in_default-end.ensures.end.0;
+      owes = c.in_default-end.ensures.end.1;
+      others = others_onward (note_of_pass c.args.pass.now) (note_of_pass c.loop.pass) (note_of_pass c.round-end.new.pass) i.others c.round-end.ensures.others;
+      readers = c.round-end.ensures.readers;
+      kept = kit_onward g.F.Shelf.faults g.F.Shelf.strict g.S.Store.faults g.S.Store.files g.S.Store.opened c.args.kit.now.shelf c.loop.kit.shelf c.round-end.new.shelf c.args.kit.now.store c.loop.kit.store
+          c.round-end.new.store i.kept c.round-end.ensures.kept;
+      files = i.files;
+      share = c.round-end.ensures.share c.args.share.now i.share;
+      counted = record {
+        calls = rises_on (faults c.args.kit.now.shelf) (faults c.loop.kit.shelf) (faults c.round-end.new.shelf) e.calls later.calls i.kept.counts c.round-end.ensures.kept.counts i.counted.calls fails.calls
+            (omega (arith, few_calls));
+        reads = rises_on (read_faults c.args.kit.now.store) (read_faults c.loop.kit.store) (read_faults c.round-end.new.store) e.reads later.reads i.kept.reading.counts c.round-end.ensures.kept.reading.counts
+            i.counted.reads fails.reads (omega (arith, few_reads));
+      };
+      few_calls = few_calls;
+      few_reads = few_reads;
+    }

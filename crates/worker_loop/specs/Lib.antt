@@ -1,0 +1,7 @@
+pub mod Openings
+pub mod Outside
+pub mod Reading
+pub mod Kits
+pub mod Bundles
+pub mod Workers
+pub mod Pairs

@@ -1,0 +1,324 @@
+//! One worker, with a kit of its own.
+ghost use Rattle.std.specs.Prelude.{◌≡◌, ◌≤◌, ℕ, List as ListOf, Option as OptionOf, None, Some, IfOk, IsSome, true, false};
+ghost use Rattle.beam_ports.specs.Counts.{greatest_count};
+ghost use Rattle.beam_ports.specs.Files.{Opening};
+ghost use Rattle.beam_ports.specs.Observed.{observed_store};
+ghost use Rattle.beam_values.specs.declared.file_text.FileText.{FileText};
+ghost use Rattle.book_core.specs.Steps.{Fail};
+ghost use Rattle.chain_exec.specs.Causes.{observed_shelf};
+ghost use Rattle.retry_core.specs.Shares.{share_after};
+ghost use Rattle.worker_table.specs.Calls.{CanCommitAs, CanFailAs, IsJobOfPlan, KeepsSlot};
+ghost use Rattle.worker_table.specs.Moves.{calls_after, reads_after};
+ghost use Rattle.worker_table.specs.Passes.{IsOf, entry_of, job_known, note_of_pass, setting_of, slot_of};
+ghost use Rattle.worker_table.specs.Turns.{KeepsOthers};
+ghost use Rattle.worker_loop.specs.Kits.{IsKitFor};
+ghost use Rattle.worker_loop.specs.Openings.{AreOpened, file_names};
+ghost use Rattle.worker_loop.specs.Outside.{IsKitKept};
+ghost use Rattle.worker_loop.specs.Reading.{AreReaders};
+ghost use Rattle.worker_loop.specs.Workers.{AreFailsCounted, CountsOn, EndsAs, FailsOnce, GoesOnOrEnds, share_with};
+
+use crate::bundles::{Workbench, work_job};
+use crate::kit::Kit;
+use crate::reading::readers_of;
+use crate::shop::Shop;
+use beam_ports::{Gate, GatePoint, Opened, Store};
+use beam_values::{Cause, NoMemory, Options};
+use book_core::{Failure, Taken};
+use bundle_commit::{Job, Receipt};
+use chain_exec::{Buffers, ExecRefusal};
+use dofn_traits::Shelf;
+use pipeline_graph::Graph;
+use pipeline_graph::laws::{
+    nodes_have_inputs_and_settings_of_their_kind, plans_are_small_and_write_something,
+};
+use retry_core::FaultShare;
+use std::alloc::Global;
+use std::sync::Wait;
+use std::{hint, thread};
+use worker_table::{Table, WorkerPass};
+
+/// How a worker ended.
+#[derive(Clone, Copy, Debug, PartialEq, Eq)]
+pub enum WorkerEnd {
+    /// No job was left.
+    Finished,
+    /// A job of its own failed as often as it may.
+    Spent,
+    /// The book was stopped.
+    Stopped,
+    NoMemory,
+}
+
+/// Works jobs of a table until none is left or the book is stopped. The worker enrolls first, and its slot is
+/// its number at the gate. Where it finds no memory, it stops the book.
+pub fn work<R: Wait, F: Shelf, S: Store, G: Gate>(
+    rt: &R,
+    alloc: Global,
+    table: &Table,
+    pass: &mut WorkerPass,
+    graph: &Graph,
+    kit: &mut Kit<F, S>,
+    options: &Options,
+    share: &mut FaultShare,
+    gate: &G,
+) -> WorkerEnd
+    requires table { IsOf table.now pass.old }
+    requires slot { slot_of pass.old ≡ None }
+    requires owes { (entry_of pass.old).owes_split ≡ false }
+    requires plan { graph.now ≡ (setting_of table.now).plan }
+    requires kit { IsKitFor F.strict S.files S.opened (setting_of table.now) kit.old }
+    ensures table { IsOf table.now pass.new }
+    ensures ended { EndsAs (setting_of table.now) result (entry_of pass.new) }
+    ensures others { KeepsOthers (note_of_pass pass.old) (note_of_pass pass.new) }
+    ensures share { share.new ≡ share_with share.old (entry_of pass.new).calls (entry_of pass.new).reads }
+    ensures counted { AreFailsCounted (observed_shelf F.strict F.faults kit.old.shelf kit.new.shelf)
+        (observed_store S.files S.faults kit.old.store kit.new.store) (entry_of pass.new) }
+    ensures kept { IsKitKept F.faults F.strict S.faults S.files S.opened kit.old.shelf kit.new.shelf kit.old.store kit.new.store }
+    ensures files { kit.new.files ≡ kit.old.files }
+{
+    let shop = Shop {
+        alloc,
+        table,
+        graph,
+        options,
+        gate,
+    };
+    shop.work(rt, pass, kit, share)
+}
+
+impl<'a, G: Gate> Shop<'a, G> {
+    /// [`work`] with what the workers share.
+    pub fn work<R: Wait, F: Shelf, S: Store>(
+        &self,
+        rt: &R,
+        pass: &mut WorkerPass,
+        kit: &mut Kit<F, S>,
+        share: &mut FaultShare,
+    ) -> WorkerEnd
+        requires table { IsOf self.now.table.now pass.old }
+        requires slot { slot_of pass.old ≡ None }
+        requires owes { (entry_of pass.old).owes_split ≡ false }
+        requires plan { self.now.graph.now ≡ (setting_of self.now.table.now).plan }
+        requires kit { IsKitFor F.strict S.files S.opened (setting_of self.now.table.now) kit.old }
+        ensures table { IsOf self.now.table.now pass.new }
+        ensures ended { EndsAs (setting_of self.now.table.now) result (entry_of pass.new) }
+        ensures others { KeepsOthers (note_of_pass pass.old) (note_of_pass pass.new) }
+        ensures share { share.new ≡ share_with share.old (entry_of pass.new).calls (entry_of pass.new).reads }
+        ensures counted { AreFailsCounted (observed_shelf F.strict F.faults kit.old.shelf kit.new.shelf)
+            (observed_store S.files S.faults kit.old.store kit.new.store) (entry_of pass.new) }
+        ensures kept { IsKitKept F.faults F.strict S.faults S.files S.opened kit.old.shelf kit.new.shelf kit.old.store kit.new.store }
+        ensures files { kit.new.files ≡ kit.old.files }
+    {
+        counts_have_64_bits(share);
+        let Ok(slot) = self.table.enroll(rt, pass) else {
+            return self.give_up(rt, pass);
+        };
+        let Ok(mut bench) = workbench(self.alloc, self.graph, kit.files.as_slice()) else {
+            return self.give_up(rt, pass);
+        };
+        for _ in rt.forever() {
+            let end = self.round(
+                rt,
+                slot,
+                pass,
+                &mut kit.shelf,
+                &mut kit.store,
+                &mut bench,
+                share,
+            );
+            if let Some(end) = end {
+                return end;
+            }
+        }
+        unreachable!()
+    }
+
+    // Takes a job and works it. Where there is none while other slots work, the one with the most left is helped.
+    fn round<R: Wait, F: Shelf, S: Store>(
+        &self,
+        rt: &R,
+        slot: u32,
+        pass: &mut WorkerPass,
+        shelf: &mut F,
+        store: &mut S,
+        bench: &mut Workbench,
+        share: &mut FaultShare,
+    ) -> Option<WorkerEnd>
+        requires table { IsOf self.now.table.now pass.old }
+        requires slot { IsSome (slot_of pass.old) }
+        requires free { job_known pass.old ≡ None }
+        requires owes { (entry_of pass.old).owes_split ≡ false }
+        requires plan { self.now.graph.now ≡ (setting_of self.now.table.now).plan }
+        requires strict { (setting_of self.now.table.now).known.strict ≡ true → F.strict shelf.old ≡ true }
+        requires readers { AreReaders (setting_of self.now.table.now).known.told (S.opened store.old) self.now.graph.now bench.old.readers.items }
+        ensures table { IsOf self.now.table.now pass.new }
+        ensures end { GoesOnOrEnds (setting_of self.now.table.now) result (entry_of pass.new) }
+        ensures others { KeepsOthers (note_of_pass pass.old) (note_of_pass pass.new) }
+        ensures slot { slot_of pass.new ≡ slot_of pass.old }
+        ensures fails { FailsOnce (observed_shelf F.strict F.faults shelf.old shelf.new) (observed_store S.files S.faults store.old store.new)
+            (entry_of pass.old) (entry_of pass.new) }
+        ensures share { CountsOn share.old share.new (entry_of pass.old) (entry_of pass.new) }
+        ensures readers { AreReaders (setting_of self.now.table.now).known.told (S.opened store.new) self.now.graph.now bench.new.readers.items }
+        ensures kept { IsKitKept F.faults F.strict S.faults S.files S.opened shelf.old shelf.new store.old store.new }
+    {
+        self.gate.pass(slot, GatePoint::Job);
+        match self.table.take_job(rt, pass) {
+            Ok(Taken::Job(job)) => self.do_job(rt, slot, pass, &job, shelf, store, bench, share),
+            Ok(Taken::Nothing) => self.help(rt, pass),
+            Ok(Taken::Finished) => Some(WorkerEnd::Finished),
+            Ok(Taken::Stopped) => Some(WorkerEnd::Stopped),
+            Err(NoMemory) => Some(self.give_up(rt, pass)),
+        }
+    }
+
+    // Works a job that the pass has taken, and commits it or gives it back.
+    fn do_job<R: Wait, F: Shelf, S: Store>(
+        &self,
+        rt: &R,
+        slot: u32,
+        pass: &mut WorkerPass,
+        job: &Job,
+        shelf: &mut F,
+        store: &mut S,
+        bench: &mut Workbench,
+        share: &mut FaultShare,
+    ) -> Option<WorkerEnd>
+        requires table { IsOf self.now.table.now pass.old }
+        requires slot { IsSome (slot_of pass.old) }
+        requires taken { job_known pass.old ≡ Some (record { job = job.now; attempted = None }) }
+        requires of_plan { IsJobOfPlan (setting_of self.now.table.now).plan job.now }
+        requires owes { (entry_of pass.old).owes_split ≡ false }
+        requires plan { self.now.graph.now ≡ (setting_of self.now.table.now).plan }
+        requires strict { (setting_of self.now.table.now).known.strict ≡ true → F.strict shelf.old ≡ true }
+        requires readers { AreReaders (setting_of self.now.table.now).known.told (S.opened store.old) self.now.graph.now bench.old.readers.items }
+        ensures table { IsOf self.now.table.now pass.new }
+        ensures end { GoesOnOrEnds (setting_of self.now.table.now) result (entry_of pass.new) }
+        ensures others { KeepsOthers (note_of_pass pass.old) (note_of_pass pass.new) }
+        ensures slot { slot_of pass.new ≡ slot_of pass.old }
+        ensures fails { FailsOnce (observed_shelf F.strict F.faults shelf.old shelf.new) (observed_store S.files S.faults store.old store.new)
+            (entry_of pass.old) (entry_of pass.new) }
+        ensures share { CountsOn share.old share.new (entry_of pass.old) (entry_of pass.new) }
+        ensures readers { AreReaders (setting_of self.now.table.now).known.told (S.opened store.new) self.now.graph.now bench.new.readers.items }
+        ensures kept { IsKitKept F.faults F.strict S.faults S.files S.opened shelf.old shelf.new store.old store.new }
+    {
+        match work_job(rt, self, slot, pass, job, shelf, store, bench) {
+            Ok(receipt) => self.commit(rt, pass, receipt),
+            Err(ExecRefusal::Faulted { at, cause }) => self.give_back(rt, pass, at, cause, share),
+            Err(ExecRefusal::NoMemory) => Some(self.give_up(rt, pass)),
+        }
+    }
+
+    fn commit<R: Wait>(&self, rt: &R, pass: &mut WorkerPass, receipt: Receipt) -> Option<WorkerEnd>
+        requires table { IsOf self.now.table.now pass.old }
+        requires slot { IsSome (slot_of pass.old) }
+        requires given { CanCommitAs (setting_of self.now.table.now) (job_known pass.old) receipt }
+        requires owes { (entry_of pass.old).owes_split ≡ false }
+        ensures table { IsOf self.now.table.now pass.new }
+        ensures end { GoesOnOrEnds (setting_of self.now.table.now) result (entry_of pass.new) }
+        ensures others { KeepsOthers (note_of_pass pass.old) (note_of_pass pass.new) }
+        ensures keeps { KeepsSlot (entry_of pass.old) (entry_of pass.new) }
+    {
+        match self.table.commit(rt, pass, receipt) {
+            Ok(()) => None,
+            Err(_unplaced) => Some(self.give_up(rt, pass)),
+        }
+    }
+
+    // The pass's job failed, and is counted in the share.
+    fn give_back<R: Wait>(
+        &self,
+        rt: &R,
+        pass: &mut WorkerPass,
+        at: u32,
+        cause: Cause,
+        share: &mut FaultShare,
+    ) -> Option<WorkerEnd>
+        requires table { IsOf self.now.table.now pass.old }
+        requires slot { IsSome (slot_of pass.old) }
+        requires honest { CanFailAs (setting_of self.now.table.now) (job_known pass.old) at cause }
+        requires owes { (entry_of pass.old).owes_split ≡ false }
+        ensures table { IsOf self.now.table.now pass.new }
+        ensures end { GoesOnOrEnds (setting_of self.now.table.now) result (entry_of pass.new) }
+        ensures others { KeepsOthers (note_of_pass pass.old) (note_of_pass pass.new) }
+        ensures slot { slot_of pass.new ≡ slot_of pass.old }
+        ensures calls { (entry_of pass.new).calls ≡ calls_after (Fail at cause) (entry_of pass.old).calls }
+        ensures reads { (entry_of pass.new).reads ≡ reads_after (Fail at cause) (entry_of pass.old).reads }
+        ensures share { share.new ≡ share_after share.old cause 1 }
+    {
+        share.rise(cause, 1);
+        match self.table.fail(rt, pass, at, cause) {
+            Failure::Retry => None,
+            Failure::Spent(_note) => Some(WorkerEnd::Spent),
+        }
+    }
+
+    // Splits the range of another slot. Where none can be split, the worker gives way before it looks again.
+    fn help<R: Wait>(&self, rt: &R, pass: &mut WorkerPass) -> Option<WorkerEnd>
+        requires table { IsOf self.now.table.now pass.old }
+        requires slot { IsSome (slot_of pass.old) }
+        requires free { job_known pass.old ≡ None }
+        ensures table { IsOf self.now.table.now pass.new }
+        ensures end { GoesOnOrEnds (setting_of self.now.table.now) result (entry_of pass.new) }
+        ensures others { KeepsOthers (note_of_pass pass.old) (note_of_pass pass.new) }
+        ensures keeps { KeepsSlot (entry_of pass.old) (entry_of pass.new) }
+    {
+        match self.table.split_other(rt, pass) {
+            Ok(Some(_at)) => None,
+            Ok(None) => {
+                give_way();
+                None
+            }
+            Err(NoMemory) => Some(self.give_up(rt, pass)),
+        }
+    }
+
+    // There is no memory, so the book is stopped.
+    fn give_up<R: Wait>(&self, rt: &R, pass: &mut WorkerPass) -> WorkerEnd
+        requires table { IsOf self.now.table.now pass.old }
+        ensures table { IsOf self.now.table.now pass.new }
+        ensures end { EndsAs (setting_of self.now.table.now) result (entry_of pass.new) }
+        ensures others { KeepsOthers (note_of_pass pass.old) (note_of_pass pass.new) }
+        ensures keeps { KeepsSlot (entry_of pass.old) (entry_of pass.new) }
+    {
+        self.table.stop(rt, pass);
+        WorkerEnd::NoMemory
+    }
+}
+
+// A reader for each item of the plan, before anything is read.
+fn workbench(alloc: Global, graph: &Graph, files: &[Opened]) -> Result<Workbench, NoMemory>
+    ensures { IfOk result (λ bench. (told : OptionOf (ListOf FileText)) (opened : ℕ → OptionOf Opening) → AreOpened told opened (file_names graph.now) files.now
+        → AreReaders told opened graph.now bench.readers.items) }
+{
+    plans_are_small_and_write_something();
+    nodes_have_inputs_and_settings_of_their_kind();
+    let nodes = graph.plan().nodes.as_slice();
+    Ok(Workbench {
+        readers: readers_of(alloc, nodes, files)?,
+        last: 0,
+        buffers: Buffers::new(alloc),
+    })
+}
+
+// A law of the counts of a share.
+fn counts_have_64_bits(share: &FaultShare)
+    ensures calls { share.now.calls ≤ greatest_count }
+    ensures reads { share.now.reads ≤ greatest_count }
+{
+    let _calls = share.calls;
+    let _reads = share.reads;
+}
+
+// How often a worker that has nothing to do lets others run before it takes a turn again.
+const SPINS: u32 = 63;
+
+const YIELDS: u32 = 16;
+
+fn give_way() {
+    for _ in 0..SPINS {
+        hint::spin_loop();
+    }
+    for _ in 0..YIELDS {
+        thread::yield_now();
+    }
+}
