@@ -14,9 +14,8 @@ use Rattle.retry_core.specs.Shares.{risen, share_after}
 use Rattle.retry_core.specs.declared.share.FaultShare.{FaultShare}
 use Rattle.turn_desk.specs.declared.held.Note.{Note}
 use Rattle.worker_table.specs.Calls.{GoesOnAs, KeepsSlot}
-use Rattle.worker_table.specs.Fits.{FitsEntry, IsSlotOf}
 use Rattle.worker_table.specs.Moves.{Deed, Steps, Stops, calls_after, entry_after, made_in, reads_after}
-use Rattle.worker_table.specs.Notes.{Entry, Owner, Setting}
+use Rattle.worker_table.specs.Notes.{Entry, Setting}
 use Rattle.worker_table.specs.Turns.{HasStepped, HasStopped, KeepsOthers, Turned, first_entry}
 use Rattle.worker_loop.specs.Bundles.{IsCountedAs, OnlyClaims}
 use Rattle.worker_loop.specs.Workers.{CountsOn, FailsOnce, HasMadeLast, RisesWith, share_with}
@@ -130,10 +129,6 @@ pub stepped_at : (setting : Setting) (m n : Note (List Entry)) (at : Option ℕ)
     → (first_entry n).slot ≡ at → HasMadeLast setting (first_entry n) action answer
 stepped_at setting m n None action answer turn same = absurd turn
 stepped_at setting m n (Some slot) action answer turn same = stepped_last setting m n slot action answer same turn
-
--- a pass without a slot has no fails
-pub fails_of_none : (b : BookData) (owners : List Owner) (number : ℕ) (e : Entry) → FitsEntry b owners number e → e.slot ≡ None → (e.calls ≡ 0) × (e.reads ≡ 0)
-fails_of_none b owners number e fit none = let slot = subst (IsSlotOf b owners number e.job e.calls e.reads) none fit.slot in (slot.1, slot.2)
 
 -- a share that counts no more fails is as it was
 pub share_same : (share : FaultShare) (calls reads : ℕ) → share.calls ≤ greatest_count → share.reads ≤ greatest_count → calls ≡ 0 → reads ≡ 0 → share ≡ share_with share calls reads

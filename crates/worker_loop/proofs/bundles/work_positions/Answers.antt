@@ -1,5 +1,5 @@
 use Rattle.std.proofs.Common.{◌≡◌, ℕ, ◌<◌, ◌≤◌, true, false, Some, ap, sym, subst, ◌∙◌, refl, arith}
-use Rattle.std.specs.Prelude.{IsSome, Option}
+use Rattle.std.specs.Prelude.{IsSome}
 use Rattle.beam_values.specs.Tracking.{first_unattempted}
 use Rattle.beam_values.specs.declared.piece.Piece.{Piece}
 use Rattle.book_core.specs.Book.{tracker_of}

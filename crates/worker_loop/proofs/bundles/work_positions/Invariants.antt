@@ -1,4 +1,4 @@
-use Rattle.std.proofs.Common.{◌≡◌, ◌≤◌, ◌-◌}
+use Rattle.std.proofs.Common.{◌≡◌, ◌-◌}
 use Rattle.worker_table.specs.Passes.{IsOf, job_known, note_of_pass}
 use Rattle.worker_loop.specs.Bundles.{CanRead, OnlyClaims}
 use Rattle.worker_loop.specs.Outside.{IsKitKept}

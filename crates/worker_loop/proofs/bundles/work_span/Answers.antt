@@ -1,4 +1,4 @@
-use Rattle.std.proofs.Common.{◌≡◌, ℕ, ◌<◌, length, None, ap, sym, subst, ◌∙◌, refl, arith}
+use Rattle.std.proofs.Common.{ℕ, None, ap, sym, subst, ◌∙◌, arith}
 use Rattle.std.specs.Prelude.{slice_get}
 use Rattle.std.proofs.lemmas.Option.{slice_get_within}
 use Rattle.beam_ports.specs.Observed.{observed_store}
@@ -6,8 +6,7 @@ use Rattle.bundle_commit.specs.declared.job.Job.TheVariants as job
 use Rattle.bundle_commit.specs.declared.job.Receipt.{Receipt}
 use Rattle.chain_exec.specs.Causes.{observed_shelf}
 use Rattle.worker_table.specs.Passes.{job_known, note_of_pass, setting_of}
-use Rattle.worker_loop.specs.Bundles.{CanRead, IsPieceRefused, IsPieceWorked}
-use Rattle.worker_loop.specs.declared.reading.Reader.{Reader}
+use Rattle.worker_loop.specs.Bundles.{CanRead, IsPieceWorked}
 use Rattle.worker_loop.proofs.Jobs.{job_given, job_refused}
 use Rattle.worker_loop.proofs.PieceReads.{piece_given, piece_honest, reader_can, reader_cut, reader_here, readers_after}
 use Rattle.worker_loop.proofs.Rounds.{claims_same}
@@ -45,11 +44,11 @@ returns-in-Ok-clause-given g c =
     let done = c.in-Ok.ensures.claimed in
     let now = done.0 in
     let is = reader_cut c.args.piece.now now r done.2.same done.2.below here.1 in
-    let worked = subst (λ (x : Receipt). IsPieceWorked plan (opened r.pager.file) r.pager.len now done.1 x) (sym c.sealed-in-Ok.ensures.same) done.3 in
-    let time = c.sealed-in-Ok.ensures.time in
-    job_given setting plan c.requires.plan (job.Span now) done.1 (job_known c.work_positions.new.pass) done.2.is c.sealed-in-Ok.result
-    (piece_given None opened plan items c.requires.readers.untold c.in-Some.place r here.0 now is done.1 c.sealed-in-Ok.result time worked)
-    (piece_given setting.known.told opened plan items c.requires.readers.told c.in-Some.place r here.0 now is done.1 c.sealed-in-Ok.result time worked)
+    let worked = subst (λ (x : Receipt). IsPieceWorked plan (opened r.pager.file) r.pager.len now done.1 x) (sym c.sealed.ensures.same) done.3 in
+    let time = c.sealed.ensures.time in
+    job_given setting plan c.requires.plan (job.Span now) done.1 (job_known c.work_positions.new.pass) done.2.is c.sealed.result
+    (piece_given None opened plan items c.requires.readers.untold c.in-Some.place r here.0 now is done.1 c.sealed.result time worked)
+    (piece_given setting.known.told opened plan items c.requires.readers.told c.in-Some.place r here.0 now is done.1 c.sealed.result time worked)
 
 pub returns-in-Ok-clause-readers : goal.returns-in-Ok-clause-readers
 returns-in-Ok-clause-readers g c =

@@ -1,4 +1,4 @@
-use Rattle.std.proofs.Common.{rules, arith, sym, ◌∙◌}
+use Rattle.std.proofs.Common.{sym, ◌∙◌}
 use Rattle.worker_loop.specs.Pairs.{AcceptsPair, ChangesPair}
 use Rattle.worker_loop.proofs.Halves.{each_cut, both_cut}
 use Rattle.worker_loop.proofs.pairs.+pairs.Goals as goal

@@ -1,4 +1,3 @@
-use Rattle.std.proofs.Common.{◌∙◌}
 use Rattle.book_core.specs.Steps.{Fail, Spent}
 use Rattle.worker_table.specs.Passes.{note_of_pass, setting_of, slot_of}
 use Rattle.worker_loop.proofs.Rounds.{stepped_at}

@@ -1,29 +1,27 @@
-use Rattle.std.proofs.Common.{rules, ◌≡◌, ℕ, ◌+◌, ◌≤◌, List, refl, sym, ap, subst, ◌∙◌, arith}
+use Rattle.std.proofs.Common.{rules, ◌+◌, ◌≤◌, List, refl, sym, subst, ◌∙◌, arith}
 use Rattle.std.specs.Prelude.{IsSome}
 use Rattle.beam_values.specs.declared.plan.Plan.{Plan}
 use Rattle.beam_ports.specs.Counts.{greatest_count}
 use Rattle.beam_ports.specs.declared.store.Opened.{Opened}
-use Rattle.worker_table.specs.Notes.{Entry}
 use Rattle.worker_table.specs.Passes.{entry_of, note_of_pass, setting_of}
 use Rattle.worker_loop.specs.Openings.{AreOpened, file_names}
 use Rattle.worker_loop.proofs.Answered.{kit_onward, kit_same}
-use Rattle.worker_loop.proofs.Rounds.{fails_of_none, others_onward, rises_few, rises_on, share_same}
+use Rattle.worker_loop.proofs.Rounds.{others_onward, rises_few, rises_on, share_same}
 use Rattle.worker_loop.proofs.Told.{opened_known}
 use Rattle.worker_loop.proofs.shop.Shop.work.Goals as goal
 
 pub returns-in_default-clause-share : goal.returns-in_default-clause-share
 returns-in_default-clause-share g c =
-    let turn = c.in_default.ensures.turn in
-    let none = fails_of_none turn.lent turn.owners turn.number (entry_of c.args.pass.now) turn.fit c.requires.slot in
-    let calls = c.give_up.ensures.keeps.calls ∙ ap (λ (e : Entry). e.calls) turn.first ∙ none.0 in
-    let reads = c.give_up.ensures.keeps.reads ∙ ap (λ (e : Entry). e.reads) turn.first ∙ none.1 in
+    let told = c.in_default.ensures.told in
+    let calls = c.give_up.ensures.keeps.calls ∙ told.calls in
+    let reads = c.give_up.ensures.keeps.reads ∙ told.reads in
     share_same c.args.share.now (entry_of c.give_up.new.pass).calls (entry_of c.give_up.new.pass).reads c.counts_have_64_bits.ensures.calls c.counts_have_64_bits.ensures.reads calls reads
 
 pub returns-in_default-workbench-clause-share : goal.returns-in_default-workbench-clause-share
 returns-in_default-workbench-clause-share g c =
     let told = c.in-Ok.ensures.told in
     let keeps = c.give_up-in_default-workbench.ensures.keeps in
-    share_same c.args.share.now (entry_of c.give_up-in_default-workbench.new.pass).calls (entry_of c.give_up-in_default-workbench.new.pass).reads c.counts_have_64_bits.ensures.calls c.counts_have_64_bits.ensures.reads (keeps.calls ∙ told.2) (keeps.reads ∙ told.3)
+    share_same c.args.share.now (entry_of c.give_up-in_default-workbench.new.pass).calls (entry_of c.give_up-in_default-workbench.new.pass).reads c.counts_have_64_bits.ensures.calls c.counts_have_64_bits.ensures.reads (keeps.calls ∙ told.calls) (keeps.reads ∙ told.reads)
 
 pub loop-init : goal.loop-init
 loop-init g c =
@@ -37,17 +35,17 @@ loop-init g c =
     let left : c.into_iter-iterator.result.left ≤ greatest_count = search rules in
     record {
       table = c.in-Ok.ensures.table;
-      slot = subst IsSome (sym told.0) refl;
-      free = told.1;
-      owes = ap (λ (e : Entry). e.owes_split) c.in-Ok.ensures.turn.first ∙ c.requires.owes;
+      slot = subst IsSome (sym told.slot) refl;
+      free = told.job;
+      owes = told.owes ∙ c.requires.owes;
       others = c.in-Ok.ensures.others;
       readers = c.in-Ok-workbench.ensures known opened (subst (λ (p : Plan). AreOpened known opened (file_names p) c.as_slice.result.now) (sym c.requires.plan) shown);
       kept = kit_same g.F.Shelf.faults g.F.Shelf.strict g.S.Store.faults g.S.Store.files g.S.Store.opened c.args.kit.now.shelf c.args.kit.now.store;
       files = refl;
-      share = share_same c.args.share.now (entry_of c.enroll.new.pass).calls (entry_of c.enroll.new.pass).reads c.counts_have_64_bits.ensures.calls c.counts_have_64_bits.ensures.reads told.2 told.3;
-      counted = record { calls = let none = told.2 in omega arith; reads = let none = told.3 in omega arith };
-      few_calls = let none = told.2 in omega (arith, left);
-      few_reads = let none = told.3 in omega (arith, left);
+      share = share_same c.args.share.now (entry_of c.enroll.new.pass).calls (entry_of c.enroll.new.pass).reads c.counts_have_64_bits.ensures.calls c.counts_have_64_bits.ensures.reads told.calls told.reads;
+      counted = record { calls = let none = told.calls in omega arith; reads = let none = told.reads in omega arith };
+      few_calls = let none = told.calls in omega (arith, left);
+      few_reads = let none = told.reads in omega (arith, left);
     }
 
 pub returns-in-Some-end-clause-counted : goal.returns-in-Some-end-clause-counted

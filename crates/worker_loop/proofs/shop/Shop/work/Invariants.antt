@@ -1,4 +1,4 @@
-use Rattle.std.proofs.Common.{◌≡◌, ◌+◌, ◌≤◌, None, false, true}
+use Rattle.std.proofs.Common.{◌≡◌, ◌+◌, ◌≤◌, None, false}
 use Rattle.std.specs.Prelude.{IsSome}
 use Rattle.beam_ports.specs.Counts.{greatest_count}
 use Rattle.beam_ports.specs.Observed.{observed_store}
