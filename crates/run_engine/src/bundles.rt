@@ -45,9 +45,37 @@ pub struct Workbench {
     pub buffers: Buffers,
 }
 
-/// Works a job that the slot has just taken, of a piece a bundle of its positions. A refused job is still
-/// the slot's; what was staged of it is dropped.
+/// Works a job that the slot has just taken, of a piece a bundle of its positions; the functions are told
+/// when the bundle starts and when it is over, also where it was refused. A refused job is still the slot's;
+/// what was staged of it is dropped.
 pub fn work_job<F: Shelf, S: Store>(
+    alloc: Global,
+    book: &mut Book,
+    slot: u32,
+    job: &Job,
+    shelf: &mut F,
+    store: &mut S,
+    bench: &mut Workbench,
+) -> Result<Receipt, ExecRefusal>
+    requires taken { HasTaken book.old slot job.now }
+    requires readers { AreReaders (S.files store.old) (S.opened store.old) book.old.plan bench.old.readers.items }
+    ensures untold { IfOk result (CanCommit None book.new slot) }
+    ensures told { IfOk result (CanCommit (S.files store.old) book.new slot) }
+    ensures goes { OnOk result (GoesOnAt book.new slot) }
+    ensures refused { IfErr result (IsJobRefused (observed_shelf F.strict F.faults shelf.old shelf.new)
+        (observed_store S.files S.faults store.old store.new) book.new slot) }
+    ensures claims { OnlyClaims book.old book.new }
+    ensures readers { AreReaders (S.files store.new) (S.opened store.new) book.old.plan bench.new.readers.items }
+    ensures kept { IsKitKept F.faults F.strict S.faults S.files S.opened shelf.old shelf.new store.old store.new }
+{
+    shelf.start_bundle();
+    let worked = work_in_bundle(alloc, book, slot, job, shelf, store, bench);
+    shelf.finish_bundle();
+    worked
+}
+
+// Works a job between the start of its bundle and the finish.
+fn work_in_bundle<F: Shelf, S: Store>(
     alloc: Global,
     book: &mut Book,
     slot: u32,

@@ -5,7 +5,7 @@ use Rattle.chain_exec.specs.Causes.{observed_shelf}
 use Rattle.run_engine.specs.Bundles.{HasTaken}
 use Rattle.run_engine.proofs.Jobs.{only_claims, span_commit, span_goes, span_refused, taken_span}
 use Rattle.run_engine.proofs.Opens.{if_err, if_ok}
-use Rattle.run_engine.proofs.bundles.work_job.Goals as goal
+use Rattle.run_engine.proofs.bundles.work_in_bundle.Goals as goal
 
 pub returns-in-Span-clause-untold : goal.returns-in-Span-clause-untold
 returns-in-Span-clause-untold g c =
