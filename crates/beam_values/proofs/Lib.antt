@@ -1,5 +1,6 @@
 pub mod Bags
 pub mod Counts
+pub mod Crossing
 pub mod GroupedCells
 pub mod Groupings
 pub mod Induction

@@ -5,3 +5,4 @@ pub mod Tells
 pub mod Opened
 pub mod Counting
 pub mod Batches
+pub mod Crossing

@@ -1,0 +1,123 @@
+-- A book may cross threads, and so may a pass; a table may be shared by them.
+use denote.RattleType.{RattleType}
+use denote.Param.Send.{IsSend, IsSync, sendable, view_send, view_sync}
+use denote.Param.SendFields.{as_row_send, as_row_sync, declared_send, declared_sync, variants_send}
+use Rattle.std.proofs.Crossing.{crosses, frees}
+use Rattle.turn_desk.proofs.desk.Desk.TheSendSync as desk
+use Rattle.turn_desk.proofs.desk.Pass.TheSendSync as pass
+use Rattle.std.proofs.MapsCrossing.{crosses as maps}
+use Rattle.beam_values.proofs.Crossing.{Arrival-send, Cell-send, CommitMarks-send, Dropped-send, Entry-send, List-send, List-sync, Pane-send, Plan-send, Plan-sync, Value-send}
+use Rattle.beam_containers.specs.contracts.roomy.RoomyList as RoomyList
+use Rattle.beam_values.specs.contracts.piece.Done as Done
+use Rattle.windowing.specs.contracts.facts.NodeFacts as NodeFacts
+use Rattle.pipeline_graph.specs.contracts.graph.Graph as Graph
+use Rattle.pipeline_graph.specs.contracts.graph.Graph.TheInside as GraphInside
+use Rattle.split_core.specs.contracts.pieces.Pieces as Pieces
+use Rattle.group_cells.specs.contracts.groups.Groups as Groups
+use Rattle.group_cells.specs.contracts.groups.Groups.TheInside as GroupsInside
+use Rattle.group_cells.specs.contracts.groups.draft.Change as Change
+use Rattle.group_cells.specs.contracts.groups.draft.Draft as Draft
+use Rattle.group_cells.specs.contracts.groups.due.DueCells as DueCells
+use Rattle.group_cells.specs.contracts.groups.fired.Unfired as Unfired
+use Rattle.group_cells.specs.contracts.groups.handing.Given as Given
+use Rattle.group_cells.specs.contracts.groups.index.CellIndex as CellIndex
+use Rattle.group_cells.specs.contracts.groups.index.CellKey as CellKey
+use Rattle.group_cells.specs.contracts.groups.keyed.GroupKey as GroupKey
+use Rattle.group_cells.specs.contracts.groups.room.Room as Room
+use Rattle.book_core.specs.contracts.book.Book as Book
+use Rattle.book_core.specs.contracts.book.Book.TheInside as BookInside
+use Rattle.book_core.specs.contracts.held.NodeHolds as NodeHolds
+use Rattle.book_core.specs.contracts.live.Batch as Batch
+use Rattle.book_core.specs.contracts.live.Live as Live
+use Rattle.book_core.specs.contracts.queue.Queue as Queue
+use Rattle.book_core.specs.contracts.results.Results as Results
+use Rattle.worker_table.specs.contracts.held.Shared as Shared
+use Rattle.worker_table.specs.contracts.pass.Table as Table
+use Rattle.worker_table.specs.contracts.pass.WorkerPass as WorkerPass
+
+-- ---- the graph, which workers share
+
+NodeFacts-send : IsSend NodeFacts.the_row
+NodeFacts-send = search sendable depth 40
+
+NodeFacts-sync : IsSync NodeFacts.the_row
+NodeFacts-sync = search sendable depth 40
+
+pub Graph-send : IsSend Graph.the_row
+Graph-send = view_send _ _ _ _ _ (declared_send GraphInside.the_type (search (Plan-send, NodeFacts-send, List-send, as_row_send, sendable) depth 40))
+
+pub Graph-sync : IsSync Graph.the_row
+Graph-sync = view_sync _ _ _ _ _ (declared_sync GraphInside.the_type (search (Plan-sync, NodeFacts-sync, List-sync, as_row_sync, sendable) depth 40))
+
+-- ---- the cells of its Groups
+
+Unfired-send : IsSend Unfired.the_row
+Unfired-send = search (sendable, crosses) depth 40
+
+CellKey-send : IsSend CellKey.the_row
+CellKey-send = declared_send CellKey.the_type (search (Value-send, as_row_send, sendable) depth 40)
+
+GroupKey-send : IsSend GroupKey.the_row
+GroupKey-send = declared_send GroupKey.the_type (search (Value-send, as_row_send, sendable) depth 40)
+
+Room-send : IsSend Room.the_row
+Room-send = declared_send Room.the_type (search (Entry-send, as_row_send, sendable, crosses) depth 40)
+
+Given-send : IsSend Given.the_row
+Given-send = variants_send Given.enum (search (Room-send, sendable) depth 40)
+
+Change-send : IsSend Change.the_row
+Change-send = variants_send Change.enum (search (Given-send, Unfired-send, as_row_send, sendable) depth 40)
+
+DueCells-send : IsSend DueCells.the_row
+DueCells-send = declared_send DueCells.the_type (search (as_row_send, sendable, crosses, maps) depth 40)
+
+CellIndex-send : IsSend CellIndex.the_row
+CellIndex-send = declared_send CellIndex.the_type (search (CellKey-send, as_row_send, sendable, crosses, maps) depth 40)
+
+Draft-send : IsSend Draft.the_row
+Draft-send = declared_send Draft.the_type (search (Cell-send, Dropped-send, CellIndex-send, DueCells-send, Change-send, as_row_send, sendable, crosses) depth 40)
+
+Groups-send : IsSend Groups.the_row
+Groups-send = view_send _ _ _ _ _ (declared_send GroupsInside.the_type (search (Plan-send, Draft-send, GroupKey-send, List-send, as_row_send, sendable, crosses, maps) depth 40))
+
+-- ---- the book
+
+RoomyList-send : (T : RattleType) → IsSend T → IsSend (RoomyList.the_row T)
+RoomyList-send T s = search (sendable, crosses) depth 40
+
+Pieces-send : IsSend Pieces.the_row
+Pieces-send = search (sendable, crosses) depth 40
+
+Queue-send : IsSend Queue.the_row
+Queue-send = search (sendable, crosses) depth 40
+
+NodeHolds-send : IsSend NodeHolds.the_row
+NodeHolds-send = search (sendable, crosses, maps) depth 40
+
+Live-send : IsSend Live.the_row
+Live-send = search (sendable, crosses) depth 40
+
+Batch-send : IsSend Batch.the_row
+Batch-send = search (sendable, crosses) depth 40
+
+Done-send : IsSend Done.the_row
+Done-send = search sendable depth 40
+
+Results-send : IsSend Results.the_row
+Results-send = declared_send Results.the_type (search (RoomyList-send, Pane-send, Done-send, Arrival-send, CommitMarks-send, as_row_send) depth 40)
+
+pub Book-send : IsSend Book.the_row
+Book-send =
+    view_send _ _ _ _ _ (declared_send BookInside.the_type (search (Graph-send, as_row_send, sendable, crosses) depth 40, (search (List-send, as_row_send, sendable, crosses) depth 40, (search (as_row_send, sendable, crosses) depth 40, (search (Pieces-send, as_row_send, sendable, crosses) depth 40, (search (Live-send, as_row_send, sendable, crosses) depth 40, (search (Queue-send, as_row_send, sendable, crosses) depth 40, (search (RoomyList-send, Batch-send, as_row_send, sendable, crosses) depth 40, (search (Groups-send, as_row_send, sendable, crosses) depth 40, (search (Results-send, as_row_send, sendable, crosses) depth 40, (search (as_row_send, sendable, crosses) depth 40, (search (as_row_send, sendable, crosses) depth 40, (search (NodeHolds-send, as_row_send, sendable, crosses) depth 40, (search (as_row_send, sendable, crosses) depth 40, tt))))))))))))))
+
+-- ---- the table
+
+Shared-send : IsSend Shared.the_row
+Shared-send = search (Book-send, as_row_send, sendable, crosses) depth 40
+
+pub WorkerPass-send : IsSend WorkerPass.the_row
+WorkerPass-send = declared_send WorkerPass.the_type (search (Shared-send, pass.the_send, as_row_send, sendable, crosses) depth 40)
+
+pub Table-sync : IsSync Table.the_row
+Table-sync = declared_sync Table.the_type (search (Shared-send, desk.the_sync, as_row_sync, as_row_send, sendable, crosses) depth 40)
