@@ -48,6 +48,9 @@ put_due plan old new cells after place entry was count first last_ within h put 
     (changed cells cell h found (moment cells h (found ∙ ap (λ (x : Cell). Some x) (sym here)) ∙ ap (own_moment plan) here) (ap (λ (x : Cell). x.node) made)
     (counted plan cells cell h found ∙ sym (unseen_more cell.entries entry unshown) ∙ ap (λ (x : Cell). unseen_in x.entries) (sym made))))
 
+pub unseen_both : (first more : List Entry) → unseen_in (first ++ more) ≡ unseen_in more + unseen_in first
+unseen_both first more = omega (arith, count-append (λ (x : Entry). not x.shown) first more)
+
 none_unseen : (entries : List Entry) → unseen_in (map shown entries) ≡ 0
 none_unseen [] = refl
 none_unseen (entry ∷ entries) =
@@ -74,11 +77,3 @@ fired_length cells after place timing within fired = with_cell cells place withi
 pub put_length : (cells after : List Cell) (place : ℕ) (entry : Entry) → place < length cells
     → ((cell : Cell) → slice_get cells place ≡ Some cell → after ≡ slice_set cells place (with_entry entry cell)) → length after ≡ length cells
 put_length cells after place entry within put = with_cell cells place within (λ cell found. ap length (put cell found) ∙ length-set cells place (with_entry entry cell))
-
--- and once a cell became another
-pub replaced_due : (plan : Plan) (old new : DueCells) (cells : List Cell) (place : ℕ) (was cell first : Cell) (moment : Option ℤ) (count : ℕ)
-    → IsDueOf plan old cells → slice_get cells place ≡ Some was → first ≡ get_or cells place first → IsMomentAt plan old place first moment → cell.node ≡ was.node → count ≡ unseen_in cell.entries
-    → IsChanged plan old new place moment cell count → IsDueOf plan new (slice_set cells place cell)
-replaced_due plan old new cells place was cell first moment count h found read at nodes counted changed =
-    let here : first ≡ was = read_is cells place first was read found in
-    changed cells was h found (at cells h (found ∙ ap (λ (x : Cell). Some x) (sym here)) ∙ ap (own_moment plan) here) nodes counted

@@ -53,14 +53,6 @@ module _ (rules : GroupRules) (before : ℤ) (w : Interval) (cells : List Cell) 
       sym (given ∙ ap (λ b. cond b cell.entries []) goes),
     )
 
--- one place after another
-pub given_step : {X Y : Type 0} (f : X → X) (g : X → List Y) (places : List ℕ) (xs after : List X) (old new : List Y) (i place : ℕ) → i < length places → place ≡ get_or places i place
-    → after ≡ changed_at f xs place → new ≡ old ++ at_place g [] xs place → new ++ given_all f g (drop (i + 1) places) after ≡ old ++ given_all f g (drop i places) xs
-given_step f g places xs after old new i place within is made pushed =
-    (λ j. pushed j ++ given_all f g (drop (i + 1) places) (made j))
-    ∙ append_assoc old (at_place g [] xs place) (given_all f g (drop (i + 1) places) (changed_at f xs place))
-    ∙ sym (ap (λ l. old ++ given_all f g l xs) (split_at places i place within is))
-
 -- ---- the first that passes
 
 pub none_more : {X : Type 0} (p : X → Bool) (xs : List X) (i : ℕ) (d : X) → i < length xs → p (get_or xs i d) ≡ false → find p (take i xs) ≡ None → find p (take (i + 1) xs) ≡ None

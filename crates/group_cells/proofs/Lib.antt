@@ -43,6 +43,7 @@ mod StandingPlaces
 mod OpenedPlaces
 mod KeyMaps
 mod Handing
+mod GivenWay
 mod SessionsInTurn
 mod AllArrived
 mod Indexing

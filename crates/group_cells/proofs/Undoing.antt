@@ -15,7 +15,7 @@ use Rattle.group_cells.specs.Undoing.{undone, undone_all, without_last}
 use Rattle.group_cells.specs.Unfiring.{unfired}
 use Rattle.group_cells.specs.declared.groups.fired.Unfired.{Unfired}
 use Rattle.group_cells.specs.declared.groups.draft.Change.{Change}
-use Rattle.group_cells.specs.declared.groups.draft.Change.TheVariants.{Opened, Put, Fired, Replaced}
+use Rattle.group_cells.specs.declared.groups.draft.Change.TheVariants.{Opened, Put, Fired}
 
 pub undone_more : (changes : List Change) (change : Change) (cells : List Cell) → undone_all (changes ++ change ∷ []) cells ≡ undone_all changes (undone change cells)
 undone_more [] change cells = refl
@@ -30,7 +30,7 @@ opened_undone cells cell = front cells cell
 entry_undone : (cell : Cell) (entry : Entry) → without_last (with_entry entry cell) ≡ cell
 entry_undone cell entry = ap (λ (es : List Entry). let c : Cell = record cell { entries = es } in c) (front cell.entries entry)
 
-set_again : {X : Type 0} (xs : List X) (i : ℕ) (x y : X) → set (set xs i x) i y ≡ set xs i y
+pub set_again : {X : Type 0} (xs : List X) (i : ℕ) (x y : X) → set (set xs i x) i y ≡ set xs i y
 set_again [] i x y = refl
 set_again (z ∷ xs) zero x y = refl
 set_again (z ∷ xs) (suc i) x y = ap (λ l. z ∷ l) (set_again xs i x y)
@@ -68,11 +68,6 @@ put_step changes cells new place entry within is =
 
 pub open_step : (changes : List Change) (cells : List Cell) (cell : Cell) → undone_all (changes ++ Opened ∷ []) (cells ++ cell ∷ []) ≡ undone_all changes cells
 open_step changes cells cell = undone_more changes Opened (cells ++ cell ∷ []) ∙ ap (undone_all changes) (opened_undone cells cell)
-
-pub replaced_step : (changes : List Change) (cells : List Cell) (place : ℕ) (was cell : Cell) → slice_get cells place ≡ Some was
-    → undone_all (changes ++ Replaced place was ∷ []) (slice_set cells place cell) ≡ undone_all changes cells
-replaced_step changes cells place was cell found =
-    undone_more changes (Replaced place was) (slice_set cells place cell) ∙ ap (undone_all changes) (set_again cells place cell was ∙ set_back cells place was found)
 
 pub unfired_step : (changes : List Change) (cells new : List Cell) (at place : ℕ) (before : Unfired) (timing : Timing) → place < length cells → at ≡ place
     → ((cell : Cell) → slice_get cells place ≡ Some cell → new ≡ slice_set cells place (once_fired (Some timing) cell))

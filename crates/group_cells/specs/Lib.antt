@@ -8,8 +8,9 @@ pub mod Looking
 pub mod Indexes
 pub mod Arrivals
 pub mod Unfiring
-pub mod Undoing
 pub mod AtPlaces
+pub mod Handing
+pub mod Undoing
 pub mod KeyLists
 pub mod Plain
 pub mod FiredUpTo

@@ -13,11 +13,13 @@ mod due;
 mod fired;
 mod firing;
 mod guesses;
+mod handing;
 mod index;
 mod keyed;
 mod looking;
 mod placing;
 mod ranks;
+mod room;
 mod sessions;
 
 use crate::groups::advance::Next;

@@ -11,6 +11,7 @@ ghost use Rattle.group_cells.specs.Unfiring.{unfired};
 
 use crate::groups::due::DueCells;
 use crate::groups::fired::{Unfired, unfire};
+use crate::groups::handing::{Given, hand_back};
 use crate::groups::index::{CellIndex, CellKey};
 use crate::groups::looking::is_cell_of;
 use beam_values::{Cell, Dropped, Element, Entry, List, NoMemory, Plan, Value, copy_key, key_or};
@@ -25,8 +26,8 @@ pub enum Change {
     Put(u32),
     /// The cell at this place fired, and was this before.
     Fired(u32, Unfired),
-    /// The cell at this place was this one.
-    Replaced(u32, Cell),
+    /// The cell at this place gave way to the session whose cell is the last one, which took its entries.
+    GaveWay(u32, Given),
 }
 
 /// The cells as they are changed by a commit.
@@ -87,11 +88,7 @@ fn undo(alloc: Global, cells: &mut Vec<Cell>, change: Change)
                 unfire_at(alloc, cells, place, &before);
             }
         }
-        Change::Replaced(place, was) => {
-            if (place as usize) < cells.len() {
-                cells[place as usize] = was;
-            }
-        }
+        Change::GaveWay(place, given) => hand_back(alloc, cells, place, given),
     }
 }
 

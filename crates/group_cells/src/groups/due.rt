@@ -164,6 +164,18 @@ impl DueCells {
         self.unseen[place as usize].checked_add(1).ok_or(NoMemory)
     }
 
+    /// How many entries of the cells at two places are unseen.
+    pub fn both(&self, place: u32, other: u32) -> Result<u64, NoMemory>
+        requires place { place < length self.now.unseen.items }
+        requires other { other < length self.now.unseen.items }
+        ensures { IfOk result (λ count. (plan : PlanOf) (cells : ListOf CellOf) (cell with_ : CellOf) → IsDueOf plan self.now cells → slice_get cells place ≡ Some cell
+            → slice_get cells other ≡ Some with_ → count ≡ unseen_in cell.entries + unseen_in with_.entries) }
+    {
+        self.unseen[place as usize]
+            .checked_add(self.unseen[other as usize])
+            .ok_or(NoMemory)
+    }
+
     /// The cell at a place, which was due at this moment, has become another.
     pub fn change(
         &mut self,

@@ -1,7 +1,7 @@
 //! Arrivals at Groups of sessions, one key after another: only the cells of the key that stand are looked
 //! at. A cell that gives way to a session is replaced, and the session's stands behind the others.
 
-ghost use Rattle.std.specs.Prelude.{◌≡◌, ◌+◌, ◌∷◌, [], ◌++◌, ◌<◌, ◌≤◌, ℕ, Some, false, true, fold, length, map, All, option_to_list, slice_get, slice_set, OnOk, IfOk};
+ghost use Rattle.std.specs.Prelude.{◌≡◌, ◌+◌, ◌∷◌, [], ◌++◌, ◌<◌, ◌≤◌, ℕ, List as ListOf, None, Some, false, true, fold, length, map, All, option_to_list, slice_get, OnOk, IfOk};
 ghost use Rattle.std.specs.List.{filter, find, flat_map, list_any};
 ghost use Rattle.beam_values.specs.Marks.{marks_at};
 ghost use Rattle.beam_values.specs.Nodes.{facts_of, is_group};
@@ -10,6 +10,7 @@ ghost use Rattle.beam_values.specs.declared.value.Value.{Value as ValueOf};
 ghost use Rattle.beam_model.specs.Panes.{is_cell_at_key, rules_of};
 ghost use Rattle.group_cells.specs.AtPlaces.{at_place, changed_at, given_all};
 ghost use Rattle.group_cells.specs.Due.{IsDueOf};
+ghost use Rattle.group_cells.specs.Handing.{with_entries, HasGivenWay};
 ghost use Rattle.group_cells.specs.Indexes.{IsIndexOf};
 ghost use Rattle.group_cells.specs.KeyLists.{open_span, standing_places, stands, AreStanding};
 ghost use Rattle.group_cells.specs.Placing.{fresh_cell, handed_over, once_opened, stands_as, takes};
@@ -17,8 +18,8 @@ ghost use Rattle.group_cells.specs.Plain.{opened_all_at, opened_at, opening_of, 
 ghost use Rattle.group_cells.specs.Rounds.{entry_of, open_windows, AreSessionsOver};
 ghost use Rattle.group_cells.specs.Undoing.{undone_all};
 
-use crate::firing::unseen;
 use crate::groups::draft::{Change, Draft};
+use crate::groups::handing::give_way;
 use crate::groups::index::CellKey;
 use crate::groups::keyed::{GroupKey, by_key, put, take};
 use crate::groups::placing::Commit;
@@ -29,7 +30,6 @@ use crate::windows::{is_open, push_if, sessions_over};
 use beam_values::{Arrival, Cell, Duplicate, Element, Entry, List, Mark, NoMemory, Plan, Span};
 use std::alloc::Global;
 use std::collections::BTreeMap;
-use std::mem;
 
 impl Draft {
     /// Places the arrivals at Groups whose windows merge, one Group and key after another.
@@ -184,41 +184,42 @@ impl Draft {
             return Ok(places);
         }
         let place = u32::try_from(self.cells.len()).map_err(|_| NoMemory)?;
-        let entries = self.hand_all_over(alloc, plan, rules, before, span, places.as_slice())?;
-        self.push_session(alloc, plan, key, span, entries)?;
+        self.open_over(alloc, plan, rules, before, key, span, places.as_slice())?;
         let mut all = places;
         all.push(place)?;
         let standing = those_that_stand(alloc, self.cells.as_slice(), all.as_slice())?;
         Ok(standing)
     }
 
-    /// The cells that give way to a session hand their entries over, in order.
-    fn hand_all_over(
+    /// Puts the cell of a session behind the others. Of the cells at these places, those that give way to
+    /// it hand their entries over, in order.
+    fn open_over(
         &mut self,
         alloc: Global,
         plan: &Plan,
         rules: &Rules,
         before: Mark,
+        key: &GroupKey,
         span: Span,
         places: &[u32],
-    ) -> Result<List<Entry>, NoMemory>
+    ) -> Result<(), NoMemory>
         requires indexed { IsIndexOf self.old.index self.old.cells.items }
         requires due { IsDueOf plan.now self.old.due self.old.cells.items }
-        ensures ok { OnOk result (self.new.cells.items ≡ fold (changed_at (once_opened rules.now before span)) self.old.cells.items places.now) }
-        ensures entries { IfOk result (λ entries. entries ≡ given_all (once_opened rules.now before span) (handed_over rules.now before span) places.now self.old.cells.items) }
+        ensures ok { OnOk result (self.new.cells.items ≡ fold (changed_at (once_opened rules.now before span)) self.old.cells.items places.now
+            ++ fresh_cell key.now.node key.now.key span (given_all (once_opened rules.now before span) (handed_over rules.now before span) places.now self.old.cells.items) ∷ []) }
         ensures indexed { OnOk result (IsIndexOf self.new.index self.new.cells.items) }
         ensures due { OnOk result (IsDueOf plan.now self.new.due self.new.cells.items) }
         ensures dropped { self.new.dropped ≡ self.old.dropped }
         ensures undo { undone_all self.new.changes.items self.new.cells.items ≡ undone_all self.old.changes.items self.old.cells.items }
     {
-        let mut entries = List::new(alloc);
+        self.push_session(alloc, plan, key, span)?;
         for place in places {
-            self.hand_over(alloc, plan, rules, before, span, *place, &mut entries)?;
+            self.hand_over(alloc, plan, rules, before, span, *place)?;
         }
-        Ok(entries)
+        Ok(())
     }
 
-    /// The cell at a place hands its entries over, if it gives way to a session.
+    /// The cell at a place hands its entries over to the last cell, if it gives way to that one's session.
     fn hand_over(
         &mut self,
         alloc: Global,
@@ -227,69 +228,95 @@ impl Draft {
         before: Mark,
         span: Span,
         place: u32,
-        entries: &mut List<Entry>,
     ) -> Result<(), NoMemory>
         requires indexed { IsIndexOf self.old.index self.old.cells.items }
         requires due { IsDueOf plan.now self.old.due self.old.cells.items }
-        ensures ok { OnOk result (self.new.cells.items ≡ changed_at (once_opened rules.now before span) self.old.cells.items place) }
-        ensures entries { OnOk result (entries.new ≡ entries.old ++ at_place (handed_over rules.now before span) [] self.old.cells.items place) }
+        ensures ok { OnOk result ((front : ListOf CellOf) (taker : CellOf) → self.old.cells.items ≡ front ++ taker ∷ []
+            → self.new.cells.items ≡ changed_at (once_opened rules.now before span) front place
+            ++ with_entries (at_place (handed_over rules.now before span) [] front place) taker ∷ []) }
         ensures indexed { OnOk result (IsIndexOf self.new.index self.new.cells.items) }
         ensures due { OnOk result (IsDueOf plan.now self.new.due self.new.cells.items) }
         ensures dropped { self.new.dropped ≡ self.old.dropped }
         ensures undo { undone_all self.new.changes.items self.new.cells.items ≡ undone_all self.old.changes.items self.old.cells.items }
     {
-        if self.cells.len() <= place as usize {
+        if self.cells.len() <= place as usize + 1 {
             return Ok(());
         }
-        let cell = &self.cells[place as usize];
-        if !gives_way(rules, before, span, cell) {
+        if !gives_way(rules, before, span, &self.cells[place as usize]) {
             return Ok(());
         }
-        let given = cell.entries.duplicate(alloc)?;
-        let merged = merged_cell(alloc, cell, span)?;
-        entries.append(given)?;
-        self.replace(plan, place, merged)
+        let last = u32::try_from(self.cells.len() - 1).map_err(|_| NoMemory)?;
+        self.give_way(alloc, plan, span, place, last)
     }
 
-    /// The cell at a place becomes another of its node, key and window.
-    fn replace(&mut self, plan: &Plan, place: u32, cell: Cell) -> Result<(), NoMemory>
-        requires within { place < length self.old.cells.items }
-        requires alike { (was : CellOf) → slice_get self.old.cells.items place ≡ Some was → (cell.node ≡ was.node) × (cell.key ≡ was.key) × (cell.span ≡ was.span) }
+    /// The cell at a place, which stands, gives way to the session whose cell is the last one.
+    fn give_way(
+        &mut self,
+        alloc: Global,
+        plan: &Plan,
+        span: Span,
+        place: u32,
+        last: u32,
+    ) -> Result<(), NoMemory>
+        requires before { place < last }
+        requires last { last + 1 ≡ length self.old.cells.items }
+        requires stands { (cell : CellOf) → slice_get self.old.cells.items place ≡ Some cell → cell.merged_into ≡ None }
         requires indexed { IsIndexOf self.old.index self.old.cells.items }
         requires due { IsDueOf plan.now self.old.due self.old.cells.items }
-        ensures ok { OnOk result (self.new.cells.items ≡ slice_set self.old.cells.items place cell) }
+        ensures ok { OnOk result (HasGivenWay span place last self.old.cells.items self.new.cells.items) }
         ensures indexed { OnOk result (IsIndexOf self.new.index self.new.cells.items) }
         ensures due { OnOk result (IsDueOf plan.now self.new.due self.new.cells.items) }
         ensures dropped { self.new.dropped ≡ self.old.dropped }
         ensures undo { undone_all self.new.changes.items self.new.cells.items ≡ undone_all self.old.changes.items self.old.cells.items }
     {
-        let count = unseen(cell.entries.as_slice());
         let was = self.due.moment_at(plan, place, &self.cells[place as usize]);
+        let taker_was = self.due.moment_at(plan, last, &self.cells[last as usize]);
+        let count = self.due.both(place, last)?;
+        self.move_entries(alloc, span, place, last)?;
+        self.due
+            .change(plan, place, was, &self.cells[place as usize], 0)?;
+        self.due
+            .change(plan, last, taker_was, &self.cells[last as usize], count)
+    }
+
+    fn move_entries(
+        &mut self,
+        alloc: Global,
+        span: Span,
+        place: u32,
+        last: u32,
+    ) -> Result<(), NoMemory>
+        requires before { place < last }
+        requires last { last + 1 ≡ length self.old.cells.items }
+        requires stands { (cell : CellOf) → slice_get self.old.cells.items place ≡ Some cell → cell.merged_into ≡ None }
+        ensures ok { OnOk result (HasGivenWay span place last self.old.cells.items self.new.cells.items) }
+        ensures others { (self.new.index ≡ self.old.index) × (self.new.dropped ≡ self.old.dropped) × (self.new.due ≡ self.old.due) }
+        ensures undo { undone_all self.new.changes.items self.new.cells.items ≡ undone_all self.old.changes.items self.old.cells.items }
+    {
         self.changes.reserve(1)?;
-        self.due.change(plan, place, was, &cell, count)?;
-        let before = exchange(&mut self.cells, place, cell);
-        self.changes.push_reserved(Change::Replaced(place, before));
+        let given = give_way(alloc, &mut self.cells, span, place, last)?;
+        self.changes.push_reserved(Change::GaveWay(place, given));
         Ok(())
     }
 
-    /// Puts the cell of a session behind the others. Its window may have had one that was merged.
+    /// Puts the cell of a session behind the others, still without entries. Its window may have had one
+    /// that was merged.
     fn push_session(
         &mut self,
         alloc: Global,
         plan: &Plan,
         key: &GroupKey,
         span: Span,
-        entries: List<Entry>,
     ) -> Result<(), NoMemory>
         requires indexed { IsIndexOf self.old.index self.old.cells.items }
         requires due { IsDueOf plan.now self.old.due self.old.cells.items }
-        ensures ok { OnOk result (self.new.cells.items ≡ self.old.cells.items ++ fresh_cell key.now.node key.now.key span entries ∷ []) }
+        ensures ok { OnOk result (self.new.cells.items ≡ self.old.cells.items ++ fresh_cell key.now.node key.now.key span [] ∷ []) }
         ensures indexed { OnOk result (IsIndexOf self.new.index self.new.cells.items) }
         ensures due { OnOk result (IsDueOf plan.now self.new.due self.new.cells.items) }
         ensures dropped { self.new.dropped ≡ self.old.dropped }
         ensures undo { undone_all self.new.changes.items self.new.cells.items ≡ undone_all self.old.changes.items self.old.cells.items }
     {
-        let cell = session_cell(alloc, key, span, entries)?;
+        let cell = session_cell(alloc, key, span)?;
         let own = session_key(alloc, key, span)?;
         match self.index.find(&own) {
             None => self.open(plan, own, cell),
@@ -445,43 +472,14 @@ fn takes_at(rules: &Rules, entry: &Entry, cells: &[Cell], place: u32) -> bool
     }
 }
 
-/// A cell once a session took its entries.
-fn merged_cell(alloc: Global, cell: &Cell, session: Span) -> Result<Cell, NoMemory>
-    ensures { IfOk result (λ merged. merged ≡ record cell.now { entries = []; merged_into = Some session }) }
-{
-    Ok(Cell {
-        node: cell.node,
-        key: cell.key.copy(alloc)?,
-        span: cell.span,
-        entries: List::new(alloc),
-        next_index: cell.next_index,
-        on_time: cell.on_time,
-        merged_into: Some(session),
-    })
-}
-
-/// A cell for the one at a place, which is answered.
-fn exchange(cells: &mut Vec<Cell>, place: u32, cell: Cell) -> Cell
-    requires { place < length cells.old.items }
-    ensures cells { cells.new.items ≡ slice_set cells.old.items place cell }
-    ensures was { slice_get cells.old.items place ≡ Some result }
-{
-    mem::replace(&mut cells[place as usize], cell)
-}
-
-fn session_cell(
-    alloc: Global,
-    key: &GroupKey,
-    span: Span,
-    entries: List<Entry>,
-) -> Result<Cell, NoMemory>
-    ensures { IfOk result (λ cell. cell ≡ fresh_cell key.now.node key.now.key span entries) }
+fn session_cell(alloc: Global, key: &GroupKey, span: Span) -> Result<Cell, NoMemory>
+    ensures { IfOk result (λ cell. cell ≡ fresh_cell key.now.node key.now.key span []) }
 {
     Ok(Cell {
         node: key.node,
         key: key.key.copy(alloc)?,
         span,
-        entries,
+        entries: List::new(alloc),
         next_index: 0,
         on_time: false,
         merged_into: None,
