@@ -1,80 +1,205 @@
 -- How a command ends that asks for a pipeline, and what its note leaves of its end.
-use Rattle.std.proofs.Common.{◌≡◌, ◌⊎◌, ℕ, ◌+◌, ◌<◌, ◌≤◌, List, [], ◌∷◌, Option, Some, None, Bool, length, get_or, set, inl, inr, refl, sym, ap, subst, ◌∙◌, arith}
+use Rattle.std.proofs.Common.{◌≡◌, ◌⊎◌, ℕ, zero, suc, ◌+◌, ◌<◌, ◌≤◌, List, [], ◌∷◌, ◌++◌, Option, Some, None, Bool, length, map, min, take, get_or, set, slice_get, inl, inr, refl, sym, ap, subst, ◌∙◌, arith}
 use Rattle.beam_values.specs.declared.file_text.FileText.{FileText}
 use Rattle.beam_values.specs.declared.options.Options.{Options}
 use Rattle.beam_values.specs.declared.outcome.Outcome.{Outcome}
 use Rattle.beam_values.specs.declared.plan.Plan.{Plan}
-use Rattle.beam_ports.specs.Counts.{greatest_count, rise}
-use Rattle.beam_ports.specs.Observed.{ObservedSink, observed_sink, observed_store}
-use Rattle.beam_ports.proofs.Rises.{rise_grows, rises_add}
+use Rattle.beam_ports.specs.Counts.{rise}
+use Rattle.beam_ports.specs.Observed.{ObservedSink, ObservedStore, observed_sink, observed_store}
+use Rattle.beam_ports.proofs.Rises.{rises_add}
 use Rattle.book_core.specs.Runs.{AreOptions}
-use Rattle.chain_exec.specs.Causes.{ObservedShelf, observed_shelf}
-use Rattle.command_words.specs.Commands.{Asked, Help, Panes, Run, AreOptions as IsWithinOptions}
-use Rattle.run_engine.specs.Openings.{IsOpeningRefused}
-use Rattle.run_engine.specs.PlanRun.{IsSpent, surroundings_of}
-use Rattle.run_engine.specs.declared.kit.Kit.{Kit}
+use Rattle.chain_exec.specs.Causes.{ObservedShelf}
+use Rattle.command_words.specs.Commands.{Asked, Help, Panes, Run}
+use Rattle.worker_loop.specs.Kits.{EachBecomes, observed_shelves, sum_rises, told_by}
+use Rattle.worker_loop.specs.declared.kit.Kit.{Kit}
+use Rattle.run_engine.specs.Kits.{observed_each}
+use Rattle.run_engine.specs.Openings.{HasFailed, HasLength, IsFirstAbsent, IsOpeningRefused}
+use Rattle.run_engine.specs.PlanRun.{surroundings_of}
 use Rattle.run_engine.specs.declared.status.Status.{Status}
 use Rattle.run_engine.specs.declared.status.Status.TheVariants as status
 use Rattle.beam_command.specs.Asking.{IsPlanOf}
-use Rattle.beam_command.specs.Ends.{Observed, IsEndOf, IsHelpEnd, IsLongNoted, IsPipelineEnd, IsUnwritten, StaysOrNoMemory}
-use Rattle.beam_command.specs.Kits.{kit_files, kit_shelf, kit_store, observed_first}
+use Rattle.beam_command.specs.Ends.{Observed, AreSourcesRefused, IsDocumentRefused, IsEndOf, IsHelpEnd, IsLongNoted, IsPipelineEnd, IsPlanRefused, IsUnwritten, StaysOrNoMemory}
+use Rattle.beam_command.specs.Kits.{observed_in_use, observed_kits}
 use Rattle.beam_command.specs.Pipelines.{IsGraphEnd}
-use Rattle.beam_command.proofs.Graphs.{counted_before, stopped_before}
+use Rattle.beam_command.proofs.Graphs.{spent_since, stopped_since}
+use Rattle.beam_command.proofs.InUse.{used, used_after}
+use Rattle.beam_command.proofs.Stores.{rise_since, tells_first}
 
 -- ---- a pipeline that was asked for
 
--- the options of a command are those of a book
-pub allowed_options : {options : Options} → IsWithinOptions options → AreOptions options
-allowed_options given = record {
-  workers = (given.some_workers, given.few_workers);
-  bundle = (given.some_bundle, given.small_bundle);
-  chunk = (given.some_chunk, given.small_chunk);
-  attempts = (given.some_attempts, given.few_attempts);
-}
-
-module _ (shelf : ObservedShelf) (files : Option (List FileText)) (first before after : ℕ) (out : ObservedSink) (asked : Asked) (options : Options) (plan : Plan) (failed : ℕ)
-    (allowed : AreOptions options) (earlier : first ≤ before) (later : before ≤ after) (counted : failed ≤ rise first before) (of : IsPlanOf files asked plan) where
-  seen : ℕ → Observed
-  seen start = record { shelf = shelf; store = record { files = files; before = start; after = after }; out = out }
+-- why the files were not opened, after the first store had failed that often before
+module _ (files : Option (List FileText)) (first before after : ℕ) (others : List ObservedStore) (plan : Plan) (options : Options) (failed : ℕ)
+    (allowed : AreOptions options) (earlier : first ≤ before) (later : before ≤ after) (counted : failed ≤ rise first before) where
+  abbrev seen : ℕ → List ObservedStore
+  seen start = record { files = files; before = start; after = after } ∷ others
 
   enough : options.attempts ≤ failed + rise before after → options.attempts ≤ rise first after
   enough many = omega (arith, many, counted, rises_add first before after earlier later, allowed.attempts.1)
 
-  spent_before : (note : _) → IsSpent shelf (record { files = files; before = before; after = after }) options.attempts note
-      → IsSpent shelf (record { files = files; before = first; after = after }) options.attempts note
-  spent_before note spent = record {
-    attempt = spent.attempt;
-    counted = omega (arith, spent.counted, rises_add first before after earlier later, allowed.attempts.1);
-    cause = counted_before shelf files first before after note.cause earlier spent.cause;
-  }
+  -- each store is there, and tells the same
+  there : (at : ℕ) (store : ObservedStore) → slice_get (seen before) at ≡ Some store → (own : ObservedStore) × (slice_get (seen first) at ≡ Some own) × (store.files ≡ own.files)
+  there zero store is =
+      let same : record { files = files; before = before; after = after } ≡ store = cc in
+      (record { files = files; before = first; after = after }, refl, ap (λ (s : ObservedStore). s.files) (sym same))
+  there (suc at) store is = (store, is, refl)
 
-  refused_before : (s : Status) → IsOpeningRefused (record { files = files; before = before; after = after }) plan options.attempts failed s
-      → IsOpeningRefused (record { files = files; before = first; after = after }) plan options.attempts 0 s
-  refused_before (status.NoSource name) refused = refused
-  refused_before (status.SourceFault kit) refused = (refused.0, omega (arith, enough refused.1))
-  refused_before status.NoMemory refused = refused
-  refused_before status.Ok refused = absurd refused
-  refused_before status.Help refused = absurd refused
-  refused_before status.Usage refused = absurd refused
-  refused_before (status.BadPlan refusal) refused = absurd refused
-  refused_before (status.WorkFault note) refused = absurd refused
-  refused_before status.SinkFault refused = absurd refused
+  failed_since : (kit : ℕ) → HasFailed (seen before) options.attempts failed kit → HasFailed (seen first) options.attempts 0 kit
+  failed_since zero has =
+      let same : has.store ≡ record { files = files; before = before; after = after } = cc (has.at) in
+      let many = enough (subst (λ (s : ObservedStore). options.attempts ≤ failed + rise s.before s.after) same has.counted) in
+      record { store = record { files = files; before = first; after = after }; at = refl; counted = omega (arith, many) }
+  failed_since (suc kit) has = record { store = has.store; at = has.at; counted = has.counted }
+
+  pub refused_since : (s : Status) → IsOpeningRefused (seen before) plan options.attempts failed s → IsOpeningRefused (seen first) plan options.attempts 0 s
+  refused_since (status.NoSource name) refused =
+      let own = there refused.kit refused.store refused.at in record {
+        kit = refused.kit;
+        store = own.0;
+        at = own.1;
+        before = refused.before;
+        after = refused.after;
+        names_are = refused.names_are;
+        absent = subst (λ (f : Option (List FileText)). IsFirstAbsent f refused.before name) own.2 refused.absent;
+      }
+  refused_since (status.SourceFault kit) refused = failed_since kit refused
+  refused_since (status.FileChanged name len other) refused =
+      let one = there 0 refused.first refused.at_first in
+      let own = there refused.kit refused.store refused.at in record {
+        first = one.0;
+        at_first = one.1;
+        kit = refused.kit;
+        store = own.0;
+        at = own.1;
+        before = refused.before;
+        after = refused.after;
+        names_are = refused.names_are;
+        differ = refused.differ;
+        len_at_first = subst (λ (f : Option (List FileText)). HasLength f name len) one.2 refused.len_at_first;
+        len_at = subst (λ (f : Option (List FileText)). HasLength f name other) own.2 refused.len_at;
+      }
+  refused_since status.NoMemory refused = refused
+  refused_since status.Ok refused = absurd refused
+  refused_since status.Help refused = absurd refused
+  refused_since status.Usage refused = absurd refused
+  refused_since (status.BadPlan refusal) refused = absurd refused
+  refused_since (status.WorkFault note) refused = absurd refused
+  refused_since status.SinkFault refused = absurd refused
+
+-- a run and the call that began it: all stores counted as much at least in the call, and what was refused in the run was so in the call
+module _ (shelf : ObservedShelf) (told : Option (List FileText)) (less more : ℕ) (stores since : List ObservedStore) (out : ObservedSink) (asked : Asked) (options : Options) (plan : Plan)
+    (failed : ℕ) (grows : less ≤ more) (refused : (s : Status) → IsOpeningRefused stores plan options.attempts failed s → IsOpeningRefused since plan options.attempts 0 s)
+    (of : IsPlanOf told asked plan) where
+  abbrev at_run : Observed
+  at_run = record { shelf = shelf; store = record { files = told; before = 0; after = less }; stores = stores; out = out }
+
+  abbrev at_call : Observed
+  at_call = record { shelf = shelf; store = record { files = told; before = 0; after = more }; stores = since; out = out }
+
+  unbegun : (s : Status) → (IsOpeningRefused stores plan options.attempts failed s ⊎ (s ≡ status.NoMemory))
+      → IsDocumentRefused at_call asked options.attempts s ⊎ AreSourcesRefused at_call asked options.attempts s ⊎ (s ≡ status.NoMemory)
+  unbegun s why = elim why [ inl is ↦ inr (inl (plan, of, refused s is)) | inr none ↦ inr (inr none) ]
 
   -- the run of its plan is its own
-  pub pipeline_end : (s : Status) (outcome : Option Outcome)
-      → IsGraphEnd (record { shelf = shelf; store = record { files = files; before = before; after = after }; out = out }) plan options failed s outcome
-      → IsPipelineEnd (record { shelf = shelf; store = record { files = files; before = first; after = after }; out = out }) asked options s outcome
+  pub pipeline_end : (s : Status) (outcome : Option Outcome) → IsGraphEnd at_run plan options failed s outcome → IsPipelineEnd at_call asked options s outcome
   pipeline_end status.Ok outcome end = (end.1.0, end.1.1, (plan, of, end.0, end.1.2), end.1.3)
   pipeline_end status.SinkFault outcome end = (end.1.0, end.1.1, (plan, of, end.0, end.1.2), end.1.3)
-  pipeline_end (status.WorkFault note) outcome end = (end.0, (end.2.0, end.2.1, (plan, of, end.1, stopped_before (surroundings_of shelf (record { files = files; before = before; after = after })) files first before after plan options note end.2.0 earlier end.2.2)), spent_before note end.3)
+  pipeline_end (status.WorkFault note) outcome end = (
+    end.0,
+    (end.2.0, end.2.1, (plan, of, end.1, stopped_since shelf told less more grows (surroundings_of shelf at_run.store) plan options note end.2.0 end.2.2)),
+    spent_since shelf told less more grows options.attempts note end.3,
+  )
   pipeline_end status.NoMemory outcome end = (end.0, end.1, inr (inr refl))
-  pipeline_end (status.NoSource name) outcome end =
-      (end.0, end.1, elim end.2 [ inl refused ↦ inr (inl (plan, of, refused_before (status.NoSource name) refused)) | inr none ↦ inr (inr none) ])
-  pipeline_end (status.SourceFault kit) outcome end =
-      (end.0, end.1, elim end.2 [ inl refused ↦ inr (inl (plan, of, refused_before (status.SourceFault kit) refused)) | inr none ↦ inr (inr none) ])
-  pipeline_end status.Help outcome end = (end.0, end.1, elim end.2 [ inl refused ↦ absurd refused | inr none ↦ inr (inr none) ])
-  pipeline_end status.Usage outcome end = (end.0, end.1, elim end.2 [ inl refused ↦ absurd refused | inr none ↦ inr (inr none) ])
-  pipeline_end (status.BadPlan refusal) outcome end = (end.0, end.1, elim end.2 [ inl refused ↦ absurd refused | inr none ↦ inr (inr none) ])
+  pipeline_end (status.NoSource name) outcome end = (end.0, end.1, unbegun (status.NoSource name) end.2)
+  pipeline_end (status.SourceFault kit) outcome end = (end.0, end.1, unbegun (status.SourceFault kit) end.2)
+  pipeline_end (status.FileChanged name len other) outcome end = (end.0, end.1, unbegun (status.FileChanged name len other) end.2)
+  pipeline_end status.Help outcome end = (end.0, end.1, unbegun status.Help end.2)
+  pipeline_end status.Usage outcome end = (end.0, end.1, unbegun status.Usage end.2)
+  pipeline_end (status.BadPlan refusal) outcome end = (end.0, end.1, unbegun (status.BadPlan refusal) end.2)
+
+-- a plan's document that the first store refused
+pub document_end : (observed : Observed) (name : List ℕ) (options : Options) (first : ObservedStore) → slice_get observed.stores 0 ≡ Some first → IsUnwritten observed
+    → (s : Status) → IsPlanRefused first name options.attempts s → IsPipelineEnd observed (Run name options) options s None
+document_end observed name options first is unwritten (status.NoSource absent) refused = (unwritten, refl, inl (first, is, refused))
+document_end observed name options first is unwritten (status.SourceFault kit) refused = (unwritten, refl, inl (first, is, refused))
+document_end observed name options first is unwritten (status.BadPlan refusal) refused = (unwritten, refl, inl (first, is, refused))
+document_end observed name options first is unwritten status.NoMemory refused = (unwritten, refl, inr (inr refl))
+document_end observed name options first is unwritten status.Ok refused = absurd refused
+document_end observed name options first is unwritten status.Help refused = absurd refused
+document_end observed name options first is unwritten status.Usage refused = absurd refused
+document_end observed name options first is unwritten (status.WorkFault note) refused = absurd refused
+document_end observed name options first is unwritten status.SinkFault refused = absurd refused
+document_end observed name options first is unwritten (status.FileChanged changed len other) refused = absurd refused
+
+-- ---- the kits of a pipeline
+
+module _ {F S W : Type 0} (strict : F → Bool) (calls : F → ℕ) (files : S → Option (List FileText)) (faults : S → ℕ) (fails : W → ℕ) (taken : W → Option (List ℕ))
+    (out_old out_new : W) (options : Options) where
+  abbrev observed : List (Kit F S) → List (Kit F S) → Observed
+  observed olds news = observed_kits strict calls files faults fails taken olds news out_old out_new
+
+  module _ (name : List ℕ) (store : S) (some : Kit F S) where
+    -- the kits, after the store of the first has read the plan's file
+    abbrev after : List (Kit F S) → List (Kit F S)
+    after kits = set kits 0 (record { shelf = (get_or kits 0 some).shelf; store = store; files = (get_or kits 0 some).files })
+
+    -- the plan's file was refused, and the other kits did nothing
+    pub refused_end : (kits : List (Kit F S)) → 0 < length kits → taken out_new ≡ taken out_old → (s : Status)
+        → IsPlanRefused (observed_store files faults (get_or kits 0 some).store store) name options.attempts s
+        → IsPipelineEnd (observed kits (after kits)) (Run name options) options s None
+    refused_end [] there unwritten s refused = absurd (omega arith)
+    refused_end (first ∷ others) there unwritten s refused =
+        document_end (observed (first ∷ others) (after (first ∷ others))) name options (observed_store files faults first.store store) refl unwritten s refused
+
+    module _ (plan : Plan) (failed : ℕ) (allowed : AreOptions options) where
+      -- the run of the plan that it read, seen from before
+      run_of_file : (first new : Kit F S) (others news : List (Kit F S)) (s : Status) (outcome : Option Outcome) → files store ≡ files first.store → faults first.store ≤ faults store
+          → failed ≤ rise (faults first.store) (faults store) → IsPlanOf (files first.store) (Run name options) plan → faults store ≤ faults new.store
+          → IsGraphEnd (observed (after (first ∷ others)) (new ∷ news)) plan options failed s outcome
+          → IsPipelineEnd (observed (first ∷ others) (new ∷ news)) (Run name options) options s outcome
+      run_of_file first new others news s outcome same earlier counted of later end =
+          let shelf = observed_shelves strict calls (first ∷ others) (new ∷ news) in
+          let tellings = map (λ (k : Kit F S). files k.store) others in
+          let less = sum_rises (λ (k : Kit F S). faults k.store) (after (first ∷ others)) (new ∷ news) in
+          let more = sum_rises (λ (k : Kit F S). faults k.store) (first ∷ others) (new ∷ news) in
+          let rest = observed_each files faults others news in
+          let out = observed_sink fails taken out_old out_new in
+          let own : ℕ → List ObservedStore = λ start. record { files = files first.store; before = start; after = faults new.store } ∷ rest in
+          pipeline_end shelf (told_by (files first.store ∷ tellings)) less more (own (faults store)) (own (faults first.store)) out (Run name options) options plan failed
+          (omega (arith, rise_since (faults first.store) (faults store) (faults new.store) earlier))
+          (refused_since (files first.store) (faults first.store) (faults store) (faults new.store) rest plan options failed allowed earlier later counted)
+          (λ told tells. of told (tells_first (files first.store) tellings told tells)) s outcome
+          (subst (λ (f : Option (List FileText)). IsGraphEnd (record {
+            shelf = shelf;
+            store = record { files = told_by (f ∷ tellings); before = 0; after = less };
+            stores = record { files = f; before = faults store; after = faults new.store } ∷ rest;
+            out = out;
+          }) plan options failed s outcome) same end)
+
+      pub file_end : (kits news : List (Kit F S)) (s : Status) (outcome : Option Outcome) → 0 < length kits → files store ≡ files (get_or kits 0 some).store
+          → faults (get_or kits 0 some).store ≤ faults store → failed ≤ rise (faults (get_or kits 0 some).store) (faults store)
+          → IsPlanOf (files (get_or kits 0 some).store) (Run name options) plan → EachBecomes (after kits) news (λ old new. faults old.store ≤ faults new.store)
+          → IsGraphEnd (observed (after kits) news) plan options failed s outcome → IsPipelineEnd (observed kits news) (Run name options) options s outcome
+      file_end [] news s outcome there same earlier counted of each end = absurd (omega arith)
+      file_end (first ∷ others) [] s outcome there same earlier counted of each end = absurd each
+      file_end (first ∷ others) (new ∷ news) s outcome there same earlier counted of each end =
+          run_of_file first new others news s outcome same earlier counted of each.0 end
+
+  -- what was observed at the kits in use, which were split off at the front
+  pub used_end : (own : Asked) (kits front back news : List (Kit F S)) → kits ≡ front ++ back → length front ≡ min (length kits) options.workers → length news ≡ length front
+      → (s : Status) (outcome : Option Outcome) → IsPipelineEnd (observed front news) own options s outcome
+      → IsPipelineEnd (observed (take options.workers kits) (take options.workers (news ++ back))) own options s outcome
+  used_end own kits front back news are split as_many s outcome end =
+      subst (λ (both : List (Kit F S) × List (Kit F S)). IsPipelineEnd (observed both.0 both.1) own options s outcome)
+      (λ i. (sym (used options.workers kits front back news are split as_many) i, sym (used_after options.workers kits front back news are split as_many) i)) end
+
+-- the same end, of the same kits
+pub end_of_same : {F S W : Type 0} (strict : F → Bool) (calls : F → ℕ) (files : S → Option (List FileText)) (faults : S → ℕ) (fails : W → ℕ) (taken : W → Option (List ℕ))
+    (out_old out_new : W) (asked : Option Asked) (olds own news left : List (Kit F S)) (s : Status) (outcome : Option Outcome) → olds ≡ own → left ≡ news
+    → IsEndOf asked (observed_in_use strict calls files faults fails taken asked olds news out_old out_new) s outcome
+    → IsEndOf asked (observed_in_use strict calls files faults fails taken asked own left out_old out_new) s outcome
+end_of_same strict calls files faults fails taken out_old out_new asked olds own news left s outcome before after end =
+    subst (λ (both : List (Kit _ _) × List (Kit _ _)). IsEndOf asked (observed_in_use strict calls files faults fails taken asked both.0 both.1 out_old out_new) s outcome)
+    (λ i. (before i, sym after i)) end
 
 -- ---- the note of an end
 
@@ -84,6 +209,7 @@ pipeline_unnoted observed asked options (status.BadPlan refusal) outcome long en
 pipeline_unnoted observed asked options (status.NoSource name) outcome long end = (end.0, refl, inr (inr refl))
 pipeline_unnoted observed asked options (status.SourceFault kit) outcome long end = (end.0, refl, inr (inr refl))
 pipeline_unnoted observed asked options (status.WorkFault note) outcome long end = (end.0, refl, inr (inr refl))
+pipeline_unnoted observed asked options (status.FileChanged name first other) outcome long end = (end.0, refl, inr (inr refl))
 pipeline_unnoted observed asked options status.Ok outcome long end = absurd long
 pipeline_unnoted observed asked options status.Help outcome long end = absurd long
 pipeline_unnoted observed asked options status.Usage outcome long end = absurd long
@@ -95,6 +221,7 @@ help_unnoted out (status.BadPlan refusal) long end = end
 help_unnoted out (status.NoSource name) long end = end
 help_unnoted out (status.SourceFault kit) long end = end
 help_unnoted out (status.WorkFault note) long end = end
+help_unnoted out (status.FileChanged name first other) long end = end
 help_unnoted out status.Ok long end = end
 help_unnoted out status.Help long end = long
 help_unnoted out status.Usage long end = long
@@ -125,6 +252,7 @@ same_outcome asked observed (status.BadPlan refusal) outcome left end none stays
 same_outcome asked observed (status.NoSource name) outcome left end none stays = stays (λ is. cc)
 same_outcome asked observed (status.SourceFault kit) outcome left end none stays = stays (λ is. cc)
 same_outcome asked observed (status.WorkFault note) outcome left end none stays = stays (λ is. cc)
+same_outcome asked observed (status.FileChanged name first other) outcome left end none stays = stays (λ is. cc)
 same_outcome asked observed status.SinkFault outcome left end none stays = stays (λ is. cc)
 
 -- the end after its note was written
@@ -138,18 +266,3 @@ noted_end asked observed before after outcome left noted none stays end = elim n
       subst (λ (s : Status). IsEndOf asked observed s left) (sym long.0)
       (subst (λ (o : Option Outcome). IsEndOf asked observed status.NoMemory o) (sym (none long.0)) (unnoted asked observed before outcome long.1 end))
 ]
-
--- ---- the first kit
-
-pub observed_at_first : {F S W : Type 0} (strict : F → Bool) (calls : F → ℕ) (files : S → Option (List FileText)) (faults : S → ℕ) (fails : W → ℕ) (taken : W → Option (List ℕ))
-    (kits : List (Kit F S)) (kit after : Kit F S) (out_before out_after : W) → 0 < length kits → kit ≡ get_or kits 0 kit
-    → observed_first strict calls files faults fails taken kits (set kits 0 after) out_before out_after
-    ≡ record { shelf = observed_shelf strict calls kit.shelf after.shelf; store = observed_store files faults kit.store after.store; out = observed_sink fails taken out_before out_after }
-observed_at_first strict calls files faults fails taken [] kit after out_before out_after some is = absurd (omega arith)
-observed_at_first strict calls files faults fails taken (first ∷ kits) kit after out_before out_after some is =
-    ap (λ (k : _). record { shelf = observed_shelf strict calls k.shelf after.shelf; store = observed_store files faults k.store after.store; out = observed_sink fails taken out_before out_after }) (sym is)
-
-pub files_at_first : {F S : Type 0} (files : S → Option (List FileText)) (kits : List (Kit F S)) (kit : Kit F S) → 0 < length kits → kit ≡ get_or kits 0 kit
-    → kit_files files kits ≡ files kit.store
-files_at_first files [] kit some is = absurd (omega arith)
-files_at_first files (first ∷ kits) kit some is = ap (λ (k : _). files k.store) (sym is)

@@ -1,5 +1,5 @@
 -- How a command ends where little or nothing outside fails.
-use Rattle.std.proofs.Common.{◌≡◌, ◌⊎◌, inl, inr, ℕ, ◌<◌, ◌≤◌, List, [], ◌∷◌, ◌++◌, Option, Some, None, IsSome, true, refl, sym, ap, subst, ◌∙◌, arith}
+use Rattle.std.proofs.Common.{◌≡◌, ◌⊎◌, inl, inr, ℕ, zero, suc, ◌<◌, ◌≤◌, List, [], ◌∷◌, ◌++◌, length, Option, Some, None, IsSome, true, refl, sym, ap, subst, ◌∙◌, arith}
 use Rattle.std.specs.List.{All}
 use Rattle.std.proofs.lemmas.Bool.{false≢true}
 use Rattle.std.proofs.lemmas.List.Elements.{All-head, All-tail}
@@ -17,13 +17,16 @@ use Rattle.book_core.specs.Runs.{AreTold, HonestlyReached}
 use Rattle.book_core.specs.Work.{Surroundings}
 use Rattle.ended_runs.specs.Unpoisoned.{TakesNoPoison}
 use Rattle.command_words.specs.Commands.{Asked, Help, Panes, Run}
-use Rattle.run_engine.specs.Openings.{IsOpeningRefused, file_names}
+use Rattle.worker_loop.specs.Openings.{file_names}
+use Rattle.run_engine.specs.Openings.{HasChanged, HasFailed, IsOpeningRefused, failed_before}
 use Rattle.run_engine.specs.PlanRun.{IsStoppedBy, surroundings_of}
 use Rattle.run_engine.specs.declared.status.Status.{Status}
 use Rattle.run_engine.specs.declared.status.Status.TheVariants as status
 use Rattle.beam_command.specs.Asking.{IsPlanOf}
+use Rattle.beam_command.specs.Clauses.{IsChange}
 use Rattle.beam_command.specs.Completeness.{AreFaultsFew, AreReadFaultsFew, HasCleanInputs, HasInputs, IsEndOfClean, IsStrict, WherePipeline}
 use Rattle.beam_command.specs.Ends.{Observed, AreFound, AreSourcesRefused, IsDocumentRefused, IsEndOf, IsOutcomeOfAsked, IsPipelineEnd, IsPlanRefused}
+use Rattle.beam_command.proofs.Stores.{AreOfOne, IsOneOf, told_here}
 
 -- ---- what is there can't be refused
 
@@ -50,35 +53,57 @@ module _ (store : ObservedStore) (told : List FileText) (tells : store.files ≡
       let text : also.0 ≡ meant.0 = cc (meant.1, also.1) in
       cc (text, meant.2, also.2)
 
-  module _ (attempts : ℕ) (few : rise store.before store.after < attempts) where
-    plan_read : (name : List ℕ) (options : Options) (plan : Plan) → IsPlanOf (Some told) (Run name options) plan → (s : Status) → IsPlanRefused store name attempts s
-        → s ≡ status.NoMemory
-    plan_read name options plan of (status.NoSource absent) refused =
+-- no failures were counted before a whole command
+none_before : (kit : ℕ) → failed_before 0 kit ≡ 0
+none_before zero = refl
+none_before (suc kit) = refl
+
+module _ (observed : Observed) (of_one : AreOfOne observed.stores observed.store) (told : List FileText) (tells : observed.store.files ≡ Some told) where
+  -- no file has two lengths
+  pub unchanged : (names : List (List ℕ)) (name : List ℕ) (len other : ℕ) → HasChanged observed.stores names name len other → ⊥
+  unchanged names name len other changed =
+      let first = changed.len_at_first told (told_here observed.store changed.first told (of_one 0 changed.first changed.at_first) tells) in
+      let also = changed.len_at told (told_here observed.store changed.store told (of_one changed.kit changed.store changed.at) tells) in
+      let text : also.0 ≡ first.0 = cc (first.1, also.1) in
+      changed.differ (sym also.2 ∙ ap length text ∙ first.2)
+
+  module _ (attempts : ℕ) (few : rise observed.store.before observed.store.after < attempts) where
+    -- no store failed as often as it may
+    pub not_failed : (kit : ℕ) → HasFailed observed.stores attempts 0 kit → ⊥
+    not_failed kit has = absurd (omega (arith, has.counted, none_before kit, (of_one kit has.store has.at).counts, few))
+
+    plan_read : (name : List ℕ) (options : Options) (plan : Plan) → IsPlanOf (Some told) (Run name options) plan → (first : ObservedStore) → IsOneOf observed.store first → (s : Status)
+        → IsPlanRefused first name attempts s → s ≡ status.NoMemory
+    plan_read name options plan of first one (status.NoSource absent) refused =
         let meant = of told refl in
-        absurd (cc (meant.1, refused.1 told tells))
-    plan_read name options plan of (status.SourceFault kit) refused = absurd (omega (arith, refused.1, few))
-    plan_read name options plan of (status.BadPlan refusal) refused =
+        let none = refused.1 told (told_here observed.store first told one tells) in
+        absurd (cc (meant.1, none))
+    plan_read name options plan of first one (status.SourceFault kit) refused = absurd (omega (arith, refused.1, one.counts, few))
+    plan_read name options plan of first one (status.BadPlan refusal) refused =
         let meant = of told refl in
-        let also = refused told tells in
+        let also = refused told (told_here observed.store first told one tells) in
         let text : also.0 ≡ meant.0 = cc (meant.1, also.1) in
         absurd (cc (text, meant.2, also.2))
-    plan_read name options plan of status.NoMemory refused = refl
-    plan_read name options plan of status.Ok refused = absurd refused
-    plan_read name options plan of status.Help refused = absurd refused
-    plan_read name options plan of status.Usage refused = absurd refused
-    plan_read name options plan of (status.WorkFault note) refused = absurd refused
-    plan_read name options plan of status.SinkFault refused = absurd refused
+    plan_read name options plan of first one status.NoMemory refused = refl
+    plan_read name options plan of first one status.Ok refused = absurd refused
+    plan_read name options plan of first one status.Help refused = absurd refused
+    plan_read name options plan of first one status.Usage refused = absurd refused
+    plan_read name options plan of first one (status.WorkFault note) refused = absurd refused
+    plan_read name options plan of first one status.SinkFault refused = absurd refused
+    plan_read name options plan of first one (status.FileChanged changed len other) refused = absurd refused
 
-    document_read : (asked : Asked) (plan : Plan) → IsPlanOf (Some told) asked plan → (s : Status) → IsDocumentRefused store asked attempts s → s ≡ status.NoMemory
+    document_read : (asked : Asked) (plan : Plan) → IsPlanOf (Some told) asked plan → (s : Status) → IsDocumentRefused observed asked attempts s → s ≡ status.NoMemory
     document_read Help plan of s refused = absurd refused
     document_read (Panes file size options) plan of s refused = absurd refused
-    document_read (Run name options) plan of s refused = plan_read name options plan of s refused
+    document_read (Run name options) plan of s refused = plan_read name options plan of refused.0 (of_one 0 refused.0 refused.1) s refused.2
 
-    opened : (plan : Plan) → AreFound (Some told) plan → (s : Status) → IsOpeningRefused store plan attempts 0 s → s ≡ status.NoMemory
+    opened : (plan : Plan) → AreFound (Some told) plan → (s : Status) → IsOpeningRefused observed.stores plan attempts 0 s → s ≡ status.NoMemory
     opened plan found (status.NoSource name) refused =
-        absurd (named_not_none (first_named name told) (refused.3 told tells).1
-        (among (λ (n : List ℕ). IsSome (first_named n told)) refused.0 refused.1 (file_names plan) name refused.2 (found told refl)))
-    opened plan found (status.SourceFault kit) refused = absurd (omega (arith, refused.1, few))
+        let none = (refused.absent told (told_here observed.store refused.store told (of_one refused.kit refused.store refused.at) tells)).1 in
+        absurd (named_not_none (first_named name told) none
+        (among (λ (n : List ℕ). IsSome (first_named n told)) refused.before refused.after (file_names plan) name refused.names_are (found told refl)))
+    opened plan found (status.SourceFault kit) refused = absurd (not_failed kit refused)
+    opened plan found (status.FileChanged name len other) refused = absurd (unchanged (file_names plan) name len other refused)
     opened plan found status.NoMemory refused = refl
     opened plan found (status.BadPlan refusal) refused = absurd refused
     opened plan found status.Ok refused = absurd refused
@@ -89,27 +114,64 @@ module _ (store : ObservedStore) (told : List FileText) (tells : store.files ≡
 
     -- with all inputs there, a run that did not begin had no memory
     pub began : (asked : Asked) → HasInputs told asked → (s : Status)
-        → (IsDocumentRefused store asked attempts s ⊎ AreSourcesRefused store asked attempts s ⊎ (s ≡ status.NoMemory)) → s ≡ status.NoMemory
+        → (IsDocumentRefused observed asked attempts s ⊎ AreSourcesRefused observed asked attempts s ⊎ (s ≡ status.NoMemory)) → s ≡ status.NoMemory
     began asked inputs s why = elim why [
       | inl refused ↦ document_read asked inputs.0 inputs.1 s refused
       | inr other ↦ elim other [
         | inl refused ↦
             opened inputs.0 inputs.2 s
-            (subst (λ (p : Plan). IsOpeningRefused store p attempts 0 s) (plan_is asked inputs.0 refused.0 inputs.1 refused.1) refused.2)
+            (subst (λ (p : Plan). IsOpeningRefused observed.stores p attempts 0 s) (plan_is observed.store told tells asked inputs.0 refused.0 inputs.1 refused.1) refused.2)
         | inr none ↦ none
       ]
     ]
 
+-- ---- files that change
+
+module _ (observed : Observed) (of_one : AreOfOne observed.stores observed.store) (told : List FileText) (tells : observed.store.files ≡ Some told) where
+  no_pipeline_changes : (own : Asked) (options : Options) (name : List ℕ) (len other : ℕ) (outcome : Option Outcome) → IsPipelineEnd observed own options (status.FileChanged name len other) outcome → ⊥
+  no_pipeline_changes own options name len other outcome end = elim end.2 [
+    | inl refused ↦ no_document own refused
+    | inr why ↦ elim why [ inl refused ↦ unchanged observed of_one told tells (file_names refused.0) name len other refused.2 | inr none ↦ absurd (cc) ]
+  ]
+    where
+      no_document : (own : Asked) → IsDocumentRefused observed own options.attempts (status.FileChanged name len other) → ⊥
+      no_document Help refused = refused
+      no_document (Panes file size with) refused = refused
+      no_document (Run plan with) refused = refused.2
+
+  no_end_changes : (asked : Option Asked) (name : List ℕ) (len other : ℕ) (outcome : Option Outcome) → IsEndOf asked observed (status.FileChanged name len other) outcome → ⊥
+  no_end_changes None name len other outcome end = absurd (cc (end.0))
+  no_end_changes (Some Help) name len other outcome end = absurd end.0
+  no_end_changes (Some (Panes file size options)) name len other outcome end = no_pipeline_changes (Panes file size options) options name len other outcome end
+  no_end_changes (Some (Run plan options)) name len other outcome end = no_pipeline_changes (Run plan options) options name len other outcome end
+
+  no_change : (asked : Option Asked) (s : Status) (outcome : Option Outcome) → IsEndOf asked observed s outcome → IsChange s → ⊥
+  no_change asked (status.FileChanged name len other) outcome end change = no_end_changes asked name len other outcome end
+  no_change asked status.Ok outcome end change = change
+  no_change asked status.Help outcome end change = change
+  no_change asked status.Usage outcome end change = change
+  no_change asked (status.BadPlan refusal) outcome end change = change
+  no_change asked (status.NoSource name) outcome end change = change
+  no_change asked (status.SourceFault kit) outcome end change = change
+  no_change asked (status.WorkFault note) outcome end change = change
+  no_change asked status.SinkFault outcome end change = change
+  no_change asked status.NoMemory outcome end change = change
+
+-- where all stores tell the same files, none has changed
+pub same_files : (asked : Option Asked) (observed : Observed) → AreOfOne observed.stores observed.store → (s : Status) (outcome : Option Outcome) → IsEndOf asked observed s outcome
+    → WhereTold observed.store.files (λ told. IsChange s → ⊥)
+same_files asked observed of_one s outcome end = λ told tells. no_change observed of_one told tells asked s outcome end
+
 -- ---- few faults
 
-module _ (observed : Observed) (told : List FileText) (tells : observed.store.files ≡ Some told) where
+module _ (observed : Observed) (of_one : AreOfOne observed.stores observed.store) (told : List FileText) (tells : observed.store.files ≡ Some told) where
   module _ (own : Asked) (options : Options) (inputs : HasInputs told own) (few : AreFaultsFew options.attempts observed) where
     few_in_store : rise observed.store.before observed.store.after < options.attempts
     few_in_store = omega (arith, few.kit)
 
     unbegun : (s : Status)
-        → (IsDocumentRefused observed.store own options.attempts s ⊎ AreSourcesRefused observed.store own options.attempts s ⊎ (s ≡ status.NoMemory)) → IsEndOfClean s
-    unbegun s why = inr (began observed.store told tells options.attempts few_in_store own inputs s why)
+        → (IsDocumentRefused observed own options.attempts s ⊎ AreSourcesRefused observed own options.attempts s ⊎ (s ≡ status.NoMemory)) → IsEndOfClean s
+    unbegun s why = inr (began observed of_one told tells options.attempts few_in_store own inputs s why)
 
     completes : (s : Status) (outcome : Option Outcome) → IsPipelineEnd observed own options s outcome → IsEndOfClean s
     completes status.Ok outcome end = inl refl
@@ -117,25 +179,25 @@ module _ (observed : Observed) (told : List FileText) (tells : observed.store.fi
     completes (status.WorkFault note) outcome end = absurd (omega (arith, end.2.counted, few.kit))
     completes (status.NoSource name) outcome end = unbegun (status.NoSource name) end.2
     completes (status.SourceFault kit) outcome end = unbegun (status.SourceFault kit) end.2
+    completes (status.FileChanged name len other) outcome end = unbegun (status.FileChanged name len other) end.2
     completes (status.BadPlan refusal) outcome end = unbegun (status.BadPlan refusal) end.2
     completes status.NoMemory outcome end = unbegun status.NoMemory end.2
     completes status.Help outcome end = unbegun status.Help end.2
     completes status.Usage outcome end = unbegun status.Usage end.2
 
 -- with all inputs there and few faults a pipeline comes to its end
-pub complete : (asked : Option Asked) (files : Option (List FileText)) (observed : Observed) → files ≡ observed.store.files → (s : Status) (outcome : Option Outcome)
-    → IsEndOf asked observed s outcome
-    → WherePipeline asked (λ own options. WhereTold files (λ told. HasInputs told own → AreFaultsFew options.attempts observed → IsEndOfClean s))
-complete None files observed are s outcome end = tt
-complete (Some Help) files observed are s outcome end = tt
-complete (Some (Panes file size options)) files observed are s outcome end = λ told tells inputs few.
-    completes observed told (sym are ∙ tells) (Panes file size options) options inputs few s outcome end
-complete (Some (Run name options)) files observed are s outcome end = λ told tells inputs few.
-    completes observed told (sym are ∙ tells) (Run name options) options inputs few s outcome end
+pub complete : (asked : Option Asked) (observed : Observed) → AreOfOne observed.stores observed.store → (s : Status) (outcome : Option Outcome) → IsEndOf asked observed s outcome
+    → WherePipeline asked (λ own options. WhereTold observed.store.files (λ told. HasInputs told own → AreFaultsFew options.attempts observed → IsEndOfClean s))
+complete None observed of_one s outcome end = tt
+complete (Some Help) observed of_one s outcome end = tt
+complete (Some (Panes file size options)) observed of_one s outcome end = λ told tells inputs few.
+    completes observed of_one told tells (Panes file size options) options inputs few s outcome end
+complete (Some (Run name options)) observed of_one s outcome end = λ told tells inputs few.
+    completes observed of_one told tells (Run name options) options inputs few s outcome end
 
 -- ---- a shelf that fails on poison alone
 
-module _ (files : Option (List FileText)) (observed : Observed) (are : files ≡ observed.store.files) (s : Status) (outcome : Option Outcome)
+module _ (observed : Observed) (of_one : AreOfOne observed.stores observed.store) (s : Status) (outcome : Option Outcome)
     (by_reads : (known : Surroundings) (told : List FileText) (b : BookData) (note : FaultNote) → known.told ≡ Some told → known.strict ≡ true → AreTold told b
     → TakesNoPoison known b.plan b.options → HonestlyReached known b → b.stopped ≡ Some (stop.Spent note) → b.options.attempts ≤ b.reads) where
   module _ (told : List FileText) (tells : observed.store.files ≡ Some told) (own : Asked) (options : Options) (strict : observed.shelf.strict ≡ true)
@@ -158,8 +220,8 @@ module _ (files : Option (List FileText)) (observed : Observed) (are : files ≡
         absurd (omega (arith, many, limit, run.3.is.reads, few.store))
 
     unstarted : (it : Status)
-        → (IsDocumentRefused observed.store own options.attempts it ⊎ AreSourcesRefused observed.store own options.attempts it ⊎ (it ≡ status.NoMemory)) → IsEndOfClean it
-    unstarted it why = inr (began observed.store told tells options.attempts few.store own (inputs.0, inputs.1, inputs.2) it why)
+        → (IsDocumentRefused observed own options.attempts it ⊎ AreSourcesRefused observed own options.attempts it ⊎ (it ≡ status.NoMemory)) → IsEndOfClean it
+    unstarted it why = inr (began observed of_one told tells options.attempts few.store own (inputs.0, inputs.1, inputs.2) it why)
 
     strictly_completes : (it : Status) → IsPipelineEnd observed own options it outcome → IsEndOfClean it
     strictly_completes status.Ok end = inl refl
@@ -167,6 +229,7 @@ module _ (files : Option (List FileText)) (observed : Observed) (are : files ≡
     strictly_completes (status.WorkFault note) end = absurd (not_given_up note end.1.0 end.1.2)
     strictly_completes (status.NoSource name) end = unstarted (status.NoSource name) end.2
     strictly_completes (status.SourceFault kit) end = unstarted (status.SourceFault kit) end.2
+    strictly_completes (status.FileChanged name len other) end = unstarted (status.FileChanged name len other) end.2
     strictly_completes (status.BadPlan refusal) end = unstarted (status.BadPlan refusal) end.2
     strictly_completes status.NoMemory end = unstarted status.NoMemory end.2
     strictly_completes status.Help end = unstarted status.Help end.2
@@ -175,10 +238,10 @@ module _ (files : Option (List FileText)) (observed : Observed) (are : files ≡
   -- so it comes to its end where it takes no poison and few faults of the store were counted
   pub complete_strict : (asked : Option Asked) → IsEndOf asked observed s outcome
       → WherePipeline asked (λ own options. IsStrict observed.shelf
-      → WhereTold files (λ told. HasCleanInputs told own options → AreReadFaultsFew options.attempts observed → IsEndOfClean s))
+      → WhereTold observed.store.files (λ told. HasCleanInputs told own options → AreReadFaultsFew options.attempts observed → IsEndOfClean s))
   complete_strict None end = tt
   complete_strict (Some Help) end = tt
   complete_strict (Some (Panes file size options)) end = λ strict told tells inputs few.
-      strictly_completes told (sym are ∙ tells) (Panes file size options) options strict inputs few s end
+      strictly_completes told tells (Panes file size options) options strict inputs few s end
   complete_strict (Some (Run name options)) end = λ strict told tells inputs few.
-      strictly_completes told (sym are ∙ tells) (Run name options) options strict inputs few s end
+      strictly_completes told tells (Run name options) options strict inputs few s end

@@ -1,11 +1,12 @@
 -- How a run of a plan ends, once its text was written or isn't to be.
-use Rattle.std.proofs.Common.{◌≡◌, ℕ, ◌≤◌, List, [], ◌∷◌, Option, Some, None, inl, inr, refl, sym, ap, subst, ◌∙◌, arith}
+use Rattle.std.proofs.Common.{◌≡◌, ℕ, ◌≤◌, List, [], ◌∷◌, Option, Some, inr, refl, ap, subst, arith}
 use Rattle.std.specs.Option.{IsSome, is_some}
 use Rattle.std.specs.List.{All}
 use Rattle.std.proofs.lemmas.List.Elements.{All-nil, All-cons}
 use Rattle.beam_values.specs.Files.{first_named}
-use Rattle.std.proofs.lemmas.Bool.Decides.{nat_tests}
 use Rattle.beam_ports.specs.Counts.{rise}
+use Rattle.beam_ports.specs.Observed.{ObservedStore}
+use Rattle.beam_ports.proofs.Rises.{rise_grows}
 use Rattle.beam_values.specs.declared.fault.Cause.{Cause}
 use Rattle.beam_values.specs.declared.fault.Cause.TheVariants.{Call, Read}
 use Rattle.beam_values.specs.declared.fault.FaultNote.{FaultNote}
@@ -18,8 +19,9 @@ use Rattle.beam_ports.specs.Files.{Opening}
 use Rattle.beam_ports.specs.declared.store.Opened.{Opened}
 use Rattle.book_core.specs.Runs.{IsEnded}
 use Rattle.book_core.specs.Work.{Surroundings}
-use Rattle.run_engine.specs.Openings.{AreOpened, file_names}
-use Rattle.run_engine.specs.PlanRun.{IsCountedAs, IsOutcomeWhere, IsPlanEnd, IsStoppedBy, surroundings_of}
+use Rattle.worker_loop.specs.Bundles.{IsCountedAs}
+use Rattle.worker_loop.specs.Openings.{AreOpened, file_names}
+use Rattle.run_engine.specs.PlanRun.{IsOutcomeWhere, IsPlanEnd, IsSpent, IsStoppedBy, surroundings_of}
 use Rattle.run_engine.specs.declared.status.Status.{Status}
 use Rattle.run_engine.specs.declared.status.Status.TheVariants as status
 use Rattle.beam_command.specs.Ends.{Observed, AreFound, IsUnwritten}
@@ -57,50 +59,57 @@ printed_end observed plan options failed o status.Usage outcome there run printe
 printed_end observed plan options failed o (status.BadPlan refusal) outcome there run printed = absurd printed
 printed_end observed plan options failed o (status.NoSource name) outcome there run printed = absurd printed
 printed_end observed plan options failed o (status.SourceFault kit) outcome there run printed = absurd printed
+printed_end observed plan options failed o (status.FileChanged name len other) outcome there run printed = absurd printed
 printed_end observed plan options failed o (status.WorkFault note) outcome there run printed = absurd printed
 
-pub counted_before : (shelf : ObservedShelf) (files : Option (List FileText)) (first before after : ℕ) (cause : Cause) → first ≤ before
-    → IsCountedAs shelf (record { files = files; before = before; after = after }) cause → IsCountedAs shelf (record { files = files; before = first; after = after }) cause
-counted_before shelf files first before after Call earlier counted = counted
-counted_before shelf files first before after Read earlier counted = grind (arith, nat_tests)
+-- ---- a run, seen from a call that began before it
 
--- what stopped a run stopped it also in a call that began before
-pub stopped_before : (known : Surroundings) (files : Option (List FileText)) (first before after : ℕ) (plan : Plan) (options : Options) (note : FaultNote) (o : Outcome) → first ≤ before
-    → IsOutcomeWhere known plan options (IsStoppedBy (record { files = files; before = before; after = after }) note) o
-    → IsOutcomeWhere known plan options (IsStoppedBy (record { files = files; before = first; after = after }) note) o
-stopped_before known files first before after plan options note o earlier run =
-    let more : rise before after ≤ rise first after = grind (arith, nat_tests) in record {
-      book = run.book;
-      reached = run.reached;
-      of_plan = run.of_plan;
-      with_options = run.with_options;
-      lengths = run.lengths;
-      is = record { noted = run.is.noted; reads = omega (arith, run.is.reads, more) };
-      of_book = run.of_book;
-      storable = run.storable;
-    }
+-- the store counted at least as much in the whole call
+module _ (shelf : ObservedShelf) (files : Option (List FileText)) (less more : ℕ) (grows : less ≤ more) where
+  abbrev run_store : ObservedStore
+  run_store = record { files = files; before = 0; after = less }
 
--- the end of a run is one also of a call that began before
-pub begun_before : (shelf : ObservedShelf) (files : Option (List FileText)) (first before after : ℕ) (plan : Plan) (options : Options) (s : Status) (outcome : Option Outcome)
-    → first ≤ before → IsPlanEnd shelf (record { files = files; before = before; after = after }) plan options s outcome
-    → IsPlanEnd shelf (record { files = files; before = first; after = after }) plan options s outcome
-begun_before shelf files first before after plan options status.Ok outcome earlier end = end
-begun_before shelf files first before after plan options (status.WorkFault note) outcome earlier end =
-    let more : rise before after ≤ rise first after = grind (arith, nat_tests) in (
-      (end.0.0, end.0.1, stopped_before (surroundings_of shelf (record { files = files; before = before; after = after })) files first before after plan options note end.0.0 earlier end.0.2),
-      record {
-        attempt = end.1.attempt;
-        counted = omega (arith, end.1.counted, more);
-        cause = counted_before shelf files first before after note.cause earlier end.1.cause;
-      },
-    )
-begun_before shelf files first before after plan options status.NoMemory outcome earlier end = end
-begun_before shelf files first before after plan options status.SinkFault outcome earlier end = absurd end
-begun_before shelf files first before after plan options status.Help outcome earlier end = absurd end
-begun_before shelf files first before after plan options status.Usage outcome earlier end = absurd end
-begun_before shelf files first before after plan options (status.BadPlan refusal) outcome earlier end = absurd end
-begun_before shelf files first before after plan options (status.NoSource name) outcome earlier end = absurd end
-begun_before shelf files first before after plan options (status.SourceFault kit) outcome earlier end = absurd end
+  abbrev call_store : ObservedStore
+  call_store = record { files = files; before = 0; after = more }
+
+  rises : rise 0 less ≤ rise 0 more
+  rises = rise_grows 0 less more grows
+
+  counted_since : (cause : Cause) → IsCountedAs shelf run_store cause → IsCountedAs shelf call_store cause
+  counted_since Call counted = counted
+  counted_since Read counted = omega (arith, counted, rises)
+
+  pub spent_since : (attempts : ℕ) (note : FaultNote) → IsSpent shelf run_store attempts note → IsSpent shelf call_store attempts note
+  spent_since attempts note spent =
+      record { attempt = spent.attempt; counted = omega (arith, spent.counted, rises); cause = counted_since note.cause spent.cause }
+
+  -- what stopped a run stopped it also in the call
+  pub stopped_since : (known : Surroundings) (plan : Plan) (options : Options) (note : FaultNote) (o : Outcome)
+      → IsOutcomeWhere known plan options (IsStoppedBy run_store note) o → IsOutcomeWhere known plan options (IsStoppedBy call_store note) o
+  stopped_since known plan options note o run = record {
+    book = run.book;
+    reached = run.reached;
+    of_plan = run.of_plan;
+    with_options = run.with_options;
+    lengths = run.lengths;
+    is = record { noted = run.is.noted; reads = omega (arith, run.is.reads, rises) };
+    of_book = run.of_book;
+    storable = run.storable;
+  }
+
+  -- the end of a run is one also of the call
+  pub ended_since : (plan : Plan) (options : Options) (s : Status) (outcome : Option Outcome) → IsPlanEnd shelf run_store plan options s outcome → IsPlanEnd shelf call_store plan options s outcome
+  ended_since plan options status.Ok outcome end = end
+  ended_since plan options (status.WorkFault note) outcome end =
+      ((end.0.0, end.0.1, stopped_since (surroundings_of shelf run_store) plan options note end.0.0 end.0.2), spent_since options.attempts note end.1)
+  ended_since plan options status.NoMemory outcome end = end
+  ended_since plan options status.SinkFault outcome end = absurd end
+  ended_since plan options status.Help outcome end = absurd end
+  ended_since plan options status.Usage outcome end = absurd end
+  ended_since plan options (status.BadPlan refusal) outcome end = absurd end
+  ended_since plan options (status.NoSource name) outcome end = absurd end
+  ended_since plan options (status.SourceFault kit) outcome end = absurd end
+  ended_since plan options (status.FileChanged name len other) outcome end = absurd end
 
 -- a run that did not come to its end wrote nothing
 pub unprinted_end : (observed : Observed) (plan : Plan) (options : Options) (failed : ℕ) (s : Status) (outcome : Option Outcome) → IsUnwritten observed
@@ -115,15 +124,7 @@ unprinted_end observed plan options failed status.Usage outcome unwritten there 
 unprinted_end observed plan options failed (status.BadPlan refusal) outcome unwritten there ended none = absurd ended
 unprinted_end observed plan options failed (status.NoSource name) outcome unwritten there ended none = absurd ended
 unprinted_end observed plan options failed (status.SourceFault kit) outcome unwritten there ended none = absurd ended
-
-module _ (shelf seen : ObservedShelf) (files told : Option (List FileText)) (first before after : ℕ) (plan : Plan) (options : Options) (s : Status) (outcome : Option Outcome) where
-  -- a run with the kit after its files were opened, seen from the call that opened them
-  pub since_opening : seen ≡ shelf → told ≡ files → first ≤ before → IsPlanEnd seen (record { files = told; before = before; after = after }) plan options s outcome
-      → IsPlanEnd shelf (record { files = files; before = first; after = after }) plan options s outcome
-  since_opening same_shelf same_files earlier end =
-      subst (λ (sh : ObservedShelf). IsPlanEnd sh (record { files = files; before = first; after = after }) plan options s outcome) same_shelf
-      (subst (λ (f : Option (List FileText)). IsPlanEnd seen (record { files = f; before = first; after = after }) plan options s outcome) same_files
-      (begun_before seen told first before after plan options s outcome earlier end))
+unprinted_end observed plan options failed (status.FileChanged name len other) outcome unwritten there ended none = absurd ended
 
 -- a run that came to its end, and whose text was written or not
 pub finished_end : (observed : Observed) (plan : Plan) (options : Options) (failed : ℕ) (reached : Status) (own outcome : Option Outcome) (s : Status) → AreFound observed.store.files plan

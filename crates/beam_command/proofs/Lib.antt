@@ -1,4 +1,6 @@
 pub mod Graphs
+pub mod Stores
+pub mod InUse
 pub mod Asked
 pub mod Promises
 mod Completeness

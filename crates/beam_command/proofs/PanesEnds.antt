@@ -33,18 +33,21 @@ use Rattle.command_words.specs.Parts.{Part}
 use Rattle.command_words.specs.declared.setting.Setting.TheVariants.{Attempts}
 use Rattle.ended_runs.specs.Stops.{IsHonestStop}
 use Rattle.ended_runs.specs.Unpoisoned.{TakesNoPoison}
-use Rattle.run_engine.specs.Openings.{IsOpeningRefused, file_names, IsNoSourceOrNoMemory}
-use Rattle.run_engine.specs.PlanRun.{IsCountedAs, IsStoppedBy, surroundings_of}
+use Rattle.worker_loop.specs.Bundles.{IsCountedAs}
+use Rattle.worker_loop.specs.Openings.{file_names}
+use Rattle.run_engine.specs.Openings.{IsOpeningRefused, IsNoSourceOrNoMemory}
+use Rattle.run_engine.specs.PlanRun.{IsStoppedBy, surroundings_of}
 use Rattle.run_engine.specs.declared.status.Status.{Status}
 use Rattle.run_engine.specs.declared.status.Status.TheVariants as status
 use Rattle.beam_command.specs.Asking.{IsPlanOf}
 use Rattle.beam_command.specs.Completeness.{AreReadFaultsFew, AsksForPoison, FailsOnPoison, HasInputs, HasNotFailed, IsEndOfClean, IsEndOfPoison, IsStrict, WherePanes, first_fault}
 use Rattle.beam_command.specs.Ends.{Observed, AreFound, AreSourcesRefused, HasRun, IsDocumentRefused, IsEndOf, IsOutcomeOfAsked, IsPipelineEnd}
 use Rattle.beam_command.specs.Promises.{IsPlanAsked}
-use Rattle.beam_command.proofs.Completeness.{among, began, complete, complete_strict, named_not_none, plan_is}
+use Rattle.beam_command.proofs.Completeness.{among, began, complete, complete_strict, named_not_none, not_failed, plan_is, unchanged}
 use Rattle.beam_command.proofs.PanesStops.{stop_is_poison}
 use Rattle.beam_command.proofs.PanesTakes.{takes_none}
 use Rattle.beam_command.proofs.Promises.{plan_kept, promised}
+use Rattle.beam_command.proofs.Stores.{AreOfOne}
 
 -- ---- what is accounted for is no poison
 
@@ -103,11 +106,11 @@ module _ (asked : Option Asked) (observed : Observed) (told : List FileText) (te
       accounted-no_poison (items told o.plan) o (account told tells) (subst (λ (p : Plan). HasPoison p (items told p)) (sym same) poison.2)
 
 -- so no run over poison ends Ok
-pub not_ok : (asked : Option Asked) (files : Option (List FileText)) (observed : Observed) → files ≡ observed.store.files
+pub not_ok : (asked : Option Asked) (observed : Observed)
     → ((own : Asked) (options : Options) (o : Outcome) → asked ≡ Some own → IsOutcomeOfAsked observed own options IsEnded o → WhereTold observed.store.files (λ told. IsAccounted (items told o.plan) o))
-    → (s : Status) (outcome : Option Outcome) → IsEndOf asked observed s outcome → WhereTold files (λ told. AsksForPoison told asked → s ≡ status.Ok → ⊥)
-not_ok asked files observed are account s outcome end = λ told tells poison is.
-    let run = promised asked observed (λ o. AsksForPoison told asked → ⊥) (λ own options o same run. unpoisoned asked observed told (sym are ∙ tells) own options o same run (account own options o same run)) s outcome end in
+    → (s : Status) (outcome : Option Outcome) → IsEndOf asked observed s outcome → WhereTold observed.store.files (λ told. AsksForPoison told asked → s ≡ status.Ok → ⊥)
+not_ok asked observed account s outcome end = λ told tells poison is.
+    let run = promised asked observed (λ o. AsksForPoison told asked → ⊥) (λ own options o same run. unpoisoned asked observed told tells own options o same run (account own options o same run)) s outcome end in
     (subst (λ (st : Status). HasRun st outcome (λ o. AsksForPoison told asked → ⊥)) is run).2 poison
 
 -- ---- the ends of `panes`
@@ -117,7 +120,7 @@ found_all file size told found = λ files same.
     let is : told ≡ files = cc in
     subst (λ (t : List FileText). All (λ name. IsSome (first_named name t)) (file ∷ [])) is (All-cons (λ (name : List ℕ). IsSome (first_named name told)) file [] found (All-nil _))
 
-module _ (observed : Observed) (told : List FileText) (tells : observed.store.files ≡ Some told) (file : List ℕ) (size : ℤ) (options : Options)
+module _ (observed : Observed) (of_one : AreOfOne observed.stores observed.store) (told : List FileText) (tells : observed.store.files ≡ Some told) (file : List ℕ) (size : ℤ) (options : Options)
     (some : 1 ≤ options.attempts) (whole : HasNotFailed observed.store) where
   abbrev own : Asked
   own = Panes file size options
@@ -126,7 +129,7 @@ module _ (observed : Observed) (told : List FileText) (tells : observed.store.fi
   few = none_rose observed.store.before observed.store.after options.attempts whole some
 
   abbrev Begins : Status → Type 0
-  Begins s = IsDocumentRefused observed.store own options.attempts s ⊎ AreSourcesRefused observed.store own options.attempts s ⊎ (s ≡ status.NoMemory)
+  Begins s = IsDocumentRefused observed own options.attempts s ⊎ AreSourcesRefused observed own options.attempts s ⊎ (s ≡ status.NoMemory)
 
   -- ---- a file that isn't there
 
@@ -139,11 +142,12 @@ module _ (observed : Observed) (told : List FileText) (tells : observed.store.fi
     never_found : (plan : Plan) → IsPlanOf observed.store.files own plan → AreFound observed.store.files plan → ⊥
     never_found plan is found = named_not_none (first_named file told) absent (file_found plan is found)
 
-    not_opened : (s : Status) → IsOpeningRefused observed.store (panes_plan file size) options.attempts 0 s → IsNoSourceOrNoMemory file s
+    not_opened : (s : Status) → IsOpeningRefused observed.stores (panes_plan file size) options.attempts 0 s → IsNoSourceOrNoMemory file s
     not_opened (status.NoSource name) refused =
         inl (ap (λ (n : List ℕ). status.NoSource n)
-        (among (λ (n : List ℕ). n ≡ file) refused.0 refused.1 (file ∷ []) name refused.2 (All-cons (λ (n : List ℕ). n ≡ file) file [] refl (All-nil (λ (n : List ℕ). n ≡ file)))))
-    not_opened (status.SourceFault kit) refused = absurd (omega (arith, refused.1, few))
+        (among (λ (n : List ℕ). n ≡ file) refused.before refused.after (file ∷ []) name refused.names_are (All-cons (λ (n : List ℕ). n ≡ file) file [] refl (All-nil (λ (n : List ℕ). n ≡ file)))))
+    not_opened (status.SourceFault kit) refused = absurd (not_failed observed of_one told tells options.attempts few kit refused)
+    not_opened (status.FileChanged name len other) refused = absurd (unchanged observed of_one told tells (file ∷ []) name len other refused)
     not_opened status.NoMemory refused = inr refl
     not_opened (status.BadPlan refusal) refused = absurd refused
     not_opened status.Ok refused = absurd refused
@@ -156,7 +160,7 @@ module _ (observed : Observed) (told : List FileText) (tells : observed.store.fi
     absent_unbegun s why = elim why [
       | inl refused ↦ absurd refused
       | inr other ↦ elim other [
-        | inl refused ↦ not_opened s (subst (λ (p : Plan). IsOpeningRefused observed.store p options.attempts 0 s) refused.1 refused.2)
+        | inl refused ↦ not_opened s (subst (λ (p : Plan). IsOpeningRefused observed.stores p options.attempts 0 s) refused.1 refused.2)
         | inr none ↦ inr none
       ]
     ]
@@ -167,6 +171,7 @@ module _ (observed : Observed) (told : List FileText) (tells : observed.store.fi
     absent_ends (status.WorkFault note) outcome end = absurd (never_found end.1.2.0 end.1.2.1 end.1.2.2)
     absent_ends (status.NoSource name) outcome end = absent_unbegun (status.NoSource name) end.2
     absent_ends (status.SourceFault kit) outcome end = absent_unbegun (status.SourceFault kit) end.2
+    absent_ends (status.FileChanged name len other) outcome end = absent_unbegun (status.FileChanged name len other) end.2
     absent_ends (status.BadPlan refusal) outcome end = absent_unbegun (status.BadPlan refusal) end.2
     absent_ends status.NoMemory outcome end = absent_unbegun status.NoMemory end.2
     absent_ends status.Help outcome end = absent_unbegun status.Help end.2
@@ -181,7 +186,7 @@ module _ (observed : Observed) (told : List FileText) (tells : observed.store.fi
     inputs = (panes_plan file size, refl, found_all file size told found)
 
     unbegun : (s : Status) → Begins s → s ≡ status.NoMemory
-    unbegun s why = began observed.store told tells options.attempts few own inputs s why
+    unbegun s why = began observed of_one told tells options.attempts few own inputs s why
 
     module _ (strict : observed.shelf.strict ≡ true) (never : (o : Outcome) → IsOutcomeOfAsked observed own options IsEnded o → ⊥) where
       faulted : (note : FaultNote) (o : Outcome) → IsOutcomeOfAsked observed own options (IsStoppedBy observed.store note) o → (cause : Cause) → note.cause ≡ cause
@@ -195,6 +200,7 @@ module _ (observed : Observed) (told : List FileText) (tells : observed.store.fi
       poison_ends (status.WorkFault note) outcome end = faulted note end.1.0 end.1.2 note.cause refl end.2.cause
       poison_ends (status.NoSource name) outcome end = inr (unbegun (status.NoSource name) end.2)
       poison_ends (status.SourceFault kit) outcome end = inr (unbegun (status.SourceFault kit) end.2)
+      poison_ends (status.FileChanged name len other) outcome end = inr (unbegun (status.FileChanged name len other) end.2)
       poison_ends (status.BadPlan refusal) outcome end = inr (unbegun (status.BadPlan refusal) end.2)
       poison_ends status.NoMemory outcome end = inr (unbegun status.NoMemory end.2)
       poison_ends status.Help outcome end = inr (unbegun status.Help end.2)
@@ -202,14 +208,14 @@ module _ (observed : Observed) (told : List FileText) (tells : observed.store.fi
 
 -- ---- by what is asked for
 
-module _ (files : Option (List FileText)) (observed : Observed) (are : files ≡ observed.store.files) (s : Status) (outcome : Option Outcome) where
+module _ (observed : Observed) (of_one : AreOfOne observed.stores observed.store) (s : Status) (outcome : Option Outcome) where
   pub absent : (asked : Option Asked) → ((own : Asked) → asked ≡ Some own → HasAttempts own) → IsEndOf asked observed s outcome
-      → WherePanes asked (λ file size options. HasNotFailed observed.store → WhereTold files (λ told. first_named file told ≡ None → IsNoSourceOrNoMemory file s))
+      → WherePanes asked (λ file size options. HasNotFailed observed.store → WhereTold observed.store.files (λ told. first_named file told ≡ None → IsNoSourceOrNoMemory file s))
   absent None tried end = tt
   absent (Some Help) tried end = tt
   absent (Some (Run name options)) tried end = tt
   absent (Some (Panes file size options)) tried end = λ whole told tells none.
-      absent_ends observed told (sym are ∙ tells) file size options (tried (Panes file size options) refl) whole none s outcome end
+      absent_ends observed of_one told tells file size options (tried (Panes file size options) refl) whole none s outcome end
 
   module _ (runs : (known : Surroundings) (b : BookData) → HonestlyReached known b → Reached known.told b)
       (kept : (told : Option (List FileText)) (b : BookData) → Reached told b → AreKept b)
@@ -227,21 +233,20 @@ module _ (files : Option (List FileText)) (observed : Observed) (are : files ≡
         → ((own : Asked) (options : Options) (o : Outcome) → asked ≡ Some own → IsOutcomeOfAsked observed own options IsEnded o → WhereTold observed.store.files (λ told. IsAccounted (items told o.plan) o))
         → IsEndOf asked observed s outcome
         → WherePanes asked (λ file size options. HasNotFailed observed.store → IsStrict observed.shelf
-        → WhereTold files (λ told. IsSome (first_named file told) → AsksForPoison told asked → IsEndOfPoison options s))
+        → WhereTold observed.store.files (λ told. IsSome (first_named file told) → AsksForPoison told asked → IsEndOfPoison options s))
     poison None tried account end = tt
     poison (Some Help) tried account end = tt
     poison (Some (Run name options)) tried account end = tt
     poison (Some (Panes file size options)) tried account end = λ whole strict told tells found asks.
-        let here = sym are ∙ tells in
         let own = Panes file size options in
-        poison_ends observed told here file size options (tried own refl) whole found (stopped told here file size options) strict
-        (λ o run. unpoisoned (Some own) observed told here own options o refl run (account own options o refl run) asks) s outcome end
+        poison_ends observed of_one told tells file size options (tried own refl) whole found (stopped told tells file size options) strict
+        (λ o run. unpoisoned (Some own) observed told tells own options o refl run (account own options o refl run) asks) s outcome end
 
     pub clean : ((known : Surroundings) (told : List FileText) (b : BookData) (note : FaultNote) → known.told ≡ Some told → known.strict ≡ true → AreTold told b
         → TakesNoPoison known b.plan b.options → HonestlyReached known b → b.stopped ≡ Some (stop.Spent note) → b.options.attempts ≤ b.reads)
         → (asked : Option Asked) → IsEndOf asked observed s outcome
         → WherePanes asked (λ file size options. AreReadFaultsFew options.attempts observed → FailsOnPoison observed.shelf
-        → WhereTold files (λ told. IsSome (first_named file told) → (AsksForPoison told asked → ⊥) → IsEndOfClean s))
+        → WhereTold observed.store.files (λ told. IsSome (first_named file told) → (AsksForPoison told asked → ⊥) → IsEndOfClean s))
     clean by_reads None end = tt
     clean by_reads (Some Help) end = tt
     clean by_reads (Some (Run name options)) end = tt
@@ -251,10 +256,10 @@ module _ (files : Option (List FileText)) (observed : Observed) (are : files ≡
         let none = takes_none file size told (λ poison. never (panes_plan file size, refl, poison)) options (λ b reached. kept (Some told) b (runs seen b reached)) in
         elim shelf [
           | inl strict ↦
-              complete_strict files observed are s outcome by_reads (Some own) end strict told tells
+              complete_strict observed of_one s outcome by_reads (Some own) end strict told tells
               (panes_plan file size, refl, found_all file size told found, none) few
           | inr quiet ↦
-              complete (Some own) files observed are s outcome end told tells (panes_plan file size, refl, found_all file size told found) (record {
+              complete (Some own) observed of_one s outcome end told tells (panes_plan file size, refl, found_all file size told found) (record {
                 kit = omega (arith, few.store, none_rose observed.shelf.before observed.shelf.after 1 quiet (omega arith));
                 out = few.out;
               })

@@ -1,6 +1,5 @@
 -- What the ends of a command say of its outcome.
-use Rattle.std.proofs.Common.{◌≡◌, ℕ, zero, suc, ℤ, true, List, [], ◌∷◌, map, Option, Some, None, refl, sym, ap, subst, ◌∙◌}
-use Rattle.std.specs.List.{All}
+use Rattle.std.proofs.Common.{◌≡◌, ℕ, zero, suc, ℤ, true, List, [], map, Option, Some, None, refl, sym, ap, subst, ◌∙◌}
 use Rattle.std.proofs.lemmas.List.Elements.{All-nil, All-cons}
 use Rattle.beam_values.specs.Nodes.{is_above}
 use Rattle.beam_values.specs.declared.file_text.FileText.{FileText}
@@ -43,6 +42,7 @@ module _ (asked : Option Asked) (observed : Observed) (P : Outcome → Type 0)
   of_pipeline own options is (status.NoSource name) outcome end = tt
   of_pipeline own options is (status.SourceFault kit) outcome end = tt
   of_pipeline own options is (status.WorkFault note) outcome end = tt
+  of_pipeline own options is (status.FileChanged name len other) outcome end = tt
   of_pipeline own options is status.NoMemory outcome end = tt
 
   of_help : (s : Status) (outcome : Option Outcome) → IsHelpEnd observed.out s → outcome ≡ None → HasRun s outcome P
@@ -54,6 +54,7 @@ module _ (asked : Option Asked) (observed : Observed) (P : Outcome → Type 0)
   of_help (status.NoSource name) outcome end none = tt
   of_help (status.SourceFault kit) outcome end none = tt
   of_help (status.WorkFault note) outcome end none = tt
+  of_help (status.FileChanged name len other) outcome end none = tt
   of_help status.NoMemory outcome end none = tt
 
   of_asked : (a : Option Asked) → asked ≡ a → (s : Status) (outcome : Option Outcome) → IsEndOf a observed s outcome → HasRun s outcome P

@@ -1,5 +1,5 @@
 -- The pipeline that a command line asks to be run.
-use Rattle.std.specs.Prelude.{◌≡◌, ℕ, List, Option, Some, Ok, Err, Result}
+use Rattle.std.specs.Prelude.{◌≡◌, ℕ, List, Option, Some, Ok}
 use Rattle.beam_values.specs.Files.{first_named}
 use Rattle.beam_values.specs.declared.file_text.FileText.{FileText}
 use Rattle.beam_values.specs.declared.options.Options.{Options}

@@ -11,6 +11,7 @@ use Rattle.command_words.specs.Commands.{Asked, command_of, words_of}
 use Rattle.run_engine.specs.Openings.{IsNoSourceOrNoMemory}
 use Rattle.run_engine.specs.declared.status.RunEnd.{RunEnd}
 use Rattle.run_engine.specs.declared.status.Status.{Status}
+use Rattle.run_engine.specs.declared.status.Status.TheVariants as status
 use Rattle.beam_command.specs.Completeness.{AreFaultsFew, AreReadFaultsFew, AsksForPoison, FailsOnPoison, HasCleanInputs, HasInputs, HasNotFailed, IsEndOfClean, IsEndOfPoison, IsStrict, WherePanes, WherePipeline}
 use Rattle.beam_command.specs.Ends.{Observed, IsEndOf, IsRun}
 use Rattle.beam_command.specs.Promises.{AsksPanes}
@@ -55,3 +56,8 @@ abbrev pub EndsWhereNoPoison : Option (List FileText) → Option Asked → Obser
 EndsWhereNoPoison files asked observed s =
     WherePipeline asked (λ asked options. IsStrict observed.shelf
     → WhereTold files (λ told. HasCleanInputs told asked options → AreReadFaultsFew options.attempts observed → IsEndOfClean s))
+
+-- two kits opened a file with different lengths
+abbrev pub IsChange : Status → Type 0
+IsChange (status.FileChanged name first other) = Unit {0}
+IsChange _ = ⊥

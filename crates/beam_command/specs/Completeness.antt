@@ -46,24 +46,24 @@ HasCleanInputs told asked options =
 
 -- ---- what doesn't fail, or seldom
 
--- a store that did not fail in this call
+-- stores that did not fail in this call
 abbrev pub HasNotFailed : ObservedStore → Type 0
 HasNotFailed store = Rose store.before store.after → ⊥
 
--- a shelf that fails on poison alone
+-- shelves that fail on poison alone
 abbrev pub IsStrict : ObservedShelf → Type 0
 IsStrict shelf = shelf.strict ≡ true
 
--- a shelf that fails on poison alone, or did not fail in this call
+-- shelves that fail on poison alone, or did not fail in this call
 abbrev pub FailsOnPoison : ObservedShelf → Type 0
 FailsOnPoison shelf = IsStrict shelf ⊎ (Rose shelf.before shelf.after → ⊥)
 
--- fewer faults than a job has attempts, in the kit and in the sink
+-- fewer faults than a job has attempts, in all kits together and in the sink
 pub record AreFaultsFew (attempts : ℕ) (observed : Observed) : Type 0 where
   pub kit : rise observed.shelf.before observed.shelf.after + rise observed.store.before observed.store.after < attempts
   pub out : rise observed.out.before observed.out.after < attempts
 
--- fewer faults than a job has attempts, in the store and in the sink, however many the shelf counted
+-- fewer faults than a job has attempts, in all stores together and in the sink, however many the shelves counted
 pub record AreReadFaultsFew (attempts : ℕ) (observed : Observed) : Type 0 where
   pub store : rise observed.store.before observed.store.after < attempts
   pub out : rise observed.out.before observed.out.after < attempts

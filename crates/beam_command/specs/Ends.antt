@@ -1,5 +1,5 @@
 -- How a command may end, and what each end means.
-use Rattle.std.specs.Prelude.{◌≡◌, ◌⊎◌, true, ℕ, ◌<◌, ◌≤◌, List, Option, Some, None, Err, IsSome, length, take}
+use Rattle.std.specs.Prelude.{◌≡◌, ◌⊎◌, ℕ, ◌<◌, ◌≤◌, List, Option, Some, None, Err, IsSome, length, slice_get, take}
 use Rattle.std.specs.List.{All}
 use Rattle.beam_values.specs.Files.{first_named}
 use Rattle.beam_values.specs.declared.file_text.FileText.{FileText}
@@ -15,7 +15,8 @@ use Rattle.book_core.specs.Runs.{IsEnded}
 use Rattle.chain_exec.specs.Causes.{ObservedShelf}
 use Rattle.command_words.specs.Commands.{Asked, Help, Panes, Run}
 use Rattle.command_words.specs.HelpText.{help_text}
-use Rattle.run_engine.specs.Openings.{IsOpeningRefused, file_names}
+use Rattle.worker_loop.specs.Openings.{file_names}
+use Rattle.run_engine.specs.Openings.{IsOpeningRefused}
 use Rattle.run_engine.specs.PlanRun.{IsOutcomeWhere, IsSpent, IsStoppedBy, surroundings_of}
 use Rattle.run_engine.specs.declared.status.RunEnd.{RunEnd}
 use Rattle.run_engine.specs.declared.status.Status.{Status}
@@ -23,10 +24,11 @@ use Rattle.run_engine.specs.declared.status.Status.TheVariants as status
 use Rattle.beam_command.specs.Asking.{IsMeaningOf, IsPlanOf}
 use Rattle.beam_command.specs.Notes.{note_line}
 
--- what a command observed at its kit and at its output
+-- What a command observed at the kits in use and at its output: of all shelves and of all stores as if they were one, and of each store.
 pub record Observed : Type 0 where
   pub shelf : ObservedShelf
   pub store : ObservedStore
+  pub stores : List ObservedStore
   pub out : ObservedSink
 
 -- nothing was written
@@ -56,14 +58,15 @@ IsPlanRefused store name attempts (status.BadPlan refusal) = WhereTold store.fil
 IsPlanRefused store name attempts status.NoMemory = Unit {0}
 IsPlanRefused store name attempts _ = ⊥
 
--- a plan's document was refused, where the command reads one
-abbrev pub IsDocumentRefused : ObservedStore → Asked → ℕ → Status → Type 0
-IsDocumentRefused store (Run name options) attempts s = IsPlanRefused store name attempts s
-IsDocumentRefused store _ attempts s = ⊥
+-- a plan's document was refused, where the command reads one, by the first store
+abbrev pub IsDocumentRefused : Observed → Asked → ℕ → Status → Type 0
+IsDocumentRefused observed (Run name options) attempts s =
+    (first : ObservedStore) × (slice_get observed.stores 0 ≡ Some first) × IsPlanRefused first name attempts s
+IsDocumentRefused observed _ attempts s = ⊥
 
--- the plan is there, and a file that it reads could not be opened
-abbrev pub AreSourcesRefused : ObservedStore → Asked → ℕ → Status → Type 0
-AreSourcesRefused store asked attempts s = (plan : Plan) × IsPlanOf store.files asked plan × IsOpeningRefused store plan attempts 0 s
+-- the plan is there, and a file that it reads could not be opened, or not as the first kit opened it
+abbrev pub AreSourcesRefused : Observed → Asked → ℕ → Status → Type 0
+AreSourcesRefused observed asked attempts s = (plan : Plan) × IsPlanOf observed.store.files asked plan × IsOpeningRefused observed.stores plan attempts 0 s
 
 -- ---- the ends of a pipeline that is run
 
@@ -93,7 +96,7 @@ IsPipelineEnd observed asked options (status.WorkFault note) outcome =
 -- the run did not begin, or there was no memory
 IsPipelineEnd observed asked options s outcome =
     IsUnwritten observed × (outcome ≡ None)
-    × (IsDocumentRefused observed.store asked options.attempts s ⊎ AreSourcesRefused observed.store asked options.attempts s ⊎ (s ≡ status.NoMemory))
+    × (IsDocumentRefused observed asked options.attempts s ⊎ AreSourcesRefused observed asked options.attempts s ⊎ (s ≡ status.NoMemory))
 
 -- ---- the ends of a command
 
@@ -142,6 +145,7 @@ IsLongNoted (status.BadPlan refusal) = Unit {0}
 IsLongNoted (status.NoSource name) = Unit {0}
 IsLongNoted (status.SourceFault kit) = Unit {0}
 IsLongNoted (status.WorkFault note) = Unit {0}
+IsLongNoted (status.FileChanged name first other) = Unit {0}
 IsLongNoted _ = ⊥
 
 -- the end after its note was written: the same, or want of memory for the note

@@ -1,31 +1,43 @@
--- What a command observed at the kit that it used, the first one.
-use Rattle.std.specs.Prelude.{ℕ, Bool, false, List, [], ◌∷◌, Option, None}
-use Rattle.beam_ports.specs.Observed.{ObservedStore, observed_sink, observed_store}
+-- The kits that a command uses, and what it observes at them.
+use Rattle.std.specs.Prelude.{ℕ, Bool, List, map, take, Option, Some}
+use Rattle.beam_ports.specs.Observed.{observed_sink}
 use Rattle.beam_values.specs.declared.file_text.FileText.{FileText}
-use Rattle.chain_exec.specs.Causes.{ObservedShelf, observed_shelf}
-use Rattle.run_engine.specs.declared.kit.Kit.{Kit}
+use Rattle.command_words.specs.Commands.{Asked, Panes, Run}
+use Rattle.worker_loop.specs.Kits.{observed_shelves, observed_stores, told_by}
+use Rattle.worker_loop.specs.declared.kit.Kit.{Kit}
+use Rattle.run_engine.specs.Kits.{observed_each}
 use Rattle.beam_command.specs.Ends.{Observed}
 
--- the files of the first kit's store, where it tells them
-abbrev pub kit_files : {F S : Type 0} → (S → Option (List FileText)) → List (Kit F S) → Option (List FileText)
-kit_files files [] = None
-kit_files files (kit ∷ kits) = files kit.store
+-- how many workers are asked for: none where no pipeline is
+abbrev pub workers_of : Option Asked → ℕ
+workers_of (Some (Panes file size options)) = options.workers
+workers_of (Some (Run name options)) = options.workers
+workers_of _ = 0
 
--- the store of the first kit, before the command and after it
-abbrev pub kit_store : {F S : Type 0} → (S → Option (List FileText)) → (S → ℕ) → List (Kit F S) → List (Kit F S) → ObservedStore
-kit_store files faults (old ∷ olds) (new ∷ news) = observed_store files faults old.store new.store
-kit_store files faults olds news = record { files = None; before = 0; after = 0 }
+-- the kits in use are the first ones, one for each worker as far as there are kits
+abbrev pub in_use : {K : Type 0} → Option Asked → List K → List K
+in_use asked kits = take (workers_of asked) kits
 
--- the shelf of the first kit, before the command and after it
-abbrev pub kit_shelf : {F S : Type 0} → (F → Bool) → (F → ℕ) → List (Kit F S) → List (Kit F S) → ObservedShelf
-kit_shelf strict faults (old ∷ olds) (new ∷ news) = observed_shelf strict faults old.shelf new.shelf
-kit_shelf strict faults olds news = record { strict = false; before = 0; after = 0 }
+-- the files that these kits tell: those of the first, where all others tell the same
+abbrev pub told_files : {F S : Type 0} → (S → Option (List FileText)) → List (Kit F S) → Option (List FileText)
+told_files files kits = told_by (map (λ kit. files kit.store) kits)
 
--- what a command observed at its kit and at its output
-abbrev pub observed_first : {F S W : Type 0} → (F → Bool) → (F → ℕ) → (S → Option (List FileText)) → (S → ℕ) → (W → ℕ) → (W → Option (List ℕ))
+-- the same of the kits in use
+abbrev pub kit_files : {F S : Type 0} → (S → Option (List FileText)) → Option Asked → List (Kit F S) → Option (List FileText)
+kit_files files asked kits = told_files files (in_use asked kits)
+
+-- what was observed at these kits and at the output
+abbrev pub observed_kits : {F S W : Type 0} → (F → Bool) → (F → ℕ) → (S → Option (List FileText)) → (S → ℕ) → (W → ℕ) → (W → Option (List ℕ))
     → List (Kit F S) → List (Kit F S) → W → W → Observed
-observed_first strict calls files faults fails taken olds news out_old out_new = record {
-  shelf = kit_shelf strict calls olds news;
-  store = kit_store files faults olds news;
+observed_kits strict calls files faults fails taken olds news out_old out_new = record {
+  shelf = observed_shelves strict calls olds news;
+  store = observed_stores files faults olds news;
+  stores = observed_each files faults olds news;
   out = observed_sink fails taken out_old out_new;
 }
+
+-- the same of the kits in use
+abbrev pub observed_in_use : {F S W : Type 0} → (F → Bool) → (F → ℕ) → (S → Option (List FileText)) → (S → ℕ) → (W → ℕ) → (W → Option (List ℕ)) → Option Asked
+    → List (Kit F S) → List (Kit F S) → W → W → Observed
+observed_in_use strict calls files faults fails taken asked olds news out_old out_new =
+    observed_kits strict calls files faults fails taken (in_use asked olds) (in_use asked news) out_old out_new

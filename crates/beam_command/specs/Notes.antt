@@ -21,6 +21,10 @@ place_text note = codes "work fault: node " ++ (decimal note.node ++ (codes " it
 abbrev pub work_text : FaultNote → List ℕ
 work_text note = place_text note ++ attempt_text note
 
+-- a file's name, and the two lengths that were met
+abbrev pub changed_text : List ℕ → ℕ → ℕ → List ℕ
+changed_text name first other = codes "file changed: " ++ (blob_text name ++ (codes " " ++ (decimal first ++ (codes " " ++ decimal other))))
+
 -- without the LF at its end
 abbrev pub note_text : Status → List ℕ
 note_text status.Ok = []
@@ -32,6 +36,7 @@ note_text (status.SourceFault kit) = codes "source fault: kit " ++ decimal kit
 note_text (status.WorkFault note) = work_text note
 note_text status.SinkFault = codes "sink fault"
 note_text status.NoMemory = codes "no memory"
+note_text (status.FileChanged name first other) = changed_text name first other
 
 abbrev pub note_line : Status → List ℕ
 note_line s = note_text s ++ 10 ∷ []

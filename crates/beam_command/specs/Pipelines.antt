@@ -38,4 +38,4 @@ IsGraphEnd observed plan options failed (status.WorkFault note) outcome =
     × ((o : Outcome) × (outcome ≡ Some o) × IsOutcomeWhere (surroundings_of observed.shelf observed.store) plan options (IsStoppedBy observed.store note) o)
     × IsSpent observed.shelf observed.store options.attempts note
 IsGraphEnd observed plan options failed s outcome =
-    IsUnwritten observed × (outcome ≡ None) × (IsOpeningRefused observed.store plan options.attempts failed s ⊎ (s ≡ status.NoMemory))
+    IsUnwritten observed × (outcome ≡ None) × (IsOpeningRefused observed.stores plan options.attempts failed s ⊎ (s ≡ status.NoMemory))

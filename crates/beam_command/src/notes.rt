@@ -1,5 +1,5 @@
 ghost use Rattle.std.specs.Prelude.{◌≡◌, ◌++◌, IfOk, OnOk, IfSome, IfNone, ◌⊎◌, decimal};
-ghost use Rattle.beam_command.specs.Notes.{note_line, work_text, place_text, attempt_text, cause_text};
+ghost use Rattle.beam_command.specs.Notes.{changed_text, note_line, work_text, place_text, attempt_text, cause_text};
 ghost use Rattle.beam_command.specs.Ends.{IsLongNoted};
 
 use beam_text::push_blob;
@@ -39,13 +39,25 @@ pub fn note_line(alloc: Global, status: &Status) -> Result<Bytes, NoMemory>
             line.extend_from_slice(b"no source: ")?;
             push_blob(name.as_slice(), &mut line)?;
         }
-        Status::SourceFault(kit) => push_number(b"source fault: kit ", *kit, &mut line)?,
+        Status::SourceFault(kit) => push_number(b"source fault: kit ", (*kit).into(), &mut line)?,
         Status::WorkFault(note) => push_work(note, &mut line)?,
         Status::SinkFault => line.extend_from_slice(b"sink fault")?,
         Status::NoMemory => line.extend_from_slice(b"no memory")?,
+        Status::FileChanged { name, first, other } => {
+            push_changed(name, *first, *other, &mut line)?
+        }
     }
     line.push(b'\n')?;
     Ok(line)
+}
+
+fn push_changed(name: &Bytes, first: u64, other: u64, line: &mut Bytes) -> Result<(), NoMemory>
+    ensures { OnOk result (line.new ≡ line.old ++ changed_text name.now first other) }
+{
+    line.extend_from_slice(b"file changed: ")?;
+    push_blob(name.as_slice(), line)?;
+    push_number(b" ", first, line)?;
+    push_number(b" ", other, line)
 }
 
 fn push_work(note: &FaultNote, line: &mut Bytes) -> Result<(), NoMemory>
@@ -58,16 +70,16 @@ fn push_work(note: &FaultNote, line: &mut Bytes) -> Result<(), NoMemory>
 fn push_place(note: &FaultNote, line: &mut Bytes) -> Result<(), NoMemory>
     ensures { OnOk result (line.new ≡ line.old ++ place_text note.now) }
 {
-    push_number(b"work fault: node ", note.node, line)?;
-    push_number(b" item ", note.item, line)?;
+    push_number(b"work fault: node ", note.node.into(), line)?;
+    push_number(b" item ", note.item.into(), line)?;
     Ok(())
 }
 
 fn push_attempt(note: &FaultNote, line: &mut Bytes) -> Result<(), NoMemory>
     ensures { OnOk result (line.new ≡ line.old ++ attempt_text note.now) }
 {
-    push_number(b" at ", note.at, line)?;
-    push_number(b" attempt ", note.attempt, line)?;
+    push_number(b" at ", note.at.into(), line)?;
+    push_number(b" attempt ", note.attempt.into(), line)?;
     line.push(b' ')?;
     line.extend_from_slice(cause_text(note.cause))
 }
@@ -81,7 +93,7 @@ fn cause_text(cause: Cause) -> &'static [u8]
     }
 }
 
-fn push_number(name: &[u8], number: u32, line: &mut Bytes) -> Result<(), NoMemory>
+fn push_number(name: &[u8], number: u64, line: &mut Bytes) -> Result<(), NoMemory>
     ensures { OnOk result (line.new ≡ line.old ++ (name.now ++ decimal number)) }
 {
     line.extend_from_slice(name)?;

@@ -1,19 +1,22 @@
-//! A pipeline that is run with a kit, from the opening of its files to the writing of its text.
+//! A pipeline that is run with kits, from the opening of its files to the writing of its text.
 
-ghost use Rattle.std.specs.Prelude.{◌≡◌, ◌≤◌, IsSome, Some, None};
+ghost use Rattle.std.specs.Prelude.{◌≡◌, ◌≤◌, ◌<◌, length, IsSome, Some, None};
 ghost use Rattle.beam_values.specs.declared.outcome.Outcome.{Outcome as OutcomeOf};
-ghost use Rattle.beam_ports.specs.Observed.{observed_sink, observed_store};
+ghost use Rattle.beam_ports.specs.Observed.{observed_sink};
 ghost use Rattle.book_core.specs.Runs.{AreOptions};
-ghost use Rattle.chain_exec.specs.Causes.{observed_shelf};
+ghost use Rattle.worker_loop.specs.Kits.{EachBecomes};
+ghost use Rattle.beam_command.specs.Kits.{observed_kits};
 ghost use Rattle.beam_command.specs.Pipelines.{IsGraphEnd, IsRunPrinted, IsTextEnd};
 
-use beam_ports::{Failed, Sink, Store};
+use beam_ports::{Failed, Gate, Sink, Store};
 use beam_text::render;
 use beam_values::{Options, Outcome};
 use dofn_traits::Shelf;
 use pipeline_graph::Graph;
-use run_engine::{Kit, RunEnd, Status, open_kit, put, run_kit};
+use run_engine::{Kit, RunEnd, Status, open_sources, put, run_plan};
 use std::alloc::Global;
+use std::sync::Wait;
+use std::thread::Threads;
 
 /// An end without an outcome.
 pub fn ended(status: Status) -> RunEnd
@@ -25,31 +28,29 @@ pub fn ended(status: Status) -> RunEnd
     }
 }
 
-/// Runs a pipeline with a kit, whose store has failed `failed` times in this command, and writes the
-/// rendering of its outcome.
-pub fn run_graph<F: Shelf, S: Store, W: Sink>(
+/// Runs a pipeline with one worker for each kit, and writes the rendering of its outcome. The first kit's
+/// store has failed `failed` times in this command.
+pub fn run_graph<R: Threads + Wait + Sync, F: Shelf, S: Store, W: Sink, G: Gate>(
+    rt: &R,
     alloc: Global,
     graph: Graph,
     options: &Options,
     failed: u32,
-    kit: &mut Kit<F, S>,
+    kits: &mut [Kit<F, S>],
     out: &mut W,
+    gate: &G,
 ) -> RunEnd
-    requires { AreOptions options.now }
-    ensures ends { IsGraphEnd (record {
-      shelf = observed_shelf F.strict F.faults kit.old.shelf kit.new.shelf;
-      store = observed_store S.files S.faults kit.old.store kit.new.store;
-      out = observed_sink W.faults W.taken out.old out.new;
-    })
+    requires allowed { AreOptions options.now }
+    requires some { 0 < length kits.old }
+    requires workers { length kits.old ≤ options.now.workers }
+    ensures ends { IsGraphEnd (observed_kits F.strict F.faults S.files S.faults W.faults W.taken kits.old kits.new out.old out.new)
         graph options.now failed result.status result.outcome }
-    ensures files { S.files kit.new.store ≡ S.files kit.old.store }
-    ensures strict { F.strict kit.new.shelf ≡ F.strict kit.old.shelf }
-    ensures counts { S.faults kit.old.store ≤ S.faults kit.new.store }
+    ensures counts { EachBecomes kits.old kits.new (λ old new. S.faults old.store ≤ S.faults new.store) }
 {
-    if let Err(status) = open_kit(alloc, &graph, options.attempts, kit, failed) {
+    if let Err(status) = open_sources(alloc, &graph, options, kits, failed) {
         return ended(status);
     }
-    let RunEnd { status, outcome } = run_kit(alloc, graph, options, kit);
+    let RunEnd { status, outcome } = run_plan(rt, alloc, graph, options, kits, gate);
     match status {
         Status::Ok => finished(alloc, outcome, options.attempts, out),
         status => RunEnd { status, outcome },

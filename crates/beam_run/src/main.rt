@@ -2,16 +2,16 @@
 //!
 //! `beam_run panes FILE SIZE` groups a file of timed lines by the field after the time in fixed
 //! windows of SIZE milliseconds, and prints the panes; `beam_run run PLAN` runs the pipeline of a plan
-//! document. The whole program over any store and sinks is `beam_command::beam_main`, whose contract is
-//! the promise of the program; `main` runs it over the system's files and streams, the adapters in
-//! `fs_store.rt` and `sinks.rt`.
+//! document, with several workers. The whole program over any stores and sinks is `beam_command::beam_main`,
+//! whose contract is the promise of the program; `main` runs it over the system's files and streams, the
+//! adapters in `fs_store.rt` and `sinks.rt`, with a kit for each worker that can be asked for.
 #![tactic(auto)]
 
 mod fs_store;
 mod sinks;
 
 use beam_command::beam_main;
-use beam_ports::{Sink, Store};
+use beam_ports::{Gate, OpenGate, Sink, Store};
 use beam_values::{List, NoMemory};
 use dofn_library::{
     BatchUntil, CountSeq, Dedupe, Field, FieldInt, KeepPrefix, KeyField, LatestThenEmit, MaxSeq,
@@ -25,10 +25,15 @@ use sinks::{ErrSink, OutSink};
 use std::alloc::{AllocError, Global};
 use std::mem::ManuallyDrop;
 use std::process::ExitCode;
+use std::sync::Wait;
+use std::thread::Threads;
 use std::{env, io};
 
 /// The exit status where the words of the command line can't be got.
 const NO_WORDS: u8 = 2;
+
+/// As many workers as a command line can ask for, each with a kit of its own.
+const MOST_WORKERS: u32 = 16;
 
 // Adds a box of each of these objects to a list.
 macro_rules! add_boxes {
@@ -53,28 +58,38 @@ fn main(rt: HostRuntime) -> ExitCode {
         Err(error) if error.kind() == io::ErrorKind::OutOfMemory => Err(AllocError),
         Err(_) => return ExitCode::from(NO_WORDS),
     };
-    let mut fns: List<Box<dyn DoFn>> = List::new(alloc);
-    let mut splits: List<Box<dyn SplittableFn>> = List::new(alloc);
-    let mut states: List<Box<dyn StatefulFn>> = List::new(alloc);
-    let added = add_boxes!(alloc, fns; KeyField, Words, Field, KeepPrefix).is_ok()
-        && add_boxes!(alloc, fns; FieldInt, Swap, Shift, SumSeq).is_ok()
-        && add_boxes!(alloc, fns; CountSeq, MaxSeq, Unseq, Values).is_ok()
-        && add_boxes!(alloc, splits; Lines, TimedLines, Count, Made).is_ok()
-        && add_boxes!(alloc, states; Dedupe, RunningSum, BatchUntil, LatestThenEmit).is_ok();
-    let (Ok(words), Ok(store), true) = (words, FsStore::new(rt), added) else {
-        let _ = put(&mut notes, b"no memory\n", 1);
-        return ExitCode::from(Status::NoMemory.number());
+    let Ok(words) = words else {
+        return ExitCode::from(no_memory(&mut notes).number());
     };
-    let end = command(
-        alloc,
-        words.as_slice(),
-        store,
-        fns,
-        splits,
-        states,
-        &mut out,
-        &mut notes,
-    );
+    let mut parts = Vec::new(alloc);
+    for _ in 0..MOST_WORKERS {
+        let mut fns: List<Box<dyn DoFn>> = List::new(alloc);
+        let mut splits: List<Box<dyn SplittableFn>> = List::new(alloc);
+        let mut states: List<Box<dyn StatefulFn>> = List::new(alloc);
+        let added = add_boxes!(alloc, fns; KeyField, Words, Field, KeepPrefix).is_ok()
+            && add_boxes!(alloc, fns; FieldInt, Swap, Shift, SumSeq).is_ok()
+            && add_boxes!(alloc, fns; CountSeq, MaxSeq, Unseq, Values).is_ok()
+            && add_boxes!(alloc, splits; Lines, TimedLines, Count, Made).is_ok()
+            && add_boxes!(alloc, states; Dedupe, RunningSum, BatchUntil, LatestThenEmit).is_ok();
+        let own: Result<_, AllocError> = rt.clone();
+        let (Ok(own), true) = (own, added) else {
+            return ExitCode::from(no_memory(&mut notes).number());
+        };
+        let Ok(store) = FsStore::new(own) else {
+            return ExitCode::from(no_memory(&mut notes).number());
+        };
+        let own = Parts {
+            fns,
+            splits,
+            states,
+            store,
+        };
+        if parts.push(own).is_err() {
+            return ExitCode::from(no_memory(&mut notes).number());
+        }
+    }
+    let words = words.as_slice();
+    let end = command(&rt, alloc, words, parts, &mut out, &mut notes, &OpenGate);
     // The end of the process frees the outcome at once, not box by box.
     let end = ManuallyDrop::new(end);
     match &*end {
@@ -83,33 +98,57 @@ fn main(rt: HostRuntime) -> ExitCode {
     }
 }
 
-// Runs the command with one kit of these functions and this store.
-fn command<D, P, T, S, W, N>(
-    alloc: Global,
-    words: &[String],
-    store: S,
+/// What a kit is made of.
+#[derive(Drop)]
+struct Parts<D, P, T, S> {
     fns: List<D>,
     splits: List<P>,
     states: List<T>,
+    store: S,
+}
+
+// Runs the command with a kit of each of these parts.
+fn command<R, D, P, T, S, W, N, G>(
+    rt: &R,
+    alloc: Global,
+    words: &[String],
+    parts: Vec<Parts<D, P, T, S>>,
     out: &mut W,
     notes: &mut N,
+    gate: &G,
 ) -> Result<RunEnd, ShelfRefusal>
 where
+    R: Threads + Wait + Sync,
     D: DoFn,
     P: SplittableFn,
     T: StatefulFn,
     S: Store + Drop,
     W: Sink,
     N: Sink,
+    G: Gate,
 {
-    let shelf = BoxShelf::new(fns, splits, states)?;
     let mut kits = Vec::new(alloc);
-    if kits.push(Kit::new(alloc, shelf, store)).is_err() {
-        let _ = put(notes, b"no memory\n", 1);
-        return Ok(RunEnd {
-            status: Status::NoMemory,
-            outcome: None,
-        });
+    for part in parts {
+        let Parts {
+            fns,
+            splits,
+            states,
+            store,
+        } = part;
+        let shelf = BoxShelf::new(fns, splits, states)?;
+        if kits.push(Kit::new(alloc, shelf, store)).is_err() {
+            break;
+        }
     }
-    Ok(beam_main(alloc, words, &mut kits, out, notes))
+    if kits.is_empty() {
+        let status = no_memory(notes);
+        let outcome = None;
+        return Ok(RunEnd { status, outcome });
+    }
+    Ok(beam_main(rt, alloc, words, &mut kits, out, notes, gate))
+}
+
+fn no_memory<N: Sink>(notes: &mut N) -> Status {
+    let _ = put(notes, b"no memory\n", 1);
+    Status::NoMemory
 }

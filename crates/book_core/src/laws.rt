@@ -107,8 +107,8 @@ pub fn commits_lower_what_is_left()
     nodes_have_inputs_and_settings_of_their_kind();
 }
 
-/// A run comes to its end: a book tells how many rounds are left at most, each a take, claims, and then
-/// a commit of a job that goes on or a fail.
+/// Rounds are bounded where no range is split: a book tells how many are left at most, each a take, claims,
+/// and then a commit of a job that goes on or a fail.
 pub fn rounds_are_bounded()
     ensures take { (told : Option (List FileText)) (b new : BookData) (slot : ℕ) (job : Job)
         → Reached told b → IsTaking b slot job new → rounds_left new ≤ rounds_left b }

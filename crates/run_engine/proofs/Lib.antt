@@ -1,10 +1,3 @@
-pub mod Working
 mod Opens
-mod Readers
-mod BarrierReach
-mod PieceWork
-mod Honest
-mod Claims
-mod PieceReads
-mod Jobs
-mod PlanRuns
+pub mod Stopped
+pub mod PlanRuns

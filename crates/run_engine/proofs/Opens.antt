@@ -1,22 +1,26 @@
--- Files that are opened one after another, and failures that are counted on the way.
-use Rattle.std.proofs.Common.{◌≡◌, ℕ, zero, suc, ◌+◌, ◌-◌, ◌<◌, ◌≤◌, Bool, true, false, cond, min, List, [], ◌∷◌, ◌++◌, length, get_or, take, drop, set, refl, sym, ap, subst, ◌∙◌, append_assoc, arith}
-use Rattle.std.specs.Prelude.{Option, Some, None, IsSome, IsSomeAnd, nat_le, Result, Ok, Err, OnOk, IfOk, IfErr}
-use Rattle.std.specs.List.{All, flat_map}
+-- Files that are opened one after another, failures that are counted on the way, and kits that open them one after another.
+use Rattle.std.proofs.Common.{◌≡◌, ℕ, zero, suc, ◌+◌, ◌-◌, ◌<◌, ◌≤◌, Bool, true, false, cond, min, List, [], ◌∷◌, ◌++◌, length, get_or, get_or-set_same, take, drop, set, refl, sym, ap, subst, ◌∙◌, append_assoc, length-set, arith}
+use Rattle.std.specs.Prelude.{Option, Some, None, IsSome, IsSomeAnd, nat_le, slice_get, Result, Ok, Err, IfErr}
+use Rattle.std.specs.List.{All, AllByRecursion, flat_map}
 use Rattle.std.proofs.lemmas.List.{append-nil, take_more}
 use Rattle.std.proofs.lemmas.Grind.{flat_map-append}
 use Rattle.std.proofs.lemmas.Bool.Decides.{nat_tests}
 use Rattle.std.proofs.lemmas.List.Elements.{All-nil, All-cons}
+use Rattle.std.proofs.lemmas.Option.{same_Some, slice_get-get_or}
 use Rattle.beam_values.specs.Files.{first_named}
 use Rattle.beam_values.specs.declared.file_text.FileText.{FileText}
 use Rattle.beam_values.specs.declared.plan.Node.{Node}
+use Rattle.beam_values.specs.declared.plan.Plan.{Plan}
 use Rattle.beam_ports.specs.Counts.{Rose, greatest_count, rise}
 use Rattle.beam_ports.specs.Files.{KeepsOpenings, Opening}
-use Rattle.beam_ports.specs.Observed.{WhereTold}
+use Rattle.beam_ports.specs.Observed.{ObservedStore, WhereTold, observed_store}
 use Rattle.beam_ports.specs.declared.store.Opened.{Opened}
-use Rattle.run_engine.specs.Kits.{FirstBecomes, IsOfFirst, OthersStay}
-use Rattle.run_engine.specs.declared.kit.Kit.{Kit}
-use Rattle.run_engine.specs.Openings.{AreCounted, AreNamesRefused, AreOpened, IsNameRefused, IsOpenedAs, names_in}
-use Rattle.run_engine.specs.Outside.{IsStoreKept}
+use Rattle.worker_loop.specs.Kits.{EachBecomes}
+use Rattle.worker_loop.specs.Openings.{AreOpened, IsOpenedAs, file_names, names_in}
+use Rattle.worker_loop.specs.Outside.{IsStoreKept}
+use Rattle.worker_loop.specs.declared.kit.Kit.{Kit}
+use Rattle.run_engine.specs.Kits.{observed_each}
+use Rattle.run_engine.specs.Openings.{AgreeInLength, AreCounted, AreNamesRefused, HasFailed, HasLength, HasSameLength, IsChanged, IsFileRefused, IsNameRefused, IsOpeningRefused, IsOtherRefused}
 use Rattle.run_engine.specs.declared.status.Status.{Status}
 use Rattle.run_engine.specs.declared.status.Status.TheVariants as status
 
@@ -70,6 +74,12 @@ module _ (files : Option (List FileText)) (opened later : ℕ → Option Opening
   opened_later (name ∷ names) [] are = absurd are
   opened_later (name ∷ names) (file ∷ opens) are = (opened_as_later name file are.0, opened_later names opens are.1)
 
+pub opened_length : (files : Option (List FileText)) (opened : ℕ → Option Opening) (names : List (List ℕ)) (opens : List Opened) → AreOpened files opened names opens → length opens ≡ length names
+opened_length files opened [] [] are = refl
+opened_length files opened [] (file ∷ opens) are = absurd are
+opened_length files opened (name ∷ names) [] are = absurd are
+opened_length files opened (name ∷ names) (file ∷ opens) are = ap suc (opened_length files opened names opens are.1)
+
 module _ (files : Option (List FileText)) (opened : ℕ → Option Opening) where
   -- one more file
   pub opened_more : (names : List (List ℕ)) (opens : List Opened) (name : List ℕ) (file : Opened) → AreOpened files opened names opens → IsOpenedAs files opened name file
@@ -89,18 +99,57 @@ module _ (files : Option (List FileText)) (opened : ℕ → Option Opening) wher
       let found = are.0.told told tells in
       All-cons (λ name. IsSome (first_named name told)) name names (subst IsSome (sym found.1) refl) (opened_found names opens are.1 told tells)
 
-  -- a name that is refused, behind those that are opened
-  pub name_refused : (before after : List (List ℕ)) (opens : List Opened) (name : List ℕ) (attempts failures : ℕ) → AreOpened files opened before opens → (refusal : Status)
-      → IsNameRefused files name attempts failures refusal → AreNamesRefused files (before ++ name ∷ after) attempts failures refusal
-  name_refused before after opens name attempts failures are (status.NoSource absent) is = (
-    before,
-    after,
-    ap (λ (n : List ℕ). before ++ n ∷ after) (sym is.0),
-    λ told tells. (opened_found before opens are told tells, ap (λ (n : List ℕ). first_named n told) is.0 ∙ is.1 told tells),
-  )
-  name_refused before after opens name attempts failures are (status.SourceFault kit) is = is
-  name_refused before after opens name attempts failures are status.NoMemory is = tt
-  name_refused before after opens name attempts failures are _ is = absurd is
+  -- and has the length that it was opened with
+  pub opened_has_length : (name : List ℕ) (file : Opened) → IsOpenedAs files opened name file → HasLength files name file.len
+  opened_has_length name file is = λ told tells. let t = is.told told tells in (t.0, t.1, t.2)
+
+  pub nth_has_length : (before after : List (List ℕ)) (name : List ℕ) (opens : List Opened) (file : Opened) → AreOpened files opened (before ++ name ∷ after) opens
+      → slice_get opens (length before) ≡ Some file → HasLength files name file.len
+  nth_has_length [] after name [] file are at = absurd are
+  nth_has_length [] after name (first ∷ opens) file are at =
+      subst (λ (f : Opened). HasLength files name f.len) (same_Some first file at) (opened_has_length name first are.0)
+  nth_has_length (other ∷ before) after name [] file are at = absurd are
+  nth_has_length (other ∷ before) after name (first ∷ opens) file are at = nth_has_length before after name opens file are.1 at
+
+  module _ (first : List Opened) (before after : List (List ℕ)) (name : List ℕ) (kit attempts failures : ℕ) where
+    -- a name that is refused, behind those that are opened
+    pub name_refused : (opens : List Opened) → AreOpened files opened before opens → (refusal : Status) → IsNameRefused files name kit attempts failures refusal
+        → AreNamesRefused files first (before ++ name ∷ after) kit attempts failures refusal
+    name_refused opens are (status.NoSource absent) is = (
+      before,
+      after,
+      ap (λ (n : List ℕ). before ++ n ∷ after) (sym is.0),
+      λ told tells. (opened_found before opens are told tells, ap (λ (n : List ℕ). first_named n told) is.0 ∙ is.1 told tells),
+    )
+    name_refused opens are (status.SourceFault at) is = is
+    name_refused opens are status.NoMemory is = tt
+    name_refused opens are _ is = absurd is
+
+    -- and a file that is not taken
+    pub file_refused : (at : ℕ) (file : Opened) → at ≡ length before → IsOpenedAs files opened name file → (refusal : Status) → IsFileRefused first at name file.len refusal
+        → AreNamesRefused files first (before ++ name ∷ after) kit attempts failures refusal
+    file_refused at file place one (status.FileChanged changed met other) is = (
+      before,
+      after,
+      ap (λ (n : List ℕ). before ++ n ∷ after) (sym is.0),
+      subst (λ (len : ℕ). IsChanged first (length before) met len) (sym is.1) (subst (λ (n : ℕ). IsChanged first n met file.len) place is.2),
+      subst (λ (len : ℕ). HasLength files changed len) (sym is.1) (subst (λ (n : List ℕ). HasLength files n file.len) (sym is.0) (opened_has_length name file one)),
+    )
+    file_refused at file place one status.NoMemory is = tt
+    file_refused at file place one _ is = absurd is
+
+-- ---- lengths
+
+pub agree_none : (first : List Opened) → AgreeInLength first []
+agree_none [] = tt
+agree_none (met ∷ first) = tt
+
+-- one more file that has the length of the first kit's, if that has one there
+pub agree_more : (first files : List Opened) (file : Opened) → AgreeInLength first files → HasSameLength first (length files) file.len → AgreeInLength first (files ++ file ∷ [])
+agree_more [] [] file agree same = tt
+agree_more [] (other ∷ files) file agree same = tt
+agree_more (met ∷ first) [] file agree same = (same met refl, agree_none first)
+agree_more (met ∷ first) (other ∷ files) file agree same = (agree.0, agree_more first files file agree.1 same)
 
 -- ---- names in a list
 
@@ -112,32 +161,46 @@ split_item (y ∷ ys) (suc i) x inside is = ap (λ t. y ∷ t) (split_item ys i 
 pub item_split : {X : Type 0} (xs : List X) (i : ℕ) (x : X) → i < length xs → x ≡ get_or xs i x → xs ≡ take i xs ++ x ∷ drop (i + 1) xs
 item_split xs i x inside is = let next : suc i ≡ i + 1 = omega arith in split_item xs i x inside is ∙ ap (λ n. take i xs ++ x ∷ drop n xs) next
 
-module _ (files later : Option (List FileText)) (same : later ≡ files) where
-  pub names_refused : (opened : ℕ → Option Opening) (before names after : List (List ℕ)) (i : ℕ) (name shown : List ℕ) (opens : List Opened) (attempts failures : ℕ) → i < length names
-      → name ≡ get_or names i name → shown ≡ name → AreOpened later opened (before ++ take i names) opens → (refusal : Status) → IsNameRefused later shown attempts failures refusal
-      → AreNamesRefused files (before ++ (names ++ after)) attempts failures refusal
-  names_refused opened before names after i name shown opens attempts failures inside is seen are refusal refused =
-      let rest : List (List ℕ) = drop (i + 1) names ++ after in
-      let whole : (before ++ take i names) ++ name ∷ rest ≡ before ++ (names ++ after) =
-      append_assoc before (take i names) (name ∷ rest)
-      ∙ ap (λ t. before ++ t) (sym (append_assoc (take i names) (name ∷ drop (i + 1) names) after))
-      ∙ ap (λ t. before ++ (t ++ after)) (sym (item_split names i name inside is)) in
-      subst (λ (f : Option (List FileText)). AreNamesRefused f (before ++ (names ++ after)) attempts failures refusal) same
-      (subst (λ (l : List (List ℕ)). AreNamesRefused later l attempts failures refusal) whole
-      (name_refused later opened (before ++ take i names) rest opens name attempts failures are refusal
-      (subst (λ (n : List ℕ). IsNameRefused later n attempts failures refusal) seen refused)))
+-- a name among others, those before it and those after it
+name_within : (before names after : List (List ℕ)) (i : ℕ) (name : List ℕ) → i < length names → name ≡ get_or names i name
+    → (before ++ take i names) ++ name ∷ (drop (i + 1) names ++ after) ≡ before ++ (names ++ after)
+name_within before names after i name inside is =
+    append_assoc before (take i names) (name ∷ (drop (i + 1) names ++ after))
+    ∙ ap (λ t. before ++ t) (sym (append_assoc (take i names) (name ∷ drop (i + 1) names) after))
+    ∙ ap (λ t. before ++ (t ++ after)) (sym (item_split names i name inside is))
 
-  pub names_opened : (opened onward : ℕ → Option Opening) → KeepsOpenings onward opened → (before names : List (List ℕ)) (i : ℕ) (name shown : List ℕ) (opens more : List Opened) (file : Opened)
-      → i < length names → name ≡ get_or names i name → shown ≡ name → AreOpened files onward (before ++ take i names) opens → IsOpenedAs later opened shown file → more ≡ opens ++ file ∷ []
-      → AreOpened later opened (before ++ take (i + 1) names) more
-  names_opened opened onward kept before names i name shown opens more file inside is seen are one pushed =
-      let front = opened_later files onward opened kept (before ++ take i names) opens are in
-      let all = opened_more later opened (before ++ take i names) opens name file (subst (λ (f : Option (List FileText)). AreOpened f opened (before ++ take i names) opens) (sym same) front)
-      (subst (λ (n : List ℕ). IsOpenedAs later opened n file) seen one) in
-      let whole : (before ++ take i names) ++ name ∷ [] ≡ before ++ take (i + 1) names =
-      append_assoc before (take i names) (name ∷ []) ∙ ap (λ t. before ++ t) (sym (take_more names i name inside ∙ ap (λ n. take i names ++ n ∷ []) (sym is))) in
-      subst (λ (o : List Opened). AreOpened later opened (before ++ take (i + 1) names) o) (sym pushed)
-      (subst (λ (l : List (List ℕ)). AreOpened later opened l (opens ++ file ∷ [])) whole all)
+module _ (files later : Option (List FileText)) (same : later ≡ files) (before names after : List (List ℕ)) (i : ℕ) (name shown : List ℕ) (inside : i < length names) (is : name ≡ get_or names i name)
+    (seen : shown ≡ name) (first : List Opened) (kit attempts failures : ℕ) where
+  whole : (refusal : Status) → AreNamesRefused later first ((before ++ take i names) ++ shown ∷ (drop (i + 1) names ++ after)) kit attempts failures refusal
+      → AreNamesRefused files first (before ++ (names ++ after)) kit attempts failures refusal
+  whole refusal refused =
+      subst (λ (f : Option (List FileText)). AreNamesRefused f first (before ++ (names ++ after)) kit attempts failures refusal) same
+      (subst (λ (l : List (List ℕ)). AreNamesRefused later first l kit attempts failures refusal)
+      (ap (λ (n : List ℕ). (before ++ take i names) ++ n ∷ (drop (i + 1) names ++ after)) seen ∙ name_within before names after i name inside is) refused)
+
+  pub names_refused : (opened : ℕ → Option Opening) (opens : List Opened) → AreOpened later opened (before ++ take i names) opens → (refusal : Status)
+      → IsNameRefused later shown kit attempts failures refusal → AreNamesRefused files first (before ++ (names ++ after)) kit attempts failures refusal
+  names_refused opened opens are refusal refused =
+      whole refusal (name_refused later opened first (before ++ take i names) (drop (i + 1) names ++ after) shown kit attempts failures opens are refusal refused)
+
+  pub files_refused : (told : Option (List FileText)) (was opened : ℕ → Option Opening) (opens : List Opened) (at : ℕ) (file : Opened) → AreOpened told was (before ++ take i names) opens
+      → at ≡ length opens → IsOpenedAs later opened shown file → (refusal : Status) → IsFileRefused first at shown file.len refusal
+      → AreNamesRefused files first (before ++ (names ++ after)) kit attempts failures refusal
+  files_refused told was opened opens at file are place one refusal refused =
+      whole refusal (file_refused later opened first (before ++ take i names) (drop (i + 1) names ++ after) shown kit attempts failures at file
+      (place ∙ opened_length told was (before ++ take i names) opens are) one refusal refused)
+
+pub names_opened : (files later : Option (List FileText)) → later ≡ files → (opened onward : ℕ → Option Opening) → KeepsOpenings onward opened → (before names : List (List ℕ)) (i : ℕ)
+    (name shown : List ℕ) (opens more : List Opened) (file : Opened) → i < length names → name ≡ get_or names i name → shown ≡ name → AreOpened files onward (before ++ take i names) opens
+    → IsOpenedAs later opened shown file → more ≡ opens ++ file ∷ [] → AreOpened later opened (before ++ take (i + 1) names) more
+names_opened files later same opened onward kept before names i name shown opens more file inside is seen are one pushed =
+    let front = opened_later files onward opened kept (before ++ take i names) opens are in
+    let all = opened_more later opened (before ++ take i names) opens name file (subst (λ (f : Option (List FileText)). AreOpened f opened (before ++ take i names) opens) (sym same) front)
+    (subst (λ (n : List ℕ). IsOpenedAs later opened n file) seen one) in
+    let whole : (before ++ take i names) ++ name ∷ [] ≡ before ++ take (i + 1) names =
+    append_assoc before (take i names) (name ∷ []) ∙ ap (λ t. before ++ t) (sym (take_more names i name inside ∙ ap (λ n. take i names ++ n ∷ []) (sym is))) in
+    subst (λ (o : List Opened). AreOpened later opened (before ++ take (i + 1) names) o) (sym pushed)
+    (subst (λ (l : List (List ℕ)). AreOpened later opened l (opens ++ file ∷ [])) whole all)
 
 -- ---- nodes in a list
 
@@ -154,14 +217,6 @@ pub names_whole : (nodes : List Node) (i : ℕ) (node : Node) → i < length nod
 names_whole nodes i node inside is =
     sym (ap names_of (item_split nodes i node inside is) ∙ flat_map-append (λ (n : Node). names_in n.kind) (take i nodes) (node ∷ drop (i + 1) nodes))
 
--- more failures than were counted in a refusal
-pub more_refused : (files : Option (List FileText)) (names : List (List ℕ)) (attempts failures more : ℕ) → failures ≤ more → (refusal : Status)
-    → AreNamesRefused files names attempts failures refusal → AreNamesRefused files names attempts more refusal
-more_refused files names attempts failures more low (status.NoSource absent) is = is
-more_refused files names attempts failures more low (status.SourceFault kit) is = (is.0, omega (arith, is.1, low))
-more_refused files names attempts failures more low status.NoMemory is = tt
-more_refused files names attempts failures more low _ is = absurd is
-
 -- ---- what stays of a store
 
 module _ {S : Type 0} (faults : S → ℕ) (files : S → Option (List FileText)) (opened : S → ℕ → Option Opening) where
@@ -175,34 +230,201 @@ module _ {S : Type 0} (faults : S → ℕ) (files : S → Option (List FileText)
     openings = λ file opening is. two.openings file opening (one.openings file opening is);
   }
 
--- ---- the first kit
+-- ---- one kit after another
 
-module _ {F S : Type 0} where
-  pub first_becomes : (kits : List (Kit F S)) (d new : Kit F S) (P : Kit F S → Kit F S → Type 0) → 0 < length kits → P (get_or kits 0 d) new → FirstBecomes kits (set kits 0 new) P
-  first_becomes [] d new P some holds = absurd (omega arith)
-  first_becomes (first ∷ kits) d new P some holds = holds
+pub same_become : {A : Type 0} (Q : A → A → Type 0) → ((x : A) → Q x x) → (xs : List A) → EachBecomes xs xs Q
+same_become Q stays [] = tt
+same_become Q stays (x ∷ xs) = (stays x, same_become Q stays xs)
 
-  pub first_after : (kits : List (Kit F S)) (new : Kit F S) (P : Kit F S → Type 0) → 0 < length kits → P new → IsOfFirst (set kits 0 new) P
-  first_after [] new P some holds = absurd (omega arith)
-  first_after (first ∷ kits) new P some holds = holds
+-- the first n of them have become so, and the others are as they were
+abbrev pub BecomesUpTo : {A : Type 0} → ℕ → List A → List A → (A → A → Type 0) → Type 0
+BecomesUpTo zero olds news P = news ≡ olds
+BecomesUpTo (suc n) (old ∷ olds) (new ∷ news) P = P old new × BecomesUpTo n olds news P
+BecomesUpTo (suc n) _ _ P = ⊥
 
-  pub first_is : (kits : List (Kit F S)) (d : Kit F S) (P : Kit F S → Type 0) → IsOfFirst kits P → P (get_or kits 0 d)
-  first_is [] d P holds = absurd holds
-  first_is (first ∷ kits) d P holds = holds
+module _ {A : Type 0} (P : A → A → Type 0) where
+  one_becomes : (news : List A) (d new : A) → 0 < length news → P (get_or news 0 d) new → BecomesUpTo 1 news (set news 0 new) P
+  one_becomes [] d new inside holds = absurd (omega arith)
+  one_becomes (y ∷ news) d new inside holds = (holds, refl)
 
-  pub others_stay : (kits : List (Kit F S)) (new : Kit F S) → 0 < length kits → OthersStay kits (set kits 0 new)
-  others_stay [] new some = absurd (omega arith)
-  others_stay (first ∷ kits) new some = refl
+  suc_becomes : (n : ℕ) (olds news : List A) (d new : A) → BecomesUpTo n olds news P → n < length news → P (get_or news n d) new → BecomesUpTo (suc n) olds (set news n new) P
+  suc_becomes zero olds news d new done inside holds = subst (λ (o : List A). BecomesUpTo 1 o (set news 0 new) P) done (one_becomes news d new inside holds)
+  suc_becomes (suc n) (old ∷ olds) (y ∷ news) d new done inside holds = (done.0, suc_becomes n olds news d new done.1 (omega arith) holds)
+  suc_becomes (suc n) [] news d new done inside holds = absurd done
+  suc_becomes (suc n) (old ∷ olds) [] d new done inside holds = absurd done
 
--- ---- what is known of a result
+  pub more_become : (n : ℕ) (olds news : List A) (d new : A) → BecomesUpTo n olds news P → n < length news → P (get_or news n d) new → BecomesUpTo (n + 1) olds (set news n new) P
+  more_become n olds news d new done inside holds =
+      let next : suc n ≡ n + 1 = omega arith in
+      subst (λ (m : ℕ). BecomesUpTo m olds (set news n new) P) next (suc_becomes n olds news d new done inside holds)
 
-pub on_ok : {A E P Q : Type 0} (r : Result A E) → (P → Q) → OnOk r P → OnOk r Q
-on_ok (Ok a) f h = f h
-on_ok (Err e) f h = tt
+  -- the next one is as it was
+  pub next_is : (n : ℕ) (olds news : List A) (d : A) → BecomesUpTo n olds news P → n < length news → slice_get olds n ≡ Some (get_or news n d)
+  next_is zero olds [] d done inside = absurd (omega arith)
+  next_is zero olds (y ∷ news) d done inside = subst (λ (o : List A). slice_get o 0 ≡ Some y) done refl
+  next_is (suc n) (old ∷ olds) (y ∷ news) d done inside = next_is n olds news d done.1 (omega arith)
+  next_is (suc n) [] news d done inside = absurd done
+  next_is (suc n) (old ∷ olds) [] d done inside = absurd done
 
-pub if_ok : {A E : Type 0} {P Q : A → Type 0} (r : Result A E) → ((a : A) → P a → Q a) → IfOk r P → IfOk r Q
-if_ok (Ok a) f h = f a h
-if_ok (Err e) f h = tt
+  -- all have become so
+  pub whole_becomes : (n : ℕ) (olds news : List A) → BecomesUpTo n olds news P → length news ≤ n → EachBecomes olds news P
+  whole_becomes zero olds [] done all = subst (λ (o : List A). EachBecomes o [] P) done tt
+  whole_becomes zero olds (new ∷ news) done all = absurd (omega arith)
+  whole_becomes (suc n) [] news done all = absurd done
+  whole_becomes (suc n) (old ∷ olds) [] done all = absurd done
+  whole_becomes (suc n) (old ∷ olds) (new ∷ news) done all = (done.0, whole_becomes n olds news done.1 (omega arith))
+
+  module _ (Q : A → A → Type 0) (holds : (old new : A) → P old new → Q old new) (stays : (x : A) → Q x x) where
+    -- with those that are as they were
+    pub each_becomes : (n : ℕ) (olds news : List A) → BecomesUpTo n olds news P → EachBecomes olds news Q
+    each_becomes zero olds news done = subst (λ (o : List A). EachBecomes o news Q) done (same_become Q stays news)
+    each_becomes (suc n) [] news done = absurd done
+    each_becomes (suc n) (old ∷ olds) [] done = absurd done
+    each_becomes (suc n) (old ∷ olds) (new ∷ news) done = (holds old new done.0, each_becomes n olds news done.1)
+
+    one_other : (news : List A) (d new : A) → 0 < length news → Q (get_or news 0 d) new → EachBecomes news (set news 0 new) Q
+    one_other [] d new inside one = absurd (omega arith)
+    one_other (y ∷ news) d new inside one = (one, same_become Q stays news)
+
+    -- with one more, that became so only
+    pub each_and_one : (n : ℕ) (olds news : List A) (d new : A) → BecomesUpTo n olds news P → n < length news → Q (get_or news n d) new → EachBecomes olds (set news n new) Q
+    each_and_one zero olds news d new done inside one = subst (λ (o : List A). EachBecomes o (set news 0 new) Q) done (one_other news d new inside one)
+    each_and_one (suc n) [] news d new done inside one = absurd done
+    each_and_one (suc n) (old ∷ olds) [] d new done inside one = absurd done
+    each_and_one (suc n) (old ∷ olds) (y ∷ news) d new done inside one = (holds old y done.0, each_and_one n olds news d new done.1 (omega arith) one)
+
+-- ---- what becomes of kits
+
+module _ {A : Type 0} (P R Q : A → A → Type 0) (both : (old mid new : A) → P old mid → R mid new → Q old new) where
+  pub become_onward : (olds mids news : List A) → EachBecomes olds mids P → EachBecomes mids news R → EachBecomes olds news Q
+  become_onward [] [] [] one two = tt
+  become_onward [] [] (new ∷ news) one two = absurd two
+  become_onward [] (mid ∷ mids) news one two = absurd one
+  become_onward (old ∷ olds) [] news one two = absurd one
+  become_onward (old ∷ olds) (mid ∷ mids) [] one two = absurd two
+  become_onward (old ∷ olds) (mid ∷ mids) (new ∷ news) one two = (both old mid new one.0 two.0, become_onward olds mids news one.1 two.1)
+
+pub become_all : {A : Type 0} (P : A → A → Type 0) (R : A → Type 0) → ((old new : A) → P old new → R new) → (olds news : List A) → EachBecomes olds news P → AllByRecursion R news
+become_all P R holds [] [] become = tt
+become_all P R holds [] (new ∷ news) become = absurd become
+become_all P R holds (old ∷ olds) [] become = absurd become
+become_all P R holds (old ∷ olds) (new ∷ news) become = (holds old new become.0, become_all P R holds olds news become.1)
+
+-- it has no files any more
+abbrev pub IsClosed : {F S : Type 0} → Kit F S → Kit F S → Type 0
+IsClosed old new = new ≡ record old { files = [] }
+
+pub closed_more : {F S : Type 0} (n : ℕ) (olds news : List (Kit F S)) (d : Kit F S) (files : List Opened) → BecomesUpTo n olds news IsClosed → n < length news → files ≡ []
+    → BecomesUpTo (n + 1) olds (set news n (record (get_or news n d) { files = files })) IsClosed
+closed_more n olds news d files done inside none =
+    more_become IsClosed n olds news d (record (get_or news n d) { files = files }) done inside (ap (λ (fs : List Opened). record (get_or news n d) { files = fs }) none)
+
+pub closed_none : {F S : Type 0} (olds news : List (Kit F S)) → EachBecomes olds news IsClosed → AllByRecursion (λ kit. kit.files ≡ []) news
+closed_none {F} {S} olds news closed = become_all IsClosed (λ kit. kit.files ≡ []) (λ old new is. ap (λ (kit : Kit F S). kit.files) is) olds news closed
+
+module _ {F S : Type 0} (files : S → Option (List FileText)) (faults : S → ℕ) where
+  observed_at : (olds news : List (Kit F S)) (n : ℕ) (x new : Kit F S) → slice_get olds n ≡ Some x → slice_get news n ≡ Some new
+      → slice_get (observed_each files faults olds news) n ≡ Some (observed_store files faults x.store new.store)
+  observed_at [] news n x new was is = absurd cc
+  observed_at (old ∷ olds) [] n x new was is = absurd cc
+  observed_at (old ∷ olds) (y ∷ news) zero x new was is =
+      ap (λ (k : Kit F S). Some (observed_store files faults k.store y.store)) (same_Some old x was) ∙ ap (λ (k : Kit F S). Some (observed_store files faults x.store k.store)) (same_Some y new is)
+  observed_at (old ∷ olds) (y ∷ news) (suc n) x new was is = observed_at olds news n x new was is
+
+  pub observed_set : (olds news : List (Kit F S)) (n : ℕ) (x new : Kit F S) → slice_get olds n ≡ Some x → n < length news
+      → slice_get (observed_each files faults olds (set news n new)) n ≡ Some (observed_store files faults x.store new.store)
+  observed_set olds news n x new was inside =
+      observed_at olds (set news n new) n x new was
+      (slice_get-get_or (set news n new) n new (omega (arith, length-set news n new)) ∙ ap Some (get_or-set_same news n new new inside))
+
+  -- what is observed of stores stays, where only files are dropped
+  pub observed_closed : (olds mids news : List (Kit F S)) → EachBecomes mids news IsClosed
+      → observed_each files faults olds mids ≡ observed_each files faults olds news
+  observed_closed [] mids news closed = refl
+  observed_closed (old ∷ olds) [] [] closed = refl
+  observed_closed (old ∷ olds) [] (new ∷ news) closed = absurd closed
+  observed_closed (old ∷ olds) (mid ∷ mids) [] closed = absurd closed
+  observed_closed (old ∷ olds) (mid ∷ mids) (new ∷ news) closed =
+      ap (λ (k : Kit F S). observed_store files faults old.store k.store ∷ observed_each files faults olds mids) (sym closed.0)
+      ∙ ap (λ t. observed_store files faults old.store new.store ∷ t) (observed_closed olds mids news closed.1)
+
+module _ {F S : Type 0} (faults : S → ℕ) (files : S → Option (List FileText)) (opened : S → ℕ → Option Opening) where
+  -- what a call leaves of a kit, whatever it answers
+  abbrev pub IsOnward : Kit F S → Kit F S → Type 0
+  IsOnward old new = (new.shelf ≡ old.shelf) × IsStoreKept faults files opened old.store new.store
+
+  pub onward_same : (kit : Kit F S) → IsOnward kit kit
+  onward_same kit = (refl, store_same faults files opened kit.store)
+
+  pub closed_onward : (olds mids news : List (Kit F S)) → EachBecomes olds mids IsOnward → EachBecomes mids news IsClosed → EachBecomes olds news IsOnward
+  closed_onward olds mids news = become_onward IsOnward IsClosed IsOnward (λ old mid new one two. subst (λ (kit : Kit F S). IsOnward old kit) (sym two) one) olds mids news
+
+  pub one_onward : (kits others : List (Kit F S)) (first new : Kit F S) → kits ≡ first ∷ others → IsOnward first new → EachBecomes kits (new ∷ others) IsOnward
+  one_onward kits others first new are one = subst (λ (ks : List (Kit F S)). EachBecomes ks (new ∷ others) IsOnward) (sym are) (one, same_become IsOnward onward_same others)
+
+  -- it has opened the files of these names, which have the lengths that the first kit met
+  abbrev pub HasOpened : List (List ℕ) → List Opened → Kit F S → Kit F S → Type 0
+  HasOpened names first old new = IsOnward old new × AreOpened (files new.store) (opened new.store) names new.files × AgreeInLength first new.files
+
+-- ---- why not every kit opened the files
+
+module _ (plan : Plan) (attempts failed : ℕ) (store : ObservedStore) (stores : List ObservedStore) where
+  pub first_refused : (failures : ℕ) → AreCounted failed failures store.before store.after → (refusal : Status) → AreNamesRefused store.files [] (file_names plan) 0 attempts failures refusal
+      → IsOpeningRefused (store ∷ stores) plan attempts failed refusal
+  first_refused failures counted (status.NoSource name) is = record { kit = 0; store = store; at = refl; before = is.0; after = is.1; names_are = is.2; absent = is.3 }
+  first_refused failures counted (status.SourceFault at) is =
+      let most : failures ≤ failed + rise store.before store.after = counted failed store.before (omega arith) (omega arith) in
+      subst (λ (k : ℕ). HasFailed (store ∷ stores) attempts failed k) (sym is.0) (record { store = store; at = refl; counted = omega (arith, most, is.1) })
+  first_refused failures counted (status.FileChanged name len other) is = let met : None ≡ Some is.3.file = is.3.met in absurd cc
+  first_refused failures counted status.NoMemory is = tt
+  first_refused failures counted _ is = absurd is
+
+  pub other_refused : (opened : ℕ → Option Opening) (opens : List Opened) → AreOpened store.files opened (file_names plan) opens → (refusal : Status)
+      → IsOtherRefused stores opens (file_names plan) attempts refusal → IsOpeningRefused (store ∷ stores) plan attempts failed refusal
+  other_refused opened opens are (status.NoSource name) is =
+      let r = is.refused in
+      record { kit = suc is.kit; store = is.store; at = is.at; before = r.0; after = r.1; names_are = r.2; absent = r.3 }
+  other_refused opened opens are (status.SourceFault at) is =
+      let next : suc is.kit ≡ is.kit + 1 = omega arith in
+      subst (λ (k : ℕ). HasFailed (store ∷ stores) attempts failed k) (next ∙ sym is.refused.0)
+      (record { store = is.store; at = is.at; counted = omega (arith, is.counted, is.refused.1) })
+  other_refused opened opens are (status.FileChanged name len other) is =
+      let r = is.refused in
+      record {
+        first = store;
+        at_first = refl;
+        kit = suc is.kit;
+        store = is.store;
+        at = is.at;
+        before = r.0;
+        after = r.1;
+        names_are = r.2;
+        differ = r.3.differ;
+        len_at_first = subst (λ (l : ℕ). HasLength store.files name l) r.3.len_is
+            (nth_has_length store.files opened r.0 r.1 name opens r.3.file (subst (λ (l : List (List ℕ)). AreOpened store.files opened l opens) r.2 are) r.3.met);
+        len_at = r.4;
+      }
+  other_refused opened opens are status.NoMemory is = tt
+  other_refused opened opens are _ is = absurd is.refused
+
+module _ {F S : Type 0} (faults : S → ℕ) (files : S → Option (List FileText)) (opened : S → ℕ → Option Opening) (plan : Plan) (attempts failed : ℕ) (kits others news : List (Kit F S))
+    (first new : Kit F S) (are : kits ≡ first ∷ others) where
+  seen : (refusal : Status) → IsOpeningRefused (observed_store files faults first.store new.store ∷ observed_each files faults others news) plan attempts failed refusal
+      → IsOpeningRefused (observed_each files faults kits (new ∷ news)) plan attempts failed refusal
+  seen refusal is = subst (λ (ks : List (Kit F S)). IsOpeningRefused (observed_each files faults ks (new ∷ news)) plan attempts failed refusal) (sym are) is
+
+  pub each_first_refused : (failures : ℕ) → AreCounted failed failures (faults first.store) (faults new.store) → (refusal : Status)
+      → AreNamesRefused (files first.store) [] (file_names plan) 0 attempts failures refusal → IsOpeningRefused (observed_each files faults kits (new ∷ news)) plan attempts failed refusal
+  each_first_refused failures counted refusal is =
+      seen refusal (first_refused plan attempts failed (observed_store files faults first.store new.store) (observed_each files faults others news) failures counted refusal is)
+
+  pub each_other_refused : (opens : List Opened) → IsStoreKept faults files opened first.store new.store → AreOpened (files new.store) (opened new.store) (file_names plan) new.files
+      → opens ≡ new.files → (refusal : Status) → IsOtherRefused (observed_each files faults others news) opens (file_names plan) attempts refusal
+      → IsOpeningRefused (observed_each files faults kits (new ∷ news)) plan attempts failed refusal
+  each_other_refused opens kept opened_all same refusal is =
+      let told = subst (λ (f : Option (List FileText)). AreOpened f (opened new.store) (file_names plan) new.files) kept.files opened_all in
+      seen refusal (other_refused plan attempts failed (observed_store files faults first.store new.store) (observed_each files faults others news) (opened new.store) opens
+      (subst (λ (o : List Opened). AreOpened (files first.store) (opened new.store) (file_names plan) o) (sym same) told) refusal is)
 
 pub if_err : {A E : Type 0} {P Q : E → Type 0} (r : Result A E) → ((e : E) → P e → Q e) → IfErr r P → IfErr r Q
 if_err (Ok a) f h = tt

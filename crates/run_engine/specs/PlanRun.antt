@@ -1,21 +1,28 @@
 -- How a run of a plan ends: the outcome is the data of the run's own final book.
-use Rattle.std.specs.Prelude.{◌≡◌, ℕ, ◌+◌, ◌≤◌, List, Option, Some, None}
+use Rattle.std.specs.Prelude.{◌≡◌, ℕ, ◌+◌, ◌≤◌, List, [], ◌∷◌, map, Option, Some, None}
 use Rattle.std.specs.List.{All}
 use Rattle.beam_values.specs.Storable.{IsStorable}
-use Rattle.beam_values.specs.declared.fault.Cause.{Cause}
-use Rattle.beam_values.specs.declared.fault.Cause.TheVariants.{Call, Read}
 use Rattle.beam_values.specs.declared.fault.FaultNote.{FaultNote}
 use Rattle.beam_values.specs.declared.options.Options.{Options}
 use Rattle.beam_values.specs.declared.outcome.Outcome.{Outcome}
+use Rattle.beam_values.specs.declared.file_text.FileText.{FileText}
+use Rattle.beam_values.specs.declared.outcome.StopCause.{StopCause}
 use Rattle.beam_values.specs.declared.outcome.StopCause.TheVariants as stop
+use Rattle.beam_values.specs.declared.piece.FileLen.{FileLen}
 use Rattle.beam_values.specs.declared.plan.Plan.{Plan}
-use Rattle.beam_ports.specs.Counts.{Rose, rise}
+use Rattle.beam_ports.specs.Counts.{rise}
+use Rattle.beam_model.specs.Positions.{item_len, items}
 use Rattle.beam_ports.specs.Observed.{ObservedStore, WhereTold}
 use Rattle.book_core.specs.Book.{BookData}
 use Rattle.book_core.specs.Calls.{IsOutcomeOf}
-use Rattle.book_core.specs.Runs.{AreTold, HonestlyReached, IsEnded}
+use Rattle.book_core.specs.Runs.{AreLengthsOf, AreTold, HonestlyReached, IsEnded}
 use Rattle.book_core.specs.Work.{Surroundings}
 use Rattle.chain_exec.specs.Causes.{ObservedShelf}
+use Rattle.beam_ports.specs.declared.store.Opened.{Opened}
+use Rattle.worker_loop.specs.Bundles.{IsCountedAs}
+use Rattle.worker_loop.specs.Reading.{length_in, readers_from}
+use Rattle.worker_loop.specs.declared.kit.Kit.{Kit}
+use Rattle.run_engine.specs.declared.status.RunEnd.{RunEnd}
 use Rattle.run_engine.specs.declared.status.Status.{Status}
 use Rattle.run_engine.specs.declared.status.Status.TheVariants as status
 
@@ -40,11 +47,6 @@ pub record IsStoppedBy (store : ObservedStore) (note : FaultNote) (b : BookData)
   pub noted : b.stopped ≡ Some (stop.Spent note)
   pub reads : b.reads ≤ rise store.before store.after
 
--- what failed last was counted: a read at the store, a call at the shelf
-abbrev pub IsCountedAs : ObservedShelf → ObservedStore → Cause → Type 0
-IsCountedAs shelf store Call = Rose shelf.before shelf.after
-IsCountedAs shelf store Read = Rose store.before store.after
-
 -- work failed as often as it may, and each time it was counted
 pub record IsSpent (shelf : ObservedShelf) (store : ObservedStore) (attempts : ℕ) (note : FaultNote) : Type 0 where
   pub attempt : note.attempt ≡ attempts
@@ -60,3 +62,35 @@ IsPlanEnd shelf store plan options (status.WorkFault note) outcome =
     × IsSpent shelf store options.attempts note
 IsPlanEnd shelf store plan options status.NoMemory outcome = outcome ≡ None
 IsPlanEnd shelf store plan options _ outcome = ⊥
+
+-- ---- the lengths that a run works with
+
+-- of the items of a plan, as these files were opened
+abbrev pub opened_lengths : Plan → List Opened → List FileLen
+opened_lengths plan files = map length_in (readers_from 0 plan.nodes files)
+
+-- as the first of these kits has opened them
+abbrev pub lengths_of_first : {F S : Type 0} → Plan → List (Kit F S) → List FileLen
+lengths_of_first plan [] = []
+lengths_of_first plan (first ∷ others) = opened_lengths plan first.files
+
+-- ---- within a run
+
+-- the lengths of the items of a plan, as they were opened; and where the files are told, as they are
+pub record AreFirstLengths (told : Option (List FileText)) (plan : Plan) (lengths : List FileLen) : Type 0 where
+  pub each : AreLengthsOf (items [] plan) lengths
+  pub told_are : WhereTold told (λ files. lengths ≡ map item_len (items files plan))
+
+-- the status of a run whose book was stopped so, or wasn't
+abbrev pub IsStatusAfter : Option StopCause → Status → Type 0
+IsStatusAfter None s = s ≡ status.Ok
+IsStatusAfter (Some (stop.Spent note)) s = s ≡ status.WorkFault note
+IsStatusAfter (Some stop.NoMemory) s = ⊥
+
+-- the data of the book is handed out, with the status that it tells
+pub record IsEndOfBook (b : BookData) (end : RunEnd) : Type 0 where
+  pub outcome : Outcome
+  pub some : end.outcome ≡ Some outcome
+  pub of_book : IsOutcomeOf b outcome
+  pub storable : All (λ pane. IsStorable pane.element.value) outcome.panes
+  pub tells : IsStatusAfter b.stopped end.status

@@ -13,3 +13,4 @@ number_of (status.SourceFault kit) = 5
 number_of (status.WorkFault note) = 6
 number_of status.SinkFault = 7
 number_of status.NoMemory = 8
+number_of (status.FileChanged name first other) = 9

@@ -1,23 +1,21 @@
-//! The run of a checked plan over its book, on one thread: files are opened, jobs are taken from the book,
-//! worked and committed or given back, until none is left or one has failed as often as it may.
+//! The run of a checked plan: its files are opened by each kit, and then one worker for each kit works its
+//! jobs at one book, until none is left, one has failed as often as it may, or there is no memory.
 //!
 //! [`run_plan`] ends with the data of the run's own book (`specs/PlanRun.antt`): one that is ended, or one
 //! that an honest fail stopped; what such an outcome is, `ended_runs` says. [`open_sources`] opens the
-//! files before. [`put`] writes a text whole, or says how far. Nothing that is promised depends on how large
-//! pieces and bundles are. Read `plan_run.rt` first, then `bundles.rt` and `reading.rt`.
+//! files before. [`put`] writes a text whole, or says how far. Nothing that is promised depends on how many
+//! workers there are, on what they split, nor on how large pieces and bundles are. Read `plan_run.rt` first,
+//! then `opening.rt`.
 #![tactic(auto)]
 
-mod bundles;
-mod kit;
 mod opening;
 mod plan_run;
-mod reading;
 mod status;
 mod storable;
 mod writing;
 
-pub use kit::Kit;
-pub use opening::{open_kit, open_sources};
-pub use plan_run::{run_kit, run_plan};
+pub use opening::open_sources;
+pub use plan_run::run_plan;
 pub use status::{RunEnd, Status};
+pub use worker_loop::Kit;
 pub use writing::put;

@@ -1,21 +1,23 @@
-ghost use Rattle.std.specs.Prelude.{◌≡◌, ◌≤◌, ◌<◌, ◌++◌, ℕ, List as ListOf, [], length, OnOk, IfOk, IfErr, IsErr};
-ghost use Rattle.std.specs.List.{flat_map};
-ghost use Rattle.beam_ports.specs.Observed.{observed_store};
-ghost use Rattle.run_engine.specs.Kits.{IsOfFirst, FirstBecomes, OthersStay};
-ghost use Rattle.run_engine.specs.Openings.{AreCounted, AreNamesRefused, AreOpened, IsNameRefused, IsOpenedAs, IsOpeningRefused, file_names, names_in};
-ghost use Rattle.run_engine.specs.Outside.{IsStoreKept};
+ghost use Rattle.std.specs.Prelude.{◌≡◌, ◌<◌, ◌≤◌, ◌++◌, ℕ, List as ListOf, [], length, OnOk, IfOk, IfErr, IsErr};
+ghost use Rattle.std.specs.List.{AllByRecursion, flat_map};
+ghost use Rattle.worker_loop.specs.Kits.{EachBecomes};
+ghost use Rattle.worker_loop.specs.Openings.{AreOpened, IsOpenedAs, file_names, names_in};
+ghost use Rattle.worker_loop.specs.Outside.{IsStoreKept};
+ghost use Rattle.run_engine.specs.Kits.{observed_each};
+ghost use Rattle.run_engine.specs.Openings.{AgreeInLength, AreCounted, AreNamesRefused, AreOpenedByAll, HasSameLength, IsFileRefused, IsNameRefused, IsOpeningRefused, IsOtherRefused};
 
-use crate::kit::Kit;
 use crate::status::{Status, no_source};
 use beam_ports::{OpenRefusal, Opened, Store};
-use beam_values::{Bytes, List, Node, NodeKind, Options};
+use beam_values::{Bytes, List, Node, Options};
 use dofn_traits::Shelf;
 use pipeline_graph::Graph;
 use std::alloc::Global;
+use worker_loop::{Kit, names_in};
 
-/// Opens every file of the plan with the first kit, in node and item order. A call that fails is tried
-/// again until the store has failed `attempts` times, `failed` failures before this call counted. After a
-/// refusal the kit has no files.
+/// Opens every file of the plan with each kit, one kit after another, in node and item order. A call that
+/// fails is tried again until that kit's store has failed `attempts` times, at the first kit with `failed`
+/// failures before this call. Each file must have the length that the first kit has met. After a refusal no
+/// kit has files.
 pub fn open_sources<F: Shelf, S: Store>(
     alloc: Global,
     graph: &Graph,
@@ -23,37 +25,108 @@ pub fn open_sources<F: Shelf, S: Store>(
     kits: &mut [Kit<F, S>],
     failed: u32,
 ) -> Result<(), Status>
-    requires some { 0 < length kits.old }
     requires attempts { 1 ≤ options.now.attempts }
-    ensures opened { OnOk result (IsOfFirst kits.new (λ kit. AreOpened (S.files kit.store) (S.opened kit.store) (file_names graph.now) kit.files)) }
-    ensures refused { IfErr result (λ status. FirstBecomes kits.old kits.new (λ old new.
-        IsOpeningRefused (observed_store S.files S.faults old.store new.store) graph.now options.now.attempts failed status)) }
-    ensures none { IsErr result → IsOfFirst kits.new (λ kit. kit.files ≡ []) }
-    ensures shelf { FirstBecomes kits.old kits.new (λ old new. new.shelf ≡ old.shelf) }
-    ensures kept { FirstBecomes kits.old kits.new (λ old new. IsStoreKept S.faults S.files S.opened old.store new.store) }
-    ensures others { OthersStay kits.old kits.new }
+    requires workers { length kits.old ≤ options.now.workers }
+    ensures opened { OnOk result (AreOpenedByAll S.files S.opened graph.now kits.new) }
+    ensures refused { IfErr result (IsOpeningRefused (observed_each S.files S.faults kits.old kits.new) graph.now options.now.attempts failed) }
+    ensures none { IsErr result → AllByRecursion (λ kit. kit.files ≡ []) kits.new }
+    ensures kept { EachBecomes kits.old kits.new (λ old new. (new.shelf ≡ old.shelf) × IsStoreKept S.faults S.files S.opened old.store new.store) }
 {
-    open_kit(alloc, graph, options.attempts, &mut kits[0], failed)
+    prove!(kits.len() <= options.workers as usize);
+    match open_each(alloc, graph, options.attempts, kits, failed) {
+        Ok(()) => Ok(()),
+        Err(refusal) => {
+            close_files(alloc, kits);
+            Err(refusal)
+        }
+    }
 }
 
-/// [`open_sources`] with one kit.
-pub fn open_kit<F: Shelf, S: Store>(
+// No kit has files any more.
+fn close_files<F: Shelf, S: Store>(alloc: Global, kits: &mut [Kit<F, S>])
+    ensures { EachBecomes kits.old kits.new (λ old new. new ≡ record old { files = [] }) }
+{
+    for kit in kits.iter_mut() {
+        kit.files = List::new(alloc);
+    }
+}
+
+// Opens the files with the first kit, and then with the others.
+fn open_each<F: Shelf, S: Store>(
+    alloc: Global,
+    graph: &Graph,
+    attempts: u32,
+    kits: &mut [Kit<F, S>],
+    failed: u32,
+) -> Result<(), Status>
+    requires attempts { 1 ≤ attempts }
+    requires few { length kits.old ≤ 4294967295 }
+    ensures opened { OnOk result (AreOpenedByAll S.files S.opened graph.now kits.new) }
+    ensures refused { IfErr result (IsOpeningRefused (observed_each S.files S.faults kits.old kits.new) graph.now attempts failed) }
+    ensures kept { EachBecomes kits.old kits.new (λ old new. (new.shelf ≡ old.shelf) × IsStoreKept S.faults S.files S.opened old.store new.store) }
+{
+    let Some((first, others)) = kits.split_first_mut() else {
+        return Ok(());
+    };
+    match open_kit(alloc, graph, attempts, first, 0, failed, &[]) {
+        Ok(()) => open_others(alloc, graph, attempts, others, first.files.as_slice()),
+        Err(refusal) => Err(refusal),
+    }
+}
+
+// Opens the files with the kits after the first one, which has opened `first`.
+fn open_others<F: Shelf, S: Store>(
+    alloc: Global,
+    graph: &Graph,
+    attempts: u32,
+    kits: &mut [Kit<F, S>],
+    first: &[Opened],
+) -> Result<(), Status>
+    requires attempts { 1 ≤ attempts }
+    requires few { length kits.old < 4294967295 }
+    ensures opened { OnOk result (AllByRecursion (λ kit. AreOpened (S.files kit.store) (S.opened kit.store) (file_names graph.now) kit.files) kits.new) }
+    ensures lengths { OnOk result (AllByRecursion (λ kit. AgreeInLength first.now kit.files) kits.new) }
+    ensures refused { IfErr result (IsOtherRefused (observed_each S.files S.faults kits.old kits.new) first.now (file_names graph.now) attempts) }
+    ensures kept { EachBecomes kits.old kits.new (λ old new. (new.shelf ≡ old.shelf) × IsStoreKept S.faults S.files S.opened old.store new.store) }
+{
+    for at in 0..kits.len() {
+        let number = at as u32 + 1;
+        match open_kit(alloc, graph, attempts, &mut kits[at], number, 0, first) {
+            Ok(()) => {}
+            Err(refusal) => return Err(refusal),
+        }
+    }
+    Ok(())
+}
+
+// Opens the files with the kit of this number, where the first kit has opened `first`.
+fn open_kit<F: Shelf, S: Store>(
     alloc: Global,
     graph: &Graph,
     attempts: u32,
     kit: &mut Kit<F, S>,
+    number: u32,
     failed: u32,
+    first: &[Opened],
 ) -> Result<(), Status>
     requires attempts { 1 ≤ attempts }
     ensures opened { OnOk result (AreOpened (S.files kit.new.store) (S.opened kit.new.store) (file_names graph.now) kit.new.files) }
-    ensures refused { IfErr result (IsOpeningRefused (observed_store S.files S.faults kit.old.store kit.new.store) graph.now attempts failed) }
-    ensures none { IsErr result → kit.new.files ≡ [] }
+    ensures lengths { OnOk result (AgreeInLength first.now kit.new.files) }
+    ensures refused { IfErr result (λ status. (failures : ℕ) × AreCounted failed failures (S.faults kit.old.store) (S.faults kit.new.store)
+        × AreNamesRefused (S.files kit.old.store) first.now (file_names graph.now) number attempts failures status) }
     ensures shelf { kit.new.shelf ≡ kit.old.shelf }
     ensures kept { IsStoreKept S.faults S.files S.opened kit.old.store kit.new.store }
 {
-    kit.files = List::new(alloc);
     let nodes = graph.plan().nodes.as_slice();
-    match open_nodes(alloc, nodes, attempts, &mut kit.store, failed) {
+    match open_nodes(
+        alloc,
+        nodes,
+        attempts,
+        &mut kit.store,
+        number,
+        failed,
+        first,
+    ) {
         Ok(files) => {
             kit.files = files;
             Ok(())
@@ -67,19 +140,31 @@ fn open_nodes<S: Store>(
     nodes: &[Node],
     attempts: u32,
     store: &mut S,
+    number: u32,
     failed: u32,
+    first: &[Opened],
 ) -> Result<List<Opened>, Status>
     requires attempts { 1 ≤ attempts }
     ensures opened { IfOk result (AreOpened (S.files store.new) (S.opened store.new) (flat_map (λ node. names_in node.kind) nodes.now)) }
+    ensures lengths { IfOk result (AgreeInLength first.now) }
     ensures refused { IfErr result (λ status. (failures : ℕ) × AreCounted failed failures (S.faults store.old) (S.faults store.new)
-        × AreNamesRefused (S.files store.old) (flat_map (λ node. names_in node.kind) nodes.now) attempts failures status) }
+        × AreNamesRefused (S.files store.old) first.now (flat_map (λ node. names_in node.kind) nodes.now) number attempts failures status) }
     ensures kept { IsStoreKept S.faults S.files S.opened store.old store.new }
 {
     let mut failures = failed;
     let mut files = List::new(alloc);
     for node in nodes {
         let names = names_in(&node.kind);
-        match open_names(alloc, names, attempts, store, &mut failures, &mut files) {
+        match open_names(
+            alloc,
+            names,
+            attempts,
+            store,
+            number,
+            &mut failures,
+            first,
+            &mut files,
+        ) {
             Ok(()) => {}
             Err(refusal) => return Err(refusal),
         }
@@ -87,39 +172,55 @@ fn open_nodes<S: Store>(
     Ok(files)
 }
 
-// The names of the files that a node reads.
-pub(crate) fn names_in(kind: &NodeKind) -> &[Bytes]
-    ensures { result.now ≡ names_in kind.now }
-{
-    match kind {
-        NodeKind::Source { files, .. } => files.as_slice(),
-        _ => &[],
-    }
-}
-
+// Opens the files of one node, behind those that are opened.
 fn open_names<S: Store>(
     alloc: Global,
     names: &[Bytes],
     attempts: u32,
     store: &mut S,
+    number: u32,
     failures: &mut u32,
+    first: &[Opened],
     files: &mut List<Opened>,
 ) -> Result<(), Status>
     requires attempts { 1 ≤ attempts }
     ensures opened { OnOk result ((before : ListOf (ListOf ℕ)) → AreOpened (S.files store.old) (S.opened store.old) before files.old
         → AreOpened (S.files store.new) (S.opened store.new) (before ++ names.now) files.new) }
+    ensures lengths { OnOk result (AgreeInLength first.now files.old → AgreeInLength first.now files.new) }
     ensures refused { IfErr result (λ status. (before after : ListOf (ListOf ℕ)) → AreOpened (S.files store.old) (S.opened store.old) before files.old
-        → AreNamesRefused (S.files store.old) (before ++ (names.now ++ after)) attempts failures.new status) }
+        → AreNamesRefused (S.files store.old) first.now (before ++ (names.now ++ after)) number attempts failures.new status) }
     ensures counted { AreCounted failures.old failures.new (S.faults store.old) (S.faults store.new) }
     ensures kept { IsStoreKept S.faults S.files S.opened store.old store.new }
 {
     for name in names {
-        match open_named(alloc, name.as_slice(), attempts, store, failures) {
-            Ok(file) => files.push(file)?,
+        let name = name.as_slice();
+        match open_named(alloc, name, attempts, store, number, failures) {
+            Ok(file) => {
+                match compare(alloc, first, files.len(), name, file.len) {
+                    Ok(()) => {}
+                    Err(refusal) => return Err(refusal),
+                }
+                files.push(file)?;
+            }
             Err(refusal) => return Err(refusal),
         }
     }
     Ok(())
+}
+
+// Compares the length of a file with the one that the first kit has met at this place, if it has.
+fn compare(alloc: Global, first: &[Opened], at: usize, name: &[u8], len: u64) -> Result<(), Status>
+    ensures same { OnOk result (HasSameLength first.now at len) }
+    ensures refused { IfErr result (IsFileRefused first.now at name.now len) }
+{
+    match first.get(at) {
+        Some(file) if file.len != len => Err(Status::FileChanged {
+            name: Bytes::from_slice(alloc, name)?,
+            first: file.len,
+            other: len,
+        }),
+        _ => Ok(()),
+    }
 }
 
 // Opens one file, and counts the failures.
@@ -128,11 +229,12 @@ fn open_named<S: Store>(
     name: &[u8],
     attempts: u32,
     store: &mut S,
+    number: u32,
     failures: &mut u32,
 ) -> Result<Opened, Status>
     requires attempts { 1 ≤ attempts }
     ensures opened { IfOk result (IsOpenedAs (S.files store.new) (S.opened store.new) name.now) }
-    ensures refused { IfErr result (IsNameRefused (S.files store.old) name.now attempts failures.new) }
+    ensures refused { IfErr result (IsNameRefused (S.files store.old) name.now number attempts failures.new) }
     ensures counted { AreCounted failures.old failures.new (S.faults store.old) (S.faults store.new) }
     ensures kept { IsStoreKept S.faults S.files S.opened store.old store.new }
 {
@@ -143,7 +245,7 @@ fn open_named<S: Store>(
             Err(OpenRefusal::Failed) => {
                 *failures = failures.saturating_add(1);
                 if *failures >= attempts {
-                    return Err(Status::SourceFault(0));
+                    return Err(Status::SourceFault(number));
                 }
             }
         }

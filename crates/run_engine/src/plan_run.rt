@@ -1,72 +1,56 @@
-ghost use Rattle.std.specs.Prelude.{◌≡◌, ◌<◌, ℕ, List as ListOf, Option as OptionOf, length, IfOk, OnOk};
+ghost use Rattle.std.specs.Prelude.{◌≡◌, ◌<◌, ◌≤◌, ◌∷◌, [], ℕ, List as ListOf, Option as OptionOf, length, IfOk, IfSome};
 ghost use Rattle.beam_ports.specs.Files.{Opening};
-ghost use Rattle.beam_ports.specs.Observed.{observed_store};
 ghost use Rattle.beam_values.specs.declared.file_text.FileText.{FileText};
-ghost use Rattle.book_core.specs.Runs.{AreOptions};
-ghost use Rattle.book_core.specs.Steps.{IsFree, IsRunning};
-ghost use Rattle.chain_exec.specs.Causes.{observed_shelf};
-ghost use Rattle.run_engine.specs.Bundles.{AreFaultsCounted, HasTaken, IsEndOf, IsJobDone, IsJobEnd, IsWorkEnd, StaysOfRun};
-ghost use Rattle.run_engine.specs.Kits.{FirstBecomes, IsOfFirst, OthersStay};
-ghost use Rattle.run_engine.specs.Openings.{AreOpened, file_names};
-ghost use Rattle.run_engine.specs.Outside.{IsKitKept};
-ghost use Rattle.run_engine.specs.PlanRun.{IsPlanEnd, surroundings_of};
-ghost use Rattle.run_engine.specs.Reading.{AreReaders};
+ghost use Rattle.book_core.specs.Runs.{AreOptions, Reached};
+ghost use Rattle.book_core.specs.Work.{Surroundings};
+ghost use Rattle.turn_desk.specs.Notes.{opening_note};
+ghost use Rattle.worker_table.specs.Notes.{fresh, setting_for};
+ghost use Rattle.worker_table.specs.Passes.{IsOf, note_of_pass, setting_of};
+ghost use Rattle.worker_loop.specs.Kits.{EachBecomes, observed_shelves, observed_stores};
+ghost use Rattle.worker_loop.specs.Openings.{AreOpened, file_names};
+ghost use Rattle.worker_loop.specs.Outside.{IsKitKept};
+ghost use Rattle.run_engine.specs.Openings.{AreOpenedByAll};
+ghost use Rattle.run_engine.specs.PlanRun.{AreFirstLengths, IsEndOfBook, opened_lengths, lengths_of_first, IsPlanEnd, IsStatusAfter};
 
-use crate::bundles::{Workbench, work_job};
-use crate::kit::Kit;
-use crate::reading::{lengths_of, readers_of};
 use crate::status::{RunEnd, Status};
 use crate::storable::look_at_panes;
-use beam_ports::{Opened, Store};
-use beam_values::{FaultNote, NoMemory, Options};
-use book_core::laws::{books_with_no_job_left_are_through, rounds_are_bounded};
-use book_core::{Book, Failure, Taken};
-use bundle_commit::Job;
-use chain_exec::{Buffers, ExecRefusal};
+use beam_ports::{Gate, Opened, Store};
+use beam_values::{FileLen, List, NoMemory, Options, StopCause};
+use book_core::Book;
+use book_core::laws::{attempts_are_counted, honest_runs_are_runs};
 use dofn_traits::Shelf;
 use pipeline_graph::Graph;
 use pipeline_graph::laws::{
     nodes_have_inputs_and_settings_of_their_kind, plans_are_small_and_write_something,
 };
 use std::alloc::Global;
+use std::sync::Wait;
+use std::thread::Threads;
+use worker_loop::{Kit, lengths_of, readers_of, work_all};
+use worker_table::{Table, WorkerPass};
 
-/// Runs a checked plan with the first kit, whose files are those of the plan: jobs are taken, worked and
-/// committed or given back, until none is left or one has failed as often as the options allow. The
-/// outcome is the data of the run's own book.
-pub fn run_plan<F: Shelf, S: Store>(
+/// Runs a checked plan with one worker for each kit, in threads of their own. The kits' files are those of
+/// the plan: jobs are taken, worked and committed or given back, until none is left, one has failed as
+/// often as the options allow, or there is no memory. The outcome is the data of the run's own book.
+pub fn run_plan<R: Threads + Wait + Sync, F: Shelf, S: Store, G: Gate>(
+    rt: &R,
     alloc: Global,
     graph: Graph,
     options: &Options,
     kits: &mut [Kit<F, S>],
+    gate: &G,
 ) -> RunEnd
     requires some { 0 < length kits.old }
+    requires workers { length kits.old ≤ options.now.workers }
     requires allowed { AreOptions options.now }
-    requires opened { IsOfFirst kits.old (λ kit. AreOpened (S.files kit.store) (S.opened kit.store) (file_names graph) kit.files) }
-    ensures ended { FirstBecomes kits.old kits.new (λ old new. IsPlanEnd (observed_shelf F.strict F.faults old.shelf new.shelf)
-        (observed_store S.files S.faults old.store new.store) graph options.now result.status result.outcome) }
-    ensures kept { FirstBecomes kits.old kits.new (λ old new. IsKitKept F.faults F.strict S.faults S.files S.opened old.shelf new.shelf old.store new.store) }
-    ensures files { FirstBecomes kits.old kits.new (λ old new. new.files ≡ old.files) }
-    ensures others { OthersStay kits.old kits.new }
+    requires opened { AreOpenedByAll S.files S.opened graph kits.old }
+    ensures ended { IsPlanEnd (observed_shelves F.strict F.faults kits.old kits.new)
+        (observed_stores S.files S.faults kits.old kits.new) graph options.now result.status result.outcome }
+    ensures lengths { IfSome result.outcome (λ o. o.files ≡ lengths_of_first graph kits.old) }
+    ensures kept { EachBecomes kits.old kits.new (λ old new. (new.files ≡ old.files)
+        × IsKitKept F.faults F.strict S.faults S.files S.opened old.shelf new.shelf old.store new.store) }
 {
-    run_kit(alloc, graph, options, &mut kits[0])
-}
-
-/// [`run_plan`] with one kit.
-pub fn run_kit<F: Shelf, S: Store>(
-    alloc: Global,
-    graph: Graph,
-    options: &Options,
-    kit: &mut Kit<F, S>,
-) -> RunEnd
-    requires allowed { AreOptions options.now }
-    requires opened { AreOpened (S.files kit.old.store) (S.opened kit.old.store) (file_names graph) kit.old.files }
-    ensures ended { IsPlanEnd (observed_shelf F.strict F.faults kit.old.shelf kit.new.shelf)
-        (observed_store S.files S.faults kit.old.store kit.new.store) graph options.now result.status result.outcome }
-    ensures kept { IsKitKept F.faults F.strict S.faults S.files S.opened kit.old.shelf kit.new.shelf kit.old.store kit.new.store }
-    ensures files { kit.new.files ≡ kit.old.files }
-{
-    let files = kit.files.as_slice();
-    match run_book(alloc, graph, options, files, &mut kit.shelf, &mut kit.store) {
+    match run_book(rt, alloc, graph, options, kits, gate) {
         Ok(end) => end,
         Err(NoMemory) => RunEnd {
             status: Status::NoMemory,
@@ -75,139 +59,83 @@ pub fn run_kit<F: Shelf, S: Store>(
     }
 }
 
-fn run_book<F: Shelf, S: Store>(
+fn run_book<R: Threads + Wait + Sync, F: Shelf, S: Store, G: Gate>(
+    rt: &R,
     alloc: Global,
     graph: Graph,
     options: &Options,
-    files: &[Opened],
-    shelf: &mut F,
-    store: &mut S,
+    kits: &mut [Kit<F, S>],
+    gate: &G,
 ) -> Result<RunEnd, NoMemory>
+    requires some { 0 < length kits.old }
+    requires workers { length kits.old ≤ options.now.workers }
     requires allowed { AreOptions options.now }
-    requires opened { AreOpened (S.files store.old) (S.opened store.old) (file_names graph) files.now }
-    ensures ended { IfOk result (λ end. IsPlanEnd (observed_shelf F.strict F.faults shelf.old shelf.new)
-        (observed_store S.files S.faults store.old store.new) graph options.now end.status end.outcome) }
-    ensures kept { IsKitKept F.faults F.strict S.faults S.files S.opened shelf.old shelf.new store.old store.new }
+    requires opened { AreOpenedByAll S.files S.opened graph kits.old }
+    ensures ended { IfOk result (λ end. IsPlanEnd (observed_shelves F.strict F.faults kits.old kits.new)
+        (observed_stores S.files S.faults kits.old kits.new) graph options.now end.status end.outcome) }
+    ensures lengths { IfOk result (λ end. IfSome end.outcome (λ o. o.files ≡ lengths_of_first graph kits.old)) }
+    ensures kept { EachBecomes kits.old kits.new (λ old new. (new.files ≡ old.files)
+        × IsKitKept F.faults F.strict S.faults S.files S.opened old.shelf new.shelf old.store new.store) }
 {
-    books_with_no_job_left_are_through();
-    let mut bench = workbench(alloc, &graph, files)?;
-    let lengths = lengths_of(alloc, bench.readers.as_slice())?;
-    let mut book = Book::opening(alloc, graph, lengths, *options)?;
-    let slot = book.enroll()?;
-    let spent = work(alloc, &mut book, slot, shelf, store, &mut bench)?;
-    // The bytes of the files are let go before the outcome is put in order.
-    drop(bench);
-    end_of(book, spent)
+    attempts_are_counted();
+    honest_runs_are_runs();
+    let lengths = first_lengths(alloc, &graph, kits[0].files.as_slice())?;
+    // The workers read their own copy, since the book holds the graph.
+    let plan = graph.copy(alloc)?;
+    let book = Book::opening(alloc, graph, lengths, *options)?;
+    let (table, mut pass) = table_for(alloc, book, kits)?;
+    let _all = work_all(rt, alloc, &table, &mut pass, &plan, kits, options, gate)?;
+    end_of(table.close(pass))
 }
 
-fn workbench(alloc: Global, graph: &Graph, files: &[Opened]) -> Result<Workbench, NoMemory>
-    ensures { IfOk result (λ bench. (told : OptionOf (ListOf FileText)) (opened : ℕ → OptionOf Opening) → AreOpened told opened (file_names graph.now) files.now
-        → AreReaders told opened graph.now bench.readers.items) }
+// A table for workers with these kits: what all of them know holds as long as it stands.
+fn table_for<F: Shelf, S: Store>(
+    alloc: Global,
+    book: Book,
+    _kits: &[Kit<F, S>],
+) -> Result<(Table, WorkerPass), NoMemory>
+    ghost known: { Surroundings }
+    requires reached { Reached known.told book }
+    requires slots { book.slots ≡ [] }
+    ensures table { IfOk result (λ r. IsOf r.0 r.1) }
+    ensures setting { IfOk result (λ r. setting_of r.0 ≡ setting_for known book) }
+    ensures note { IfOk result (λ r. note_of_pass r.1 ≡ opening_note (fresh ∷ [])) }
+{
+    Table::new(alloc, book)
+}
+
+// The length of each item, where these files are opened.
+fn first_lengths(alloc: Global, graph: &Graph, files: &[Opened]) -> Result<List<FileLen>, NoMemory>
+    ensures exact { IfOk result (λ lengths. lengths ≡ opened_lengths graph.now files.now) }
+    ensures items { IfOk result (λ lengths. (told : OptionOf (ListOf FileText)) (opened : ℕ → OptionOf Opening) → AreOpened told opened (file_names graph.now) files.now
+        → AreFirstLengths told graph.now lengths) }
 {
     plans_are_small_and_write_something();
     nodes_have_inputs_and_settings_of_their_kind();
-    let nodes = graph.plan().nodes.as_slice();
-    Ok(Workbench {
-        readers: readers_of(alloc, nodes, files)?,
-        last: 0,
-        buffers: Buffers::new(alloc),
-    })
+    let readers = readers_of(alloc, graph.plan().nodes.as_slice(), files)?;
+    lengths_of(alloc, readers.as_slice())
 }
 
-// Works jobs until none is left, or until a fail has stopped the book; its note is answered.
-fn work<F: Shelf, S: Store>(
-    alloc: Global,
-    book: &mut Book,
-    slot: u32,
-    shelf: &mut F,
-    store: &mut S,
-    bench: &mut Workbench,
-) -> Result<Option<FaultNote>, NoMemory>
-    requires one { length book.old.slots ≡ 1 }
-    requires free { IsFree book.old slot }
-    requires running { IsRunning book.old }
-    requires readers { AreReaders (S.files store.old) (S.opened store.old) book.old.plan bench.old.readers.items }
-    ensures ended { IfOk result (IsWorkEnd (observed_shelf F.strict F.faults shelf.old shelf.new)
-        (observed_store S.files S.faults store.old store.new) book.new) }
-    ensures run { OnOk result (StaysOfRun (surroundings_of (observed_shelf F.strict F.faults shelf.old shelf.new)
-        (observed_store S.files S.faults store.old store.new)) book.old book.new) }
-    ensures counted { OnOk result (AreFaultsCounted (observed_shelf F.strict F.faults shelf.old shelf.new)
-        (observed_store S.files S.faults store.old store.new) book.old book.new) }
-    ensures kept { IsKitKept F.faults F.strict S.faults S.files S.opened shelf.old shelf.new store.old store.new }
-{
-    rounds_are_bounded();
-    'turns: loop {
-        book.is_reached();
-        match book.take(slot)? {
-            Taken::Job(job) => {
-                let done = do_job(alloc, book, slot, &job, shelf, store, bench);
-                drop(job);
-                let spent = done?;
-                match spent {
-                    None => {}
-                    Some(note) => return Ok(Some(note)),
-                }
-            }
-            Taken::Finished => return Ok(None),
-            Taken::Nothing | Taken::Stopped => unreachable!(),
-        }
-    }
-}
-
-// Works a job that the slot has taken, and commits it or tells the book that it failed. Where that stopped
-// the book, its note is answered.
-fn do_job<F: Shelf, S: Store>(
-    alloc: Global,
-    book: &mut Book,
-    slot: u32,
-    job: &Job,
-    shelf: &mut F,
-    store: &mut S,
-    bench: &mut Workbench,
-) -> Result<Option<FaultNote>, NoMemory>
-    requires one { length book.old.slots ≡ 1 }
-    requires taken { HasTaken book.old slot job.now }
-    requires running { IsRunning book.old }
-    requires readers { AreReaders (S.files store.old) (S.opened store.old) book.old.plan bench.old.readers.items }
-    ensures ended { IfOk result (IsJobEnd (observed_shelf F.strict F.faults shelf.old shelf.new)
-        (observed_store S.files S.faults store.old store.new) book.new) }
-    ensures done { OnOk result (IsJobDone (observed_shelf F.strict F.faults shelf.old shelf.new)
-        (observed_store S.files S.faults store.old store.new) slot book.old book.new) }
-    ensures readers { OnOk result (AreReaders (S.files store.new) (S.opened store.new) book.new.plan bench.new.readers.items) }
-    ensures kept { IsKitKept F.faults F.strict S.faults S.files S.opened shelf.old shelf.new store.old store.new }
-{
-    rounds_are_bounded();
-    match work_job(alloc, book, slot, job, shelf, store, bench) {
-        Ok(receipt) => {
-            book.is_reached();
-            match book.commit(slot, receipt) {
-                Ok(()) => Ok(None),
-                Err(_unplaced) => Err(NoMemory),
-            }
-        }
-        Err(ExecRefusal::Faulted { at, cause }) => {
-            book.is_reached();
-            match book.fail(slot, at, cause) {
-                Failure::Retry => Ok(None),
-                Failure::Spent(note) => Ok(Some(note)),
-            }
-        }
-        Err(ExecRefusal::NoMemory) => Err(NoMemory),
-    }
-}
-
-// The data of the book, and how the work ended.
-fn end_of(book: Book, spent: Option<FaultNote>) -> Result<RunEnd, NoMemory>
-    ensures { IfOk result (IsEndOf book spent) }
+// The data of the book, and how its run ended.
+fn end_of(book: Book) -> Result<RunEnd, NoMemory>
+    ensures { IfOk result (IsEndOfBook book) }
 {
     let outcome = book.outcome()?;
     look_at_panes(outcome.panes.as_slice());
-    let status = match spent {
-        None => Status::Ok,
-        Some(note) => Status::WorkFault(note),
-    };
+    let status = status_of(&outcome.stopped)?;
     Ok(RunEnd {
         status,
         outcome: Some(outcome),
     })
+}
+
+// The status of a run whose book was stopped so, or wasn't.
+fn status_of(stopped: &Option<StopCause>) -> Result<Status, NoMemory>
+    ensures { IfOk result (IsStatusAfter stopped.now) }
+{
+    match stopped {
+        None => Ok(Status::Ok),
+        Some(StopCause::Spent(note)) => Ok(Status::WorkFault(*note)),
+        Some(StopCause::NoMemory) => Err(NoMemory),
+    }
 }

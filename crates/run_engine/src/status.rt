@@ -27,6 +27,9 @@ pub enum Status {
     SinkFault,
     /// Memory was asked for and there was none.
     NoMemory,
+    /// A file of this name was opened with different lengths, in bytes: the first kit met the length `first`,
+    /// and another kit the length `other`.
+    FileChanged { name: Bytes, first: u64, other: u64 },
 }
 
 impl Status {
@@ -44,6 +47,7 @@ impl Status {
             Status::WorkFault(_) => 6,
             Status::SinkFault => 7,
             Status::NoMemory => 8,
+            Status::FileChanged { .. } => 9,
         }
     }
 }

@@ -24,6 +24,8 @@ use beam_values::RoomyList;
 use keyed_state::KeyState;
 use session_merge::SessionSet;
 use split_core::Pieces;
+use std::sync::Wait;
+use std::thread::Threads;
 use timer_core::Timers;
 use watermarks::Holds;
 
@@ -82,13 +84,17 @@ fn answer_calls(kind: &str, case: &mut Case<'_>) {
 }
 
 /// Answers a case that is a block of lines.
-pub fn answer_block<'a>(script: &mut Script<'a>, case: &mut Case<'a>) {
+pub fn answer_block<'a, R: Threads + Wait + Sync>(
+    rt: &R,
+    script: &mut Script<'a>,
+    case: &mut Case<'a>,
+) {
     match case.word() {
         "outcome" => answer_outcome(script, case),
         "summary" => answer_summary(script, case),
         "graph" => answer_graph(script, case),
         "groups" => answer_groups(script, case),
-        "command" => answer_command(script, case),
+        "command" => answer_command(rt, script, case),
         _ => case.fail("a line is KIND INPUT => EXPECTED"),
     }
 }

@@ -1,8 +1,8 @@
 use crate::case::Case;
 use crate::running::Script;
 use beam_command::beam_main;
-use beam_ports::{MemorySink, MemoryStore};
-use beam_values::{Bytes, FileText, List, NoMemory};
+use beam_ports::{MemorySink, MemoryStore, OpenGate};
+use beam_values::{Bytes, Duplicate, FileText, List, NoMemory};
 use dofn_library::{
     BatchUntil, CountSeq, Dedupe, Field, FieldInt, KeepPrefix, KeyField, LatestThenEmit, MaxSeq,
     RunningSum, Shift, SumSeq, Swap, Unseq, Values, Words,
@@ -12,19 +12,41 @@ use itoa::Buffer;
 use run_engine::Kit;
 use sdf_library::{Count, Lines, Made, TimedLines};
 use std::alloc::Global;
+use std::mem;
+use std::sync::Wait;
+use std::thread::Threads;
 
 /// How many bytes a write takes where the case says nothing.
 const USUAL_WRITE: usize = 1 << 20;
 
-// What a command is run on: its words, the files of its store, and which calls outside fail.
+// What a command is run on: its words, its kits, and which calls of the sinks fail.
 #[derive(Drop)]
 struct Setting {
     words: Vec<String>,
-    files: List<FileText>,
-    failing_reads: List<u64>,
+    // The kits whose lines have all come, and the one that lines belong to.
+    kits: List<KitSetting>,
+    kit: KitSetting,
     failing_writes: List<u64>,
     failing_notes: List<u64>,
     most_taken: usize,
+}
+
+// So many kits, each with a store of its own over the same files.
+#[derive(Drop)]
+struct KitSetting {
+    count: u32,
+    files: List<FileText>,
+    failing_reads: List<u64>,
+}
+
+impl KitSetting {
+    fn new(alloc: Global) -> KitSetting {
+        KitSetting {
+            count: 1,
+            files: List::new(alloc),
+            failing_reads: List::new(alloc),
+        }
+    }
 }
 
 // What should come of it.
@@ -35,14 +57,18 @@ struct Wanted {
     notes: Bytes,
 }
 
-/// The status, the text and the notes of a command over a store and sinks in memory, which the lines of a
+/// The status, the text and the notes of a command over stores and sinks in memory, which the lines of a
 /// block describe.
-pub fn answer_command<'a>(script: &mut Script<'a>, case: &mut Case<'a>) {
+pub fn answer_command<'a, R: Threads + Wait + Sync>(
+    rt: &R,
+    script: &mut Script<'a>,
+    case: &mut Case<'a>,
+) {
     let alloc = case.alloc();
     let mut setting = Setting {
         words: Vec::new(alloc),
-        files: List::new(alloc),
-        failing_reads: List::new(alloc),
+        kits: List::new(alloc),
+        kit: KitSetting::new(alloc),
         failing_writes: List::new(alloc),
         failing_notes: List::new(alloc),
         most_taken: USUAL_WRITE,
@@ -54,8 +80,9 @@ pub fn answer_command<'a>(script: &mut Script<'a>, case: &mut Case<'a>) {
     };
     read_words(case, &mut setting);
     read_lines(script, case, &mut setting, &mut wanted);
+    next_kit(case, &mut setting);
     expect(case, &wanted);
-    run(case, setting);
+    run(rt, case, setting);
 }
 
 // The words after the name of the program.
@@ -100,8 +127,10 @@ fn read_line(case: &mut Case<'_>, setting: &mut Setting, wanted: &mut Wanted) {
         "file" => {
             let name = case.text();
             let bytes = case.text();
-            case.keep(&mut setting.files, FileText { name, bytes });
+            case.keep(&mut setting.kit.files, FileText { name, bytes });
         }
+        "kits" => setting.kit.count = case.number(),
+        "kit" => next_kit(case, setting),
         "fail" => read_failing(case, setting),
         "take" => setting.most_taken = case.number(),
         "status" => wanted.status = case.number(),
@@ -109,6 +138,13 @@ fn read_line(case: &mut Case<'_>, setting: &mut Setting, wanted: &mut Wanted) {
         "note" => read_more(case, &mut wanted.notes),
         _ => case.fail("a command has no such line"),
     }
+}
+
+// The lines that follow belong to a kit of their own.
+fn next_kit(case: &mut Case<'_>, setting: &mut Setting) {
+    let next = KitSetting::new(case.alloc());
+    let whole = mem::replace(&mut setting.kit, next);
+    case.keep(&mut setting.kits, whole);
 }
 
 // One more line of a text.
@@ -121,7 +157,7 @@ fn read_more(case: &mut Case<'_>, text: &mut Bytes) {
 
 fn read_failing(case: &mut Case<'_>, setting: &mut Setting) {
     let calls = match case.word() {
-        "store" => &mut setting.failing_reads,
+        "store" => &mut setting.kit.failing_reads,
         "out" => &mut setting.failing_writes,
         "notes" => &mut setting.failing_notes,
         _ => return case.fail("calls fail of store, out or notes"),
@@ -154,50 +190,100 @@ macro_rules! add_boxes {
     }};
 }
 
-fn run(case: &mut Case<'_>, setting: Setting) {
+fn run<R: Threads + Wait + Sync>(rt: &R, case: &mut Case<'_>, setting: Setting) {
     let alloc = case.alloc();
-    let mut fns: List<Box<dyn DoFn>> = List::new(alloc);
-    let mut splits: List<Box<dyn SplittableFn>> = List::new(alloc);
-    let mut states: List<Box<dyn StatefulFn>> = List::new(alloc);
-    let added = add_boxes!(alloc, fns; KeyField, Words, Field, KeepPrefix).is_ok()
-        && add_boxes!(alloc, fns; FieldInt, Swap, Shift, SumSeq).is_ok()
-        && add_boxes!(alloc, fns; CountSeq, MaxSeq, Unseq, Values).is_ok()
-        && add_boxes!(alloc, splits; Lines, TimedLines, Count, Made).is_ok()
-        && add_boxes!(alloc, states; Dedupe, RunningSum, BatchUntil, LatestThenEmit).is_ok();
-    if !added {
-        return case.fail("memory for the functions");
+    let stores = match all_stores(alloc, setting.kits.as_slice()) {
+        Ok(stores) => stores,
+        Err(refused) => return case.no_memory(refused),
+    };
+    let mut parts = Vec::new(alloc);
+    for store in stores {
+        let mut fns: List<Box<dyn DoFn>> = List::new(alloc);
+        let mut splits: List<Box<dyn SplittableFn>> = List::new(alloc);
+        let mut states: List<Box<dyn StatefulFn>> = List::new(alloc);
+        let added = add_boxes!(alloc, fns; KeyField, Words, Field, KeepPrefix).is_ok()
+            && add_boxes!(alloc, fns; FieldInt, Swap, Shift, SumSeq).is_ok()
+            && add_boxes!(alloc, fns; CountSeq, MaxSeq, Unseq, Values).is_ok()
+            && add_boxes!(alloc, splits; Lines, TimedLines, Count, Made).is_ok()
+            && add_boxes!(alloc, states; Dedupe, RunningSum, BatchUntil, LatestThenEmit).is_ok();
+        if !added {
+            return case.fail("memory for the functions");
+        }
+        let own = Parts {
+            fns,
+            splits,
+            states,
+            store,
+        };
+        if parts.push(own).is_err() {
+            return case.fail("memory for the kits");
+        }
     }
-    run_with(case, setting, fns, splits, states)
+    run_with(rt, case, setting, parts)
 }
 
-// Runs the command with these functions.
-fn run_with<D: DoFn, P: SplittableFn, T: StatefulFn>(
-    case: &mut Case<'_>,
-    setting: Setting,
+// What a kit is made of.
+#[derive(Drop)]
+struct Parts<D, P, T> {
     fns: List<D>,
     splits: List<P>,
     states: List<T>,
+    store: MemoryStore,
+}
+
+// A store for each kit, in their order.
+fn all_stores(alloc: Global, kits: &[KitSetting]) -> Result<Vec<MemoryStore>, NoMemory> {
+    let mut stores = Vec::new(alloc);
+    for kit in kits {
+        for _ in 0..kit.count {
+            stores.push(store_of(alloc, kit)?)?;
+        }
+    }
+    Ok(stores)
+}
+
+fn store_of(alloc: Global, kit: &KitSetting) -> Result<MemoryStore, NoMemory> {
+    let mut files = List::new(alloc);
+    for file in kit.files.as_slice() {
+        files.push(FileText {
+            name: file.name.duplicate(alloc)?,
+            bytes: file.bytes.duplicate(alloc)?,
+        })?;
+    }
+    Ok(MemoryStore::new(files, kit.failing_reads.duplicate(alloc)?))
+}
+
+// Runs the command with a kit of each of these parts.
+fn run_with<R: Threads + Wait + Sync, D: DoFn, P: SplittableFn, T: StatefulFn>(
+    rt: &R,
+    case: &mut Case<'_>,
+    setting: Setting,
+    parts: Vec<Parts<D, P, T>>,
 ) {
     let alloc = case.alloc();
-    let Setting {
-        words,
-        files,
-        failing_reads,
-        failing_writes,
-        failing_notes,
-        most_taken,
-    } = setting;
-    let Ok(shelf) = BoxShelf::new(fns, splits, states) else {
-        return case.fail("a function of each kind");
-    };
     let mut kits = Vec::new(alloc);
-    let kit = Kit::new(alloc, shelf, MemoryStore::new(files, failing_reads));
-    if kits.push(kit).is_err() {
-        return case.fail("memory for the kit");
+    for part in parts {
+        let Parts {
+            fns,
+            splits,
+            states,
+            store,
+        } = part;
+        let Ok(shelf) = BoxShelf::new(fns, splits, states) else {
+            return case.fail("a function of each kind");
+        };
+        if kits.push(Kit::new(alloc, shelf, store)).is_err() {
+            return case.fail("memory for the kits");
+        }
     }
-    let mut out = MemorySink::new(alloc, most_taken.max(1), failing_writes);
-    let mut notes = MemorySink::new(alloc, USUAL_WRITE, failing_notes);
-    let end = beam_main(alloc, words.as_slice(), &mut kits, &mut out, &mut notes);
+    if kits.is_empty() {
+        return case.fail("a command has a kit");
+    }
+    let most_taken = setting.most_taken.max(1);
+    let mut out = MemorySink::new(alloc, most_taken, setting.failing_writes);
+    let mut notes = MemorySink::new(alloc, USUAL_WRITE, setting.failing_notes);
+    let words = setting.words.as_slice();
+    let end = beam_main(rt, alloc, words, &mut kits, &mut out, &mut notes, &OpenGate);
     case.say_number(end.status.number());
     case.say_bytes(out.taken());
     case.say_bytes(notes.taken());

@@ -3,6 +3,8 @@ use crate::case::Case;
 use crate::expanded::expanded;
 use std::rt::Files;
 use std::str::{Lines, from_utf8};
+use std::sync::Wait;
+use std::thread::Threads;
 use std::{fs, io};
 
 /// How many cases there were.
@@ -69,7 +71,10 @@ impl<'a> Script<'a> {
 }
 
 /// Runs the cases of a file, and prints each that fails and how many passed.
-pub fn run_file(rt: &(impl Files + Print + AllocGlobal), name: &str) -> io::Result<Tally> {
+pub fn run_file<R: Files + Print + AllocGlobal + Threads + Wait + Sync>(
+    rt: &R,
+    name: &str,
+) -> io::Result<Tally> {
     let text = fs::read_to_string(rt, name)?;
     let text = expanded(rt.alloc(), text.as_str())?;
     let mut script = Script {
@@ -88,8 +93,8 @@ pub fn run_file(rt: &(impl Files + Print + AllocGlobal), name: &str) -> io::Resu
 }
 
 // Runs the case that begins with the line.
-fn passes<'a>(
-    rt: &(impl Print + AllocGlobal),
+fn passes<'a, R: Print + AllocGlobal + Threads + Wait + Sync>(
+    rt: &R,
     name: &str,
     line: &'a str,
     script: &mut Script<'a>,
@@ -99,7 +104,7 @@ fn passes<'a>(
     }
     let mut case = Case::new(rt.alloc());
     case.read(line);
-    answer_block(script, &mut case);
+    answer_block(rt, script, &mut case);
     is_shown_to_pass(rt, name, script.number, &case)
 }
 

@@ -11,3 +11,4 @@ pub mod Rounds
 pub mod Halves
 pub mod Crews
 pub mod Ended
+pub mod Crossing

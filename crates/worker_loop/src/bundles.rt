@@ -44,9 +44,42 @@ pub struct Workbench {
     pub buffers: Buffers,
 }
 
-/// Works a job that the pass has just taken, of a piece a bundle of its positions. A refused job is still the
-/// pass's; what was staged of it is dropped.
+/// Works a job that the pass has just taken, of a piece a bundle of its positions; the functions are told when
+/// the bundle starts and when it is over, also where it was refused. A refused job is still the pass's; what was
+/// staged of it is dropped.
 pub fn work_job<R: Wait, F: Shelf, S: Store, G: Gate>(
+    rt: &R,
+    shop: &Shop<'_, G>,
+    slot: u32,
+    pass: &mut WorkerPass,
+    job: &Job,
+    shelf: &mut F,
+    store: &mut S,
+    bench: &mut Workbench,
+) -> Result<Receipt, ExecRefusal>
+    requires table { IsOf shop.now.table.now pass.old }
+    requires slot { IsSome (slot_of pass.old) }
+    requires taken { job_known pass.old ≡ Some (record { job = job.now; attempted = None }) }
+    requires of_plan { IsJobOfPlan (setting_of shop.now.table.now).plan job.now }
+    requires plan { shop.now.graph.now ≡ (setting_of shop.now.table.now).plan }
+    requires strict { (setting_of shop.now.table.now).known.strict ≡ true → F.strict shelf.old ≡ true }
+    requires readers { AreReaders (setting_of shop.now.table.now).known.told (S.opened store.old) shop.now.graph.now bench.old.readers.items }
+    ensures table { IsOf shop.now.table.now pass.new }
+    ensures claims { OnlyClaims (note_of_pass pass.old) (note_of_pass pass.new) }
+    ensures given { IfOk result (CanCommitAs (setting_of shop.now.table.now) (job_known pass.new)) }
+    ensures refused { IfErr result (IsJobRefused (setting_of shop.now.table.now) (observed_shelf F.strict F.faults shelf.old shelf.new)
+        (observed_store S.files S.faults store.old store.new) (job_known pass.new)) }
+    ensures readers { AreReaders (setting_of shop.now.table.now).known.told (S.opened store.new) shop.now.graph.now bench.new.readers.items }
+    ensures kept { IsKitKept F.faults F.strict S.faults S.files S.opened shelf.old shelf.new store.old store.new }
+{
+    shelf.start_bundle();
+    let worked = work_in_bundle(rt, shop, slot, pass, job, shelf, store, bench);
+    shelf.finish_bundle();
+    worked
+}
+
+// Works a job between the start of its bundle and the finish.
+fn work_in_bundle<R: Wait, F: Shelf, S: Store, G: Gate>(
     rt: &R,
     shop: &Shop<'_, G>,
     slot: u32,

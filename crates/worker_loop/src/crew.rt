@@ -1,13 +1,23 @@
-//! Seats for workers, one for each kit: what they have of their own, made before the first one starts, and taken in at the end.
-ghost use Rattle.std.specs.Prelude.{◌≡◌, ◌≤◌, ◌+◌, ◌++◌, map, length, vec_len, vec_capacity};
+//! One worker for each kit, beside each other.
+ghost use Rattle.std.specs.Prelude.{◌≡◌, ◌≤◌, ◌+◌, ◌++◌, map, length, vec_len, vec_capacity, IfOk, IsErr};
 ghost use Rattle.std.specs.List.{AllByRecursion, sum_by};
 ghost use Rattle.turn_desk.specs.Notes.{size_of};
-ghost use Rattle.worker_table.specs.Passes.{IsOf, entry_of, note_of_pass};
-ghost use Rattle.worker_loop.specs.Workers.{HasSat, IsReady, no_faults, share_with};
+ghost use Rattle.worker_table.specs.Passes.{IsOf, entry_of, note_of_pass, setting_of};
+ghost use Rattle.worker_loop.specs.Kits.{EachBecomes, IsKitFor, observed_shelves, observed_stores};
+ghost use Rattle.worker_loop.specs.Outside.{IsKitKept};
+ghost use Rattle.worker_loop.specs.Workers.{HasSat, HaveWorked, IsKitDone, IsReady, no_faults, share_with};
 
-use crate::workers::WorkerEnd;
-use beam_values::{Cause, List};
+use crate::kit::Kit;
+use crate::pairs::each_pair;
+use crate::workers::{WorkerEnd, work};
+use beam_ports::{Gate, Store};
+use beam_values::{Cause, List, NoMemory, Options};
+use dofn_traits::Shelf;
+use pipeline_graph::Graph;
 use retry_core::FaultShare;
+use std::alloc::Global;
+use std::sync::Wait;
+use std::thread::Threads;
 use worker_table::{Table, WorkerPass};
 
 /// How the workers ended, in the order of their kits, and the faults that all of them counted.
@@ -25,8 +35,49 @@ pub struct Seat {
     pub share: FaultShare,
 }
 
-/// A seat for each kit, with a pass of its own.
-pub fn seat_all(table: &Table, pass: &mut WorkerPass, count: usize, seats: &mut Vec<Seat>)
+/// One worker for each kit, each in a thread of its own. All that they need places for is made before the
+/// first one starts, so a refusal leaves everything as it was.
+pub fn work_all<R: Threads + Wait + Sync, F: Shelf, S: Store, G: Gate>(
+    rt: &R,
+    alloc: Global,
+    table: &Table,
+    pass: &mut WorkerPass,
+    graph: &Graph,
+    kits: &mut [Kit<F, S>],
+    options: &Options,
+    gate: &G,
+) -> Result<AllEnd, NoMemory>
+    requires table { IsOf table.now pass.old }
+    requires free { length kits.old ≤ (note_of_pass pass.old).free }
+    requires plan { graph.now ≡ (setting_of table.now).plan }
+    requires kits { AllByRecursion (IsKitFor F.strict S.files S.opened (setting_of table.now)) kits.old }
+    ensures table { IsOf table.now pass.new }
+    ensures worked { IfOk result (HaveWorked (setting_of table.now) (note_of_pass pass.old) (note_of_pass pass.new)
+        (observed_shelves F.strict F.faults kits.old kits.new) (observed_stores S.files S.faults kits.old kits.new)) }
+    ensures count { IfOk result (λ end. length end.ends ≡ length kits.old) }
+    ensures kept { EachBecomes kits.old kits.new (λ old new. (new.files ≡ old.files)
+        × IsKitKept F.faults F.strict S.faults S.files S.opened old.shelf new.shelf old.store new.store) }
+    ensures refused { IsErr result → (note_of_pass pass.new ≡ note_of_pass pass.old) × (kits.new ≡ kits.old) }
+{
+    let count = kits.len();
+    let mut ends = Vec::with_capacity(alloc, count)?;
+    let mut seats = Vec::with_capacity(alloc, count)?;
+    seat_all(table, pass, count, &mut seats);
+    let sit = |seat: &mut Seat, kit: &mut Kit<F, S>|
+        requires { IsReady table.now seat.now × (graph.now ≡ (setting_of table.now).plan) × IsKitFor F.strict S.files S.opened (setting_of table.now) kit.now }
+        ensures { HasSat table.entry.now seat.exit.now × IsKitDone F.strict F.faults S.files S.faults S.opened kit.entry.now kit.exit.now (entry_of seat.exit.now.pass) }
+    {
+        let (pass, share) = (&mut seat.pass, &mut seat.share);
+        seat.end = work(rt, alloc, table, pass, graph, kit, options, share, gate);
+    };
+    each_pair(rt, &sit, seats.as_mut_slice(), kits);
+    let share = gather(table, pass, seats, &mut ends);
+    let ends = List::from_vec(ends);
+    Ok(AllEnd { ends, share })
+}
+
+// A seat for each kit, with a pass of its own.
+fn seat_all(table: &Table, pass: &mut WorkerPass, count: usize, seats: &mut Vec<Seat>)
     requires table { IsOf table.now pass.old }
     requires free { count ≤ (note_of_pass pass.old).free }
     requires room { (vec_len seats.old ≡ 0) × (count ≤ vec_capacity seats.old) }
@@ -46,8 +97,8 @@ pub fn seat_all(table: &Table, pass: &mut WorkerPass, count: usize, seats: &mut 
     }
 }
 
-/// Takes the passes of all seats in, and adds up what was counted.
-pub fn gather(
+// Takes all passes in, and adds up what was counted.
+fn gather(
     table: &Table,
     pass: &mut WorkerPass,
     seats: Vec<Seat>,

@@ -1,8 +1,8 @@
 //! Workers that take jobs at one table, work them with kits of their own, and commit them or give them back, until no job
 //! is left or the book is stopped.
 //!
-//! [`work`] is one worker. [`seat_all`] makes a seat for each kit before the first worker starts, [`each_pair`] does a job
-//! at each place of two slices in threads of their own, and [`gather`] takes the passes in. The layer above may rely on this. A worker finishes only where a take of its own found no job left; else the book is stopped when it ends. Each
+//! [`work`] is one worker, and [`work_all`] one worker for each kit, in threads of their own. The layer above may rely
+//! on this. A worker finishes only where a take of its own found no job left; else the book is stopped when it ends. Each
 //! job that a worker fails is counted in its share, by the cause of the fault, and was counted by its shelf or its store
 //! (`specs/Workers.antt`). What is committed of a job is what the plan gives for it, up to the last attempted position,
 //! also of a range that others have shortened meanwhile. Elements are worked between the turns of the table. Nothing that
@@ -19,8 +19,7 @@ mod reading;
 mod shop;
 mod workers;
 
-pub use crew::{AllEnd, Seat, gather, seat_all};
+pub use crew::{AllEnd, work_all};
 pub use kit::Kit;
-pub use pairs::each_pair;
-pub use reading::{Reader, lengths_of, readers_of};
+pub use reading::{Reader, lengths_of, names_in, readers_of};
 pub use workers::{WorkerEnd, work};

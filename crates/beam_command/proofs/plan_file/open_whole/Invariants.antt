@@ -1,4 +1,4 @@
-use Rattle.std.proofs.Common.{◌≡◌, ◌≤◌, ℕ, ◌-◌}
+use Rattle.std.proofs.Common.{◌≡◌, ◌≤◌, ◌-◌}
 use Rattle.beam_ports.specs.Counts.{rise}
 use Rattle.beam_ports.specs.Files.{KeepsOpenings}
 use Rattle.beam_command.proofs.plan_file.open_whole.Given as goal

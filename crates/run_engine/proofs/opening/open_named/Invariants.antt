@@ -1,6 +1,6 @@
 use Rattle.std.proofs.Common.{◌-◌}
+use Rattle.worker_loop.specs.Outside.{IsStoreKept}
 use Rattle.run_engine.specs.Openings.{AreCounted}
-use Rattle.run_engine.specs.Outside.{IsStoreKept}
 use Rattle.run_engine.proofs.opening.open_named.Given as goal
 
 abbrev pub invariant-tries : goal.invariant-tries

@@ -1,0 +1,18 @@
+use Rattle.std.proofs.Common.{◌≡◌, ℤ, to_z, of_z, w64, ap, ◌∙◌, arith}
+use Rattle.std.proofs.lemmas.Int.{ints}
+use Rattle.beam_model.specs.Plans.{panes_plan}
+use Rattle.beam_ports.specs.Observed.{observed_sink}
+use Rattle.worker_loop.specs.Kits.{observed_shelves, observed_stores}
+use Rattle.command_words.specs.Commands.{Panes}
+use Rattle.run_engine.specs.Kits.{observed_each}
+use Rattle.beam_command.proofs.Asked.{pipeline_end}
+use Rattle.beam_command.proofs.top.run_panes.Goals as goal
+
+pub returns-in-Ok-clause-ends : goal.returns-in-Ok-clause-ends
+returns-in-Ok-clause-ends g c =
+    let same : to_z w64 (of_z w64 c.args.size) ≡ c.args.size = omega (arith, ints) in
+    let store = observed_stores g.S.Store.files g.S.Store.faults c.args.kits.now c.run_graph.new.kits in
+    let stores = observed_each g.S.Store.files g.S.Store.faults c.args.kits.now c.run_graph.new.kits in
+    pipeline_end (observed_shelves g.F.Shelf.strict g.F.Shelf.faults c.args.kits.now c.run_graph.new.kits) store.files store.after store.after stores stores
+    (observed_sink g.W.Sink.faults g.W.Sink.taken c.args.out.now c.run_graph.new.out) (Panes c.args.file.now c.args.size c.args.options.now) c.args.options.now c.in-Ok.graph 0
+    (omega arith) (λ s refused. refused) (c.in-Ok.ensures ∙ ap (λ (size : ℤ). panes_plan c.args.file.now size) same) c.run_graph.result.status c.run_graph.result.outcome c.run_graph.ensures.ends
