@@ -1,11 +1,17 @@
 #!/usr/bin/env bash
 # Times `./beam_run panes FILE 60000` beside `awk | sort` on the same generated files, checks that both group alike,
-# and prints seconds, MB/s, peak memory and the ratio. Sizes in MB are the words, 1 and 10 where there are none.
+# and prints seconds, MB/s, peak memory and the ratio. Sizes in MB are the words, 1 and 10 where there are none; `--workers N` before them
+# is handed on to `beam_run`, which has 4 workers else.
 # Of RUNS runs each (3), taken in alternation, the fastest counts. Needs awk, sort and GNU time (Debian's `time`).
 set -euo pipefail
 export LC_ALL=C
 root="$(cd "$(dirname "$0")/../.." && pwd)"
 runs="${RUNS:-3}"
+workers=4
+if [ "${1-}" = --workers ]; then
+    workers="${2:?--workers N}"
+    shift 2
+fi
 work="$(mktemp -d)"
 trap 'rm -rf "$work"' EXIT
 
@@ -48,7 +54,7 @@ for size in "${@:-1 10}"; do for megabytes in $size; do for keys in 16 1000; do
     generate "$megabytes" "$keys" >"$file"
     : >"$work/ours"; : >"$work/theirs"
     for _ in $(seq "$runs"); do
-        timed "$work/panes" "$root/beam_run" panes "$file" 60000 >>"$work/ours"
+        timed "$work/panes" "$root/beam_run" panes "$file" 60000 --workers "$workers" >>"$work/ours"
         timed "$work/awk" bash -c "with_awk '$file'" >>"$work/theirs"
     done
     if ! cmp -s <(parts_of_panes "$work/panes") <(parts_of_awk "$work/awk"); then

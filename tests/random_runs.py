@@ -1,0 +1,459 @@
+#!/usr/bin/env python3
+"""Runs random small plans with several workers, and compares each run with the one of a single worker.
+
+    tests/random_runs.py ./beam_run [--runs N] [--seed S] [--seconds N] [--load]
+
+Run number i is made from the seed S + i alone, so `--runs 1 --seed` with the seed of a difference repeats it; what it ran is kept
+in a folder that is named then. `--load` keeps all processors busy meanwhile. A run that takes more than `--seconds` counts as one that
+doesn't end. The status is 1 where there was any difference.
+
+How two runs are compared (the plan decides it):
+
+text    With no estimator or a sound one, and no early panes, each window of a Group fires once with all its parts, and all that
+        is written stands in ascending order. So the rules determine the whole text.
+cells   Early panes depend on which bundles were committed first, but each part is shown exactly once. So the plan takes its
+        panes apart, and the windows and values that were written are compared as a bag, whatever the panes' timings and indexes.
+values  The same in sessions, where the window of an early pane isn't determined either: only the values are compared.
+status  An estimator that isn't sound may drop lines, and which ones depends on the order of the commits. The text is not compared.
+note    A line is poison: nothing is written, and as it is the only one, the note says the same of it.
+fault   Several things are poison, and which fails first isn't determined. Of the note only `work fault` is compared.
+"""
+import argparse
+import json
+import multiprocessing
+import os
+import pathlib
+import random
+import subprocess
+import sys
+import tempfile
+
+KEYS = ["a", "b", "c", "dd", "key", ""]
+STRATEGIES = ["fixed", "sliding", "sessions", "global"]
+TEXT, NUMBER, DIGITS = "text", "number", "digits"
+LINE = "line"  # a text `key TAB digits`
+
+
+def pair(key, part):
+    return ("pair", key, part)
+
+
+def pane(key, part):
+    return ("pane", key, part)
+
+
+class Plan:
+    """A plan that grows node by node. Each open end has a name, the form of its values and its windows."""
+
+    def __init__(self, choose):
+        self.choose = choose
+        self.nodes = []
+        self.files = {}
+        self.compared = "text"
+
+    def add(self, kind, inputs, **keys):
+        name = f"n{len(self.nodes)}"
+        node = {"name": name, "kind": kind, **keys}
+        if kind != "source":
+            node["input"] = inputs
+        self.nodes.append(node)
+        return name
+
+    def document(self):
+        return json.dumps({"beam": 1, "nodes": self.nodes})
+
+
+class End:
+    def __init__(self, name, form, windows="global", grouped=False):
+        self.name = name
+        self.form = form
+        self.windows = windows
+        self.grouped = grouped
+
+
+# ---- sources
+
+
+def timed_lines(choose, ordered):
+    """Lines in the order of their times, or out of order, and by how much they are late at most."""
+    count = choose.choice([0, 1, 3, 20, 60, 150])
+    times = [choose.randrange(-50_000, 400_000) for _ in range(count)]
+    if ordered:
+        times.sort()
+    late, greatest = 0, None
+    for time in times:
+        greatest = time if greatest is None else max(greatest, time)
+        late = max(late, greatest - time)
+    return times, late
+
+
+def line_text(choose):
+    return f"{choose.choice(KEYS)}\t{choose.randrange(-20, 100)}"
+
+
+def file_of_timed_lines(plan, declares, ordered):
+    choose = plan.choose
+    times, late = timed_lines(choose, ordered)
+    lines = []
+    for at, time in enumerate(times):
+        lines.append(f"{time}\t{line_text(choose)}")
+        # A mark that no later line of the file is earlier than.
+        if declares and choose.random() < 0.3:
+            lines.append(f"!{min(times[at + 1:], default=time)}")
+    return write_lines(plan, lines), late
+
+
+def write_lines(plan, lines):
+    name = f"f{len(plan.files)}"
+    end = plan.choose.choice(["\n", "\r\n"])
+    text = "".join(line + end for line in lines)
+    if lines and plan.choose.random() < 0.2:
+        text = text[: -len(end)]
+    plan.files[name] = text
+    return name
+
+
+def timed_source(plan, sound=True):
+    choose = plan.choose
+    estimator = choose.choice(["none", "none", "monotonic", "lag", "declared"]) if sound else choose.choice(["monotonic", "lag"])
+    ordered = sound and estimator == "monotonic" or choose.random() < 0.3
+    files, late = [], 0
+    for _ in range(choose.choice([1, 1, 2, 3])):
+        file, late_there = file_of_timed_lines(plan, estimator == "declared", ordered)
+        files.append(file)
+        late = max(late, late_there)
+    keys = {"work": "TimedLines", "files": files}
+    if estimator == "lag":
+        keys["estimator"] = {"lag": late + choose.randrange(3) if sound else late // 3}
+    elif estimator != "none" or choose.random() < 0.5:
+        keys["estimator"] = estimator
+    return End(plan.add("source", [], **keys), LINE)
+
+
+def lines_source(plan):
+    lines = [line_text(plan.choose) for _ in range(plan.choose.choice([0, 1, 5, 50, 150]))]
+    return End(plan.add("source", [], work="Lines", files=[write_lines(plan, lines)]), LINE)
+
+
+def count_source(plan):
+    keys = {"count": plan.choose.choice([0, 1, 7, 100, 200]), "number": plan.choose.choice([0, 1, 999, 60_000])}
+    # The times ascend, so a monotonic estimator is sound.
+    if plan.choose.random() < 0.3:
+        keys["estimator"] = "monotonic"
+    return End(plan.add("source", [], work="Count", **keys), NUMBER)
+
+
+def made_source(plan):
+    keys = {"count": plan.choose.choice([0, 1, 40, 150]), "number": plan.choose.randrange(1000)}
+    return End(plan.add("source", [], work="Made", **keys), LINE)
+
+
+def any_source(plan):
+    return plan.choose.choice([timed_source, timed_source, timed_source, lines_source, count_source, made_source])(plan)
+
+
+# ---- nodes
+
+
+def changes(end):
+    """The functions that take values of this form, with what they give."""
+    found = []
+    form = end.form
+    if not end.grouped:
+        # Below a Group a Shift could pass the greatest time, where it stays.
+        found.append(({"work": "Shift", "number": 1500}, form))
+    if form in (TEXT, DIGITS, LINE):
+        found.append(({"work": "Words"}, TEXT))
+        found.append(({"work": "KeepPrefix", "text": "a"}, TEXT if form == DIGITS else form))
+        found.append(({"work": "Field", "number": 0}, TEXT))
+    if form == LINE:
+        found.append(({"work": "KeyField"}, pair(TEXT, DIGITS)))
+        found.append(({"work": "Field", "number": 1}, DIGITS))
+    elif form in (TEXT, DIGITS):
+        found.append(({"work": "KeyField"}, pair(TEXT, TEXT)))
+    elif isinstance(form, tuple):
+        kind, key, part = form
+        if kind == "pair":
+            found.append(({"work": "Swap"}, pair(part, key)))
+            found.append(({"work": "Values"}, part))
+            if part == DIGITS:
+                found.append(({"work": "FieldInt"}, pair(key, NUMBER)))
+        else:
+            found.append(({"work": "CountSeq"}, pair(key, NUMBER)))
+            found.append(({"work": "Unseq"}, pair(key, part)))
+            if part == NUMBER:
+                found.append(({"work": "SumSeq"}, pair(key, NUMBER)))
+                found.append(({"work": "MaxSeq"}, pair(key, NUMBER)))
+    return found
+
+
+def add_function(plan, end):
+    keys, form = plan.choose.choice(changes(end))
+    return End(plan.add("pardo", [end.name], **keys), form, end.windows, end.grouped)
+
+
+def add_key(plan, end):
+    """Goes on to pairs of a key and digits, where the values are lines."""
+    if end.form != LINE:
+        return end
+    return End(plan.add("pardo", [end.name], work="KeyField"), pair(TEXT, DIGITS), end.windows, end.grouped)
+
+
+def add_window(plan, end, strategies=STRATEGIES):
+    choose = plan.choose
+    strategy = choose.choice(strategies)
+    length = choose.choice([1000, 7777, 60_000])
+    if strategy == "sliding":
+        windows = {"sliding": [length, max(1, length // choose.choice([1, 2, 3]))]}
+    elif strategy == "global":
+        windows = "global"
+    else:
+        windows = {strategy: length}
+    return End(plan.add("window", [end.name], windows=windows), end.form, json.dumps(windows), end.grouped)
+
+
+def add_group(plan, end, **keys):
+    choose = plan.choose
+    # Nothing is late, so these change nothing.
+    if choose.random() < 0.2:
+        keys["lateness"] = choose.randrange(100_000)
+    if choose.random() < 0.2:
+        keys["late"] = choose.randrange(1, 5)
+    if choose.random() < 0.2 and "early" not in keys:
+        keys["mode"] = choose.choice(["discarding", "accumulating"])
+    windows = "kept" if "sessions" in end.windows else end.windows
+    return End(plan.add("group", [end.name], **keys), form_of_panes(end.form), windows, True)
+
+
+def form_of_panes(form):
+    if not isinstance(form, tuple):
+        return pane("no key", form)
+    kind, key, part = form
+    return pane(key, part if kind == "pair" else "parts")
+
+
+def add_flatten(plan, ends):
+    """All ends of the form and windows of one of them, as one end."""
+    first = plan.choose.choice(ends)
+    alike = [end for end in ends if end.form == first.form and end.windows == first.windows][:8]
+    names = [end.name for end in alike]
+    return End(plan.add("flatten", names), first.form, first.windows, any(end.grouped for end in alike))
+
+
+def add_node(plan, ends):
+    """One more node. It may leave the end that it takes from open."""
+    choose = plan.choose
+    step = choose.random()
+    if step < 0.15:
+        return ends + [add_flatten(plan, ends)]
+    at = choose.randrange(len(ends))
+    end = ends[at]
+    if step < 0.6:
+        grown = add_function(plan, end) if changes(end) else add_window(plan, end)
+    elif step < 0.8:
+        grown = add_window(plan, end)
+    else:
+        grown = add_group(plan, end)
+    return ends + [grown] if choose.random() < 0.2 else ends[:at] + [grown] + ends[at + 1 :]
+
+
+def add_writes(plan, ends):
+    for end in ends:
+        keys = {"label": plan.choose.choice(["x", "panes"])} if plan.choose.random() < 0.5 else {}
+        plan.add("write", [end.name], **keys)
+
+
+# ---- plans
+
+
+def text_plan(plan):
+    choose = plan.choose
+    ends = [any_source(plan) for _ in range(choose.choice([1, 1, 2, 3]))]
+    for _ in range(choose.randrange(1, 12)):
+        ends = add_node(plan, ends)
+    add_writes(plan, ends)
+
+
+def panes_plan(plan):
+    """The pipeline of the command `panes`, with several files."""
+    end = add_group(plan, add_window(plan, add_key(plan, timed_source(plan))))
+    add_writes(plan, [end])
+
+
+def two_groups_plan(plan):
+    end = End(plan.add("pardo", [add_key(plan, timed_source(plan)).name], work="FieldInt"), pair(TEXT, NUMBER))
+    end = add_group(plan, add_window(plan, end, ["fixed", "sliding", "global"]))
+    end = End(plan.add("pardo", [end.name], work="SumSeq"), pair(TEXT, NUMBER), end.windows, True)
+    end = End(plan.add("pardo", [end.name], work="Swap"), pair(NUMBER, TEXT), end.windows, True)
+    if plan.choose.random() < 0.5:
+        end = add_window(plan, end)
+    add_writes(plan, [add_group(plan, end)])
+
+
+def early_plan(plan):
+    end = add_window(plan, add_key(plan, timed_source(plan)))
+    plan.compared = "values" if "sessions" in end.windows else "cells"
+    end = add_group(plan, end, early=plan.choose.randrange(1, 5))
+    add_writes(plan, [End(plan.add("pardo", [end.name], work="Unseq"), pair(TEXT, DIGITS))])
+
+
+def unsound_plan(plan):
+    plan.compared = "status"
+    end = add_group(plan, add_window(plan, add_key(plan, timed_source(plan, sound=False))))
+    add_writes(plan, [end])
+
+
+def poison_plan(plan):
+    """A plan whose first file has one line that is no timed line, or a part that is no number."""
+    choose = plan.choose
+    plan.compared = "note"
+    end = add_key(plan, timed_source(plan))
+    bad = choose.choice(["no time", "1000\ta\tno number"])
+    if bad != "no time":
+        end = End(plan.add("pardo", [end.name], work="FieldInt"), pair(TEXT, NUMBER))
+    lines = plan.files["f0"].splitlines()
+    lines.insert(choose.randrange(len(lines) + 1), bad)
+    if choose.random() < 0.3:
+        lines.insert(choose.randrange(len(lines) + 1), "!")
+        plan.compared = "fault"
+    plan.files["f0"] = "".join(line + "\n" for line in lines)
+    add_writes(plan, [add_group(plan, add_window(plan, end))])
+
+
+def poison_panes_plan(plan):
+    """Panes of texts can't be added up."""
+    plan.compared = "fault"
+    end = add_group(plan, add_window(plan, add_key(plan, made_source(plan))))
+    plan.nodes[0]["count"] = 40
+    end = End(plan.add("pardo", [end.name], work="SumSeq"), pair(TEXT, NUMBER), end.windows, True)
+    add_writes(plan, [end])
+
+
+KINDS = [text_plan] * 6 + [panes_plan, two_groups_plan, two_groups_plan, early_plan, unsound_plan, poison_plan, poison_panes_plan]
+
+
+def random_plan(choose):
+    plan = Plan(choose)
+    choose.choice(KINDS)(plan)
+    return plan
+
+
+# ---- runs
+
+
+class Ended:
+    def __init__(self, status, out, note):
+        self.status = status
+        self.out = out
+        self.note = note
+
+
+class Program:
+    def __init__(self, path, seconds):
+        self.path = str(pathlib.Path(path).resolve())
+        self.seconds = seconds
+
+    def run(self, folder, options):
+        words = [self.path, "run", "plan.json", *options]
+        try:
+            done = subprocess.run(words, cwd=folder, capture_output=True, timeout=self.seconds)
+        except subprocess.TimeoutExpired:
+            return Ended("no end", b"", b"")
+        return Ended(done.returncode, done.stdout, done.stderr)
+
+
+def bag_of(out, columns):
+    """These columns of each line, of the window's start and end, the timing, the index and the value."""
+    lines = [line.split(b"\t", 4) for line in out.splitlines()]
+    return sorted([line[at] for at in columns] for line in lines)
+
+
+def difference(compared, one, several):
+    """What differs, or nothing."""
+    if one.status != several.status:
+        return f"status {one.status} and {several.status}, notes {one.note!r} and {several.note!r}"
+    if one.status not in ((6,) if compared in ("note", "fault") else (0,)):
+        return f"status {one.status}, note {one.note!r}"
+    if compared == "text" and one.out != several.out:
+        return "the texts"
+    if compared == "cells" and bag_of(one.out, [0, 1, 4]) != bag_of(several.out, [0, 1, 4]):
+        return "the windows and values that were written"
+    if compared == "values" and bag_of(one.out, [4]) != bag_of(several.out, [4]):
+        return "the values that were written"
+    if compared == "note" and one.note != several.note:
+        return f"notes {one.note!r} and {several.note!r}"
+    if compared == "fault" and not (one.note.startswith(b"work fault: ") and several.note.startswith(b"work fault: ")):
+        return f"notes {one.note!r} and {several.note!r}"
+    if compared in ("note", "fault") and (one.out or several.out):
+        return "something was written"
+    return None
+
+
+def write_plan(plan, folder):
+    (folder / "plan.json").write_text(plan.document())
+    for name, text in plan.files.items():
+        (folder / name).write_bytes(text.encode())
+
+
+def random_options(choose, plan):
+    workers = choose.choice([2, 3, 4, 4, 8, 16])
+    bundle = choose.choice([1, 2, 7, 64])
+    # Some fifty pieces of all files together at most, since each piece costs several turns at the lock.
+    chunk = max(choose.choice([1, 5, 64, 1000, 4096]), sum(map(len, plan.files.values())) // 50)
+    return ["--workers", str(workers), "--bundle", str(bundle), "--chunk", str(chunk)]
+
+
+def try_seed(program, seed):
+    """How the plan of the seed was compared, and what differs; the plan stays in a folder then."""
+    choose = random.Random(seed)
+    plan = random_plan(choose)
+    options = random_options(choose, plan)
+    with tempfile.TemporaryDirectory(prefix="random_runs_") as name:
+        folder = pathlib.Path(name)
+        write_plan(plan, folder)
+        found = difference(plan.compared, program.run(folder, ["--workers", "1"]), program.run(folder, options))
+        if found is None:
+            return plan.compared, None
+    kept = pathlib.Path(tempfile.mkdtemp(prefix=f"random_runs_{seed}_"))
+    write_plan(plan, kept)
+    return plan.compared, f"{found}; {' '.join(options)} in {kept}"
+
+
+def keep_busy():
+    while True:
+        pass
+
+
+def busy_processes():
+    processes = [multiprocessing.Process(target=keep_busy, daemon=True) for _ in range(os.cpu_count() or 1)]
+    for process in processes:
+        process.start()
+    return processes
+
+
+def main():
+    words = argparse.ArgumentParser(description="Compares runs of several workers with runs of one.")
+    words.add_argument("program", help="the built program")
+    words.add_argument("--runs", type=int, default=500)
+    words.add_argument("--seed", type=int, default=1)
+    words.add_argument("--seconds", type=float, default=120)
+    words.add_argument("--load", action="store_true", help="keeps all processors busy meanwhile")
+    words = words.parse_args()
+    program = Program(words.program, words.seconds)
+    busy = busy_processes() if words.load else []
+    counts, differences = {}, 0
+    for seed in range(words.seed, words.seed + words.runs):
+        compared, found = try_seed(program, seed)
+        counts[compared] = counts.get(compared, 0) + 1
+        if found is not None:
+            differences += 1
+            print(f"seed {seed} ({compared}): {found}", flush=True)
+    for process in busy:
+        process.terminate()
+    kinds = ", ".join(f"{count} by {compared}" for compared, count in sorted(counts.items()))
+    print(f"{words.runs} plans compared ({kinds}), {differences} differ")
+    return 1 if differences else 0
+
+
+if __name__ == "__main__":
+    sys.exit(main())
