@@ -7,6 +7,10 @@ use Rattle.beam_values.specs.declared.plan.Plan.{Plan}
 use Rattle.group_cells.specs.Commits.{HasLength}
 use Rattle.book_core.proofs.tests.two_minutes_of_a_file_are_grouped_and_written.Goals as goal
 
+pub work_range-requires-clause-fixed : goal.work_range-requires-clause-fixed
+work_range-requires-clause-fixed g c =
+    subst (λ (plan : Plan). (span : Interval) → HasLength (strategy_of plan 2) span) (sym c.in_ok-slot.ensures.plan) c.in_ok-book.ensures.fixed
+
 pub pass_on-requires-clause-onward : goal.pass_on-requires-clause-onward
 pass_on-requires-clause-onward g c =
     subst (λ (plan : Plan). (e : Element) → chain plan 2 e ≡ Arrives (record { node = 3; element = e }) ∷ []) (sym (c.in_ok-range.ensures.plan ∙ c.in_ok-slot.ensures.plan)) c.in_ok-book.ensures.onward
