@@ -1,4 +1,4 @@
-ghost use Rattle.std.specs.Prelude.{◌≡◌, [], ◌∷◌, ◌++◌, Some, None, OnOk, OnErr};
+ghost use Rattle.std.specs.Prelude.{◌≡◌, [], ◌∷◌, ◌++◌, Some, None, OnOk, OnErr, length, take};
 ghost use Rattle.beam_values.specs.Marks.{seen_after};
 
 use crate::{Logged, Receipt};
@@ -52,6 +52,29 @@ impl Staging {
         ensures { self.new ≡ record self.old { seen = seen_after e.now self.old.seen time declared } }
     {
         self.receipt.seen = observe(e, self.receipt.seen, time, declared);
+    }
+
+    /// How many elements are put out.
+    pub fn len(&self) -> usize
+        ensures { result ≡ length self.now.arrivals }
+    {
+        self.receipt.arrivals.len()
+    }
+
+    /// What the estimator has seen.
+    pub fn seen(&self) -> Time
+        ensures { result ≡ self.now.seen }
+    {
+        self.receipt.seen
+    }
+
+    /// Keeps the first `count` elements, and takes back what was seen to a time that [`Staging::seen`] told
+    /// before. Takes no memory.
+    pub fn back_to(&mut self, count: usize, seen: Time)
+        ensures { self.new ≡ record self.old { arrivals = take count self.old.arrivals; seen = seen } }
+    {
+        self.receipt.arrivals.truncate(count);
+        self.receipt.seen = seen;
     }
 
     /// Notes what the calls of a stateful function left, in place of what was noted before. Takes no memory.

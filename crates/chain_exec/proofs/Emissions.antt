@@ -1,5 +1,5 @@
 -- What positions emit, and refusals of work on them.
-use Rattle.std.proofs.Common.{◌≡◌, ℕ, ◌+◌, ◌<◌, Bool, true, false, List, [], ◌∷◌, ◌++◌, length, get_or, map, fold, take, Option, None, refl, sym, ap, subst, ◌∙◌, arith}
+use Rattle.std.proofs.Common.{◌≡◌, ℕ, ◌+◌, ◌<◌, ◌≤◌, Bool, true, false, List, [], ◌∷◌, ◌++◌, length, get_or, map, fold, take, Option, None, refl, sym, ap, subst, ◌∙◌, arith}
 use Rattle.std.specs.Prelude.{ℤ, ◌==◌, ◌↔◌, IsTrue, not}
 use Rattle.std.specs.List.{All}
 use Rattle.std.proofs.lemmas.List.{take_more, map-append}
@@ -8,18 +8,25 @@ use Rattle.std.proofs.lemmas.Bool.{false≢true}
 use Rattle.std.proofs.lemmas.Bool.Decides.{nat_tests}
 use Rattle.beam_values.specs.Marks.{seen_after}
 use Rattle.beam_values.specs.Times.{IsTime}
+use Rattle.beam_values.specs.declared.fault.Cause.TheVariants.{Call, Read}
 use Rattle.beam_values.specs.declared.plan.Estimator.{Estimator}
 use Rattle.beam_values.specs.declared.plan.Plan.{Plan}
 use Rattle.beam_model.specs.Chains.{Arrives}
 use Rattle.beam_model.specs.Holds.{estimator_of}
-use Rattle.beam_model.specs.Positions.{TimedValue, Emits}
-use Rattle.beam_model.specs.Spread.{emission_outputs}
+use Rattle.beam_model.specs.Positions.{Emission, TimedValue, Emits}
+use Rattle.beam_model.specs.Spread.{emission_outputs, first_poison}
 use Rattle.beam_model.specs.Estimators.{latest_time, later_time}
+use Rattle.beam_ports.specs.Files.{Opening}
 use Rattle.bundle_commit.specs.declared.job.Receipt.{Receipt}
 use Rattle.dofn_traits.specs.Calls.{timed_value}
 use Rattle.dofn_traits.specs.declared.calls.Emission as calls
 use Rattle.dofn_traits.specs.declared.calls.Timed.{Timed}
-use Rattle.chain_exec.specs.Positions.{HasValue, IsWorked, emission_of}
+use Rattle.chain_exec.specs.Causes.{IsCallRefused}
+use Rattle.chain_exec.specs.Positions.{HasValue, IsEmissionAt, IsPositionRefused, IsWorked, StoreCounts, emission_of}
+use Rattle.chain_exec.specs.Sources.{SourceWork}
+use Rattle.chain_exec.specs.declared.refusal.ExecRefusal.{ExecRefusal}
+use Rattle.chain_exec.specs.declared.refusal.ExecRefusal.TheVariants.{Faulted, NoMemory}
+use Rattle.chain_exec.proofs.Poisons.{rose_after}
 
 latest-snoc : (start : Option ℤ) (values : List TimedValue) (v : TimedValue) → fold later_time start (values ++ v ∷ []) ≡ later_time (fold later_time start values) v
 latest-snoc start [] v = refl
@@ -71,3 +78,13 @@ worked plan node next estimator out values latest empty old observed new its sam
   timely = subst (λ (l : List Timed). All (λ v. IsTime v.time) (map timed_value l)) same timely;
   emits = has_value out.items out.declared empty (some ∙ ap (λ (l : List Timed). length l == 0) same);
 }
+
+-- what an emission that a position emits brings was refused, and so the work on the position
+pub position_refused : (strict sent_strict : Bool) (start before after : ℕ) (store : StoreCounts) (plan : Plan) (node : ℕ) (source : SourceWork) (opening : Option Opening) (len p next : ℕ)
+    (emitted : Emission) → start ≤ before → sent_strict ≡ strict → IsEmissionAt source opening len p emitted next
+    → (refusal : ExecRefusal) → IsCallRefused (record { strict = sent_strict; before = before; after = after }) (emission_outputs plan node emitted) refusal
+    → IsPositionRefused (record { strict = strict; before = start; after = after }) store plan node source opening len p refusal
+position_refused strict sent_strict start before after store plan node source opening len p next emitted kept same told (Faulted at Call) is =
+    (rose_after start before after kept is.0, λ s text known. ap (λ (e : Emission). first_poison (emission_outputs plan node e)) (sym (told text known).0) ∙ is.1 (same ∙ s))
+position_refused strict sent_strict start before after store plan node source opening len p next emitted kept same told (Faulted at Read) is = absurd is
+position_refused strict sent_strict start before after store plan node source opening len p next emitted kept same told NoMemory is = tt

@@ -1,4 +1,5 @@
 pub mod Emissions
+pub mod Fronts
 pub mod Looks
 pub mod Passings
 pub mod Poisons

@@ -1,4 +1,4 @@
-ghost use Rattle.std.specs.Prelude.{◌≡◌, ◌≢◌, ◌≤◌, ◌<◌, ◌+◌, ◌++◌, [], true, None, length, map, IfErr, OnOk};
+ghost use Rattle.std.specs.Prelude.{◌≡◌, ◌≢◌, ◌≤◌, ◌<◌, ◌+◌, ◌++◌, [], true, None, length, map, take, IfErr, OnOk};
 ghost use Rattle.beam_values.specs.Checked.{is_function_allowed};
 ghost use Rattle.beam_values.specs.declared.plan.NodeKind.TheVariants.{ParDo};
 ghost use Rattle.beam_model.specs.Chains.{Arrives, chain};
@@ -61,6 +61,7 @@ impl Buffers {
         ensures staged { OnOk result (map Arrives staging.new.arrivals ≡ map Arrives staging.old.arrivals
             ++ emission_outputs graph.now node (emission_of self.old.emission)) }
         ensures only { staging.new ≡ record staging.old { arrivals = staging.new.arrivals } }
+        ensures front { take (length staging.old.arrivals) staging.new.arrivals ≡ staging.old.arrivals }
         ensures refused { IfErr result (IsCallRefused (observed_shelf F.strict F.faults shelf.old shelf.new)
             (emission_outputs graph.now node (emission_of self.old.emission))) }
         ensures counts { F.faults shelf.old ≤ F.faults shelf.new }
@@ -86,6 +87,7 @@ impl Buffers {
         ensures unused { OnOk result (IsUnused self.new) }
         ensures staged { OnOk result (map Arrives staging.new.arrivals ≡ map Arrives staging.old.arrivals ++ outputs_of_stack graph.now self.old.stack) }
         ensures only { staging.new ≡ record staging.old { arrivals = staging.new.arrivals } }
+        ensures front { take (length staging.old.arrivals) staging.new.arrivals ≡ staging.old.arrivals }
         ensures refused { IfErr result (IsCallRefused (observed_shelf F.strict F.faults shelf.old shelf.new) (outputs_of_stack graph.now self.old.stack)) }
         ensures counts { F.faults shelf.old ≤ F.faults shelf.new }
         ensures strict { F.strict shelf.new ≡ F.strict shelf.old }
@@ -115,6 +117,7 @@ impl Buffers {
             ≡ map Arrives staging.old.arrivals ++ (outputs_of_delivery graph.now delivery ++ outputs_of_stack graph.now self.old.stack)) }
         ensures less { OnOk result (stops_of_all graph.now self.new.stack < stops_of graph.now delivery + stops_of_all graph.now self.old.stack) }
         ensures only { staging.new ≡ record staging.old { arrivals = staging.new.arrivals } }
+        ensures front { take (length staging.old.arrivals) staging.new.arrivals ≡ staging.old.arrivals }
         ensures refused { IfErr result (IsCallRefused (observed_shelf F.strict F.faults shelf.old shelf.new) (outputs_of_delivery graph.now delivery)) }
         ensures counts { F.faults shelf.old ≤ F.faults shelf.new }
         ensures strict { F.strict shelf.new ≡ F.strict shelf.old }
@@ -148,6 +151,7 @@ impl Buffers {
         ensures windows { OnOk result (self.new.windows ≡ []) }
         ensures passed { OnOk result (Passes node kind.now followers.now element self.old.stack self.new.stack staging.old.arrivals staging.new.arrivals) }
         ensures only { staging.new ≡ record staging.old { arrivals = staging.new.arrivals } }
+        ensures front { take (length staging.old.arrivals) staging.new.arrivals ≡ staging.old.arrivals }
         ensures refused { IfErr result (IsPassRefused (observed_shelf F.strict F.faults shelf.old shelf.new) node kind.now element) }
         ensures counts { F.faults shelf.old ≤ F.faults shelf.new }
         ensures strict { F.strict shelf.new ≡ F.strict shelf.old }

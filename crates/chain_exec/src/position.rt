@@ -1,4 +1,4 @@
-ghost use Rattle.std.specs.Prelude.{◌≡◌, ◌≤◌, ◌<◌, ℕ, List, None, true, map, IsSome, IfErr, IfOk};
+ghost use Rattle.std.specs.Prelude.{◌≡◌, ◌≤◌, ◌<◌, ℕ, List, None, true, map, IsSome, IfErr, IfOk, OnErr};
 ghost use Rattle.std.specs.List.{All};
 ghost use Rattle.std.specs.Option.{ForSome};
 ghost use Rattle.beam_values.specs.Times.{IsTime};
@@ -33,7 +33,7 @@ pub struct Step {
 
 /// Works the position `p` of an item of a source: stages what it brings to the barriers, and notes it for
 /// the source's estimator. The pager is that of the item; of what is counted or made it has the length
-/// alone. After a refusal nothing is said of what was staged.
+/// alone. After a refusal the staging is as it was.
 pub fn run_position<F: Shelf, S: Store>(
     alloc: Global,
     graph: &Graph,
@@ -53,6 +53,7 @@ pub fn run_position<F: Shelf, S: Store>(
     ensures worked { IfOk result (λ step. (emitted : model.Emission) × IsWorked graph.now node emitted staging.old staging.new step
         × ForSome (source_at graph.now node) (λ source. IsEmissionAt source (S.opened store.old pager.old.file) pager.old.len p emitted step.next)) }
     ensures next { IfOk result (λ step. IsNextOf p pager.old.len step.next) }
+    ensures undone { OnErr result (staging.new ≡ staging.old) }
     ensures refused { IfErr result (λ refusal. ForSome (source_at graph.now node) (λ source.
         IsPositionRefused (observed_shelf F.strict F.faults shelf.old shelf.new) (record { before = S.faults store.old; after = S.faults store.new })
         graph.now node source (S.opened store.old pager.old.file) pager.old.len p refusal)) }
@@ -82,6 +83,7 @@ pub fn run_position<F: Shelf, S: Store>(
         p,
         emission,
     )?;
+    let (count, seen) = (staging.len(), staging.seen());
     let values = buffers.emission.items.as_slice();
     let emitted = !values.is_empty();
     staging.observe(
@@ -89,8 +91,13 @@ pub fn run_position<F: Shelf, S: Store>(
         latest_time(values),
         buffers.emission.declared,
     );
-    buffers.send_emission(alloc, graph, shelf, node, staging)?;
-    Ok(Step { next, emitted })
+    match buffers.send_emission(alloc, graph, shelf, node, staging) {
+        Ok(()) => Ok(Step { next, emitted }),
+        Err(refusal) => {
+            staging.back_to(count, seen);
+            Err(refusal)
+        }
+    }
 }
 
 // The greatest time of some values.

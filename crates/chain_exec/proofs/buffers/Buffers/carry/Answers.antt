@@ -5,6 +5,7 @@ use Rattle.beam_model.specs.Spread.{first_poison}
 use Rattle.bundle_commit.specs.declared.job.Receipt.{Receipt}
 use Rattle.chain_exec.specs.Causes.{IsCallRefused}
 use Rattle.chain_exec.specs.Deliveries.{outputs_of_delivery, outputs_of_stack}
+use Rattle.chain_exec.proofs.Fronts.{front_after}
 use Rattle.chain_exec.proofs.Passings.{top_first}
 use Rattle.chain_exec.proofs.Poisons.{first_in_front, none_in_front, refused_in_whole, same_first}
 use Rattle.chain_exec.proofs.buffers.Buffers.carry.Goals as goal
@@ -21,11 +22,16 @@ loop-delivery-preserved g c =
       windows = c.in_ok-take.ensures.windows;
       staged = c.in_ok-take.ensures.staged ∙ ap (λ (o : _). map Arrives l.staging.arrivals ++ o) (sym top) ∙ l.invariant.staged;
       only = c.take.ensures.only ∙ ap (λ (s : Receipt). record s { arrivals = c.take.new.staging.arrivals }) l.invariant.only;
+      front = front_after c.args.staging.now.arrivals l.staging.arrivals c.take.new.staging.arrivals l.invariant.front c.take.ensures.front;
       counts = omega (arith, l.invariant.counts, c.take.ensures.counts);
       strict = c.take.ensures.strict ∙ l.invariant.strict;
       unharmed = λ strict none. c.take.ensures.unharmed (l.invariant.strict ∙ strict)
           (none_in_front (outputs_of_delivery plan d) (outputs_of_stack plan c.pop.new.self) (sym (ap first_poison top) ∙ first ∙ none)) ∙ l.invariant.unharmed strict none;
     }
+
+pub returns-in_err-take-clause-front : goal.returns-in_err-take-clause-front
+returns-in_err-take-clause-front g c =
+    front_after c.args.staging.now.arrivals c.loop-delivery.staging.arrivals c.take.new.staging.arrivals c.loop-delivery.invariant.front c.take.ensures.front
 
 pub returns-in_err-take-clause-refused : goal.returns-in_err-take-clause-refused
 returns-in_err-take-clause-refused g c =

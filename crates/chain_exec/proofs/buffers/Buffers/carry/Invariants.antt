@@ -1,4 +1,4 @@
-use Rattle.std.proofs.Common.{◌≡◌, ◌≤◌, ◌++◌, [], true, None, map}
+use Rattle.std.proofs.Common.{◌≡◌, ◌≤◌, ◌++◌, [], true, None, length, map, take}
 use Rattle.beam_model.specs.Chains.{Arrives}
 use Rattle.beam_model.specs.Spread.{first_poison}
 use Rattle.chain_exec.specs.Deliveries.{outputs_of_stack}
@@ -11,6 +11,7 @@ invariant-loop-delivery g l = record {
   windows : l.self.windows ≡ [];
   staged : map Arrives l.staging.arrivals ++ outputs_of_stack l.graph l.self.stack ≡ map Arrives l.initial.staging.arrivals ++ outputs_of_stack l.graph l.initial.self.stack;
   only : l.staging ≡ record l.initial.staging { arrivals = l.staging.arrivals };
+  front : take (length l.initial.staging.arrivals) l.staging.arrivals ≡ l.initial.staging.arrivals;
   counts : g.F.Shelf.faults l.initial.shelf ≤ g.F.Shelf.faults l.shelf;
   strict : g.F.Shelf.strict l.shelf ≡ g.F.Shelf.strict l.initial.shelf;
   unharmed : g.F.Shelf.strict l.initial.shelf ≡ true → first_poison (outputs_of_stack l.graph l.initial.self.stack) ≡ None
