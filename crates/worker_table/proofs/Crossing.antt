@@ -2,7 +2,7 @@
 use denote.RattleType.{RattleType}
 use denote.Param.Send.{IsSend, IsSync, sendable, view_send, view_sync}
 use denote.Param.SendFields.{as_row_send, as_row_sync, declared_send, declared_sync, variants_send}
-use Rattle.std.proofs.Crossing.{crosses, frees}
+use Rattle.std.proofs.Crossing.{crosses}
 use Rattle.turn_desk.proofs.desk.Desk.TheSendSync as desk
 use Rattle.turn_desk.proofs.desk.Pass.TheSendSync as pass
 use Rattle.std.proofs.MapsCrossing.{crosses as maps}

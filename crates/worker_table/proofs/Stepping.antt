@@ -1,13 +1,16 @@
 -- What the book's own calls say of a step, for the book that is held.
-use Rattle.std.proofs.Common.{◌≡◌, ℕ, List, ◌∙◌, subst, arith}
-use Rattle.std.specs.Prelude.{Option, None, Result, Ok, Err, IfOk, OnOk, OnErr}
+use Rattle.std.proofs.Common.{◌≡◌, ℕ, Bool, List, sym, ap, ◌∙◌, subst, arith}
+use Rattle.std.specs.Prelude.{Option, Some, None, Result, Ok, Err, IfOk, OnOk, OnErr, nat_lt}
 use Rattle.beam_values.specs.declared.file_text.FileText.{FileText}
+use Rattle.beam_values.specs.declared.piece.Piece.{Piece}
 use Rattle.bundle_commit.specs.declared.job.Receipt.{Receipt}
 use Rattle.book_core.specs.Book.{BookData}
-use Rattle.book_core.specs.Calls.{Makes, answer_of}
-use Rattle.book_core.specs.Steps.{CanCommit, Commit, Committed, IsCommitting, IsFree, IsMostLeft, IsWithinLimits, Split, SplitAt, Step, Take}
+use Rattle.book_core.specs.Calls.{Makes, answer_of, live_piece, piece_in}
+use Rattle.book_core.specs.Steps.{CanCommit, Claim, Claimed, Commit, Committed, IsClaiming, IsCommitting, IsFree, IsMostLeft, IsWithinLimits, Split, SplitAt, Step, Take}
+use Rattle.book_core.specs.declared.live.Live.TheVariants as live
 use Rattle.book_core.specs.declared.live.Taken.{Taken}
 use Rattle.worker_table.specs.Calls.{take_answer}
+use Rattle.worker_table.specs.Places.{set_here}
 
 pub taken_step : {E : Type 0} (b old new : BookData) (slot : ℕ) (answer : Result Taken E) → old ≡ b → IsFree b slot → IfOk answer (λ taken. Makes old slot Take (answer_of taken) new) → OnErr answer (new ≡ old)
     → Makes b slot Take (take_answer answer) new
@@ -29,3 +32,30 @@ always_cut b old new slot other found same most makes none =
     let low = step.0 most.piece most.attempted most.would.works in
     let high = most.would.splits in
     omega arith
+
+-- after a claim the slot works the range
+claim_stays : (b new : BookData) (slot p : ℕ) (granted : Bool) (step : IsClaiming b slot p granted new) → live_piece new slot ≡ Some step.piece
+claim_stays b new slot p granted step =
+    ap (λ (x : BookData). live_piece x slot) step.is
+    ∙ ap piece_in (set_here b.slots slot (Some (live.Span step.piece step.attempted)) (Some (live.Span step.piece (Some p))) step.works)
+
+pub claimed_live : (b new : BookData) (slot p : ℕ) (granted : Bool) → Makes b slot (Claim p) (Claimed granted) new → live_piece new slot ≡ None → ⊥
+claimed_live b new slot p granted makes none =
+    let there = claim_stays b new slot p granted (makes None) in
+    cc
+
+-- it is granted below the end of that range
+pub claimed_step : (b old new : BookData) (slot p : ℕ) (granted : Bool) (piece : Piece) (end : ℕ) → old ≡ b → Makes old slot (Claim p) (Claimed granted) new → live_piece new slot ≡ Some piece
+    → end ≡ piece.range.to → Makes b slot (Claim p) (Claimed (nat_lt p end)) new
+claimed_step b old new slot p granted piece end same makes found ends = λ told.
+    let step : Step told b slot (Claim p) (Claimed granted) new = subst (λ (x : BookData). Step told x slot (Claim p) (Claimed granted) new) same (makes told) in
+    let one : Some step.piece ≡ Some piece = sym (claim_stays b new slot p granted step) ∙ found in
+    let is : step.piece ≡ piece = cc in
+    record {
+      piece = step.piece;
+      attempted = step.attempted;
+      works = step.works;
+      may = step.may;
+      answer = ap (nat_lt p) (ends ∙ ap (λ (x : Piece). x.range.to) (sym is));
+      is = step.is;
+    }

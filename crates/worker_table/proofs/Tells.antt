@@ -1,13 +1,13 @@
 -- What each call tells its pass, from the turn that it made.
 use Rattle.std.proofs.Common.{◌≡◌, ℕ, List, [], ◌∷◌, length, Bool, refl, sym, ap, ◌∙◌, subst}
-use Rattle.std.specs.Prelude.{Option, Some, None, Result, Ok, Err, IfOk, slice_get}
+use Rattle.std.specs.Prelude.{Option, Some, None, Result, Ok, Err, IfOk, IsSomeAnd, slice_get}
 use Rattle.beam_values.specs.declared.cell.Pane.{Pane}
 use Rattle.beam_values.specs.declared.fault.Cause.{Cause}
 use Rattle.beam_values.specs.declared.piece.Piece.{Piece}
 use Rattle.bundle_commit.specs.declared.job.Job.TheVariants as job
 use Rattle.turn_desk.specs.declared.held.Note.{Note}
 use Rattle.book_core.specs.Book.{BookData, slot_at}
-use Rattle.book_core.specs.Calls.{failure_of}
+use Rattle.book_core.specs.Calls.{failure_of, piece_in}
 use Rattle.book_core.specs.Jobs.{Due, GivenBack, Oldest, Next, attempted_of, due_or_piece, first_due, job_of, without_due, without_first}
 use Rattle.book_core.specs.Steps.{Action, Answer, Claim, Claimed, Commit, Fail, Take}
 use Rattle.book_core.specs.declared.live.Failure.{Failure}
@@ -16,7 +16,7 @@ use Rattle.book_core.specs.declared.live.Live.{Live}
 use Rattle.book_core.specs.declared.live.Live.TheVariants as live
 use Rattle.book_core.specs.declared.live.Taken.{Taken}
 use Rattle.book_core.specs.declared.live.Taken.TheVariants as taken
-use Rattle.worker_table.specs.Calls.{AfterClaim, AfterCommit, AfterEnroll, AfterFail, AfterHelp, AfterStop, AfterTake, GoesOnAs, IsTakenOfPlan, KeepsSlot, commit_answer, take_answer}
+use Rattle.worker_table.specs.Calls.{AfterClaim, AfterCommit, AfterEnroll, AfterFail, AfterHelp, AfterStop, AfterTake, EndsAt, GoesOnAs, IsTakenOfPlan, KeepsSlot, commit_answer, take_answer}
 use Rattle.worker_table.specs.Fits.{IsJobOf, IsSlotOf}
 use Rattle.worker_table.specs.Frames.{next_keep, fail_leaves}
 use Rattle.worker_table.specs.Moves.{Deed, calls_after, first_after, known_at, known_in, reads_after}
@@ -164,6 +164,15 @@ module _ (setting : Setting) (m n : Note (List Entry)) (i : ℕ) where
     slot = ap (λ (e : Entry). e.slot) turn.first;
     owes = ap (λ (e : Entry). e.owes_split) turn.first;
   }
+
+-- ---- where a range ends
+
+-- the pass then knows the range that the slot works
+pub ends_in : (panes : List Pane) (slot : Option (Option Live)) (end : ℕ) → IsSomeAnd (piece_in slot) (λ piece. piece.range.to ≡ end) → EndsAt (known_in panes slot) end
+ends_in panes (Some (Some (live.Span piece attempted))) end is = is
+ends_in panes (Some (Some (live.Batch batch))) end is = absurd is
+ends_in panes (Some None) end is = absurd is
+ends_in panes None end is = absurd is
 
 -- ---- the other turns
 

@@ -11,7 +11,7 @@ use Rattle.book_core.specs.Runs.{IsHonestAction}
 use Rattle.book_core.specs.Steps.{Action, Answer, Enroll, Enrolled, Fail, IsNextFor, NoMemory, Split, SplitAt, Step}
 use Rattle.worker_table.specs.Calls.{Helping, IsHelpAnswer, enroll_deed, failed_at, help_deed}
 use Rattle.worker_table.specs.Fits.{Fits, FitEntries, FitsEntry, IsBookOf, IsJobOf, IsSlotOf}
-use Rattle.worker_table.specs.Moves.{Deed, Rests, Steps, Enrolls, FindsNone, Helps, Does, FirstDoes, IsOwnAction, Moves, calls_after, entry_after, first_after, note_after, reads_after}
+use Rattle.worker_table.specs.Moves.{Deed, Rests, Steps, Enrolls, FindsNone, Helps, Does, FirstDoes, IsOwnAction, Moves, calls_after, entry_after, first_after, known_at, note_after, reads_after}
 use Rattle.worker_table.specs.Notes.{Setting, Owner, owner_of, Entry}
 use Rattle.worker_table.specs.Places.{set_as_it_was}
 use Rattle.worker_table.specs.Turns.{HasEnrolled, HasHelped, Turned, entry_in, first_entry, number_in}
@@ -122,6 +122,13 @@ module _ (setting : Setting) (L x : Shared) (m : Note (List Entry)) (same : x �
             note = here;
             first = ap first_entry here ∙ first_is d x.book.value y.book.value x.owners.value m.numbers m.about sound.own fit_now.entries;
           }
+
+      -- what the note says of the pass's job then
+      pub job_given : (n : Note (List Entry)) (i : ℕ) (action : Action) (answer : Answer) → deed ≡ Steps i action answer → n ≡ note_after deed L.book.value tn y.book.value → (first_entry n).job ≡ known_at y.book.value i
+      job_given n i action answer is e =
+          let d = Steps i action answer in
+          ap (λ (z : Note (List Entry)). (first_entry z).job) (e ∙ (λ j. note_after (is j) (sym same j).book.value (noted j) y.book.value))
+          ∙ ap (λ (z : Entry). z.job) (first_is d x.book.value y.book.value x.owners.value m.numbers m.about sound.own fit_now.entries)
 
       pub help_turn : {E : Type 0} (n : Note (List Entry)) (i : ℕ) (found : Help) (answer : Result (Option ℕ) E) → deed ≡ help_deed found → Helping x.book.value i found y.book.value → IsHelpAnswer found answer
           → n ≡ note_after deed L.book.value tn y.book.value → HasHelped setting m n i answer

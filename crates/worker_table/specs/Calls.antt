@@ -96,6 +96,15 @@ pub record AfterClaim (known : Option KnownJob) (p : ℕ) (granted : Bool) (afte
   pub is : after ≡ Some (record { job = job.Span now; attempted = Some p })
   pub answer : granted ≡ is_granted (tracker_of now attempted) p
 
+abbrev pub IsRangeTo : Job → ℕ → Type 0
+IsRangeTo (job.Span piece) end = piece.range.to ≡ end
+IsRangeTo _ end = ⊥
+
+-- the pass knows a range that ends here
+abbrev pub EndsAt : Option KnownJob → ℕ → Type 0
+EndsAt None end = ⊥
+EndsAt (Some known) end = IsRangeTo known.job end
+
 abbrev pub AfterCommit : {U E : Type 0} → Result U E → Entry → Type 0
 AfterCommit (Ok u) e' = e'.job ≡ None
 AfterCommit (Err e) e' = Unit {0}

@@ -1,9 +1,9 @@
 //! What a pass does in its turn at the desk.
-ghost use Rattle.std.specs.Prelude.{◌≡◌, None, Some, IfErr};
+ghost use Rattle.std.specs.Prelude.{◌≡◌, None, Some, IfErr, nat_lt};
 ghost use Rattle.turn_desk.specs.Seen.{constant_of, note_of, IsPassOf};
 ghost use Rattle.book_core.specs.Calls.{failure_of};
 ghost use Rattle.book_core.specs.Steps.{Claim, Claimed, Commit, Fail, Take};
-ghost use Rattle.worker_table.specs.Calls.{AfterClaim, AfterCommit, AfterEnroll, AfterFail, AfterHelp, AfterStop, AfterTake, CanClaimAs, CanCommitAs, CanFailAs, GoesOnAs, IsHelpAnswer, KeepsSlot, commit_answer, take_answer};
+ghost use Rattle.worker_table.specs.Calls.{AfterClaim, AfterCommit, AfterEnroll, AfterFail, AfterHelp, AfterStop, AfterTake, CanClaimAs, CanCommitAs, CanFailAs, EndsAt, GoesOnAs, IsHelpAnswer, KeepsSlot, commit_answer, take_answer};
 ghost use Rattle.worker_table.specs.Turns.{HasEnrolled, HasHelped, HasStepped, HasStopped, KeepsOthers, first_entry};
 
 use crate::did::{owned_by, seen_as};
@@ -61,20 +61,21 @@ pub fn claim<R: Wait>(
     own: Pass<Shared>,
     slot: u32,
     p: u64,
-) -> (bool, Pass<Shared>)
+) -> (u64, Pass<Shared>)
     requires table { IsPassOf desk.now own }
     requires slot { (first_entry (note_of own)).slot ≡ Some slot }
     requires may { CanClaimAs (first_entry (note_of own)).job p }
     ensures table { IsPassOf desk.now result.1 }
-    ensures turn { HasStepped (constant_of desk.now) (note_of own) (note_of result.1) slot (Claim p) (Claimed result.0) }
-    ensures told { AfterClaim (first_entry (note_of own)).job p result.0 (first_entry (note_of result.1)).job }
+    ensures turn { HasStepped (constant_of desk.now) (note_of own) (note_of result.1) slot (Claim p) (Claimed (nat_lt p result.0)) }
+    ensures told { AfterClaim (first_entry (note_of own)).job p (nat_lt p result.0) (first_entry (note_of result.1)).job }
+    ensures end { EndsAt (first_entry (note_of result.1)).job result.0 }
     ensures stays { GoesOnAs (first_entry (note_of own)) (first_entry (note_of result.1)) }
     ensures others { KeepsOthers (note_of own) (note_of result.1) }
 {
     let mut turn = desk.take(rt, own);
-    let granted = turn.value().claim(slot, p);
-    let did = seen_as(&(slot, p), &granted);
-    (granted, desk.give(turn, &did))
+    let end = turn.value().claim(slot, p);
+    let did = seen_as(&(slot, p), &end);
+    (end, desk.give(turn, &did))
 }
 
 pub fn split_other<R: Wait>(

@@ -1,7 +1,7 @@
 //! One step of the book that is held, with the owners of its slots.
-ghost use Rattle.std.specs.Prelude.{◌≡◌, List, Option, None, IfOk, IfErr, OnOk, OnErr};
+ghost use Rattle.std.specs.Prelude.{◌≡◌, List, Option, None, IfOk, IfErr, IsSomeAnd, OnOk, OnErr, nat_lt};
 ghost use Rattle.beam_values.specs.declared.file_text.FileText.{FileText};
-ghost use Rattle.book_core.specs.Calls.{CanClaim, CanFail, Makes, failure_of};
+ghost use Rattle.book_core.specs.Calls.{CanClaim, CanFail, Makes, failure_of, live_piece};
 ghost use Rattle.book_core.specs.Steps.{CanCommit, Claim, Claimed, Commit, Committed, Enroll, Enrolled, Fail, IsFree, Noted, Step, Stop, Take};
 ghost use Rattle.worker_table.specs.Calls.{Helping, IsTakenOfPlan, failed_at, take_answer};
 
@@ -29,13 +29,18 @@ impl Shared {
         taken
     }
 
-    /// The slot's range attempts a position.
-    pub fn claim(&mut self, slot: u32, p: u64) -> bool
+    /// The slot's range attempts a position. Answers the end of the range: a position below it is granted.
+    pub fn claim(&mut self, slot: u32, p: u64) -> u64
         requires { CanClaim self.old.book.value slot p }
-        ensures step { Makes self.old.book.value slot (Claim p) (Claimed result) self.new.book.value }
+        ensures step { Makes self.old.book.value slot (Claim p) (Claimed (nat_lt p result)) self.new.book.value }
+        ensures end { IsSomeAnd (live_piece self.new.book.value slot) (λ piece. piece.range.to ≡ result) }
         ensures owners { self.new.owners.value ≡ self.old.owners.value }
     {
-        self.book.claim(slot, p)
+        let _granted = self.book.claim(slot, p);
+        let Some(piece) = self.book.live(slot) else {
+            unreachable!();
+        };
+        piece.range.to()
     }
 
     /// The range of the slot that an idle one helps is split at a half.

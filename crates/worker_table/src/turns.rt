@@ -1,8 +1,8 @@
 //! The turns of a pass: one step of the book each.
-ghost use Rattle.std.specs.Prelude.{◌≡◌, None, IsSome, IsSomeAnd, IfErr, false};
+ghost use Rattle.std.specs.Prelude.{◌≡◌, None, IsSome, IsSomeAnd, IfErr, false, nat_lt};
 ghost use Rattle.book_core.specs.Calls.{failure_of};
 ghost use Rattle.book_core.specs.Steps.{Claim, Claimed, Commit, Fail, Take};
-ghost use Rattle.worker_table.specs.Calls.{AfterClaim, AfterCommit, AfterEnroll, AfterFail, AfterHelp, AfterStop, AfterTake, CanClaimAs, CanCommitAs, CanFailAs, GoesOnAs, KeepsSlot, commit_answer, take_answer};
+ghost use Rattle.worker_table.specs.Calls.{AfterClaim, AfterCommit, AfterEnroll, AfterFail, AfterHelp, AfterStop, AfterTake, CanClaimAs, CanCommitAs, CanFailAs, EndsAt, GoesOnAs, KeepsSlot, commit_answer, take_answer};
 ghost use Rattle.worker_table.specs.Passes.{IsOf, entry_of, job_known, note_of_pass, setting_of, slot_of};
 ghost use Rattle.worker_table.specs.Turns.{HasEnrolled, HasHelped, HasStepped, HasStopped, KeepsOthers};
 
@@ -65,12 +65,27 @@ impl Table {
         ensures stays { GoesOnAs (entry_of pass.old) (entry_of pass.new) }
         ensures others { KeepsOthers (note_of_pass pass.old) (note_of_pass pass.new) }
     {
+        p < self.claim_end(rt, pass, p)
+    }
+
+    /// [`Table::claim`], which answers the end of the range as others have left it: a position below it is granted.
+    pub fn claim_end<R: Wait>(&self, rt: &R, pass: &mut WorkerPass, p: u64) -> u64
+        requires table { IsOf self.now pass.old }
+        requires slot { IsSome (slot_of pass.old) }
+        requires may { CanClaimAs (job_known pass.old) p }
+        ensures table { IsOf self.now pass.new }
+        ensures turn { IsSomeAnd (slot_of pass.old) (λ i. HasStepped (setting_of self.now) (note_of_pass pass.old) (note_of_pass pass.new) i (Claim p) (Claimed (nat_lt p result))) }
+        ensures told { AfterClaim (job_known pass.old) p (nat_lt p result) (job_known pass.new) }
+        ensures end { EndsAt (job_known pass.new) result }
+        ensures stays { GoesOnAs (entry_of pass.old) (entry_of pass.new) }
+        ensures others { KeepsOthers (note_of_pass pass.old) (note_of_pass pass.new) }
+    {
         let (Some(own), Some(slot)) = (pass.pass.take(), pass.slot) else {
             unreachable!();
         };
-        let (granted, own) = in_turn::claim(&self.desk, rt, own, slot, p);
+        let (end, own) = in_turn::claim(&self.desk, rt, own, slot, p);
         pass.pass = Some(own);
-        granted
+        end
     }
 
     /// The pass helps the slot whose range has the most left: it is split at a half. Answers where, or none where no
