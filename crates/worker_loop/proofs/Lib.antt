@@ -3,6 +3,7 @@ pub mod Working
 pub mod BarrierReach
 pub mod PieceWork
 pub mod Claims
+pub mod Stretching
 pub mod PieceReads
 pub mod Told
 pub mod Readers

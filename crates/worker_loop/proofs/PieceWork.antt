@@ -1,44 +1,41 @@
 -- The work on a piece, one position after another: what it brings where the item's text is known, and what may come of it in any case.
-use Rattle.std.proofs.Common.{◌≡◌, inl, inr, ℕ, zero, suc, ◌+◌, ◌-◌, ◌<◌, ◌≤◌, min, ℤ, Bool, true, false, List, [], ◌∷◌, ◌++◌, length, get_or, map, fold, refl, sym, ap, subst, ◌∙◌, append_assoc, arith}
-use Rattle.std.specs.Prelude.{Option, Some, None, ◌≤ℤ◌, slice_get}
+use Rattle.std.proofs.Common.{◌≡◌, ℕ, zero, suc, ◌+◌, ◌-◌, ◌<◌, ◌≤◌, ℤ, true, List, [], ◌∷◌, ◌++◌, length, get_or, map, fold, refl, sym, ap, subst, ◌∙◌, append_assoc, arith}
+use Rattle.std.specs.Prelude.{Some, None, ◌≤ℤ◌, slice_get}
 use Rattle.std.specs.List.{All}
-use Rattle.std.specs.Option.{ForSome}
 use Rattle.std.proofs.lemmas.Int.{ints}
+use Rattle.std.proofs.lemmas.List.{append-nil}
 use Rattle.std.proofs.lemmas.List.Elements.{All-nil, All-cons, All-append}
-use Rattle.beam_values.specs.Lines.{offsets, spread}
+use Rattle.beam_values.specs.Lines.{offsets}
 use Rattle.beam_values.specs.Nodes.{is_source_kind}
-use Rattle.beam_values.specs.Times.{IsTime, greatest_time}
-use Rattle.beam_values.specs.Tracking.{Tracked, first_unattempted}
-use Rattle.beam_values.specs.declared.arrival.Arrival.{Arrival}
+use Rattle.beam_values.specs.Times.{greatest_time}
 use Rattle.beam_values.specs.declared.piece.Piece.{Piece}
 use Rattle.beam_values.specs.declared.plan.Estimator.{Estimator}
 use Rattle.beam_values.specs.declared.plan.Estimator.TheVariants as estimator
 use Rattle.beam_values.specs.declared.plan.Node.{Node}
-use Rattle.beam_values.specs.declared.plan.NodeKind.{NodeKind}
-use Rattle.beam_values.specs.declared.plan.NodeKind.TheVariants.{Source, ParDo, Flatten, WindowInto, Group, Stateful, Write}
 use Rattle.beam_values.specs.declared.plan.Plan.{Plan}
-use Rattle.beam_values.proofs.Spreads.{spread-empty}
+use Rattle.beam_values.proofs.Spreads.{spread-empty, spread-single}
 use Rattle.beam_model.specs.Chains.{Output, Arrives, PoisonAt}
 use Rattle.beam_model.specs.Estimators.{emission_at, seen_with}
 use Rattle.beam_model.specs.Holds.{estimator_of}
-use Rattle.beam_model.specs.Positions.{Emission, Emits, Poison, SourceItem, TimedValue, emission, next_position, nothing}
+use Rattle.beam_model.specs.Positions.{Emission, Emits, Poison, SourceItem, emission, next_position, nothing}
 use Rattle.beam_model.specs.Spread.{emission_outputs, outputs_at, spread_range}
 use Rattle.beam_model.proofs.Positions.{between_nothing}
 use Rattle.bundle_commit.specs.declared.job.Receipt.{Receipt}
 use Rattle.group_cells.proofs.Counting.{All-unmap}
 use Rattle.pipeline_graph.specs.Rules.{HasSettings}
-use Rattle.book_core.specs.Work.{IsPlausible, IsWorkOn, reaches_barrier, seen_over, worked_to}
+use Rattle.book_core.specs.Work.{IsPlausible, IsWorkOn, seen_over}
 use Rattle.book_core.proofs.EarlyEnds.{IsEarlyOutput, WindowsOfKind, emitted_early}
 use Rattle.book_core.proofs.EarlyTimes.{IsEarlyEmission}
 use Rattle.book_core.proofs.Gaps.{AreStrategies, IsGapped}
 use Rattle.book_core.proofs.CellsKept.{values_gapped}
 use Rattle.book_core.proofs.Seen.{with_rises}
 use Rattle.chain_exec.specs.Positions.{IsTimely, IsWorked}
-use Rattle.chain_exec.specs.Sources.{SourceWork, source_at, source_in}
+use Rattle.chain_exec.specs.Sources.{SourceWork}
 use Rattle.chain_exec.specs.declared.position.Step.{Step}
-use Rattle.worker_loop.specs.Bundles.{IsFit, IsPieceWorked, item_of}
+use Rattle.worker_loop.specs.Bundles.{IsFit, item_of}
+use Rattle.worker_loop.specs.Stretches.{HasStaged, IsFitSoFar}
 use Rattle.worker_loop.proofs.BarrierReach.{ReachesBarrier, emission_reaches}
-use Rattle.worker_loop.proofs.Working.{IsClaimed, Quiet, spread_more, spread_rest}
+use Rattle.worker_loop.proofs.Working.{Quiet, spread_gap, spread_rest}
 
 -- ---- what was seen
 
@@ -101,12 +98,6 @@ module _ (e : Estimator) (item : SourceItem) where
 
 -- ---- what the positions of a known text bring
 
--- the receipt has the outputs of all positions up to the last attempted one and what was seen over them, and the positions from there up to p emit nothing
-pub record IsWorkedSoFar (plan : Plan) (piece : Piece) (item : SourceItem) (attempted : Option ℕ) (p : ℕ) (receipt : Receipt) : Type 0 where
-  pub arrived : map Arrives receipt.arrivals ≡ spread_range plan item piece.range.from (first_unattempted piece.range.from attempted)
-  pub seen : receipt.seen ≡ seen_over (estimator_of plan piece.node) item piece.range.from (first_unattempted piece.range.from attempted) piece.seen
-  pub quiet : (q : ℕ) → first_unattempted piece.range.from attempted ≤ q → q < p → emission_at item q ≡ nothing
-
 module _ (plan : Plan) (piece : Piece) (source : SourceWork) (text : List ℕ) where
   abbrev item : SourceItem
   item = item_of piece source text
@@ -114,56 +105,66 @@ module _ (plan : Plan) (piece : Piece) (source : SourceWork) (text : List ℕ) w
   outputs_quiet : (from to : ℕ) → ((q : ℕ) → from ≤ q → q < to → emission_at item q ≡ nothing) → Quiet (outputs_at plan item) from to
   outputs_quiet from to quiet = λ q low high. ap (emission_outputs plan piece.node) (quiet q low high)
 
-  pub work_none : (receipt : Receipt) → receipt ≡ record { arrivals = []; seen = piece.seen; logged = None } → IsWorkedSoFar plan piece item None piece.range.from receipt
-  work_none receipt is = record {
-    arrived = ap (λ (r : Receipt). map Arrives r.arrivals) is ∙ sym (spread-empty (outputs_at plan item) piece.range.from piece.range.from (omega arith));
-    seen = ap (λ (r : Receipt). r.seen) is ∙ sym (seen_over_quiet (estimator_of plan piece.node) item piece.seen piece.range.from piece.range.from (λ q low high. absurd (omega arith)));
+  -- nothing was worked
+  pub staged_none : (p : ℕ) (receipt : Receipt) → HasStaged plan piece item p p p receipt receipt
+  staged_none p receipt = record {
+    arrived = sym (ap (λ (t : List Output). map Arrives receipt.arrivals ++ t) (spread-empty (outputs_at plan item) p p (omega arith)) ∙ append-nil (map Arrives receipt.arrivals));
+    seen = sym (seen_over_quiet (estimator_of plan piece.node) item receipt.seen p p (λ q low high. absurd (omega arith)));
     quiet = λ q low high. absurd (omega arith);
   }
 
-  pub work_more : (to : ℕ) (attempted : Option ℕ) (p next : ℕ) (receipt later : Receipt) (emitted : Emission) (step : Step) → IsClaimed piece.range.from to attempted p
-      → IsWorkedSoFar plan piece item attempted p receipt → IsWorked plan piece.node emitted receipt later step
-      → emitted ≡ emission source.work source.args text p → next ≡ next_position source.work text p → IsWorkedSoFar plan piece item (Some p) next later
-  work_more to attempted p next receipt later emitted step claims known worked emits next_is =
-      let from = piece.range.from in
-      let low = first_unattempted from attempted in
+  -- one position was
+  pub staged_one : (p next : ℕ) (old new : Receipt) (emitted : Emission) (step : Step) → IsWorked plan piece.node emitted old new step → emitted ≡ emission source.work source.args text p
+      → next ≡ next_position source.work text p → HasStaged plan piece item p (p + 1) next old new
+  staged_one p next old new emitted step worked emits next_is =
       let e = estimator_of plan piece.node in
       record {
         arrived =
             worked.arrivals
-            ∙ ap (λ (t : List Output). t ++ emission_outputs plan piece.node emitted) known.arrived
-            ∙ ap (λ (x : Emission). spread_range plan item from low ++ emission_outputs plan piece.node x) emits
-            ∙ sym (spread_more (outputs_at plan item) from low p claims.above claims.ordered (outputs_quiet low p known.quiet));
-        seen =
-            worked.seen
-            ∙ ap (λ (x : Emission). seen_with e receipt.seen x) emits
-            ∙ ap (λ s. seen_with e s (emission_at item p)) (known.seen ∙ sym (seen_over_quiet e item (seen_over e item from low piece.seen) low p known.quiet) ∙ sym (seen_over_join e item piece.seen from low p claims.above claims.ordered))
-            ∙ sym (seen_over_join e item piece.seen from p (p + 1) (omega (arith, claims.above, claims.ordered)) (omega arith) ∙ seen_over_single e item (seen_over e item from p piece.seen) p);
+            ∙ ap (λ (x : Emission). map Arrives old.arrivals ++ emission_outputs plan piece.node x) emits
+            ∙ ap (λ (t : List Output). map Arrives old.arrivals ++ t) (sym (spread-single (outputs_at plan item) p));
+        seen = worked.seen ∙ ap (λ (x : Emission). seen_with e old.seen x) emits ∙ sym (seen_over_single e item old.seen p);
         quiet = λ q above below. between_nothing source.work source.args text p q (omega arith) (omega (arith, next_is));
       }
 
-  -- a receipt of the positions up to the last attempted one is the work up to any offset before p, since the positions between emit nothing
-  pub work_done : (to : ℕ) (attempted : Option ℕ) (p upto : ℕ) (receipt : Receipt) → IsClaimed piece.range.from to attempted p
-      → IsWorkedSoFar plan piece item attempted p receipt → first_unattempted piece.range.from attempted ≤ upto → upto ≤ p → IsWorkOn plan piece upto item receipt
-  work_done to attempted p upto receipt claims known low high =
-      let from = piece.range.from in
-      let first = first_unattempted from attempted in
+  -- and then those from the next one on
+  pub staged_then : (p upto middle after next : ℕ) (old mid new : Receipt) → p ≤ upto → upto ≤ middle → middle ≤ after → HasStaged plan piece item p upto middle old mid
+      → HasStaged plan piece item middle after next mid new → HasStaged plan piece item p after next old new
+  staged_then p upto middle after next old mid new low between high front back =
       let e = estimator_of plan piece.node in
       record {
-        arrivals = known.arrived ∙ sym (spread_rest (outputs_at plan item) from first p upto claims.above low high (outputs_quiet first p known.quiet));
+        arrived =
+            back.arrived
+            ∙ ap (λ (t : List Output). t ++ spread_range plan item middle after) front.arrived
+            ∙ append_assoc (map Arrives old.arrivals) (spread_range plan item p upto) (spread_range plan item middle after)
+            ∙ ap (λ (t : List Output). map Arrives old.arrivals ++ t) (sym (spread_gap (outputs_at plan item) p upto middle after low between high (outputs_quiet upto middle front.quiet)));
+        seen =
+            back.seen
+            ∙ ap (λ s. seen_over e item middle after s)
+            (front.seen ∙ sym (seen_over_quiet e item (seen_over e item p upto old.seen) upto middle front.quiet) ∙ sym (seen_over_join e item old.seen p upto middle low between))
+            ∙ sym (seen_over_join e item old.seen p middle after (omega arith) high);
+        quiet = back.quiet;
+      }
+
+  -- a receipt of the positions from the start is the work up to any offset before the next one, since the positions between emit nothing
+  pub staged_all : (upto next to : ℕ) (old new : Receipt) → old ≡ record { arrivals = []; seen = piece.seen; logged = None } → piece.range.from ≤ upto → upto ≤ to → to ≤ next
+      → HasStaged plan piece item piece.range.from upto next old new → IsWorkOn plan piece to item new
+  staged_all upto next to old new empty low within past known =
+      let from = piece.range.from in
+      let e = estimator_of plan piece.node in
+      record {
+        arrivals =
+            known.arrived
+            ∙ ap (λ (r : Receipt). map Arrives r.arrivals ++ spread_range plan item from upto) empty
+            ∙ sym (spread_rest (outputs_at plan item) from upto next to low within past (outputs_quiet upto next known.quiet));
         seen =
             known.seen
-            ∙ sym (seen_over_quiet e item (seen_over e item from first piece.seen) first upto (λ q above below. known.quiet q above (omega arith)))
-            ∙ sym (seen_over_join e item piece.seen from first upto claims.above low);
+            ∙ ap (λ (r : Receipt). seen_over e item from upto r.seen) empty
+            ∙ sym (seen_over_quiet e item (seen_over e item from upto piece.seen) upto to (λ q above below. known.quiet q above (omega arith)))
+            ∙ sym (seen_over_join e item piece.seen from upto to low within);
       }
 
 -- ---- what may come of any text
-
--- outputs so far are fit, and what was seen never falls
-pub record IsFitSoFar (plan : Plan) (piece : Piece) (receipt : Receipt) : Type 0 where
-  pub outputs : All (IsFit plan piece.node) (map Arrives receipt.arrivals)
-  pub seen : piece.seen ≤ℤ receipt.seen
-  pub logged : receipt.logged ≡ None
 
 pub fit_none : (plan : Plan) (piece : Piece) (receipt : Receipt) → receipt ≡ record { arrivals = []; seen = piece.seen; logged = None } → IsFitSoFar plan piece receipt
 fit_none plan piece receipt is = subst (IsFitSoFar plan piece) (sym is) (record { outputs = All-nil (IsFit plan piece.node); seen = omega (arith, ints); logged = refl })

@@ -3,5 +3,6 @@ pub mod Outside
 pub mod Reading
 pub mod Kits
 pub mod Bundles
+pub mod Stretches
 pub mod Workers
 pub mod Pairs

@@ -9,20 +9,21 @@ ghost use Rattle.beam_model.specs.Spread.{emission_outputs};
 ghost use Rattle.beam_ports.specs.Observed.{observed_store};
 ghost use Rattle.bundle_commit.specs.declared.job.Job.TheVariants as jobs;
 ghost use Rattle.chain_exec.specs.Causes.{IsCallRefused, observed_shelf};
-ghost use Rattle.chain_exec.specs.Positions.{IsNextOf, IsTimely};
+ghost use Rattle.chain_exec.specs.Positions.{IsTimely};
 ghost use Rattle.chain_exec.specs.Sources.{source_at};
-ghost use Rattle.worker_table.specs.Calls.{AfterClaim, CanClaimAs, CanCommitAs, IsJobOfPlan};
+ghost use Rattle.worker_table.specs.Calls.{CanCommitAs, IsJobOfPlan};
 ghost use Rattle.worker_table.specs.Passes.{IsOf, job_known, note_of_pass, setting_of, slot_of};
-ghost use Rattle.worker_loop.specs.Bundles.{CanRead, HasClaimed, HasWorked, IsFit, IsJobRefused, IsPieceRefused, IsPieceWorked, IsRefusedAt, OnlyClaims};
+ghost use Rattle.worker_loop.specs.Bundles.{CanRead, HasClaimed, IsFit, IsJobRefused, IsPieceRefused, IsPieceWorked, OnlyClaims};
 ghost use Rattle.worker_loop.specs.Outside.{IsKitKept};
 ghost use Rattle.worker_loop.specs.Reading.{AreReaders};
 
 use crate::reading::{Reader, place_of};
 use crate::shop::Shop;
-use beam_ports::{Gate, GatePoint, Store};
+use crate::stretches::{Stretch, claim, longer, work_stretch};
+use beam_ports::{Gate, Store};
 use beam_values::{Pane, Piece, Time};
 use bundle_commit::{Job, Receipt, Staging};
-use chain_exec::{Buffers, ExecRefusal, Step, run_batch, run_position};
+use chain_exec::{Buffers, ExecRefusal, run_batch};
 use dofn_traits::Shelf;
 use pipeline_graph::Graph;
 use pipeline_graph::laws::{
@@ -42,6 +43,8 @@ pub struct Workbench {
     /// The place of the reader that was used last.
     pub last: usize,
     pub buffers: Buffers,
+    /// How many positions the next stretch has after its first one, at most.
+    pub more: u32,
 }
 
 /// Works a job that the pass has just taken, of a piece a bundle of its positions; the functions are told when
@@ -171,6 +174,7 @@ fn work_span<R: Wait, F: Shelf, S: Store, G: Gate>(
     bench.last = place;
     let pager = &mut bench.readers[place].pager;
     let buffers = &mut bench.buffers;
+    let more = &mut bench.more;
     match work_positions(
         rt,
         shop,
@@ -181,6 +185,7 @@ fn work_span<R: Wait, F: Shelf, S: Store, G: Gate>(
         store,
         pager,
         buffers,
+        more,
         &mut staging,
     ) {
         Ok(()) => Ok(sealed(staging)),
@@ -198,8 +203,8 @@ fn sealed(staging: Staging) -> Receipt
     receipt
 }
 
-// Claims and works positions of a piece that the pass has just taken, one after another, until a claim is
-// refused or `bundle` of them emitted a value. What they bring is staged.
+// Works and claims positions of a piece that the pass has just taken, one stretch of them after another, until a
+// claim is refused or `bundle` of them emitted a value. What the claimed ones bring is staged.
 fn work_positions<R: Wait, F: Shelf, S: Store, G: Gate>(
     rt: &R,
     shop: &Shop<'_, G>,
@@ -210,6 +215,7 @@ fn work_positions<R: Wait, F: Shelf, S: Store, G: Gate>(
     store: &mut S,
     pager: &mut Pager,
     buffers: &mut Buffers,
+    more: &mut u32,
     staging: &mut Staging,
 ) -> Result<(), ExecRefusal>
     requires table { IsOf shop.now.table.now pass.old }
@@ -230,68 +236,34 @@ fn work_positions<R: Wait, F: Shelf, S: Store, G: Gate>(
     ensures kept { IsKitKept F.faults F.strict S.faults S.files S.opened shelf.old shelf.new store.old store.new }
 {
     outputs_are_fit(shop.graph);
-    let bundle = shop.options.bundle;
     let mut p = piece.range.from();
-    let mut emitted = 0;
-    'positions: while emitted < bundle && claim(rt, shop, slot, pass, p) {
-        match work_position(
-            shop.alloc, shop.graph, piece.node, shelf, store, pager, p, buffers, staging,
-        ) {
-            Ok(step) => {
-                p = step.next;
-                if step.emitted {
-                    emitted += 1;
-                }
+    let mut end = piece.range.to();
+    let mut room = shop.options.bundle;
+    'stretches: while room > 0 {
+        if p >= end {
+            let _end = claim(rt, shop, slot, pass, p);
+            break;
+        }
+        match work_stretch(
+            rt, shop, slot, pass, piece, end, p, *more, room, shelf, store, pager, buffers, staging,
+        )? {
+            Stretch::Claimed {
+                next,
+                room: left,
+                end: now,
+            } => {
+                p = next;
+                room = left;
+                end = now;
+                *more = longer(*more);
             }
-            Err(refusal) => return Err(refusal),
+            Stretch::Cut { .. } => {
+                *more = 0;
+                break;
+            }
         }
     }
     Ok(())
-}
-
-// Passes the gate and claims a position.
-fn claim<R: Wait, G: Gate>(
-    rt: &R,
-    shop: &Shop<'_, G>,
-    slot: u32,
-    pass: &mut WorkerPass,
-    p: u64,
-) -> bool
-    requires table { IsOf shop.now.table.now pass.old }
-    requires slot { IsSome (slot_of pass.old) }
-    requires may { CanClaimAs (job_known pass.old) p }
-    ensures table { IsOf shop.now.table.now pass.new }
-    ensures told { AfterClaim (job_known pass.old) p result (job_known pass.new) }
-    ensures claims { OnlyClaims (note_of_pass pass.old) (note_of_pass pass.new) }
-{
-    shop.gate.pass(slot, GatePoint::Claim);
-    shop.table.claim(rt, pass, p)
-}
-
-// Works one position.
-fn work_position<F: Shelf, S: Store>(
-    alloc: Global,
-    graph: &Graph,
-    node: u32,
-    shelf: &mut F,
-    store: &mut S,
-    pager: &mut Pager,
-    p: u64,
-    buffers: &mut Buffers,
-    staging: &mut Staging,
-) -> Result<Step, ExecRefusal>
-    requires able { CanRead graph.now node (S.opened store.old pager.old.file) pager.old }
-    requires inside { p < pager.old.len }
-    ensures worked { IfOk result (HasWorked graph.now node (S.opened store.old pager.old.file) pager.old.len p staging.old staging.new) }
-    ensures next { IfOk result (λ step. IsNextOf p pager.old.len step.next) }
-    ensures refused { IfErr result (IsRefusedAt (observed_shelf F.strict F.faults shelf.old shelf.new)
-        (record { before = S.faults store.old; after = S.faults store.new }) graph.now node (S.opened store.old pager.old.file) pager.old.len p) }
-    ensures able { CanRead graph.now node (S.opened store.new pager.new.file) pager.new }
-    ensures file { pager.new.file ≡ pager.old.file }
-    ensures len { pager.new.len ≡ pager.old.len }
-    ensures kept { IsKitKept F.faults F.strict S.faults S.files S.opened shelf.old shelf.new store.old store.new }
-{
-    run_position(alloc, graph, node, shelf, store, pager, p, buffers, staging)
 }
 
 // A law: where the outputs of a source can get, and in which windows.

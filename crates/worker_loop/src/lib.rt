@@ -5,10 +5,11 @@
 //! on this. A worker finishes only where a take of its own found no job left; else the book is stopped when it ends. Each
 //! job that a worker fails is counted in its share, by the cause of the fault, and was counted by its shelf or its store
 //! (`specs/Workers.antt`). What is committed of a job is what the plan gives for it, up to the last attempted position,
-//! also of a range that others have shortened meanwhile. Elements are worked between the turns of the table. Nothing that
-//! is promised depends on how large pieces and bundles are, nor on the order in which workers come.
+//! also of a range that others have shortened meanwhile. Elements are worked between the turns of the table, a stretch of
+//! them before the claim of its last position; what turns out to be another's is dropped again. Nothing that is promised
+//! depends on how large pieces, bundles and stretches are, nor on the order in which workers come.
 //!
-//! Read `workers.rt` first, then `bundles.rt` and `reading.rt`; then `crew.rt`.
+//! Read `workers.rt` first, then `bundles.rt`, `stretches.rt` and `reading.rt`; then `crew.rt`.
 #![tactic(auto)]
 
 mod bundles;
@@ -17,6 +18,7 @@ mod kit;
 mod pairs;
 mod reading;
 mod shop;
+mod stretches;
 mod workers;
 
 pub use crew::{AllEnd, work_all};

@@ -297,6 +297,7 @@ fn workbench(alloc: Global, graph: &Graph, files: &[Opened]) -> Result<Workbench
         readers: readers_of(alloc, nodes, files)?,
         last: 0,
         buffers: Buffers::new(alloc),
+        more: 0,
     })
 }
 

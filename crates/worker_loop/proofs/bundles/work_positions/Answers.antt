@@ -1,180 +1,154 @@
-use Rattle.std.proofs.Common.{◌≡◌, ℕ, ◌<◌, ◌≤◌, true, false, Some, ap, sym, subst, ◌∙◌, refl, arith}
-use Rattle.std.specs.Prelude.{IsSome}
-use Rattle.beam_values.specs.Tracking.{first_unattempted}
+use Rattle.std.proofs.Common.{◌≡◌, ℕ, ◌<◌, Some, ap, sym, subst, ◌∙◌, refl, arith}
+use Rattle.std.specs.Prelude.{Option, Result, Err, OnOk, IfErr, nat_lt}
+use Rattle.std.proofs.lemmas.Result.{err_from_is_err_and}
 use Rattle.beam_values.specs.declared.piece.Piece.{Piece}
-use Rattle.book_core.specs.Book.{tracker_of}
 use Rattle.chain_exec.specs.Causes.{observed_shelf}
+use Rattle.chain_exec.specs.declared.refusal.ExecRefusal.{ExecRefusal}
+use Rattle.chain_exec.proofs.Looks.{text_later}
 use Rattle.worker_table.specs.Passes.{job_known, note_of_pass}
-use Rattle.worker_loop.specs.Bundles.{IsRefusedAt}
+use Rattle.worker_loop.specs.Bundles.{HasClaimed, IsPieceRefused, IsPieceWorked}
+use Rattle.worker_loop.specs.Stretches.{IsAllClaimed, IsCutAt, IsStretchDone, attempted_of}
+use Rattle.worker_loop.specs.declared.stretches.Stretch.{Stretch}
+use Rattle.worker_loop.specs.declared.stretches.Stretch.TheVariants.{Claimed, Cut}
 use Rattle.worker_loop.proofs.Answered.{kit_onward, kit_same}
-use Rattle.worker_loop.proofs.Claims.{claims_cut, made_start, refused_first, under_claim, under_done, under_may, under_more, under_none}
+use Rattle.worker_loop.proofs.Claims.{claim_made, stretch_refused_first}
 use Rattle.worker_loop.proofs.Rounds.{claims_onward, claims_same}
-use Rattle.worker_loop.proofs.Working.{granted_inside, refused_past}
+use Rattle.worker_loop.proofs.Stretching.{done_first, under_can, under_cut, under_done, under_more, under_none, under_past}
 use Rattle.worker_loop.proofs.bundles.work_positions.Goals as goal
 
-pub positions-init : goal.positions-init
-positions-init g c = record {
+pub stretches-init : goal.stretches-init
+stretches-init g c = record {
   table = c.requires.table;
   only = claims_same (note_of_pass c.args.pass.now);
-  under = under_none c.args.shop.now.graph.now (g.S.Store.opened c.args.store.now c.args.pager.now.file) c.args.pager.now.len c.args.piece.now (job_known c.args.pass.now) c.from-p.result c.args.staging.now
-      c.requires.taken c.from-p.ensures.value c.from-p.ensures.ordered c.requires.nothing;
+  under = under_none c.args.shop.now.graph.now c.args.piece.now (g.S.Store.opened c.args.store.now c.args.pager.now.file) c.args.pager.now.len (job_known c.args.pass.now) c.from-p.result c.to-end.result c.args.staging.now
+      c.requires.taken c.from-p.ensures.value c.to-end.ensures.value c.from-p.ensures.ordered;
   able = c.requires.able;
   file = refl;
   len = refl;
   kept = kit_same g.F.Shelf.faults g.F.Shelf.strict g.S.Store.faults g.S.Store.files g.S.Store.opened c.args.shelf.now c.args.store.now;
 }
 
-pub claim-requires-clause-slot : goal.claim-requires-clause-slot
-claim-requires-clause-slot g c κs within = subst IsSome (sym c.positions.invariant.only.stays.keeps.slot) c.requires.slot
-
-pub claim-requires-clause-may : goal.claim-requires-clause-may
-claim-requires-clause-may g c κs within =
-    under_may c.args.shop.now.graph.now (g.S.Store.opened c.args.store.now c.args.pager.now.file) c.args.pager.now.len c.args.piece.now (job_known c.positions.pass) c.positions.p c.positions.staging
-    c.positions.invariant.under
-
-pub work_position-requires-clause-inside : goal.work_position-requires-clause-inside
-work_position-requires-clause-inside g c κs within =
-    let under = c.positions.invariant.under in
-    let made = under_claim c.args.shop.now.graph.now (g.S.Store.opened c.args.store.now c.args.pager.now.file) c.args.pager.now.len c.args.piece.now (job_known c.positions.pass) c.positions.p c.positions.staging under true
-    (job_known c.claim.new.pass) c.if-claim.ensures.told in
-    let inside : c.positions.p < made.now.range.to = granted_inside (tracker_of made.now under.attempted) c.positions.p made.answer in
-    omega (arith, inside, made.claimed.below, c.requires.reaches, c.positions.invariant.len)
-
-pub positions-smaller : goal.positions-smaller
-positions-smaller g c =
-    let under = c.positions.invariant.under in
-    let made = under_claim c.args.shop.now.graph.now (g.S.Store.opened c.args.store.now c.args.pager.now.file) c.args.pager.now.len c.args.piece.now (job_known c.positions.pass) c.positions.p c.positions.staging under true
-    (job_known c.claim.new.pass) c.if-claim.ensures.told in
-    let inside : c.positions.p < made.now.range.to = granted_inside (tracker_of made.now under.attempted) c.positions.p made.answer in
-    omega (arith, inside, made.claimed.below, c.in-Ok.ensures.next.0)
-
-pub positions-smaller-then-step : goal.positions-smaller-then-step
-positions-smaller-then-step g c =
-    let under = c.positions.invariant.under in
-    let made = under_claim c.args.shop.now.graph.now (g.S.Store.opened c.args.store.now c.args.pager.now.file) c.args.pager.now.len c.args.piece.now (job_known c.positions.pass) c.positions.p c.positions.staging under true
-    (job_known c.claim.new.pass) c.if-claim.ensures.told in
-    let inside : c.positions.p < made.now.range.to = granted_inside (tracker_of made.now under.attempted) c.positions.p made.answer in
-    omega (arith, inside, made.claimed.below, c.in-Ok.ensures.next.0)
-
-pub positions-preserved : goal.positions-preserved
-positions-preserved g c =
-    let known = c.positions.invariant in
-    let under = known.under in
+pub stretches-preserved : goal.stretches-preserved
+stretches-preserved g c =
+    let known = c.stretches.invariant in
     let plan = c.args.shop.now.graph.now in
-    let opening = g.S.Store.opened c.args.store.now c.args.pager.now.file in
-    let len = c.args.pager.now.len in
     let piece = c.args.piece.now in
-    let p = c.positions.p in
-    let job = job_known c.positions.pass in
-    let made = under_claim plan opening len piece job p c.positions.staging under true (job_known c.claim.new.pass) c.if-claim.ensures.told in
-    let inside : p < made.now.range.to = granted_inside (tracker_of made.now under.attempted) p made.answer in
+    let opened = g.S.Store.opened c.args.store.now in
+    let file = c.args.pager.now.file in
+    let len = c.args.pager.now.len in
+    let onward = g.S.Store.opened c.stretches.store in
+    let later = c.stretches.pager in
+    let p = c.stretches.p in
+    let before = job_known c.stretches.pass in
+    let after = job_known c.work_stretch.new.pass in
+    let receipt = c.stretches.staging in
+    let new = c.work_stretch.new.staging in
+    let next = c.in-Claimed.next in
+    let end = c.in-Claimed.now in
+    let done : IsAllClaimed plan (opened file) len piece p after next end receipt new = done_first plan piece (opened file) (onward later.file) len later.len
+    (λ work text told. text_later work opened onward file later.file len later.len text known.kept.reading.openings known.file known.len told) p before after receipt new (Claimed next c.in-Claimed.left end)
+    (subst (λ (s : Stretch). IsStretchDone plan (onward later.file) later.len piece p before after receipt new s) c.in-Claimed.is c.in_ok-next.ensures.done) in
     record {
-      table = c.claim.ensures.table;
-      only = claims_onward (note_of_pass c.args.pass.now) (note_of_pass c.positions.pass) (note_of_pass c.claim.new.pass) known.only c.claim.ensures.claims;
-      under = under_more plan opening len piece job p c.positions.staging under made.now (job_known c.claim.new.pass) c.work_position.new.staging c.in-Ok.step made.claimed
-          (claims_cut plan opening len piece job p c.positions.staging under true (job_known c.claim.new.pass) made) inside c.in-Ok.ensures.next.0 (g.S.Store.opened c.args.store.now) (g.S.Store.opened c.positions.store)
-          c.args.pager.now.file c.positions.pager.file c.positions.pager.len refl known.kept.reading.openings known.file known.len c.in-Ok.ensures.worked
-          (c.outputs_are_fit.ensures piece.node c.requires.able.source);
-      able = c.work_position.ensures.able;
-      file = c.work_position.ensures.file ∙ known.file;
-      len = c.work_position.ensures.len ∙ known.len;
-      kept = kit_onward g.F.Shelf.faults g.F.Shelf.strict g.S.Store.faults g.S.Store.files g.S.Store.opened c.args.shelf.now c.positions.shelf c.work_position.new.shelf c.args.store.now c.positions.store
-          c.work_position.new.store known.kept c.work_position.ensures.kept;
+      table = c.work_stretch.ensures.table;
+      only = claims_onward (note_of_pass c.args.pass.now) (note_of_pass c.stretches.pass) (note_of_pass c.work_stretch.new.pass) known.only c.work_stretch.ensures.claims;
+      under = under_more plan piece (opened file) len before p c.stretches.end c.args.staging.now receipt known.under after next end new done;
+      able = c.work_stretch.ensures.able;
+      file = c.work_stretch.ensures.file ∙ known.file;
+      len = c.work_stretch.ensures.len ∙ known.len;
+      kept = kit_onward g.F.Shelf.faults g.F.Shelf.strict g.S.Store.faults g.S.Store.files g.S.Store.opened c.args.shelf.now c.stretches.shelf c.work_stretch.new.shelf c.args.store.now c.stretches.store
+          c.work_stretch.new.store known.kept c.work_stretch.ensures.kept;
     }
 
-pub positions-preserved-then-step : goal.positions-preserved-then-step
-positions-preserved-then-step g c =
-    let known = c.positions.invariant in
-    let under = known.under in
+pub stretches-smaller : goal.stretches-smaller
+stretches-smaller g c =
     let plan = c.args.shop.now.graph.now in
+    let piece = c.args.piece.now in
+    let later = c.stretches.pager in
+    let p = c.stretches.p in
+    let before = job_known c.stretches.pass in
+    let after = job_known c.work_stretch.new.pass in
+    let opening = g.S.Store.opened c.stretches.store later.file in
+    let done : IsAllClaimed plan opening later.len piece p after c.in-Claimed.next c.in-Claimed.now c.stretches.staging c.work_stretch.new.staging =
+    subst (λ (s : Stretch). IsStretchDone plan opening later.len piece p before after c.stretches.staging c.work_stretch.new.staging s) c.in-Claimed.is c.in_ok-next.ensures.done in
+    let inside : p < c.stretches.end = omega (arith, c.if-p-end.false) in
+    omega (arith, inside, c.stretches.invariant.under.below, done.first, done.worked.ordered)
+
+pub returns-in_err-next-clause-claimed : goal.returns-in_err-next-clause-claimed
+returns-in_err-next-clause-claimed g c =
+    let known = c.stretches.invariant in
+    let plan = c.args.shop.now.graph.now in
+    let piece = c.args.piece.now in
     let opening = g.S.Store.opened c.args.store.now c.args.pager.now.file in
     let len = c.args.pager.now.len in
-    let piece = c.args.piece.now in
-    let p = c.positions.p in
-    let job = job_known c.positions.pass in
-    let made = under_claim plan opening len piece job p c.positions.staging under true (job_known c.claim.new.pass) c.if-claim.ensures.told in
-    let inside : p < made.now.range.to = granted_inside (tracker_of made.now under.attempted) p made.answer in
-    record {
-      table = c.claim.ensures.table;
-      only = claims_onward (note_of_pass c.args.pass.now) (note_of_pass c.positions.pass) (note_of_pass c.claim.new.pass) known.only c.claim.ensures.claims;
-      under = under_more plan opening len piece job p c.positions.staging under made.now (job_known c.claim.new.pass) c.work_position.new.staging c.in-Ok.step made.claimed
-          (claims_cut plan opening len piece job p c.positions.staging under true (job_known c.claim.new.pass) made) inside c.in-Ok.ensures.next.0 (g.S.Store.opened c.args.store.now) (g.S.Store.opened c.positions.store)
-          c.args.pager.now.file c.positions.pager.file c.positions.pager.len refl known.kept.reading.openings known.file known.len c.in-Ok.ensures.worked
-          (c.outputs_are_fit.ensures piece.node c.requires.able.source);
-      able = c.work_position.ensures.able;
-      file = c.work_position.ensures.file ∙ known.file;
-      len = c.work_position.ensures.len ∙ known.len;
-      kept = kit_onward g.F.Shelf.faults g.F.Shelf.strict g.S.Store.faults g.S.Store.files g.S.Store.opened c.args.shelf.now c.positions.shelf c.work_position.new.shelf c.args.store.now c.positions.store
-          c.work_position.new.store known.kept c.work_position.ensures.kept;
-    }
+    let after = job_known c.work_stretch.new.pass in
+    let refusal = c.in_err-next.field-0.0 in
+    let refused = stretch_refused_first g.F.Shelf.faults g.F.Shelf.strict g.S.Store.faults g.S.Store.files g.S.Store.opened c.args.shelf.now c.stretches.shelf c.work_stretch.new.shelf c.args.store.now c.stretches.store
+    c.work_stretch.new.store known.kept plan c.args.pager.now.file c.stretches.pager.file len c.stretches.pager.len known.file known.len piece after refusal c.in_err-next.ensures.refused in
+    let p = err_from_is_err_and c.from_residual.result c.from_residual.ensures.1 in
+    let is : c.from_residual.result ≡ Err refusal = p.1 ∙ ap Err p.2 in
+    subst (λ (r : Result (Unit {0}) ExecRefusal). (now : Piece) × (attempted : Option ℕ) × HasClaimed piece now attempted after × OnOk r (IsPieceWorked plan opening len now attempted c.work_stretch.new.staging)
+    × IfErr r (IsPieceRefused (observed_shelf g.F.Shelf.strict g.F.Shelf.faults c.args.shelf.now c.work_stretch.new.shelf)
+    (record { before = g.S.Store.faults c.args.store.now; after = g.S.Store.faults c.work_stretch.new.store }) plan opening len now attempted)) (sym is)
+    (refused.now, refused.attempted, refused.claimed, tt, refused.refused)
 
-pub returns-in-Err-clause-claimed : goal.returns-in-Err-clause-claimed
-returns-in-Err-clause-claimed g c =
-    let known = c.positions.invariant in
-    let under = known.under in
-    let plan = c.args.shop.now.graph.now in
-    let opening = g.S.Store.opened c.args.store.now c.args.pager.now.file in
-    let len = c.args.pager.now.len in
-    let piece = c.args.piece.now in
-    let p = c.positions.p in
-    let job = job_known c.positions.pass in
-    let made = under_claim plan opening len piece job p c.positions.staging under true (job_known c.claim.new.pass) c.if-claim.ensures.told in
-    let start = made_start plan opening len piece job p c.positions.staging under true (job_known c.claim.new.pass) made in
-    let node : piece.node ≡ made.now.node = sym (ap (λ (x : Piece). x.node) made.claimed.same) in (
-      made.now,
-      Some p,
-      made.claimed,
-      tt,
-      record {
-        p = p;
-        last = refl;
-        from_start = subst (λ (n : ℕ). n ≤ p) (sym start) under.claims.start;
-        inside = granted_inside (tracker_of made.now under.attempted) p made.answer;
-        refused = refused_first g.F.Shelf.faults g.F.Shelf.strict g.S.Store.faults g.S.Store.files g.S.Store.opened c.args.shelf.now c.positions.shelf c.work_position.new.shelf c.args.store.now c.positions.store
-            c.work_position.new.store known.kept plan made.now.node c.args.pager.now.file c.positions.pager.file c.args.pager.now.len c.positions.pager.len p known.file known.len c.in-Err.refusal
-            (subst (λ (n : ℕ). IsRefusedAt (observed_shelf g.F.Shelf.strict g.F.Shelf.faults c.positions.shelf c.work_position.new.shelf)
-            (record { before = g.S.Store.faults c.positions.store; after = g.S.Store.faults c.work_position.new.store }) plan n (g.S.Store.opened c.positions.store c.positions.pager.file) c.positions.pager.len p
-            c.in-Err.refusal) node c.in-Err.ensures.refused);
-      },
-    )
+pub returns-in_err-next-clause-kept : goal.returns-in_err-next-clause-kept
+returns-in_err-next-clause-kept g c =
+    kit_onward g.F.Shelf.faults g.F.Shelf.strict g.S.Store.faults g.S.Store.files g.S.Store.opened c.args.shelf.now c.stretches.shelf c.work_stretch.new.shelf c.args.store.now c.stretches.store
+    c.work_stretch.new.store c.stretches.invariant.kept c.work_stretch.ensures.kept
 
-pub returns-in-Err-clause-claims : goal.returns-in-Err-clause-claims
-returns-in-Err-clause-claims g c =
-    claims_onward (note_of_pass c.args.pass.now) (note_of_pass c.positions.pass) (note_of_pass c.claim.new.pass) c.positions.invariant.only c.claim.ensures.claims
-
-pub returns-else-claim-clause-claimed : goal.returns-else-claim-clause-claimed
-returns-else-claim-clause-claimed g c =
-    let known = c.positions.invariant in
-    let under = known.under in
-    let plan = c.args.shop.now.graph.now in
-    let opening = g.S.Store.opened c.args.store.now c.args.pager.now.file in
-    let len = c.args.pager.now.len in
-    let piece = c.args.piece.now in
-    let p = c.positions.p in
-    let job = job_known c.positions.pass in
-    let made = under_claim plan opening len piece job p c.positions.staging under false (job_known c.claim.new.pass) c.if-claim.ensures.told in
-    let past : made.now.range.to ≤ p = refused_past (tracker_of made.now under.attempted) p (sym made.answer) in
-    let cut = claims_cut plan opening len piece job p c.positions.staging under false (job_known c.claim.new.pass) made in (
-      made.now,
-      Some p,
-      made.claimed,
-      under_done plan opening len piece job p c.positions.staging under made.now (Some p) made.claimed.same (omega (arith, cut.within, cut.ordered, past)) (omega (arith, past)),
-      tt,
-    )
-
-pub returns-after-positions-clause-claimed : goal.returns-after-positions-clause-claimed
-returns-after-positions-clause-claimed g c =
-    let under = c.positions.invariant.under in
-    let plan = c.args.shop.now.graph.now in
-    let opening = g.S.Store.opened c.args.store.now c.args.pager.now.file in
-    let len = c.args.pager.now.len in
-    let piece = c.args.piece.now in
-    let start : under.now.range.from ≡ piece.range.from = ap (λ (x : Piece). x.range.from) under.claimed.same in
-    let first : first_unattempted under.now.range.from under.attempted ≡ first_unattempted piece.range.from under.attempted = ap (λ (n : ℕ). first_unattempted n under.attempted) start in (
+pub returns-after-stretches-clause-claimed : goal.returns-after-stretches-clause-claimed
+returns-after-stretches-clause-claimed g c =
+    let under = c.stretches.invariant.under in (
       under.now,
-      under.attempted,
+      attempted_of (job_known c.stretches.pass),
       under.claimed,
-      under_done plan opening len piece (job_known c.positions.pass) c.positions.p c.positions.staging under under.now under.attempted under.claimed.same (omega (arith, under.claims.within, first))
-          (omega (arith, under.claims.ordered, first)),
+      under_done c.args.shop.now.graph.now c.args.piece.now (g.S.Store.opened c.args.store.now c.args.pager.now.file) c.args.pager.now.len (job_known c.stretches.pass) c.stretches.p c.stretches.end c.args.staging.now
+          c.stretches.staging under c.requires.nothing,
+      tt,
+    )
+
+pub returns-then-p-end-clause-claimed : goal.returns-then-p-end-clause-claimed
+returns-then-p-end-clause-claimed g c =
+    let under = c.stretches.invariant.under in
+    let plan = c.args.shop.now.graph.now in
+    let piece = c.args.piece.now in
+    let opening = g.S.Store.opened c.args.store.now c.args.pager.now.file in
+    let len = c.args.pager.now.len in
+    let p = c.stretches.p in
+    let before = job_known c.stretches.pass in
+    let after = job_known c.claim-end.new.pass in
+    let end = c.claim-end.result in
+    let can = under_can plan piece opening len before p c.stretches.end c.args.staging.now c.stretches.staging under in
+    let made = claim_made piece before p (nat_lt p end) end after can c.claim-end.ensures.told c.claim-end.ensures.end in (
+      made.now,
+      Some p,
+      made.claimed,
+      under_past plan piece opening len before p c.stretches.end c.args.staging.now c.stretches.staging under c.requires.nothing end after made c.if-p-end.true,
+      tt,
+    )
+
+pub returns-in-Cut-clause-claimed : goal.returns-in-Cut-clause-claimed
+returns-in-Cut-clause-claimed g c =
+    let known = c.stretches.invariant in
+    let plan = c.args.shop.now.graph.now in
+    let piece = c.args.piece.now in
+    let opened = g.S.Store.opened c.args.store.now in
+    let file = c.args.pager.now.file in
+    let len = c.args.pager.now.len in
+    let onward = g.S.Store.opened c.stretches.store in
+    let later = c.stretches.pager in
+    let p = c.stretches.p in
+    let before = job_known c.stretches.pass in
+    let after = job_known c.work_stretch.new.pass in
+    let receipt = c.stretches.staging in
+    let new = c.work_stretch.new.staging in
+    let end = c.in-Cut.end in
+    let cut : IsCutAt plan (opened file) len piece p before after end receipt new = done_first plan piece (opened file) (onward later.file) len later.len
+    (λ work text told. text_later work opened onward file later.file len later.len text known.kept.reading.openings known.file known.len told) p before after receipt new (Cut end)
+    (subst (λ (s : Stretch). IsStretchDone plan (onward later.file) later.len piece p before after receipt new s) c.in-Cut.is c.in_ok-next.ensures.done) in (
+      cut.now,
+      Some cut.last,
+      cut.claimed,
+      under_cut plan piece (opened file) len before p c.stretches.end c.args.staging.now receipt known.under c.requires.nothing end after new cut,
       tt,
     )

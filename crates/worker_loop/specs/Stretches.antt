@@ -1,0 +1,128 @@
+-- Stretches of positions: what was worked of a piece, and how far it is claimed.
+use Rattle.std.specs.Prelude.{◌≡◌, ℕ, ◌<◌, ◌≤◌, ◌+◌, ◌≤ℤ◌, List, ◌++◌, map, Option, Some, None}
+use Rattle.std.specs.List.{All}
+use Rattle.std.specs.Option.{ForSome}
+use Rattle.beam_values.specs.Tracking.{first_unattempted}
+use Rattle.beam_values.specs.declared.arrival.Arrival.{Arrival}
+use Rattle.beam_values.specs.declared.piece.Piece.{Piece}
+use Rattle.beam_values.specs.declared.plan.Plan.{Plan}
+use Rattle.beam_model.specs.Chains.{Arrives}
+use Rattle.beam_model.specs.Estimators.{emission_at}
+use Rattle.beam_model.specs.Holds.{estimator_of}
+use Rattle.beam_model.specs.Positions.{SourceItem, nothing}
+use Rattle.beam_model.specs.Spread.{spread_range}
+use Rattle.beam_ports.specs.Files.{Opening}
+use Rattle.book_core.specs.Work.{seen_over}
+use Rattle.bundle_commit.specs.declared.job.Receipt.{Receipt}
+use Rattle.chain_exec.specs.Causes.{ObservedShelf}
+use Rattle.chain_exec.specs.Positions.{StoreCounts}
+use Rattle.chain_exec.specs.Sources.{IsText, source_at}
+use Rattle.chain_exec.specs.declared.refusal.ExecRefusal.{ExecRefusal}
+use Rattle.worker_table.specs.Notes.{KnownJob}
+use Rattle.worker_loop.specs.Bundles.{HasClaimed, IsFit, IsPieceRefused, item_of}
+use Rattle.worker_loop.specs.declared.stretches.Stretch.{Stretch}
+use Rattle.worker_loop.specs.declared.stretches.Stretch.TheVariants.{Claimed, Cut}
+
+-- ---- what was worked
+
+-- Where the item's text is this, the receipt got the outputs of the offsets from `p` below `upto`, and what was seen over them, and the offsets from there
+-- below `next` emit nothing.
+pub record HasStaged (plan : Plan) (piece : Piece) (item : SourceItem) (p upto next : ℕ) (old new : Receipt) : Type 0 where
+  pub arrived : map Arrives new.arrivals ≡ map Arrives old.arrivals ++ spread_range plan item p upto
+  pub seen : new.seen ≡ seen_over (estimator_of plan piece.node) item p upto old.seen
+  pub quiet : (q : ℕ) → upto ≤ q → q < next → emission_at item q ≡ nothing
+
+-- outputs so far are fit, whatever the text is, and what was seen never falls
+pub record IsFitSoFar (plan : Plan) (piece : Piece) (receipt : Receipt) : Type 0 where
+  pub outputs : All (IsFit plan piece.node) (map Arrives receipt.arrivals)
+  pub seen : piece.seen ≤ℤ receipt.seen
+  pub logged : receipt.logged ≡ None
+
+-- arrivals were put behind those that there were
+pub record Grows (old new : Receipt) : Type 0 where
+  pub more : List Arrival
+  pub arrivals : new.arrivals ≡ old.arrivals ++ more
+  pub logged : new.logged ≡ old.logged
+
+-- The offsets from `p` below `upto` were worked, and `next` is the position after them.
+pub record IsWorkedOver (plan : Plan) (opening : Option Opening) (len : ℕ) (piece : Piece) (p upto next : ℕ) (old new : Receipt) : Type 0 where
+  pub first : p ≤ upto
+  pub ordered : upto ≤ next
+  pub told : ForSome (source_at plan piece.node) (λ source. (text : List ℕ) → IsText source.work opening len text
+      → HasStaged plan piece (item_of piece source text) p upto next old new)
+  pub fit : IsFitSoFar plan piece old → IsFitSoFar plan piece new
+  pub grows : Grows old new
+
+-- ---- how far it is claimed
+
+abbrev pub attempted_of : Option KnownJob → Option ℕ
+attempted_of None = None
+attempted_of (Some known) = known.attempted
+
+-- the first offset of the piece that the pass has not attempted
+abbrev pub first_open : Piece → Option KnownJob → ℕ
+first_open piece known = first_unattempted piece.range.from (attempted_of known)
+
+-- the pass has attempted nothing of the piece from this position on, which it may claim
+pub record CanClaimFrom (piece : Piece) (known : Option KnownJob) (p : ℕ) : Type 0 where
+  pub now : Piece
+  pub claimed : HasClaimed piece now (attempted_of known) known
+  pub start : piece.range.from ≤ p
+  pub next : first_open piece known ≤ p
+  pub within : first_open piece known ≤ now.range.to
+
+-- ---- what came of a stretch that begins at a position
+
+abbrev pub end_of : Stretch → ℕ
+end_of (Claimed next room end) = end
+end_of (Cut end) = end
+
+-- what a claim of a position answers: the next one where it lies in the range
+abbrev pub IsAnswerAt : ℕ → ℕ → Stretch → Type 0
+IsAnswerAt p next (Claimed after room end) = (after ≡ next) × (p < end)
+IsAnswerAt p next (Cut end) = end ≤ p
+
+-- what was staged from a position on stays where the range reaches it, and else all is as it was before
+abbrev pub IsPutBack : ℕ → Receipt → Receipt → Receipt → Stretch → Type 0
+IsPutBack p back old new (Claimed next room end) = new ≡ old
+IsPutBack p back old new (Cut end) = (end ≤ p → new ≡ back) × (p < end → new ≡ old)
+
+-- The last position of the stretch was claimed, and so all of them.
+pub record IsAllClaimed (plan : Plan) (opening : Option Opening) (len : ℕ) (piece : Piece) (p : ℕ) (known : Option KnownJob) (next end : ℕ) (old new : Receipt) : Type 0 where
+  pub now : Piece
+  pub last : ℕ
+  pub claimed : HasClaimed piece now (Some last) known
+  pub ends : now.range.to ≡ end
+  pub first : p ≤ last
+  pub inside : last < end
+  pub worked : IsWorkedOver plan opening len piece p (last + 1) next old new
+
+-- of the stretch the offsets below `end` are worked, and nothing is staged of the others
+pub record IsWorkedTo (plan : Plan) (opening : Option Opening) (len : ℕ) (piece : Piece) (p end : ℕ) (old new : Receipt) : Type 0 where
+  pub upto : ℕ
+  pub next : ℕ
+  pub inside : upto ≤ end
+  pub past : end ≤ next
+  pub worked : IsWorkedOver plan opening len piece p upto next old new
+
+-- The range ends at the last position of the stretch, which was claimed, or before it, and what lies past its end isn't staged.
+pub record IsCutAt (plan : Plan) (opening : Option Opening) (len : ℕ) (piece : Piece) (p : ℕ) (before known : Option KnownJob) (end : ℕ) (old new : Receipt) : Type 0 where
+  pub now : Piece
+  pub last : ℕ
+  pub claimed : HasClaimed piece now (Some last) known
+  pub ends : now.range.to ≡ end
+  pub past : end ≤ last
+  pub behind : first_open piece before ≤ end
+  pub none : end ≤ p → new ≡ old
+  pub some : p < end → IsWorkedTo plan opening len piece p end old new
+
+abbrev pub IsStretchDone : Plan → Option Opening → ℕ → Piece → ℕ → Option KnownJob → Option KnownJob → Receipt → Receipt → Stretch → Type 0
+IsStretchDone plan opening len piece p before known old new (Claimed next room end) = IsAllClaimed plan opening len piece p known next end old new
+IsStretchDone plan opening len piece p before known old new (Cut end) = IsCutAt plan opening len piece p before known end old new
+
+-- work on its last position was refused, which the pass has claimed
+pub record IsStretchRefused (shelf : ObservedShelf) (store : StoreCounts) (plan : Plan) (opening : Option Opening) (len : ℕ) (piece : Piece) (known : Option KnownJob) (refusal : ExecRefusal) : Type 0 where
+  pub now : Piece
+  pub attempted : Option ℕ
+  pub claimed : HasClaimed piece now attempted known
+  pub refused : IsPieceRefused shelf store plan opening len now attempted refusal
