@@ -1,3 +1,3 @@
-mod Opens
+pub mod Opens
 pub mod Stopped
 pub mod PlanRuns

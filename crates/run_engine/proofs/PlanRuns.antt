@@ -197,7 +197,7 @@ module _ (shelf : ObservedShelf) (store : ObservedStore) (none_before : shelf.be
             (is.outcome, is.some, outcome_where IsEnded (finished setting b running ends entries some ended books) is.outcome e is refl)
         by (Some (stop.Spent note)) stopped tells =
             subst (λ (s : Status). IsPlanEnd shelf store plan options s e.outcome) (sym tells) (
-              (is.outcome, is.some, outcome_where (IsStoppedBy store note) (record { noted = stopped; reads = rose_by store.before store.after b.reads none_before' low.1 reads }) is.outcome e is refl),
+              (is.outcome, is.some, outcome_where (IsStoppedBy shelf store note) (record { noted = stopped; calls = rose_by shelf.before shelf.after b.calls none_before low.0 calls; reads = rose_by store.before store.after b.reads none_before' low.1 reads }) is.outcome e is refl),
               spent note stopped,
             )
         by (Some stop.NoMemory) stopped tells = absurd tells

@@ -42,9 +42,10 @@ pub record IsOutcomeWhere (known : Surroundings) (plan : Plan) (options : Option
   -- the numbers in panes have 64 bits
   pub storable : All (λ pane. IsStorable pane.element.value) o.panes
 
--- the book was stopped by a fail with this note, and the store counted each read that failed
-pub record IsStoppedBy (store : ObservedStore) (note : FaultNote) (b : BookData) : Type 0 where
+-- the book was stopped by a fail with this note, and each call and each read that failed was counted
+pub record IsStoppedBy (shelf : ObservedShelf) (store : ObservedStore) (note : FaultNote) (b : BookData) : Type 0 where
   pub noted : b.stopped ≡ Some (stop.Spent note)
+  pub calls : b.calls ≤ rise shelf.before shelf.after
   pub reads : b.reads ≤ rise store.before store.after
 
 -- work failed as often as it may, and each time it was counted
@@ -58,7 +59,7 @@ abbrev pub IsPlanEnd : ObservedShelf → ObservedStore → Plan → Options → 
 IsPlanEnd shelf store plan options status.Ok outcome =
     (o : Outcome) × (outcome ≡ Some o) × IsOutcomeWhere (surroundings_of shelf store) plan options IsEnded o
 IsPlanEnd shelf store plan options (status.WorkFault note) outcome =
-    ((o : Outcome) × (outcome ≡ Some o) × IsOutcomeWhere (surroundings_of shelf store) plan options (IsStoppedBy store note) o)
+    ((o : Outcome) × (outcome ≡ Some o) × IsOutcomeWhere (surroundings_of shelf store) plan options (IsStoppedBy shelf store note) o)
     × IsSpent shelf store options.attempts note
 IsPlanEnd shelf store plan options status.NoMemory outcome = outcome ≡ None
 IsPlanEnd shelf store plan options _ outcome = ⊥
