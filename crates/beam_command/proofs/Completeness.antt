@@ -210,7 +210,7 @@ module _ (observed : Observed) (of_one : AreOfOne observed.stores observed.store
         (subst (λ (o : Options). TakesNoPoison (record { told = Some told; strict = true }) inputs.0 o) (sym with_options) inputs.3))
 
     -- what was given up failed by reads, and the store counted them
-    not_given_up : (note : FaultNote) (o : Outcome) → IsOutcomeOfAsked observed own options (IsStoppedBy observed.store note) o → ⊥
+    not_given_up : (note : FaultNote) (o : Outcome) → IsOutcomeOfAsked observed own options (IsStoppedBy observed.shelf observed.store note) o → ⊥
     not_given_up note o run =
         let book = run.3.book in
         let plan = run.3.of_plan ∙ plan_is observed.store told tells own inputs.0 run.0 inputs.1 run.1 in

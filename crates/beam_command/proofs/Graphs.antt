@@ -85,14 +85,14 @@ module _ (shelf : ObservedShelf) (files : Option (List FileText)) (less more : �
 
   -- what stopped a run stopped it also in the call
   pub stopped_since : (known : Surroundings) (plan : Plan) (options : Options) (note : FaultNote) (o : Outcome)
-      → IsOutcomeWhere known plan options (IsStoppedBy run_store note) o → IsOutcomeWhere known plan options (IsStoppedBy call_store note) o
+      → IsOutcomeWhere known plan options (IsStoppedBy shelf run_store note) o → IsOutcomeWhere known plan options (IsStoppedBy shelf call_store note) o
   stopped_since known plan options note o run = record {
     book = run.book;
     reached = run.reached;
     of_plan = run.of_plan;
     with_options = run.with_options;
     lengths = run.lengths;
-    is = record { noted = run.is.noted; reads = omega (arith, run.is.reads, rises) };
+    is = record { noted = run.is.noted; calls = run.is.calls; reads = omega (arith, run.is.reads, rises) };
     of_book = run.of_book;
     storable = run.storable;
   }

@@ -1,6 +1,7 @@
 pub mod Graphs
 pub mod Stores
 pub mod InUse
+pub mod Kept
 pub mod Asked
 pub mod Promises
 mod Completeness

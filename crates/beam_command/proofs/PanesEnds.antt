@@ -180,7 +180,7 @@ module _ (observed : Observed) (of_one : AreOfOne observed.stores observed.store
   -- ---- a file that is there
 
   module _ (found : IsSome (first_named file told))
-      (stops : observed.shelf.strict ≡ true → (note : FaultNote) (o : Outcome) → IsOutcomeOfAsked observed own options (IsStoppedBy observed.store note) o → note.cause ≡ Call
+      (stops : observed.shelf.strict ≡ true → (note : FaultNote) (o : Outcome) → IsOutcomeOfAsked observed own options (IsStoppedBy observed.shelf observed.store note) o → note.cause ≡ Call
       → (note ≡ first_fault options) × HasPoison (panes_plan file size) (items told (panes_plan file size))) where
     inputs : HasInputs told own
     inputs = (panes_plan file size, refl, found_all file size told found)
@@ -189,7 +189,7 @@ module _ (observed : Observed) (of_one : AreOfOne observed.stores observed.store
     unbegun s why = began observed of_one told tells options.attempts few own inputs s why
 
     module _ (strict : observed.shelf.strict ≡ true) (never : (o : Outcome) → IsOutcomeOfAsked observed own options IsEnded o → ⊥) where
-      faulted : (note : FaultNote) (o : Outcome) → IsOutcomeOfAsked observed own options (IsStoppedBy observed.store note) o → (cause : Cause) → note.cause ≡ cause
+      faulted : (note : FaultNote) (o : Outcome) → IsOutcomeOfAsked observed own options (IsStoppedBy observed.shelf observed.store note) o → (cause : Cause) → note.cause ≡ cause
           → IsCountedAs observed.shelf observed.store cause → IsEndOfPoison options (status.WorkFault note)
       faulted note o run Call is counted = inl (ap (λ (n : FaultNote). status.WorkFault n) (stops strict note o run is).0)
       faulted note o run Read is counted = absurd (whole counted)
@@ -221,7 +221,7 @@ module _ (observed : Observed) (of_one : AreOfOne observed.stores observed.store
       (kept : (told : Option (List FileText)) (b : BookData) → Reached told b → AreKept b)
       (honest : (known : Surroundings) (b : BookData) (note : FaultNote) → HonestlyReached known b → b.stopped ≡ Some (stop.Spent note) → IsHonestStop known b note) where
     stopped : (told : List FileText) → observed.store.files ≡ Some told → (file : List ℕ) (size : ℤ) (options : Options) → observed.shelf.strict ≡ true → (note : FaultNote) (o : Outcome)
-        → IsOutcomeOfAsked observed (Panes file size options) options (IsStoppedBy observed.store note) o → note.cause ≡ Call
+        → IsOutcomeOfAsked observed (Panes file size options) options (IsStoppedBy observed.shelf observed.store note) o → note.cause ≡ Call
         → (note ≡ first_fault options) × HasPoison (panes_plan file size) (items told (panes_plan file size))
     stopped told tells file size options strict note o run is =
         let known = surroundings_of observed.shelf observed.store in

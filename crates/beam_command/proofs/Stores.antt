@@ -11,7 +11,7 @@ use Rattle.beam_ports.specs.Files.{Opening}
 use Rattle.beam_ports.specs.Observed.{ObservedStore, observed_store}
 use Rattle.chain_exec.specs.Causes.{ObservedShelf}
 use Rattle.worker_loop.specs.Kits.{EachBecomes, observed_shelves, observed_stores, sum_rises, told_by}
-use Rattle.worker_loop.specs.Outside.{IsKitKept, IsStoreKept}
+use Rattle.worker_loop.specs.Outside.{IsStoreKept}
 use Rattle.worker_loop.specs.declared.kit.Kit.{Kit}
 use Rattle.worker_loop.proofs.Told.{told_by_each}
 use Rattle.run_engine.specs.Kits.{observed_each}
@@ -55,17 +55,6 @@ module _ {F S : Type 0} (files : S → Option (List FileText)) (faults : S → �
   pub are_of_one : (olds news : List (Kit F S)) → AreOfOne (observed_each files faults olds news) (observed_stores files faults olds news)
   are_of_one olds news =
       each_of_one (told_by (map (λ kit. files kit.store) olds)) (sum_rises (λ kit. faults kit.store) olds news) olds news (told_by_each (map (λ kit. files kit.store) olds)) (omega arith)
-
--- ---- what a call leaves of each kit
-
-each_through : {A : Type 0} (P Q R : A → A → Type 0) → ((a b c : A) → P a b → Q b c → R a c) → (olds mids news : List A)
-    → EachBecomes olds mids P → EachBecomes mids news Q → EachBecomes olds news R
-each_through P Q R both [] [] [] first then = tt
-each_through P Q R both [] [] (new ∷ news) first then = absurd then
-each_through P Q R both [] (mid ∷ mids) news first then = absurd first
-each_through P Q R both (old ∷ olds) [] news first then = absurd first
-each_through P Q R both (old ∷ olds) (mid ∷ mids) [] first then = absurd then
-each_through P Q R both (old ∷ olds) (mid ∷ mids) (new ∷ news) first then = (both old mid new first.0 then.0, each_through P Q R both olds mids news first.1 then.1)
 
 -- ---- what is observed since an earlier call
 
@@ -111,25 +100,6 @@ module _ {F S : Type 0} (strict : F → Bool) (calls : F → ℕ) (files : S →
   told_since : (olds mids : List (Kit F S)) → EachBecomes olds mids Stays → told_by (map (λ kit. files kit.store) mids) ≡ told_by (map (λ kit. files kit.store) olds)
   told_since olds mids stay = ap told_by (tellings_same olds mids stay)
 
-  -- counts rise, or stay
-  abbrev Counts : Kit F S → Kit F S → Type 0
-  Counts old new = faults old.store ≤ faults new.store
-
-  abbrev Works : Kit F S → Kit F S → Type 0
-  Works old new = (new.files ≡ old.files) × IsKitKept calls strict faults files opened old.shelf new.shelf old.store new.store
-
-  pub counts_since : (olds mids : List (Kit F S)) → EachBecomes olds mids Stays → EachBecomes olds mids (λ old new. faults old.store ≤ faults new.store)
-  counts_since [] [] stay = tt
-  counts_since [] (mid ∷ mids) stay = absurd stay
-  counts_since (old ∷ olds) [] stay = absurd stay
-  counts_since (old ∷ olds) (mid ∷ mids) stay = (stay.0.1.counts, counts_since olds mids stay.1)
-
-  pub counts_through : (olds mids news : List (Kit F S)) → EachBecomes olds mids Stays
-      → EachBecomes mids news (λ old new. (new.files ≡ old.files) × IsKitKept calls strict faults files opened old.shelf new.shelf old.store new.store)
-      → EachBecomes olds news (λ old new. faults old.store ≤ faults new.store)
-  counts_through olds mids news stay work =
-      each_through Stays Works Counts (λ old mid new first then. omega (arith, first.1.counts, then.1.reading.counts)) olds mids news stay work
-
   -- a run with the kits after their files were opened, seen from the call that opened them
   since_opening : (olds mids news : List (Kit F S)) (plan : Plan) (options : Options) (s : Status) (outcome : Option Outcome) → EachBecomes olds mids Stays
       → IsPlanEnd (observed_shelves strict calls mids news) (observed_stores files faults mids news) plan options s outcome
@@ -155,10 +125,3 @@ module _ {F S : Type 0} (strict : F → Bool) (calls : F → ℕ) (files : S →
       → AreFound (told_by (map (λ kit. files kit.store) olds)) plan × IsPlanEnd (observed_shelves strict calls olds news) (observed_stores files faults olds news) plan options s outcome
   run_opened olds mids news plan options s outcome some stay are end =
       (opened_are_there olds mids plan some stay are, since_opening olds mids news plan options s outcome stay end)
-
--- there are as many kits as before
-pub counted_length : {F S : Type 0} (faults : S → ℕ) (olds news : List (Kit F S)) → EachBecomes olds news (λ old new. faults old.store ≤ faults new.store) → length news ≡ length olds
-counted_length faults [] [] each = refl
-counted_length faults [] (new ∷ news) each = absurd each
-counted_length faults (old ∷ olds) [] each = absurd each
-counted_length faults (old ∷ olds) (new ∷ news) each = omega (arith, counted_length faults olds news each.1)

@@ -57,6 +57,16 @@ EndsWhereNoPoison files asked observed s =
     WherePipeline asked (λ asked options. IsStrict observed.shelf
     → WhereTold files (λ told. HasCleanInputs told asked options → AreReadFaultsFew options.attempts observed → IsEndOfClean s))
 
+-- the end came before the run began
+abbrev pub HasNotBegun : Status → Type 0
+HasNotBegun status.Help = Unit {0}
+HasNotBegun status.Usage = Unit {0}
+HasNotBegun (status.BadPlan refusal) = Unit {0}
+HasNotBegun (status.NoSource name) = Unit {0}
+HasNotBegun (status.SourceFault kit) = Unit {0}
+HasNotBegun (status.FileChanged name first other) = Unit {0}
+HasNotBegun _ = ⊥
+
 -- two kits opened a file with different lengths
 abbrev pub IsChange : Status → Type 0
 IsChange (status.FileChanged name first other) = Unit {0}

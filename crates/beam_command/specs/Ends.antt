@@ -91,7 +91,7 @@ IsPipelineEnd observed asked options status.Ok outcome = IsRunThrough observed a
 IsPipelineEnd observed asked options status.SinkFault outcome = IsRunThrough observed asked options status.SinkFault outcome
 -- work failed as often as it may, and what was committed before is handed out
 IsPipelineEnd observed asked options (status.WorkFault note) outcome =
-    IsUnwritten observed × ((o : Outcome) × (outcome ≡ Some o) × IsOutcomeOfAsked observed asked options (IsStoppedBy observed.store note) o)
+    IsUnwritten observed × ((o : Outcome) × (outcome ≡ Some o) × IsOutcomeOfAsked observed asked options (IsStoppedBy observed.shelf observed.store note) o)
     × IsSpent observed.shelf observed.store options.attempts note
 -- the run did not begin, or there was no memory
 IsPipelineEnd observed asked options s outcome =

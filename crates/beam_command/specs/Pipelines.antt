@@ -35,7 +35,7 @@ IsGraphEnd observed plan options failed status.Ok outcome = IsGraphThrough obser
 IsGraphEnd observed plan options failed status.SinkFault outcome = IsGraphThrough observed plan options status.SinkFault outcome
 IsGraphEnd observed plan options failed (status.WorkFault note) outcome =
     IsUnwritten observed × AreFound observed.store.files plan
-    × ((o : Outcome) × (outcome ≡ Some o) × IsOutcomeWhere (surroundings_of observed.shelf observed.store) plan options (IsStoppedBy observed.store note) o)
+    × ((o : Outcome) × (outcome ≡ Some o) × IsOutcomeWhere (surroundings_of observed.shelf observed.store) plan options (IsStoppedBy observed.shelf observed.store note) o)
     × IsSpent observed.shelf observed.store options.attempts note
 IsGraphEnd observed plan options failed s outcome =
     IsUnwritten observed × (outcome ≡ None) × (IsOpeningRefused observed.stores plan options.attempts failed s ⊎ (s ≡ status.NoMemory))

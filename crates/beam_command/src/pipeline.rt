@@ -1,11 +1,13 @@
 //! A pipeline that is run with kits, from the opening of its files to the writing of its text.
 
-ghost use Rattle.std.specs.Prelude.{◌≡◌, ◌≤◌, ◌<◌, length, IsSome, Some, None};
+ghost use Rattle.std.specs.Prelude.{◌≡◌, ◌≤◌, ◌<◌, length, IfSome, IsSome, Some, None};
 ghost use Rattle.beam_values.specs.declared.outcome.Outcome.{Outcome as OutcomeOf};
 ghost use Rattle.beam_ports.specs.Observed.{observed_sink};
 ghost use Rattle.book_core.specs.Runs.{AreOptions};
 ghost use Rattle.worker_loop.specs.Kits.{EachBecomes};
-ghost use Rattle.beam_command.specs.Kits.{observed_kits};
+ghost use Rattle.worker_loop.specs.Outside.{IsKitKept};
+ghost use Rattle.beam_command.specs.Clauses.{HasNotBegun};
+ghost use Rattle.beam_command.specs.Kits.{IsOutcomeOfOpened, observed_kits};
 ghost use Rattle.beam_command.specs.Pipelines.{IsGraphEnd, IsRunPrinted, IsTextEnd};
 
 use beam_ports::{Failed, Gate, Sink, Store};
@@ -45,7 +47,9 @@ pub fn run_graph<R: Threads + Wait + Sync, F: Shelf, S: Store, W: Sink, G: Gate>
     requires workers { length kits.old ≤ options.now.workers }
     ensures ends { IsGraphEnd (observed_kits F.strict F.faults S.files S.faults W.faults W.taken kits.old kits.new out.old out.new)
         graph options.now failed result.status result.outcome }
-    ensures counts { EachBecomes kits.old kits.new (λ old new. S.faults old.store ≤ S.faults new.store) }
+    ensures outcome { IfSome result.outcome (λ o. (o.plan ≡ graph) × IsOutcomeOfOpened S.files S.opened kits.new o) }
+    ensures idle { HasNotBegun result.status → EachBecomes kits.old kits.new (λ old new. new.shelf ≡ old.shelf) }
+    ensures kept { EachBecomes kits.old kits.new (λ old new. IsKitKept F.faults F.strict S.faults S.files S.opened old.shelf new.shelf old.store new.store) }
 {
     if let Err(status) = open_sources(alloc, &graph, options, kits, failed) {
         return ended(status);

@@ -1,4 +1,4 @@
-ghost use Rattle.std.specs.Prelude.{◌≡◌, ◌<◌, ◌≤◌, ℕ, None, length, drop, map};
+ghost use Rattle.std.specs.Prelude.{◌≡◌, ◌<◌, ◌≤◌, ℕ, IfSome, None, length, drop, map};
 ghost use Rattle.beam_ports.specs.Observed.{observed_sink, WhereTold};
 ghost use Rattle.beam_model.specs.Account.{IsAccounted};
 ghost use Rattle.beam_model.specs.Covers.{IsCovered};
@@ -7,11 +7,15 @@ ghost use Rattle.beam_model.specs.Positions.{items, item_len};
 ghost use Rattle.beam_values.specs.Strategies.{IsLength};
 ghost use Rattle.command_words.specs.Commands.{command_of, words_of, Panes as PanesOf, Run as RunOf};
 ghost use Rattle.book_core.specs.Runs.{AreOptions};
+ghost use Rattle.worker_loop.specs.Kits.{EachBecomes};
+ghost use Rattle.worker_loop.specs.Outside.{IsKitKept};
+ghost use Rattle.beam_model.specs.Plans.{panes_plan};
+ghost use Rattle.beam_command.specs.Asking.{IsPlanOf};
 ghost use Rattle.beam_command.specs.Promises.{HasLegalPanes, IsPlanAsked};
 ghost use Rattle.beam_command.specs.Ends.{AreFound, IsRun, IsEndOf, IsHelpEnd, IsNoted, IsNotedUpTo, IsPipelineEnd, StaysOrNoMemory};
-ghost use Rattle.beam_command.specs.Kits.{in_use, kit_files, observed_in_use, observed_kits, workers_of};
+ghost use Rattle.beam_command.specs.Kits.{IsOutcomeOfOpened, first_files, in_use, kit_files, observed_in_use, observed_kits, workers_of};
 ghost use Rattle.beam_command.specs.Completeness.{AsksForPoison};
-ghost use Rattle.beam_command.specs.Clauses.{asked_by, EndsAsAsked, IsChange, ArePanesPlain, EndsWhereAbsent, EndsWherePoison, EndsWhereClean, EndsWhereFewFaults, EndsWhereNoPoison};
+ghost use Rattle.beam_command.specs.Clauses.{asked_by, EndsAsAsked, HasNotBegun, IsChange, ArePanesPlain, EndsWhereAbsent, EndsWherePoison, EndsWhereClean, EndsWhereFewFaults, EndsWhereNoPoison};
 
 use crate::notes::{fixed_line, note_line};
 use crate::pipeline::{ended, run_graph, written};
@@ -65,6 +69,11 @@ pub fn beam_main<R: Threads + Wait + Sync, F: Shelf, S: Store, W: Sink, N: Sink,
     ensures found { IsRun result (λ o. AreFound (kit_files S.files (asked_by words.now) kits.old.items) o.plan) }
     ensures lengths { IsRun result (λ o. WhereTold (kit_files S.files (asked_by words.now) kits.old.items) (λ told. o.files ≡ map item_len (items told o.plan))) }
 
+    // Over any stores, whatever they tell: the plan is the one of the first kit's file, every kit in use has
+    // opened each file of the plan, and the items are as long as the first kit's files were opened.
+    ensures first_plan { IfSome result.outcome (λ o. IsPlanAsked (first_files S.files kits.old.items) (asked_by words.now) o.plan) }
+    ensures opened { IfSome result.outcome (IsOutcomeOfOpened S.files S.opened (in_use (asked_by words.now) kits.new.items)) }
+
     // The committed ranges partition each item.
     ensures cover { IsRun result IsCovered }
 
@@ -108,7 +117,11 @@ pub fn beam_main<R: Threads + Wait + Sync, F: Shelf, S: Store, W: Sink, N: Sink,
     ensures same_files { WhereTold (kit_files S.files (asked_by words.now) kits.old.items) (λ told. IsChange result.status → ⊥) }
 
     ensures noted { IsNoted result.status (observed_sink N.faults N.taken notes.old notes.new) }
-    ensures kits { length kits.new.items ≡ length kits.old.items }
+
+    // No function was called where the run did not begin. Of every kit the counts never fall, and what its store
+    // tells and has opened stays. The kits that are not in use stay as they were.
+    ensures idle { HasNotBegun result.status → EachBecomes kits.old.items kits.new.items (λ old new. new.shelf ≡ old.shelf) }
+    ensures kept { EachBecomes kits.old.items kits.new.items (λ old new. IsKitKept F.faults F.strict S.faults S.files S.opened old.shelf new.shelf old.store new.store) }
     ensures unused { drop (workers_of (asked_by words.now)) kits.new.items ≡ drop (workers_of (asked_by words.now)) kits.old.items }
 {
     honest_runs_are_runs();
@@ -150,7 +163,10 @@ fn run<R: Threads + Wait + Sync, F: Shelf, S: Store, W: Sink, G: Gate>(
     ensures ends { IsEndOf (command_of (words_of words.now))
         (observed_in_use F.strict F.faults S.files S.faults W.faults W.taken (command_of (words_of words.now)) kits.old kits.new out.old out.new)
         result.status result.outcome }
-    ensures count { length kits.new ≡ length kits.old }
+    ensures first_plan { IfSome result.outcome (λ o. IsPlanAsked (first_files S.files kits.old) (command_of (words_of words.now)) o.plan) }
+    ensures opened { IfSome result.outcome (IsOutcomeOfOpened S.files S.opened (in_use (command_of (words_of words.now)) kits.new)) }
+    ensures idle { HasNotBegun result.status → EachBecomes kits.old kits.new (λ old new. new.shelf ≡ old.shelf) }
+    ensures kept { EachBecomes kits.old kits.new (λ old new. IsKitKept F.faults F.strict S.faults S.files S.opened old.shelf new.shelf old.store new.store) }
     ensures unused { drop (workers_of (command_of (words_of words.now))) kits.new ≡ drop (workers_of (command_of (words_of words.now))) kits.old }
 {
     match read_words(words) {
@@ -202,7 +218,10 @@ fn run_panes<R: Threads + Wait + Sync, F: Shelf, S: Store, W: Sink, G: Gate>(
     requires workers { length kits.old ≤ options.now.workers }
     ensures ends { IsPipelineEnd (observed_kits F.strict F.faults S.files S.faults W.faults W.taken kits.old kits.new out.old out.new)
         (PanesOf file.now size options.now) options.now result.status result.outcome }
-    ensures count { length kits.new ≡ length kits.old }
+    ensures first_plan { IfSome result.outcome (λ o. o.plan ≡ panes_plan file.now size) }
+    ensures opened { IfSome result.outcome (IsOutcomeOfOpened S.files S.opened kits.new) }
+    ensures idle { HasNotBegun result.status → EachBecomes kits.old kits.new (λ old new. new.shelf ≡ old.shelf) }
+    ensures kept { EachBecomes kits.old kits.new (λ old new. IsKitKept F.faults F.strict S.faults S.files S.opened old.shelf new.shelf old.store new.store) }
 {
     match panes_graph(alloc, file, size) {
         Ok(graph) => run_graph(rt, alloc, graph, options, 0, kits, out, gate),
@@ -225,7 +244,10 @@ fn run_file<R: Threads + Wait + Sync, F: Shelf, S: Store, W: Sink, G: Gate>(
     requires workers { length kits.old ≤ options.now.workers }
     ensures ends { IsPipelineEnd (observed_kits F.strict F.faults S.files S.faults W.faults W.taken kits.old kits.new out.old out.new)
         (RunOf plan.now options.now) options.now result.status result.outcome }
-    ensures count { length kits.new ≡ length kits.old }
+    ensures first_plan { IfSome result.outcome (λ o. IsPlanOf (first_files S.files kits.old) (RunOf plan.now options.now) o.plan) }
+    ensures opened { IfSome result.outcome (IsOutcomeOfOpened S.files S.opened kits.new) }
+    ensures idle { HasNotBegun result.status → EachBecomes kits.old kits.new (λ old new. new.shelf ≡ old.shelf) }
+    ensures kept { EachBecomes kits.old kits.new (λ old new. IsKitKept F.faults F.strict S.faults S.files S.opened old.shelf new.shelf old.store new.store) }
 {
     match read_plan_file(alloc, &mut kits[0].store, plan, options.attempts) {
         Ok(read) => run_graph(rt, alloc, read.graph, options, read.failed, kits, out, gate),

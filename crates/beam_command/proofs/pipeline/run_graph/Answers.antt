@@ -1,16 +1,37 @@
-use Rattle.std.proofs.Common.{refl}
+use Rattle.std.proofs.Common.{refl, ap}
+use Rattle.run_engine.specs.declared.status.RunEnd.{RunEnd}
 use Rattle.beam_command.specs.Kits.{observed_kits}
 use Rattle.beam_command.proofs.Graphs.{finished_end, unprinted_end}
-use Rattle.beam_command.proofs.Stores.{counts_since, counts_through, run_opened}
+use Rattle.beam_command.proofs.Kept.{finished_begun, finished_some, idle_opened, if_none, kept_opened, kept_run, outcome_opened, run_begun}
+use Rattle.beam_command.proofs.Stores.{run_opened}
 use Rattle.beam_command.proofs.pipeline.run_graph.Goals as goal
 
-pub returns-in-Err-clause-counts : goal.returns-in-Err-clause-counts
-returns-in-Err-clause-counts g c =
-    counts_since g.F.Shelf.strict g.F.Shelf.faults g.S.Store.files g.S.Store.faults g.S.Store.opened c.args.kits.now c.open_sources.new.kits c.open_sources.ensures.kept
+pub returns-in-Err-clause-outcome : goal.returns-in-Err-clause-outcome
+returns-in-Err-clause-outcome g c = if_none _ _ (ap (λ (end : RunEnd). end.outcome) c.ended.ensures)
 
-pub returns-in-Ok-clause-counts : goal.returns-in-Ok-clause-counts
-returns-in-Ok-clause-counts g c =
-    counts_through g.F.Shelf.strict g.F.Shelf.faults g.S.Store.files g.S.Store.faults g.S.Store.opened c.args.kits.now c.open_sources.new.kits c.run_plan-status.new.kits
+pub returns-in-Err-clause-idle : goal.returns-in-Err-clause-idle
+returns-in-Err-clause-idle g c = λ none.
+    idle_opened g.F.Shelf.strict g.F.Shelf.faults g.S.Store.files g.S.Store.faults g.S.Store.opened c.args.kits.now c.open_sources.new.kits c.open_sources.ensures.kept
+
+pub returns-in-Err-clause-kept : goal.returns-in-Err-clause-kept
+returns-in-Err-clause-kept g c =
+    kept_opened g.F.Shelf.strict g.F.Shelf.faults g.S.Store.files g.S.Store.faults g.S.Store.opened c.args.kits.now c.open_sources.new.kits c.open_sources.ensures.kept
+
+pub returns-in-Ok-clause-outcome : goal.returns-in-Ok-clause-outcome
+returns-in-Ok-clause-outcome g c =
+    finished_some _ _ c.args.graph c.args.options.now c.run_plan-status.result.status c.run_plan-status.result.outcome c.run_plan-status.ensures.ended c.in-Ok.is _ _ c.finished.result.status
+    c.finished.result.outcome c.finished.ensures _
+    (outcome_opened g.F.Shelf.strict g.F.Shelf.faults g.S.Store.files g.S.Store.faults g.S.Store.opened c.args.graph c.open_sources.new.kits c.run_plan-status.new.kits _ _ c.args.options.now
+    c.run_plan-status.result.status c.run_plan-status.result.outcome c.in_default.ensures.opened c.run_plan-status.ensures.kept c.run_plan-status.ensures.ended c.run_plan-status.ensures.lengths)
+
+pub returns-in-Ok-clause-idle : goal.returns-in-Ok-clause-idle
+returns-in-Ok-clause-idle g c = λ none.
+    absurd (finished_begun _ _ c.args.graph c.args.options.now c.run_plan-status.result.status c.run_plan-status.result.outcome c.run_plan-status.ensures.ended c.in-Ok.is _ _
+    c.finished.result.status c.finished.result.outcome c.finished.ensures none)
+
+pub returns-in-Ok-clause-kept : goal.returns-in-Ok-clause-kept
+returns-in-Ok-clause-kept g c =
+    kept_run g.F.Shelf.strict g.F.Shelf.faults g.S.Store.files g.S.Store.faults g.S.Store.opened c.args.kits.now c.open_sources.new.kits c.run_plan-status.new.kits
     c.open_sources.ensures.kept c.run_plan-status.ensures.kept
 
 pub returns-in-Ok-clause-ends : goal.returns-in-Ok-clause-ends
@@ -31,6 +52,10 @@ returns-in_default-status g c =
       ends = unprinted_end (observed_kits g.F.Shelf.strict g.F.Shelf.faults g.S.Store.files g.S.Store.faults g.W.Sink.faults g.W.Sink.taken c.args.kits.now c.run_plan-status.new.kits
           c.args.out.now c.args.out.now) c.args.graph c.args.options.now c.args.failed c.run_plan-status.result.status c.run_plan-status.result.outcome refl run.0 run.1
           c.in_default-status.not-Ok;
-      counts = counts_through g.F.Shelf.strict g.F.Shelf.faults g.S.Store.files g.S.Store.faults g.S.Store.opened c.args.kits.now c.open_sources.new.kits c.run_plan-status.new.kits
+      outcome = outcome_opened g.F.Shelf.strict g.F.Shelf.faults g.S.Store.files g.S.Store.faults g.S.Store.opened c.args.graph c.open_sources.new.kits c.run_plan-status.new.kits _ _
+          c.args.options.now c.run_plan-status.result.status c.run_plan-status.result.outcome c.in_default.ensures.opened c.run_plan-status.ensures.kept c.run_plan-status.ensures.ended
+          c.run_plan-status.ensures.lengths;
+      idle = λ none. absurd (run_begun _ _ c.args.graph c.args.options.now c.run_plan-status.result.status c.run_plan-status.result.outcome c.run_plan-status.ensures.ended none);
+      kept = kept_run g.F.Shelf.strict g.F.Shelf.faults g.S.Store.files g.S.Store.faults g.S.Store.opened c.args.kits.now c.open_sources.new.kits c.run_plan-status.new.kits
           c.open_sources.ensures.kept c.run_plan-status.ensures.kept;
     }

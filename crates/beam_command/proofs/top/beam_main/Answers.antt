@@ -1,4 +1,7 @@
-use Rattle.std.proofs.Common.{◌≡◌, Option, Some, ◌∙◌}
+use Rattle.std.proofs.Common.{◌≡◌, List, Option, Some, length, sym, subst, ◌∙◌}
+use Rattle.std.specs.Prelude.{IfSome}
+use Rattle.worker_loop.specs.Kits.{EachBecomes}
+use Rattle.worker_loop.specs.declared.kit.Kit.{Kit}
 use Rattle.beam_values.specs.declared.options.Options.{Options}
 use Rattle.beam_values.specs.declared.outcome.Outcome.{Outcome}
 use Rattle.beam_model.specs.Account.{IsAccounted}
@@ -8,11 +11,12 @@ use Rattle.beam_ports.specs.Observed.{WhereTold}
 use Rattle.book_core.specs.Runs.{IsEnded}
 use Rattle.command_words.specs.Commands.{Asked, command_of, words_of}
 use Rattle.beam_command.specs.Ends.{Observed, IsEndOf, IsOutcomeOfAsked}
-use Rattle.beam_command.specs.Kits.{in_use, observed_in_use}
-use Rattle.beam_command.specs.Promises.{HasLegalPanes}
+use Rattle.beam_command.specs.Kits.{IsOutcomeOfOpened, first_files, in_use, observed_in_use}
+use Rattle.beam_command.specs.Promises.{HasLegalPanes, IsPlanAsked}
 use Rattle.beam_command.proofs.Asked.{end_of_same, noted_end}
 use Rattle.beam_command.proofs.Completeness.{complete, complete_strict, same_files}
 use Rattle.beam_command.proofs.InUse.{all_written, written_back}
+use Rattle.beam_command.proofs.Kept.{Keeps, become_length, not_begun_before, still_some}
 use Rattle.beam_command.proofs.PanesEnds.{HasAttempts, absent, clean, not_ok, poison, some_attempts}
 use Rattle.beam_command.proofs.Promises.{accounted, covered, files_found, legal, lengths_kept, panes_plainly, plainly, plan_kept, promised}
 use Rattle.beam_command.proofs.Stores.{AreOfOne, are_of_one}
@@ -34,14 +38,29 @@ module _ (g : Over) (c : goal.After-unless_no_memory-outcome g) where
       are_of_one g.S.Store.files g.S.Store.faults (in_use asked c.args.kits.now.items)
       (in_use asked (written_back c.args.kits.now.len c.args.kits.now.items c.run-status.new.kits))
 
+  counted : length c.run-status.new.kits ≡ length c.as_mut_slice.result.now
+  counted = become_length _ _ _ c.run-status.ensures.kept
+
+  -- what the run has left of the kits
+  left : written_back c.args.kits.now.len c.args.kits.now.items c.run-status.new.kits ≡ c.run-status.new.kits
+  left = all_written c.args.kits.now.len c.args.kits.now.items c.run-status.new.kits (counted ∙ c.as_mut_slice.ensures.len)
+
+  became : (P : Kit _ _ → Kit _ _ → Type 0) → EachBecomes c.as_mut_slice.result.now c.run-status.new.kits P
+      → EachBecomes c.args.kits.now.items (written_back c.args.kits.now.len c.args.kits.now.items c.run-status.new.kits) P
+  became P each =
+      subst (λ (olds : List (Kit _ _)). EachBecomes olds (written_back c.args.kits.now.len c.args.kits.now.items c.run-status.new.kits) P) c.as_mut_slice.ensures.value
+      (subst (λ (news : List (Kit _ _)). EachBecomes c.as_mut_slice.result.now news P) (sym left) each)
+
+  some_still : (P : Outcome → Type 0) → IfSome c.run-status.result.outcome P → IfSome c.unless_no_memory-outcome.result P
+  some_still P h = still_some P c.noted-status.result c.run-status.result.outcome c.unless_no_memory-outcome.result c.unless_no_memory-outcome.ensures.none c.unless_no_memory-outcome.ensures.stays h
+
   ends : IsEndOf asked seen c.noted-status.result c.unless_no_memory-outcome.result
   ends =
       noted_end asked seen c.run-status.result.status c.noted-status.result c.run-status.result.outcome c.unless_no_memory-outcome.result c.noted-status.ensures.stays
       c.unless_no_memory-outcome.ensures.none c.unless_no_memory-outcome.ensures.stays
       (end_of_same g.F.Shelf.strict g.F.Shelf.faults g.S.Store.files g.S.Store.faults g.W.Sink.faults g.W.Sink.taken c.args.out.now c.run-status.new.out asked c.as_mut_slice.result.now
       c.args.kits.now.items c.run-status.new.kits (written_back c.args.kits.now.len c.args.kits.now.items c.run-status.new.kits) c.run-status.result.status c.run-status.result.outcome
-      c.as_mut_slice.ensures.value
-      (all_written c.args.kits.now.len c.args.kits.now.items c.run-status.new.kits (c.run-status.ensures.count ∙ c.as_mut_slice.ensures.len)) c.run-status.ensures.ends)
+      c.as_mut_slice.ensures.value left c.run-status.ensures.ends)
 
   -- at least one attempt is asked for
   tried : (own : Asked) → asked ≡ Some own → HasAttempts own
@@ -119,3 +138,21 @@ returns-clause-complete_strict g c =
 
 pub returns-clause-same_files : goal.returns-clause-same_files
 returns-clause-same_files g c = same_files (asked g c) (seen g c) (of_one g c) c.noted-status.result c.unless_no_memory-outcome.result (ends g c)
+
+pub returns-clause-first_plan : goal.returns-clause-first_plan
+returns-clause-first_plan g c =
+    some_still g c _ (subst (λ (olds : List (Kit _ _)). IfSome c.run-status.result.outcome (λ o. IsPlanAsked (first_files g.S.Store.files olds) (asked g c) o.plan)) c.as_mut_slice.ensures.value
+    c.run-status.ensures.first_plan)
+
+pub returns-clause-opened : goal.returns-clause-opened
+returns-clause-opened g c =
+    some_still g c _ (subst (λ (news : List (Kit _ _)). IfSome c.run-status.result.outcome (IsOutcomeOfOpened g.S.Store.files g.S.Store.opened (in_use (asked g c) news))) (sym (left g c))
+    c.run-status.ensures.opened)
+
+pub returns-clause-idle : goal.returns-clause-idle
+returns-clause-idle g c = λ none.
+    became g c (λ (old : Kit _ _) (new : Kit _ _). new.shelf ≡ old.shelf)
+    (c.run-status.ensures.idle (not_begun_before c.run-status.result.status c.noted-status.result c.noted-status.ensures.stays none))
+
+pub returns-clause-kept : goal.returns-clause-kept
+returns-clause-kept g c = became g c (Keeps g.F.Shelf.strict g.F.Shelf.faults g.S.Store.files g.S.Store.faults g.S.Store.opened) c.run-status.ensures.kept

@@ -6,6 +6,7 @@ use Rattle.worker_loop.specs.Kits.{observed_shelves, observed_stores}
 use Rattle.command_words.specs.Commands.{Panes}
 use Rattle.run_engine.specs.Kits.{observed_each}
 use Rattle.beam_command.proofs.Asked.{pipeline_end}
+use Rattle.beam_command.proofs.Kept.{all_same, if_some}
 use Rattle.beam_command.proofs.top.run_panes.Goals as goal
 
 pub returns-in-Ok-clause-ends : goal.returns-in-Ok-clause-ends
@@ -16,3 +17,14 @@ returns-in-Ok-clause-ends g c =
     pipeline_end (observed_shelves g.F.Shelf.strict g.F.Shelf.faults c.args.kits.now c.run_graph.new.kits) store.files store.after store.after stores stores
     (observed_sink g.W.Sink.faults g.W.Sink.taken c.args.out.now c.run_graph.new.out) (Panes c.args.file.now c.args.size c.args.options.now) c.args.options.now c.in-Ok.graph 0
     (omega arith) (λ s refused. refused) (c.in-Ok.ensures ∙ ap (λ (size : ℤ). panes_plan c.args.file.now size) same) c.run_graph.result.status c.run_graph.result.outcome c.run_graph.ensures.ends
+
+pub returns-in-Ok-clause-first_plan : goal.returns-in-Ok-clause-first_plan
+returns-in-Ok-clause-first_plan g c =
+    let same : to_z w64 (of_z w64 c.args.size) ≡ c.args.size = omega (arith, ints) in
+    if_some _ _ (λ o is. is.0 ∙ (c.in-Ok.ensures ∙ ap (λ (size : ℤ). panes_plan c.args.file.now size) same)) c.run_graph.result.outcome c.run_graph.ensures.outcome
+
+pub returns-in-Ok-clause-opened : goal.returns-in-Ok-clause-opened
+returns-in-Ok-clause-opened g c = if_some _ _ (λ o is. is.1) c.run_graph.result.outcome c.run_graph.ensures.outcome
+
+pub returns-in-Err-clause-kept : goal.returns-in-Err-clause-kept
+returns-in-Err-clause-kept g c = all_same g.F.Shelf.strict g.F.Shelf.faults g.S.Store.files g.S.Store.faults g.S.Store.opened c.args.kits.now
