@@ -61,8 +61,48 @@ fn main(rt: HostRuntime) -> ExitCode {
     let Ok(words) = words else {
         return ExitCode::from(no_memory(&mut notes).number());
     };
-    let mut parts = Vec::new(alloc);
+    let mut stores = Vec::new(alloc);
     for _ in 0..MOST_WORKERS {
+        let own: Result<_, AllocError> = rt.clone();
+        let Ok(own) = own else {
+            return ExitCode::from(no_memory(&mut notes).number());
+        };
+        let Ok(store) = FsStore::new(own) else {
+            return ExitCode::from(no_memory(&mut notes).number());
+        };
+        if stores.push(store).is_err() {
+            return ExitCode::from(no_memory(&mut notes).number());
+        }
+    }
+    let words = words.as_slice();
+    let end = run_over(&rt, alloc, words, stores, &mut out, &mut notes, &OpenGate);
+    // The end of the process frees the outcome at once, not box by box.
+    let end = ManuallyDrop::new(end);
+    match &*end {
+        Ok(end) => ExitCode::from(end.status.number()),
+        Err(ShelfRefusal::Missing) => ExitCode::from(NO_WORDS),
+    }
+}
+
+// Runs the command with a kit for each of these stores, which has a box of every function and source.
+fn run_over<R, S, W, N, G>(
+    rt: &R,
+    alloc: Global,
+    words: &[String],
+    stores: Vec<S>,
+    out: &mut W,
+    notes: &mut N,
+    gate: &G,
+) -> Result<RunEnd, ShelfRefusal>
+where
+    R: Threads + Wait + Sync,
+    S: Store + Drop,
+    W: Sink,
+    N: Sink,
+    G: Gate,
+{
+    let mut parts = Vec::new(alloc);
+    for store in stores {
         let mut fns: List<Box<dyn DoFn>> = List::new(alloc);
         let mut splits: List<Box<dyn SplittableFn>> = List::new(alloc);
         let mut states: List<Box<dyn StatefulFn>> = List::new(alloc);
@@ -71,31 +111,17 @@ fn main(rt: HostRuntime) -> ExitCode {
             && add_boxes!(alloc, fns; CountSeq, MaxSeq, Unseq, Values).is_ok()
             && add_boxes!(alloc, splits; Lines, TimedLines, Count, Made).is_ok()
             && add_boxes!(alloc, states; Dedupe, RunningSum, BatchUntil, LatestThenEmit).is_ok();
-        let own: Result<_, AllocError> = rt.clone();
-        let (Ok(own), true) = (own, added) else {
-            return ExitCode::from(no_memory(&mut notes).number());
-        };
-        let Ok(store) = FsStore::new(own) else {
-            return ExitCode::from(no_memory(&mut notes).number());
-        };
         let own = Parts {
             fns,
             splits,
             states,
             store,
         };
-        if parts.push(own).is_err() {
-            return ExitCode::from(no_memory(&mut notes).number());
+        if !added || parts.push(own).is_err() {
+            return Ok(out_of_memory(notes));
         }
     }
-    let words = words.as_slice();
-    let end = command(&rt, alloc, words, parts, &mut out, &mut notes, &OpenGate);
-    // The end of the process frees the outcome at once, not box by box.
-    let end = ManuallyDrop::new(end);
-    match &*end {
-        Ok(end) => ExitCode::from(end.status.number()),
-        Err(ShelfRefusal::Missing) => ExitCode::from(NO_WORDS),
-    }
+    command(rt, alloc, words, parts, out, notes, gate)
 }
 
 /// What a kit is made of.
@@ -137,15 +163,21 @@ where
         } = part;
         let shelf = BoxShelf::new(fns, splits, states)?;
         if kits.push(Kit::new(alloc, shelf, store)).is_err() {
-            break;
+            return Ok(out_of_memory(notes));
         }
     }
     if kits.is_empty() {
-        let status = no_memory(notes);
-        let outcome = None;
-        return Ok(RunEnd { status, outcome });
+        return Ok(out_of_memory(notes));
     }
     Ok(beam_main(rt, alloc, words, &mut kits, out, notes, gate))
+}
+
+fn out_of_memory<N: Sink>(notes: &mut N) -> RunEnd {
+    let status = no_memory(notes);
+    RunEnd {
+        status,
+        outcome: None,
+    }
 }
 
 fn no_memory<N: Sink>(notes: &mut N) -> Status {

@@ -1,7 +1,7 @@
 //! The command over sinks with places of their own, so that each allocation is the command's, and its workers
 //! in an order that a gate forces.
 use crate::sinks::{ErrSink, OutSink};
-use crate::{Parts, command};
+use crate::{Parts, command, run_over};
 use beam_ports::{FileText, Gate, GatePoint, MemorySink, MemoryStore, OpenGate};
 use beam_values::{Args, Bytes, Element, FnKind, List, NoMemory};
 use dofn_library::{
@@ -87,27 +87,13 @@ fn store(alloc: Global, text: &[u8]) -> Result<MemoryStore, NoMemory> {
 #[test]
 fn four_lines_give_their_panes_or_no_memory(rt: HostRuntime) -> Result<(), Fail> {
     let alloc = rt.alloc();
-    let mut fns: List<Box<dyn DoFn>> = List::new(alloc);
-    let mut splits: List<Box<dyn SplittableFn>> = List::new(alloc);
-    let mut states: List<Box<dyn StatefulFn>> = List::new(alloc);
-    let added = add_boxes!(alloc, fns; KeyField, Words, Field, KeepPrefix).is_ok()
-        && add_boxes!(alloc, fns; FieldInt, Swap, Shift, SumSeq).is_ok()
-        && add_boxes!(alloc, fns; CountSeq, MaxSeq, Unseq, Values).is_ok()
-        && add_boxes!(alloc, splits; Lines, TimedLines, Count, Made).is_ok()
-        && add_boxes!(alloc, states; Dedupe, RunningSum, BatchUntil, LatestThenEmit).is_ok();
     let words = words(alloc, &["beam_run", "panes", "f", "60000"]);
-    let mut parts = Vec::new(alloc);
-    let (Ok(store), Ok(words), true) = (store(alloc, FOUR_LINES), words, added) else {
+    let mut stores = Vec::new(alloc);
+    let (Ok(store), Ok(words)) = (store(alloc, FOUR_LINES), words) else {
         // Memory was short before the command began.
         return Ok(());
     };
-    let part = Parts {
-        fns,
-        splits,
-        states,
-        store,
-    };
-    if parts.push(part).is_err() {
+    if stores.push(store).is_err() {
         return Ok(());
     }
     let mut text = [0u8; 256];
@@ -115,7 +101,7 @@ fn four_lines_give_their_panes_or_no_memory(rt: HostRuntime) -> Result<(), Fail>
     let mut out = OutSink::new(text.as_mut_slice());
     let mut notes = ErrSink::new(note.as_mut_slice());
     let words = words.as_slice();
-    let end = command(&rt, alloc, words, parts, &mut out, &mut notes, &OpenGate)?;
+    let end = run_over(&rt, alloc, words, stores, &mut out, &mut notes, &OpenGate)?;
     if end.status.number() == 8 {
         assert_eq!(rt; text.split_at(1).0, b"\0".as_slice());
         assert_eq!(rt; note.split_at(11).0, b"no memory\n\0".as_slice());
@@ -244,30 +230,16 @@ fn panes_of_two_workers<R: Threads + Wait + Abort + Sync, G: Gate>(
     text: &[u8],
     gate: &G,
 ) -> Result<MemorySink, Fail> {
-    let mut parts = Vec::new(alloc);
+    let mut stores = Vec::new(alloc);
     for _ in 0..2 {
-        let mut fns: List<Box<dyn DoFn>> = List::new(alloc);
-        let mut splits: List<Box<dyn SplittableFn>> = List::new(alloc);
-        let mut states: List<Box<dyn StatefulFn>> = List::new(alloc);
-        add_boxes!(alloc, fns; KeyField, Words, Field, KeepPrefix)?;
-        add_boxes!(alloc, fns; FieldInt, Swap, Shift, SumSeq)?;
-        add_boxes!(alloc, fns; CountSeq, MaxSeq, Unseq, Values)?;
-        add_boxes!(alloc, splits; Lines, TimedLines, Count, Made)?;
-        add_boxes!(alloc, states; Dedupe, RunningSum, BatchUntil, LatestThenEmit)?;
-        let store = store(alloc, text)?;
-        parts.push(Parts {
-            fns,
-            splits,
-            states,
-            store,
-        })?;
+        stores.push(store(alloc, text)?)?;
     }
     let words = words(alloc, &["beam_run", "panes", "f", "60000"])?;
     let mut note = [0u8; 64];
     let mut out = MemorySink::new(alloc, 1 << 20, List::new(alloc));
     let mut notes = ErrSink::new(note.as_mut_slice());
     let words = words.as_slice();
-    let end = command(rt, alloc, words, parts, &mut out, &mut notes, gate)?;
+    let end = run_over(rt, alloc, words, stores, &mut out, &mut notes, gate)?;
     assert_eq!(rt; end.status.number(), 0);
     Ok(out)
 }
