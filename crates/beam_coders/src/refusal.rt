@@ -37,6 +37,11 @@ impl CoderRefusal {
 }
 
 impl fmt::Display for CoderRefusal {
+    ghost use Rattle.std.specs.Prelude.{Some};
+    ghost use Rattle.beam_coders.specs.Messages.{coder_message};
+
+    ghost output = { λ refusal. Some (coder_message refusal) };
+
     fn fmt<W: fmt::Write>(&self, f: &mut fmt::Formatter<W>) -> fmt::Result {
         match self {
             CoderRefusal::Short => write!(f, "the bytes end too early"),
@@ -59,6 +64,11 @@ pub enum ReadRefusal {
 }
 
 impl fmt::Display for ReadRefusal {
+    ghost use Rattle.std.specs.Prelude.{Some};
+    ghost use Rattle.beam_coders.specs.Messages.{read_message};
+
+    ghost output = { λ refusal. Some (read_message refusal) };
+
     fn fmt<W: fmt::Write>(&self, f: &mut fmt::Formatter<W>) -> fmt::Result {
         match self {
             ReadRefusal::Bad(refusal) => write!(f, "{refusal}"),

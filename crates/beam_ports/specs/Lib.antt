@@ -1,5 +1,6 @@
 pub mod Counts
 pub mod Files
+pub mod Messages
 pub mod Observed
 pub mod Sinks
 pub mod StoreMemory

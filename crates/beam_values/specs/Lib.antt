@@ -10,6 +10,7 @@ pub mod Grouping
 pub mod Intervals
 pub mod Lines
 pub mod Marks
+pub mod Messages
 pub mod Nodes
 pub mod Orders
 pub mod Sessions

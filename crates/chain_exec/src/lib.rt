@@ -13,6 +13,7 @@ mod batch;
 mod buffers;
 mod carrying;
 mod deliveries;
+mod message;
 mod position;
 mod refusal;
 mod source;

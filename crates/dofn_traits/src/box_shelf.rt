@@ -4,6 +4,8 @@ ghost use Rattle.dofn_traits.specs.Shelves.{fn_number, source_number, state_numb
 use crate::{CallRefusal, DoFn, Emission, Found, Shelf, SplittableFn, StatefulFn};
 use beam_values::{Args, Element, FnKind, List, LogInput, SourceKind, Span, StateKind, Value};
 use keyed_state::KeyState;
+use std::error::Error;
+use std::fmt;
 use std::marker::Model;
 use timer_core::Timers;
 
@@ -19,6 +21,20 @@ pub enum ShelfRefusal {
     /// Some kind has no box.
     Missing,
 }
+
+impl fmt::Display for ShelfRefusal {
+    ghost use Rattle.std.specs.Prelude.{Some, codes};
+
+    ghost output = { λ _. Some (codes "some kind has no box") };
+
+    fn fmt<W: fmt::Write>(&self, f: &mut fmt::Formatter<W>) -> fmt::Result {
+        match self {
+            ShelfRefusal::Missing => write!(f, "some kind has no box"),
+        }
+    }
+}
+
+impl Error for ShelfRefusal {}
 
 /// A shelf of boxes, of which it uses the first of each kind. Contracts see the boxes.
 #[derive(Drop)]

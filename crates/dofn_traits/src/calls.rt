@@ -1,4 +1,6 @@
 use beam_values::{List, NoMemory, Time, Value};
+use std::error::Error;
+use std::fmt;
 
 /// Why a call of a function gave nothing.
 #[derive(Clone, Copy, Debug, PartialEq, Eq)]
@@ -7,6 +9,22 @@ pub enum CallRefusal {
     Failed,
     NoMemory,
 }
+
+impl fmt::Display for CallRefusal {
+    ghost use Rattle.std.specs.Prelude.{Some};
+    ghost use Rattle.dofn_traits.specs.Messages.{call_message};
+
+    ghost output = { λ refusal. Some (call_message refusal) };
+
+    fn fmt<W: fmt::Write>(&self, f: &mut fmt::Formatter<W>) -> fmt::Result {
+        match self {
+            CallRefusal::Failed => write!(f, "the call failed"),
+            CallRefusal::NoMemory => write!(f, "no memory"),
+        }
+    }
+}
+
+impl Error for CallRefusal {}
 
 impl From<NoMemory> for CallRefusal {
     ghost use Rattle.std.specs.Prelude.{◌≡◌};

@@ -2,6 +2,8 @@ ghost use Rattle.std.specs.Prelude.{◌≡◌};
 ghost use Rattle.pipeline_graph.specs.Refusals.{refusal_number};
 
 use beam_values::{GraphRefusal, NoMemory};
+use std::error::Error;
+use std::fmt;
 
 /// Why a plan was not checked to its end.
 #[derive(Clone, Copy, Debug, PartialEq, Eq)]
@@ -10,6 +12,22 @@ pub enum CheckRefusal {
     Bad(GraphRefusal),
     NoMemory,
 }
+
+impl fmt::Display for CheckRefusal {
+    ghost use Rattle.std.specs.Prelude.{Some};
+    ghost use Rattle.pipeline_graph.specs.Messages.{check_message};
+
+    ghost output = { λ refusal. Some (check_message refusal) };
+
+    fn fmt<W: fmt::Write>(&self, f: &mut fmt::Formatter<W>) -> fmt::Result {
+        match self {
+            CheckRefusal::Bad(refusal) => write!(f, "{refusal}"),
+            CheckRefusal::NoMemory => write!(f, "no memory"),
+        }
+    }
+}
+
+impl Error for CheckRefusal {}
 
 impl From<NoMemory> for CheckRefusal {
     ghost use Rattle.pipeline_graph.specs.declared.refusal.CheckRefusal.TheVariants as refusal;

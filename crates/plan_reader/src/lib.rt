@@ -12,6 +12,7 @@ mod document;
 mod forms;
 mod keys;
 pub mod laws;
+mod message;
 mod names;
 mod nodes;
 mod refusal;

@@ -8,6 +8,8 @@ use crate::reading::read_whole;
 use beam_ports::Store;
 use dofn_traits::Look;
 use std::alloc::Global;
+use std::error::Error;
+use std::fmt;
 use std::marker::Model;
 
 /// Why a look at a file gave nothing.
@@ -17,6 +19,22 @@ pub enum PageRefusal {
     Failed,
     NoMemory,
 }
+
+impl fmt::Display for PageRefusal {
+    ghost use Rattle.std.specs.Prelude.{Some};
+    ghost use Rattle.sdf_library.specs.Messages.{page_message};
+
+    ghost output = { λ refusal. Some (page_message refusal) };
+
+    fn fmt<W: fmt::Write>(&self, f: &mut fmt::Formatter<W>) -> fmt::Result {
+        match self {
+            PageRefusal::Failed => write!(f, "reading the file failed"),
+            PageRefusal::NoMemory => write!(f, "no memory"),
+        }
+    }
+}
+
+impl Error for PageRefusal {}
 
 /// What is held of an opened file whose positions are worked.
 ///

@@ -4,6 +4,8 @@ ghost use Rattle.beam_values.specs.Strategies.{IsLength, IsAllowed, is_length, m
 ghost use Rattle.windowing.specs.Strategies.{refusal_of, refusal_number};
 
 use beam_values::Strategy;
+use std::error::Error;
+use std::fmt;
 
 /// The greatest size, period or gap: 1000 years of 365 days, in milliseconds.
 pub const GREATEST_LENGTH: i64 = 31_536_000_000_000;
@@ -34,6 +36,22 @@ impl StrategyRefusal {
         }
     }
 }
+
+impl fmt::Display for StrategyRefusal {
+    ghost use Rattle.windowing.specs.Messages.{strategy_message};
+
+    ghost output = { λ refusal. Some (strategy_message refusal) };
+
+    fn fmt<W: fmt::Write>(&self, f: &mut fmt::Formatter<W>) -> fmt::Result {
+        match self {
+            StrategyRefusal::Size => write!(f, "a size or a gap is out of its bounds"),
+            StrategyRefusal::Period => write!(f, "a period is out of its bounds"),
+            StrategyRefusal::TooManyWindows => write!(f, "a time would be in too many windows"),
+        }
+    }
+}
+
+impl Error for StrategyRefusal {}
 
 /// Whether a plan may have the strategy (Beam Programming Guide, Windowing). The answer is the first
 /// refusal that fits.
