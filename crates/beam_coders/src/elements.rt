@@ -1,4 +1,5 @@
-ghost use Rattle.std.specs.Prelude.{◌≡◌, ◌≢◌, ◌++◌, ◌≤◌, ◌<◌, ◌^◌, ◌<ℤ◌, ℕ, List as ListOf, Ok, IfOk, OnOk, OnErr, length, take, drop};
+ghost use Rattle.std.specs.Prelude.{◌≡◌, ◌≢◌, ◌++◌, ◌≤◌, ◌<◌, ◌^◌, ◌<ℤ◌, ℕ, List as ListOf, Ok};
+ghost use Rattle.std.specs.Prelude.{IfOk, OnOk, OnErr, length, take, drop};
 ghost use Rattle.std.specs.Int.{w64};
 ghost use Rattle.std.specs.Int.RustNames.{FitsSigned};
 ghost use Rattle.beam_values.specs.declared.element.Element.{Element};
@@ -28,7 +29,8 @@ fn append_ms(ms: i64, out: &mut Bytes) -> Result<(), NoMemory>
 }
 
 fn append_span(span: Span, out: &mut Bytes) -> Result<(), NoMemory>
-    ensures ok { OnOk result (out.new ≡ (out.old ++ ms_spelling span.start) ++ ms_spelling span.end) }
+    ensures ok { OnOk result
+        (out.new ≡ (out.old ++ ms_spelling span.start) ++ ms_spelling span.end) }
     ensures start { FitsSigned w64 span.start }
     ensures end { FitsSigned w64 span.end }
     ensures ordered { span.start <ℤ span.end }
@@ -141,11 +143,14 @@ fn element_of(alloc: Global, bytes: &[u8]) -> Result<(Element, &[u8]), ReadRefus
 /// The element whose spelling stands at the front of the bytes, and the length of that spelling.
 pub fn read_element(alloc: Global, bytes: &[u8]) -> Result<(Element, usize), ReadRefusal>
     // What is read is spelled so.
-    ensures found { IfOk result (λ x. IsReadableElement x.0 × (x.1 ≤ length bytes.now) × (element_spelling x.0 ≡ take x.1 bytes.now)) }
+    ensures found { IfOk result (λ x. IsReadableElement x.0
+        × (x.1 ≤ length bytes.now) × (element_spelling x.0 ≡ take x.1 bytes.now)) }
     // What is spelled so is read, whatever follows it, unless there is no memory.
-    ensures only { (e : Element) (rest : ListOf ℕ) → IsReadableElement e → bytes.now ≡ element_spelling e ++ rest → GivesFront bytes.now result (Ok (e, rest)) }
+    ensures only { (e : Element) (rest : ListOf ℕ) → IsReadableElement e
+        → bytes.now ≡ element_spelling e ++ rest → GivesFront bytes.now result (Ok (e, rest)) }
     // So `Bad` comes only where no spelling stands at the front.
-    ensures bad { IsBad result → (e : Element) (rest : ListOf ℕ) → IsReadableElement e → bytes.now ≢ element_spelling e ++ rest }
+    ensures bad { IsBad result → (e : Element) (rest : ListOf ℕ)
+        → IsReadableElement e → bytes.now ≢ element_spelling e ++ rest }
     // Which refusal it is: the first rule that fails from the left.
     ensures exact { GivesFront bytes.now result (element_at bytes.now) }
 {

@@ -1,4 +1,5 @@
-ghost use Rattle.std.specs.Prelude.{◌≡◌, ◌≢◌, ◌++◌, ◌≤◌, ℕ, List as ListOf, Ok, IfOk, length, take, drop};
+ghost use Rattle.std.specs.Prelude.{◌≡◌, ◌≢◌, ◌++◌, ◌≤◌, ℕ, List as ListOf, Ok, IfOk, length, take};
+ghost use Rattle.std.specs.Prelude.{drop};
 ghost use Rattle.beam_values.specs.declared.value.Value.{Value};
 ghost use Rattle.beam_values.specs.Spelling.{spelling};
 ghost use Rattle.beam_coders.specs.Answers.{Gives, GivesFront, IsBad};
@@ -29,11 +30,14 @@ fn blob_of(alloc: Global, bytes: &[u8]) -> Result<(Bytes, &[u8]), ReadRefusal>
 /// The value whose spelling stands at the front of the bytes, and the length of that spelling.
 pub fn read_value(alloc: Global, bytes: &[u8]) -> Result<(Value, usize), ReadRefusal>
     // What is read is spelled so.
-    ensures found { IfOk result (λ x. IsReadable x.0 × (x.1 ≤ length bytes.now) × (spelling x.0 ≡ take x.1 bytes.now)) }
+    ensures found { IfOk result
+        (λ x. IsReadable x.0 × (x.1 ≤ length bytes.now) × (spelling x.0 ≡ take x.1 bytes.now)) }
     // What is spelled so is read, whatever follows it, unless there is no memory.
-    ensures only { (v : Value) (rest : ListOf ℕ) → IsReadable v → bytes.now ≡ spelling v ++ rest → GivesFront bytes.now result (Ok (v, rest)) }
+    ensures only { (v : Value) (rest : ListOf ℕ) → IsReadable v
+        → bytes.now ≡ spelling v ++ rest → GivesFront bytes.now result (Ok (v, rest)) }
     // So `Bad` comes only where no spelling stands at the front.
-    ensures bad { IsBad result → (v : Value) (rest : ListOf ℕ) → IsReadable v → bytes.now ≢ spelling v ++ rest }
+    ensures bad { IsBad result → (v : Value) (rest : ListOf ℕ)
+        → IsReadable v → bytes.now ≢ spelling v ++ rest }
     // Which refusal it is: the first rule that fails from the left.
     ensures exact { GivesFront bytes.now result (value_at depth_limit bytes.now) }
 {

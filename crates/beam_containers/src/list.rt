@@ -1,4 +1,6 @@
-ghost use Rattle.std.specs.Prelude.{◌≡◌, [], ◌∷◌, ◌++◌, ◌<◌, ◌≤◌, length, slice_get, slice_set, insert, remove, take, ◌↔◌, IsTrue, IfOk, MatchOption, OnOk, OnErr, OnSome, vec_len, vec_capacity};
+ghost use Rattle.std.specs.Prelude.{◌≡◌, [], ◌∷◌, ◌++◌, ◌<◌, ◌≤◌, length, slice_get, slice_set};
+ghost use Rattle.std.specs.Prelude.{insert, remove, take, ◌↔◌, IsTrue, IfOk, MatchOption, OnOk};
+ghost use Rattle.std.specs.Prelude.{OnErr, OnSome, vec_len, vec_capacity};
 ghost use Rattle.std.specs.Option.{option_copied};
 
 use crate::NoMemory;
@@ -81,7 +83,8 @@ impl<T> List<T> {
     }
 
     pub fn pop(&mut self) -> Option<T>
-        ensures { MatchOption result ((self.old ≡ []) × (self.new ≡ [])) (λ last. self.old ≡ self.new ++ last ∷ []) }
+        ensures { MatchOption result ((self.old ≡ []) × (self.new ≡ []))
+            (λ last. self.old ≡ self.new ++ last ∷ []) }
     {
         self.items.pop()
     }

@@ -1,4 +1,7 @@
-ghost use Rattle.std.specs.Prelude.{◌≡◌, ◌≢◌, [], ◌∷◌, ◌++◌, ◌+◌, ◌-◌, ◌<◌, ◌≤◌, length, slice_get, slice_set, insert, remove, take, ◌↔◌, IsTrue, IsOk, IfOk, IfSome, IfNone, MatchOption, OnOk, OnErr, OnSome, vec_capacity, vec_len};
+ghost use Rattle.std.specs.Prelude.{◌≡◌, ◌≢◌, [], ◌∷◌, ◌++◌, ◌+◌, ◌-◌, ◌<◌, ◌≤◌, length, slice_get};
+ghost use Rattle.std.specs.Prelude.{slice_set, insert, remove, take, ◌↔◌, IsTrue, IsOk, IfOk};
+ghost use Rattle.std.specs.Prelude.{IfSome, IfNone, MatchOption, OnOk, OnErr, OnSome, vec_capacity};
+ghost use Rattle.std.specs.Prelude.{vec_len};
 
 use crate::{List, NoMemory};
 use std::alloc::Global;
@@ -106,7 +109,8 @@ impl<T: Drop> RoomyList<T> {
 
     /// The place of the item is kept.
     pub fn pop(&mut self) -> Option<T>
-        ensures item { MatchOption result (self.old.items ≡ []) (λ last. self.old.items ≡ self.new.items ++ last ∷ []) }
+        ensures item { MatchOption result (self.old.items ≡ [])
+            (λ last. self.old.items ≡ self.new.items ++ last ∷ []) }
         ensures none { IfNone result (self.new.items ≡ []) }
         ensures kept { IfSome result (λ _. self.old.room + 1 ≤ self.new.room) }
         ensures same { self.old.room ≤ self.new.room }

@@ -16,7 +16,8 @@ ghost use Rattle.beam_model.specs.Spread.{spread_all};
 #[tactic(auto, using(crate::proofs::Coverings::covering_items))]
 pub fn covering_ranges_bring_everything()
     ensures { (plan : Plan) (items : List SourceItem) (dones : List Done) → AreDistinct items
-        → ((place : Place) → times_done dones place ≡ min 1 (times_listed (map item_len items) place))
+        → ((place : Place)
+        → times_done dones place ≡ min 1 (times_listed (map item_len items) place))
         → IsSameBag (spread_dones plan items dones) (spread_all plan items) }
 {}
 

@@ -1,6 +1,7 @@
 //! What the definitions mean to a reader. Each function does nothing: its contract is the law.
 
-ghost use Rattle.std.specs.Prelude.{◌≡◌, ◌⊎◌, ℕ, ◌+◌, ◌<◌, ◌≤◌, ◌≤ℤ◌, ◌==◌, ◌||◌, true, List, [], ◌∷◌, ◌++◌, Some, slice_get};
+ghost use Rattle.std.specs.Prelude.{◌≡◌, ◌⊎◌, ℕ, ◌+◌, ◌<◌, ◌≤◌, ◌≤ℤ◌, ◌==◌, ◌||◌, true, List, []};
+ghost use Rattle.std.specs.Prelude.{◌∷◌, ◌++◌, Some, slice_get};
 ghost use Rattle.std.specs.List.{All, AllPairs, count_by, list_any};
 ghost use Rattle.std.specs.List.Sorted.{IsSorted};
 ghost use Rattle.beam_values.specs.Bags.{IsSameBag};
@@ -29,9 +30,12 @@ ghost use Rattle.beam_model.specs.Chains.{chain};
 ghost use Rattle.beam_model.specs.Flow.{elements_at, pane_chains, log_chains, flow};
 ghost use Rattle.beam_model.specs.Functions.{emits};
 ghost use Rattle.beam_values.specs.Sessions.{IsNonEmpty};
-ghost use Rattle.beam_model.specs.Premises.{EndsAfter, done_range, KeepsPlace, IsForward, IsOfCall, AreOneOrApart};
-ghost use Rattle.beam_model.specs.Plain.{ArePlainlyWritten, ArePlainlyWrittenWhere, IsPlainRun, IsPlainAt, node_of};
-ghost use Rattle.beam_model.specs.Positions.{nothing, positions_in, emission, next_position, SourceItem};
+ghost use Rattle.beam_model.specs.Premises.{EndsAfter, done_range, KeepsPlace, IsForward, IsOfCall};
+ghost use Rattle.beam_model.specs.Premises.{AreOneOrApart};
+ghost use Rattle.beam_model.specs.Plain.{ArePlainlyWritten, ArePlainlyWrittenWhere, IsPlainRun};
+ghost use Rattle.beam_model.specs.Plain.{IsPlainAt, node_of};
+ghost use Rattle.beam_model.specs.Positions.{nothing, positions_in, emission, next_position};
+ghost use Rattle.beam_model.specs.Positions.{SourceItem};
 ghost use Rattle.beam_values.specs.Sessions.{IsApart, IsSession};
 ghost use Rattle.beam_model.specs.Sessions.{IsMerging};
 ghost use Rattle.beam_model.specs.Spread.{outputs_at, spread_range, spread_all};
@@ -47,22 +51,26 @@ pub fn positions_between_give_nothing()
 
 /// The position that is worked after one lies above it, and at most at the end of its item.
 pub fn next_positions_rise()
-    ensures { (kind : SourceKind) (args : Args) (file : List ℕ) (p : ℕ) → p < positions_in kind args file
-        → (p < next_position kind file p) × (next_position kind file p ≤ positions_in kind args file) }
+    ensures { (kind : SourceKind) (args : Args) (file : List ℕ) (p : ℕ)
+        → p < positions_in kind args file
+        → (p < next_position kind file p)
+        × (next_position kind file p ≤ positions_in kind args file) }
 {}
 
 /// A range of positions brings what its parts bring, one after the other, wherever it is cut: also
 /// inside a line.
 pub fn spreads_join()
     ensures { (plan : Plan) (item : SourceItem) (from middle to : ℕ) → from ≤ middle → middle ≤ to
-        → spread_range plan item from to ≡ spread_range plan item from middle ++ spread_range plan item middle to }
+        → spread_range plan item from to
+        ≡ spread_range plan item from middle ++ spread_range plan item middle to }
 {}
 
 /// A range brings what its first position does, and then what the range from the next position on does.
 pub fn a_spread_steps_over_positions()
     ensures { (plan : Plan) (item : SourceItem) (p to : ℕ) → p < to
         → spread_range plan item p to
-        ≡ outputs_at plan item p ++ spread_range plan item (next_position item.work item.file p) to }
+        ≡ outputs_at plan item p
+        ++ spread_range plan item (next_position item.work item.file p) to }
 {}
 
 /// What comes of an output of a node ends at a later node of the plan: at a Group, a Stateful node or a
@@ -73,24 +81,32 @@ pub fn chains_end_at_barriers()
 
 /// What more panes, items or logs bring is added to the flow of a run, and changes nothing else of it.
 pub fn flows_add()
-    ensures panes { (plan : Plan) (items : List SourceItem) (panes more : List Pane) (logs : List KeyLog)
-        → IsSameBag (flow plan items (panes ++ more) logs) (flow plan items panes logs ++ pane_chains plan more) }
-    ensures items { (plan : Plan) (items more : List SourceItem) (panes : List Pane) (logs : List KeyLog)
-        → IsSameBag (flow plan (items ++ more) panes logs) (flow plan items panes logs ++ spread_all plan more) }
-    ensures logs { (plan : Plan) (items : List SourceItem) (panes : List Pane) (logs more : List KeyLog)
-        → IsSameBag (flow plan items panes (logs ++ more)) (flow plan items panes logs ++ log_chains plan more) }
+    ensures panes { (plan : Plan) (items : List SourceItem)
+        (panes more : List Pane) (logs : List KeyLog)
+        → IsSameBag (flow plan items (panes ++ more) logs)
+        (flow plan items panes logs ++ pane_chains plan more) }
+    ensures items { (plan : Plan) (items more : List SourceItem)
+        (panes : List Pane) (logs : List KeyLog)
+        → IsSameBag (flow plan (items ++ more) panes logs)
+        (flow plan items panes logs ++ spread_all plan more) }
+    ensures logs { (plan : Plan) (items : List SourceItem)
+        (panes : List Pane) (logs more : List KeyLog)
+        → IsSameBag (flow plan items panes (logs ++ more))
+        (flow plan items panes logs ++ log_chains plan more) }
 {}
 
 /// Two lists of committed ranges hold a place as often as both together.
 pub fn covers_append()
-    ensures { (a b : List Done) (place : Place) → times_done (a ++ b) place ≡ times_done a place + times_done b place }
+    ensures { (a b : List Done) (place : Place)
+        → times_done (a ++ b) place ≡ times_done a place + times_done b place }
 {}
 
 /// The two parts of a committed range hold each place as often as the range does.
 pub fn a_cut_range_covers_the_same()
     ensures { (node item from middle to : ℕ) (place : Place) → from ≤ middle → middle ≤ to
         → times_done (done_range node item from to ∷ []) place
-        ≡ times_done (done_range node item from middle ∷ done_range node item middle to ∷ []) place }
+        ≡ times_done
+        (done_range node item from middle ∷ done_range node item middle to ∷ []) place }
 {}
 
 /// What a function gives of an element is in its window, with its pane's tag, never before it, and at no
@@ -103,7 +119,8 @@ pub fn functions_keep_window_and_pane()
 
 /// What a stateful call gives is in the window and at the time of the element or the timer that it is on.
 pub fn stateful_outputs_keep_their_window()
-    ensures { (kind : StateKind) (args : Args) (key : Value) (span : Interval) (input : LogInput) (kept : KeptState) (after : Stepped)
+    ensures { (kind : StateKind) (args : Args) (key : Value) (span : Interval)
+        (input : LogInput) (kept : KeptState) (after : Stepped)
         → steps kind args key span input kept ≡ Some after
         → All (IsOfCall span input) after.outputs }
 {}
@@ -133,7 +150,8 @@ pub fn plain_groupings_agree()
 
 /// Two sessions of the same windows are one, or they don't overlap.
 pub fn sessions_are_apart()
-    ensures { (spans : List Interval) (a b : Interval) → IsSession spans a → IsSession spans b → (a ≡ b) ⊎ IsApart a b }
+    ensures { (spans : List Interval) (a b : Interval)
+        → IsSession spans a → IsSession spans b → (a ≡ b) ⊎ IsApart a b }
 {}
 
 /// Merging leaves no two windows of a key that overlap, unless they are the same.
@@ -145,7 +163,8 @@ pub fn merged_windows_are_apart()
 /// Merging is a function of the bag: mergings of one bag of elements, none of whose windows is empty, give
 /// one bag.
 pub fn mergings_agree()
-    ensures { (elements others merged more : List Element) → IsSameBag elements others → All (λ e. IsNonEmpty e.span) elements
+    ensures { (elements others merged more : List Element)
+        → IsSameBag elements others → All (λ e. IsNonEmpty e.span) elements
         → IsMerging elements merged → IsMerging others more → IsSameBag merged more }
 {}
 
@@ -158,10 +177,12 @@ pub fn positions_past_the_end_give_nothing()
 /// A pipeline means one thing: in two plain runs of one plan over the same items, up to one barrier, the
 /// same elements arrive at each node, and each Group puts out the same panes.
 pub fn plain_runs_agree()
-    ensures arrived { (plan : Plan) (items : List SourceItem) (barrier : ℕ) (arrivals panes others more : List Arrival)
+    ensures arrived { (plan : Plan) (items : List SourceItem)
+        (barrier : ℕ) (arrivals panes others more : List Arrival)
         → IsPlainRun plan items barrier arrivals panes → IsPlainRun plan items barrier others more
         → (node : ℕ) → IsSameBag (elements_at node arrivals) (elements_at node others) }
-    ensures put_out { (plan : Plan) (items : List SourceItem) (barrier : ℕ) (arrivals panes others more : List Arrival)
+    ensures put_out { (plan : Plan) (items : List SourceItem)
+        (barrier : ℕ) (arrivals panes others more : List Arrival)
         → IsPlainRun plan items barrier arrivals panes → IsPlainRun plan items barrier others more
         → (node : ℕ) → IsSameBag (elements_at node panes) (elements_at node more) }
 {}
@@ -169,23 +190,28 @@ pub fn plain_runs_agree()
 /// What plain grouping brings to a barrier is one bag.
 pub fn plain_grouping_at_a_barrier_is_one_bag()
     ensures { (plan : Plan) (items : List SourceItem) (barrier : ℕ) (elements others : List Element)
-        → IsPlainAt plan items barrier elements → IsPlainAt plan items barrier others → IsSameBag elements others }
+        → IsPlainAt plan items barrier elements
+        → IsPlainAt plan items barrier others → IsSameBag elements others }
 {}
 
 /// A node stands above another exactly where that one takes it as an input, or an input of it stands
 /// below it. Inputs are lower than their node.
 pub fn nodes_stand_above_by_inputs()
-    ensures { (plan : Plan) (upper n : ℕ) (node : Node) → slice_get plan.nodes n ≡ Some node → All (λ input. input < n) node.inputs
-        → is_above plan upper n ≡ list_any (λ input. input == upper || is_above plan upper input) node.inputs }
+    ensures { (plan : Plan) (upper n : ℕ) (node : Node)
+        → slice_get plan.nodes n ≡ Some node → All (λ input. input < n) node.inputs
+        → is_above plan upper n
+        ≡ list_any (λ input. input == upper || is_above plan upper input) node.inputs }
 {}
 
 /// What an output of a node brings ends below that node.
 pub fn outputs_end_below_their_node()
-    ensures { (plan : Plan) (n : ℕ) (e : Element) → All (λ output. is_above plan n (node_of output) ≡ true) (chain plan n e) }
+    ensures { (plan : Plan) (n : ℕ) (e : Element)
+        → All (λ output. is_above plan n (node_of output) ≡ true) (chain plan n e) }
 {}
 
 /// What is plainly written under any triggers and estimators is so in particular under default triggers
 /// and sound estimators.
 pub fn plain_writing_needs_no_sound_estimators()
-    ensures { (items : List SourceItem) (o : Outcome) → ArePlainlyWritten items o → ArePlainlyWrittenWhere items o }
+    ensures { (items : List SourceItem) (o : Outcome)
+        → ArePlainlyWritten items o → ArePlainlyWrittenWhere items o }
 {}

@@ -26,7 +26,13 @@ impl Model for MemorySink {
 
     ghost Value = { SinkMemory };
 
-    ghost view = { λ it. record { taken = it.taken; most = it.most; failing = it.failing; calls = it.calls; faults = it.faults } };
+    ghost view = { λ it. record {
+      taken = it.taken;
+      most = it.most;
+      failing = it.failing;
+      calls = it.calls;
+      faults = it.faults;
+    } };
 
     ghost invariant = { λ it. 0 < it.most };
 }
@@ -36,7 +42,8 @@ impl MemorySink {
     /// numbers are in `failing` fail, and so does one that finds no memory. Takes no memory itself.
     pub fn new(alloc: Global, most: usize, failing: List<u64>) -> MemorySink
         requires { 0 < most }
-        ensures { result ≡ record { taken = []; most = most; failing = failing; calls = 0; faults = 0 } }
+        ensures { result
+            ≡ record { taken = []; most = most; failing = failing; calls = 0; faults = 0 } }
     {
         MemorySink {
             taken: Bytes::new(alloc),

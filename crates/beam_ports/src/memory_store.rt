@@ -1,7 +1,9 @@
 ghost use Rattle.std.specs.Prelude.{◌≡◌, ◌<◌, ◌≤◌, Some, length, position};
 ghost use Rattle.std.specs.Option.{ForSome};
 ghost use Rattle.beam_values.specs.Files.{is_named};
-ghost use Rattle.beam_ports.specs.StoreMemory.{is_listed, after_call, listed_opening, opened_at, open_answer, is_fault, count_read, buffer_read, read_answer, read_leaves};
+ghost use Rattle.beam_ports.specs.StoreMemory.{is_listed, after_call, listed_opening, opened_at};
+ghost use Rattle.beam_ports.specs.StoreMemory.{open_answer, is_fault, count_read, buffer_read};
+ghost use Rattle.beam_ports.specs.StoreMemory.{read_answer, read_leaves};
 
 use crate::{Failed, FileText, OpenRefusal, Opened, Store};
 use beam_values::List;
@@ -24,7 +26,12 @@ impl Model for MemoryStore {
 
     ghost Value = { StoreMemory };
 
-    ghost view = { λ it. record { files = it.files; failing = it.failing; calls = it.calls; faults = it.faults } };
+    ghost view = { λ it. record {
+      files = it.files;
+      failing = it.failing;
+      calls = it.calls;
+      faults = it.faults;
+    } };
 }
 
 impl MemoryStore {

@@ -17,7 +17,8 @@ pub trait Sink {
         requires { 0 < length bytes.now }
         ensures some { IfOk result (λ n. 0 < n) }
         ensures fits { IfOk result (λ n. n ≤ length bytes.now) }
-        ensures taken { taken self.new ≡ then_taken (taken self.old) (take (count_of result) bytes.now) }
+        ensures taken { taken self.new
+            ≡ then_taken (taken self.old) (take (count_of result) bytes.now) }
         ensures counts { faults self.old ≤ faults self.new }
         ensures failed { OnErr result (Rose (faults self.old) (faults self.new)) };
 }

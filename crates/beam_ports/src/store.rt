@@ -1,4 +1,5 @@
-ghost use Rattle.std.specs.Prelude.{◌≡◌, ◌≤◌, ℕ, List, Option, Some, length, drop, IsSome, IsSomeAnd, IsErrOf, IfOk, OnErr};
+ghost use Rattle.std.specs.Prelude.{◌≡◌, ◌≤◌, ℕ, List, Option, Some, length, drop, IsSome};
+ghost use Rattle.std.specs.Prelude.{IsSomeAnd, IsErrOf, IfOk, OnErr};
 ghost use Rattle.beam_ports.specs.Counts.{Rose};
 ghost use Rattle.beam_ports.specs.Files.{Opening, KeepsOpenings, OpensText, IsRead};
 ghost use Rattle.beam_values.specs.Files.{first_named};
@@ -29,10 +30,14 @@ pub trait Store: Send {
         ensures told { files self.new ≡ files self.old }
         ensures kept { KeepsOpenings (opened self.old) (opened self.new) }
         ensures counts { faults self.old ≤ faults self.new }
-        ensures failed { IsErrOf result OpenRefusal.Failed → Rose (faults self.old) (faults self.new) }
-        ensures absent { IsErrOf result OpenRefusal.Absent → (told : List FileText) → files self.old ≡ Some told → first_named name.now told ≡ None }
-        ensures has_length { IfOk result (λ o. IsSomeAnd (opened self.new o.file) (λ opening. opening.len ≡ o.len)) }
-        ensures first { IfOk result (λ o. (told : List FileText) → files self.old ≡ Some told → OpensText (first_named name.now told) o.len (opened self.new o.file)) };
+        ensures failed { IsErrOf result OpenRefusal.Failed
+            → Rose (faults self.old) (faults self.new) }
+        ensures absent { IsErrOf result OpenRefusal.Absent → (told : List FileText)
+            → files self.old ≡ Some told → first_named name.now told ≡ None }
+        ensures has_length { IfOk result
+            (λ o. IsSomeAnd (opened self.new o.file) (λ opening. opening.len ≡ o.len)) }
+        ensures first { IfOk result (λ o. (told : List FileText) → files self.old ≡ Some told
+            → OpensText (first_named name.now told) o.len (opened self.new o.file)) };
 
     /// Reads into the front of `buf`. Fewer bytes than there are may come, and 0 only at the end of the
     /// file or for an empty `buf`. After `Failed` nothing is said of the bytes in `buf`, so that a store
@@ -45,5 +50,6 @@ pub trait Store: Send {
         ensures failed { OnErr result (Rose (faults self.old) (faults self.new)) }
         ensures fits { IfOk result (λ n. n ≤ length buf.old) }
         ensures rest { IfOk result (λ n. drop n buf.new ≡ drop n buf.old) }
-        ensures read { IfOk result (λ n. (opening : Opening) → opened self.old file ≡ Some opening → IsRead opening at n buf.new) };
+        ensures read { IfOk result (λ n. (opening : Opening)
+            → opened self.old file ≡ Some opening → IsRead opening at n buf.new) };
 }

@@ -54,7 +54,8 @@ pub fn cmp_cells(a: &Cell, b: &Cell) -> Ordering
 }
 
 fn cmp_cells_of_node(a: &Cell, b: &Cell) -> Ordering
-    ensures { result ≡ then_cmp (on (λ cell. cell.key) value_cmp) (on (λ cell. cell.span) span_cmp) a.now b.now }
+    ensures { result
+        ≡ then_cmp (on (λ cell. cell.key) value_cmp) (on (λ cell. cell.span) span_cmp) a.now b.now }
 {
     match cmp_values(&a.key, &b.key) {
         Ordering::Equal => cmp_spans(a.span, b.span),

@@ -2,7 +2,8 @@ ghost use Rattle.std.specs.Prelude.{◌≡◌, ◌+◌, ◌%◌, if◌then◌els
 ghost use Rattle.std.specs.List.{flat_map};
 ghost use Rattle.std.specs.Ordering.{nat_cmp};
 ghost use Rattle.std.specs.Cmp.Lexicographic.{slice_cmp};
-ghost use Rattle.beam_values.specs.Spelling.{varint, two's_complement, blob_spelling, spelling, tag};
+ghost use Rattle.beam_values.specs.Spelling.{varint, two's_complement, blob_spelling, spelling};
+ghost use Rattle.beam_values.specs.Spelling.{tag};
 
 use crate::{Value, unsigned_bits};
 use std::cmp::Ordering;
@@ -34,7 +35,8 @@ fn cmp_varints(a: u64, b: u64) -> Ordering
 
 /// The order of two whole numbers as values, by their spellings.
 fn cmp_ints(a: i64, b: i64) -> Ordering
-    ensures { result ≡ slice_cmp nat_cmp (varint (two's_complement a)) (varint (two's_complement b)) }
+    ensures { result
+        ≡ slice_cmp nat_cmp (varint (two's_complement a)) (varint (two's_complement b)) }
 {
     cmp_varints(unsigned_bits(a), unsigned_bits(b))
 }

@@ -53,7 +53,8 @@ impl Eq for Element {
 impl PartialOrd for Element {
     ghost partial_cmp = { as_partial_cmp element_cmp };
 
-    ghost laws = { partial_order_from_own_ties (Prim.search (comparing, rules) depth 12) (Prim.search (comparing, rules) depth 12) };
+    ghost laws = { partial_order_from_own_ties (Prim.search (comparing, rules) depth 12)
+        (Prim.search (comparing, rules) depth 12) };
 
     fn partial_cmp(&self, other: &Element) -> Option<Ordering> {
         Some(self.cmp(other))

@@ -1,12 +1,16 @@
-ghost use Rattle.std.specs.Prelude.{◌≡◌, ℕ, ◌≤◌, ◌<◌, [], reverse, length, List, Option, Some, None, IfOk, IfErr, OnOk, OnErr};
+ghost use Rattle.std.specs.Prelude.{◌≡◌, ℕ, ◌≤◌, ◌<◌, [], reverse, length, List, Option, Some};
+ghost use Rattle.std.specs.Prelude.{None, IfOk, IfErr, OnOk, OnErr};
 ghost use Rattle.beam_values.specs.declared.file_text.FileText.{FileText};
 ghost use Rattle.beam_model.specs.Positions.{items};
 ghost use Rattle.book_core.specs.Book.{BookData};
-ghost use Rattle.book_core.specs.Calls.{Makes, CanClaim, CanFail, answer_of, failure_of, live_piece, IsOutcomeOf};
+ghost use Rattle.book_core.specs.Calls.{Makes, CanClaim, CanFail, answer_of, failure_of};
+ghost use Rattle.book_core.specs.Calls.{live_piece, IsOutcomeOf};
 ghost use Rattle.book_core.specs.DueAt.{IsDueAs};
 ghost use Rattle.book_core.specs.Jobs.{first_due};
 ghost use Rattle.book_core.specs.Runs.{AreOptions, AreLengthsOf, IsOpening, Reached};
-ghost use Rattle.book_core.specs.Steps.{Enroll, Take, Claim, Split, Fail, Stop, Enrolled, Claimed, SplitAt, Noted, IsFree, IsRunning, IsNextFor, CanCommit, IsCommitting, IsWithinLimits};
+ghost use Rattle.book_core.specs.Steps.{Enroll, Take, Claim, Split, Fail, Stop, Enrolled, Claimed};
+ghost use Rattle.book_core.specs.Steps.{SplitAt, Noted, IsFree, IsRunning, IsNextFor, CanCommit};
+ghost use Rattle.book_core.specs.Steps.{IsCommitting, IsWithinLimits};
 
 use crate::committing::{
     Fired, GREATEST_COUNT, done_of, fire, free_job, free_residual, has_numbers, hold_job,
@@ -167,7 +171,8 @@ impl Book {
 
     /// One more slot, which works nothing. Answers its number.
     pub fn enroll(&mut self) -> Result<u32, NoMemory>
-        ensures ok { IfOk result (λ number. Makes self.old number Enroll (Enrolled number) self.new) }
+        ensures ok { IfOk result
+            (λ number. Makes self.old number Enroll (Enrolled number) self.new) }
         ensures err { OnErr result (self.new ≡ self.old) }
     {
         let number = self.slots.len();
@@ -306,9 +311,11 @@ impl Book {
     /// is no memory nothing is changed, and the receipt is handed back.
     pub fn commit(&mut self, slot: u32, receipt: Receipt) -> Result<(), Unplaced>
         requires { CanCommit None self.old slot receipt }
-        ensures ok { OnOk result ((told : Option (List FileText)) → CanCommit told self.old slot receipt
+        ensures ok { OnOk result
+            ((told : Option (List FileText)) → CanCommit told self.old slot receipt
             → IsCommitting told self.old slot receipt self.new × IsWithinLimits self.new) }
-        ensures err { IfErr result (λ unplaced. (unplaced.receipt ≡ receipt) × (self.new ≡ self.old)) }
+        ensures err { IfErr result
+            (λ unplaced. (unplaced.receipt ≡ receipt) × (self.new ≡ self.old)) }
     {
         nodes_take_elements_of_their_strategy();
         strategies_follow_kinds();

@@ -1,4 +1,5 @@
-ghost use Rattle.std.specs.Prelude.{◌≡◌, ℕ, true, ◌+◌, ◌<◌, ◌≤◌, ◌==◌, if◌then◌else◌, [], ◌∷◌, ◌++◌, List, length, map, slice_get, Some, IfOk, OnOk, OnErr};
+ghost use Rattle.std.specs.Prelude.{◌≡◌, ℕ, true, ◌+◌, ◌<◌, ◌≤◌, ◌==◌, if◌then◌else◌, [], ◌∷◌};
+ghost use Rattle.std.specs.Prelude.{◌++◌, List, length, map, slice_get, Some, IfOk, OnOk, OnErr};
 ghost use Rattle.std.specs.List.{All, enumerate_from};
 ghost use Rattle.std.specs.Int.{int_max};
 ghost use Rattle.std.specs.Option.{ForSome, option_to_list};
@@ -7,8 +8,10 @@ ghost use Rattle.beam_values.specs.Checked.{IsChecked};
 ghost use Rattle.beam_values.specs.Nodes.{is_group, is_group_kind};
 ghost use Rattle.beam_values.specs.declared.plan.Node.{Node};
 ghost use Rattle.group_cells.specs.Commits.{HasGap, IsCommitted, KeepsLegal, RisesFrom};
-ghost use Rattle.book_core.specs.Changes.{as_waiting, done_of, residual_of, with_fired, with_residual};
-ghost use Rattle.book_core.specs.Committing.{node_of, count_of, pane_holds, job_holds, residual_in, residual_holds, done_in, list_at, HasRoom, HasRoomFor};
+ghost use Rattle.book_core.specs.Changes.{as_waiting, done_of, residual_of, with_fired};
+ghost use Rattle.book_core.specs.Changes.{with_residual};
+ghost use Rattle.book_core.specs.Committing.{node_of, count_of, pane_holds, job_holds, residual_in};
+ghost use Rattle.book_core.specs.Committing.{residual_holds, done_in, list_at, HasRoom, HasRoomFor};
 ghost use Rattle.book_core.specs.Facts.{IsAttemptedWithin};
 ghost use Rattle.book_core.specs.Indexes.{room_in, marks_in, least_in, AreHeldIn};
 ghost use Rattle.book_core.specs.declared.live.Live.{Live};
@@ -37,7 +40,8 @@ pub fn has_numbers(results: &Results, groups: &Groups, arrivals: usize) -> bool
     requires panes { length results.now.panes.items < 4294967295 }
     requires dropped { length groups.now.dropped < 4294967295 }
     ensures commits { result ≡ true → length results.now.commits.items + 1 < 4294967295 }
-    ensures panes { result ≡ true → length results.now.panes.items + (length groups.now.cells + arrivals) < 4294967295 }
+    ensures panes { result ≡ true
+        → length results.now.panes.items + (length groups.now.cells + arrivals) < 4294967295 }
     ensures dropped { result ≡ true → length groups.now.dropped + arrivals < 4294967295 }
 {
     let cells = groups.cells().len();
@@ -57,8 +61,10 @@ pub struct Own {
 
 /// Those of the job that a slot works.
 pub fn own_in(slots: &[Option<Live>], slot: u32) -> Own
-    ensures node { (job : Live) → slice_get slots.now slot ≡ Some (Some job) → result.node ≡ node_of job }
-    ensures count { (job : Live) → slice_get slots.now slot ≡ Some (Some job) → result.count ≡ count_of job }
+    ensures node { (job : Live) → slice_get slots.now slot ≡ Some (Some job)
+        → result.node ≡ node_of job }
+    ensures count { (job : Live) → slice_get slots.now slot ≡ Some (Some job)
+        → result.count ≡ count_of job }
 {
     match slots.get(slot as usize) {
         Some(Some(job)) => own_of(job),
@@ -99,7 +105,8 @@ pub fn keep_room(
     requires own { own.node < length plan.now.nodes }
     requires fired { fired < 4294967295 }
     ensures own { OnOk result (own.count + 1 ≤ room_in held.new own.node) }
-    ensures groups { OnOk result ((n : ℕ) → is_group plan.now n ≡ true → HasRoom queues.new.items held.new n (fired + 1)) }
+    ensures groups { OnOk result
+        ((n : ℕ) → is_group plan.now n ≡ true → HasRoom queues.new.items held.new n (fired + 1)) }
     ensures results { OnOk result (HasRoomFor results.new fired arrivals) }
     ensures queued { map (λ q. q.panes) queues.new.items ≡ map (λ q. q.panes) queues.old.items }
     ensures marks { (n : ℕ) → marks_in held.new n ≡ marks_in held.old n }
@@ -170,8 +177,10 @@ fn done_range(piece: &Piece, attempted: Option<u64>) -> Done
 /// Takes out the marks at which a job holds its node back.
 pub fn free_job(held: &mut NodeHolds, plan: &Plan, job: &Live)
     requires checked { IsChecked plan.now }
-    requires holds { (holds : List Hold) × AreHeldIn held.old (job_holds plan.now job.now ++ holds) }
-    ensures freed { (holds : List Hold) → AreHeldIn held.old (job_holds plan.now job.now ++ holds) → AreHeldIn held.new holds }
+    requires holds { (holds : List Hold)
+        × AreHeldIn held.old (job_holds plan.now job.now ++ holds) }
+    ensures freed { (holds : List Hold)
+        → AreHeldIn held.old (job_holds plan.now job.now ++ holds) → AreHeldIn held.new holds }
     ensures kept { (n : ℕ) → room_in held.old n ≤ room_in held.new n }
     ensures sized { length held.new ≡ length held.old }
 {
@@ -183,8 +192,10 @@ pub fn free_job(held: &mut NodeHolds, plan: &Plan, job: &Live)
 
 fn free_piece(held: &mut NodeHolds, plan: &Plan, piece: &Piece)
     requires checked { IsChecked plan.now }
-    requires holds { (holds : List Hold) × AreHeldIn held.old (piece_hold plan.now piece.now ∷ holds) }
-    ensures freed { (holds : List Hold) → AreHeldIn held.old (piece_hold plan.now piece.now ∷ holds) → AreHeldIn held.new holds }
+    requires holds { (holds : List Hold)
+        × AreHeldIn held.old (piece_hold plan.now piece.now ∷ holds) }
+    ensures freed { (holds : List Hold)
+        → AreHeldIn held.old (piece_hold plan.now piece.now ∷ holds) → AreHeldIn held.new holds }
     ensures kept { (n : ℕ) → room_in held.old n ≤ room_in held.new n }
     ensures sized { length held.new ≡ length held.old }
 {
@@ -193,7 +204,8 @@ fn free_piece(held: &mut NodeHolds, plan: &Plan, piece: &Piece)
 
 fn free_panes(held: &mut NodeHolds, node: u32, panes: &[WaitingPane])
     requires { (holds : List Hold) × AreHeldIn held.old (pane_holds node panes.now ++ holds) }
-    ensures freed { (holds : List Hold) → AreHeldIn held.old (pane_holds node panes.now ++ holds) → AreHeldIn held.new holds }
+    ensures freed { (holds : List Hold)
+        → AreHeldIn held.old (pane_holds node panes.now ++ holds) → AreHeldIn held.new holds }
     ensures kept { (n : ℕ) → room_in held.old n ≤ room_in held.new n }
     ensures sized { length held.new ≡ length held.old }
 {
@@ -207,7 +219,8 @@ pub fn hold_job(held: &mut NodeHolds, plan: &Plan, job: &Live)
     requires checked { IsChecked plan.now }
     requires within { node_of job.now < length held.old }
     requires room { count_of job.now ≤ room_in held.old (node_of job.now) }
-    ensures held { (holds : List Hold) → AreHeldIn held.old holds → AreHeldIn held.new (job_holds plan.now job.now ++ holds) }
+    ensures held { (holds : List Hold) → AreHeldIn held.old holds
+        → AreHeldIn held.new (job_holds plan.now job.now ++ holds) }
     ensures sized { length held.new ≡ length held.old }
 {
     match job {
@@ -219,7 +232,8 @@ pub fn hold_job(held: &mut NodeHolds, plan: &Plan, job: &Live)
 fn hold_panes(held: &mut NodeHolds, node: u32, panes: &[WaitingPane])
     requires within { node < length held.old }
     requires room { length panes.now ≤ room_in held.old node }
-    ensures held { (holds : List Hold) → AreHeldIn held.old holds → AreHeldIn held.new (pane_holds node panes.now ++ holds) }
+    ensures held { (holds : List Hold) → AreHeldIn held.old holds
+        → AreHeldIn held.new (pane_holds node panes.now ++ holds) }
     ensures sized { length held.new ≡ length held.old }
 {
     for pane in panes {
@@ -232,7 +246,8 @@ pub fn hold_residual(held: &mut NodeHolds, plan: &Plan, residual: &Option<Piece>
     requires checked { IsChecked plan.now }
     requires within { ForSome residual.now (λ piece. piece.node < length held.old) }
     requires room { ForSome residual.now (λ piece. 0 < room_in held.old piece.node) }
-    ensures held { (holds : List Hold) → AreHeldIn held.old holds → AreHeldIn held.new (residual_holds plan.now residual.now ++ holds) }
+    ensures held { (holds : List Hold) → AreHeldIn held.old holds
+        → AreHeldIn held.new (residual_holds plan.now residual.now ++ holds) }
     ensures used { (n : ℕ) → room_in held.old n ≤ room_in held.new n + 1 }
     ensures sized { length held.new ≡ length held.old }
 {
@@ -244,8 +259,11 @@ pub fn hold_residual(held: &mut NodeHolds, plan: &Plan, residual: &Option<Piece>
 /// Takes it out again.
 pub fn free_residual(held: &mut NodeHolds, plan: &Plan, residual: &Option<Piece>)
     requires checked { IsChecked plan.now }
-    requires holds { (holds : List Hold) × AreHeldIn held.old (residual_holds plan.now residual.now ++ holds) }
-    ensures freed { (holds : List Hold) → AreHeldIn held.old (residual_holds plan.now residual.now ++ holds) → AreHeldIn held.new holds }
+    requires holds { (holds : List Hold)
+        × AreHeldIn held.old (residual_holds plan.now residual.now ++ holds) }
+    ensures freed { (holds : List Hold)
+        → AreHeldIn held.old (residual_holds plan.now residual.now ++ holds)
+        → AreHeldIn held.new holds }
     ensures kept { (n : ℕ) → room_in held.old n ≤ room_in held.new n }
     ensures sized { length held.new ≡ length held.old }
 {
@@ -264,7 +282,8 @@ fn keep_at_groups(
     requires few { length nodes.now < 4294967296 }
     requires queues { length queues.old.items ≡ length nodes.now }
     requires held { length held.old ≡ length nodes.now }
-    ensures ok { OnOk result ((n : ℕ) (node : Node) → slice_get nodes.now n ≡ Some node → is_group_kind node.kind ≡ true
+    ensures ok { OnOk result
+        ((n : ℕ) (node : Node) → slice_get nodes.now n ≡ Some node → is_group_kind node.kind ≡ true
         → HasRoom queues.new.items held.new n places) }
     ensures panes { map (λ q. q.panes) queues.new.items ≡ map (λ q. q.panes) queues.old.items }
     ensures marks { (n : ℕ) → marks_in held.new n ≡ marks_in held.old n }
@@ -287,8 +306,10 @@ fn keep_if_group(
     requires queued { n < length queues.old.items }
     requires holding { n < length held.old }
     requires small { n < 4294967296 }
-    ensures ok { OnOk result (is_group_kind node.now.kind ≡ true → HasRoom queues.new.items held.new n places) }
-    ensures kept_at { (m k : ℕ) → HasRoom queues.old.items held.old m k → HasRoom queues.new.items held.new m k }
+    ensures ok { OnOk result
+        (is_group_kind node.now.kind ≡ true → HasRoom queues.new.items held.new n places) }
+    ensures kept_at { (m k : ℕ) → HasRoom queues.old.items held.old m k
+        → HasRoom queues.new.items held.new m k }
     ensures panes { map (λ q. q.panes) queues.new.items ≡ map (λ q. q.panes) queues.old.items }
     ensures marks { (m : ℕ) → marks_in held.new m ≡ marks_in held.old m }
     ensures kept { (m : ℕ) → room_in held.old m ≤ room_in held.new m }
@@ -317,7 +338,8 @@ fn keep_at(
     requires holding { node < length held.old }
     requires small { node < 4294967296 }
     ensures ok { OnOk result (HasRoom queues.new.items held.new node places) }
-    ensures kept_at { (n k : ℕ) → HasRoom queues.old.items held.old n k → HasRoom queues.new.items held.new n k }
+    ensures kept_at { (n k : ℕ) → HasRoom queues.old.items held.old n k
+        → HasRoom queues.new.items held.new n k }
     ensures panes { map (λ q. q.panes) queues.new.items ≡ map (λ q. q.panes) queues.old.items }
     ensures marks { (n : ℕ) → marks_in held.new n ≡ marks_in held.old n }
     ensures kept { (n : ℕ) → room_in held.old n ≤ room_in held.new n }
@@ -351,10 +373,13 @@ pub fn fire(
     requires marks { length before.now ≡ length plan.now.nodes }
     requires gaps { All (HasGap plan.now) arrivals.old }
     requires rises { RisesFrom plan.now (least_in held.now) before.now }
-    ensures legal { IfOk result (λ fired. KeepsLegal plan.now commit before.now fired.marks groups.old groups.new fired.panes) }
-    ensures committed { IfOk result (λ fired. IsCommitted plan.now commit before.now fired.marks (least_in held.now) arrivals.old arrivals.new
+    ensures legal { IfOk result (λ fired.
+        KeepsLegal plan.now commit before.now fired.marks groups.old groups.new fired.panes) }
+    ensures committed { IfOk result (λ fired. IsCommitted plan.now commit before.now fired.marks
+        (least_in held.now) arrivals.old arrivals.new
         groups.old groups.new fired.panes) }
-    ensures few { IfOk result (λ fired. length fired.panes ≤ length groups.old.cells + length arrivals.old) }
+    ensures few { IfOk result
+        (λ fired. length fired.panes ≤ length groups.old.cells + length arrivals.old) }
     ensures err { OnErr result ((groups.new ≡ groups.old) × (arrivals.new ≡ arrivals.old)) }
 {
     let holds = held.least(alloc)?;
@@ -381,11 +406,14 @@ pub fn wait_all(
     first: u32,
     fired: &[Pane],
 )
-    requires room { All (λ pane. HasRoom queues.old.items held.old pane.node (length fired.now)) fired.now }
+    requires room { All
+        (λ pane. HasRoom queues.old.items held.old pane.node (length fired.now)) fired.now }
     requires small { first + length fired.now < 4294967296 }
     ensures queues { map (λ q. q.panes) queues.new.items
-        ≡ map (with_fired before.now (enumerate_from first fired.now)) (enumerate_from 0 (map (λ q. q.panes) queues.old.items)) }
-    ensures held { (holds : List Hold) → AreHeldIn held.old holds → AreHeldIn held.new (map (pane_hold before.now) fired.now ++ holds) }
+        ≡ map (with_fired before.now (enumerate_from first fired.now))
+        (enumerate_from 0 (map (λ q. q.panes) queues.old.items)) }
+    ensures held { (holds : List Hold) → AreHeldIn held.old holds
+        → AreHeldIn held.new (map (pane_hold before.now) fired.now ++ holds) }
     ensures sized { length held.new ≡ length held.old }
 {
     for (i, pane) in fired.iter().enumerate() {
@@ -402,10 +430,13 @@ fn wait(
 )
     requires { HasRoom queues.old.items held.old pane.now.node 1 }
     ensures queues { (n : ℕ) → list_at queues.new.items n
-        ≡ list_at queues.old.items n ++ (if pane.now.node == n then as_waiting before.now (place, pane.now) ∷ [] else []) }
+        ≡ list_at queues.old.items n
+        ++ (if pane.now.node == n then as_waiting before.now (place, pane.now) ∷ [] else []) }
     ensures count { length queues.new.items ≡ length queues.old.items }
-    ensures held { (holds : List Hold) → AreHeldIn held.old holds → AreHeldIn held.new (pane_hold before.now pane.now ∷ holds) }
-    ensures room { (n k : ℕ) → HasRoom queues.old.items held.old n (k + 1) → HasRoom queues.new.items held.new n k }
+    ensures held { (holds : List Hold) → AreHeldIn held.old holds
+        → AreHeldIn held.new (pane_hold before.now pane.now ∷ holds) }
+    ensures room { (n k : ℕ) → HasRoom queues.old.items held.old n (k + 1)
+        → HasRoom queues.new.items held.new n k }
     ensures sized { length held.new ≡ length held.old }
 {
     let hold = hold_of(before, pane);

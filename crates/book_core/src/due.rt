@@ -1,4 +1,5 @@
-ghost use Rattle.std.specs.Prelude.{◌≡◌, ◌<◌, ◌==◌, ◌++◌, Option, Some, None, length, map, slice_get, if◌then◌else◌, IfOk, OnOk};
+ghost use Rattle.std.specs.Prelude.{◌≡◌, ◌<◌, ◌==◌, ◌++◌, Option, Some, None, length, map};
+ghost use Rattle.std.specs.Prelude.{slice_get, if◌then◌else◌, IfOk, OnOk};
 ghost use Rattle.std.specs.List.{filter};
 ghost use Rattle.book_core.specs.Book.{BookData, panes_of, pane_at, queue_at};
 ghost use Rattle.book_core.specs.DueAt.{IsBatchAt, IsDueAs};
@@ -25,7 +26,8 @@ pub enum DueAt {
 /// What is due first, in the order of the nodes.
 pub fn first_due(returned: &[Batch], queues: &[Queue]) -> Option<DueAt>
     requires { length queues.now < 4294967296 }
-    ensures { (b : BookData) → b.returned ≡ returned.now → b.queues ≡ map (λ q. q.panes) queues.now → length b.plan.nodes ≡ length queues.now
+    ensures { (b : BookData) → b.returned ≡ returned.now
+        → b.queues ≡ map (λ q. q.panes) queues.now → length b.plan.nodes ≡ length queues.now
         → IsDueAs b (first_due b) result }
 {
     for (node, queue) in queues.iter().enumerate() {
@@ -37,7 +39,8 @@ pub fn first_due(returned: &[Batch], queues: &[Queue]) -> Option<DueAt>
 }
 
 fn due_at(returned: &[Batch], node: u32, queue: &Queue) -> Option<DueAt>
-    ensures { (b : BookData) → b.returned ≡ returned.now → queue_at b node ≡ queue.now.panes → IsDueAs b (due_at b node) result }
+    ensures { (b : BookData) → b.returned ≡ returned.now
+        → queue_at b node ≡ queue.now.panes → IsDueAs b (due_at b node) result }
 {
     match lowest_at(returned, node) {
         Some(at) => Some(DueAt::GivenBack(at)),
@@ -53,7 +56,8 @@ fn due_at(returned: &[Batch], node: u32, queue: &Queue) -> Option<DueAt>
 
 // Where the batch of a node with the lowest first pane is found.
 fn lowest_at(returned: &[Batch], node: u32) -> Option<usize>
-    ensures { IsBatchAt returned.now result (lowest_of (filter (λ batch. batch.node == node) returned.now)) }
+    ensures { IsBatchAt returned.now result
+        (lowest_of (filter (λ batch. batch.node == node) returned.now)) }
 {
     let mut lowest: Option<usize> = None;
     for at in 0..returned.len() {
@@ -64,8 +68,10 @@ fn lowest_at(returned: &[Batch], node: u32) -> Option<usize>
 
 fn lower_at(returned: &[Batch], node: u32, lowest: Option<usize>, at: usize) -> Option<usize>
     requires { at < length returned.now }
-    ensures { (found : Option Batch) (batch : Batch) → slice_get returned.now at ≡ Some batch → IsBatchAt returned.now lowest found
-        → IsBatchAt returned.now result (if batch.node == node then lower_batch found batch else found) }
+    ensures { (found : Option Batch) (batch : Batch)
+        → slice_get returned.now at ≡ Some batch → IsBatchAt returned.now lowest found
+        → IsBatchAt returned.now result
+        (if batch.node == node then lower_batch found batch else found) }
 {
     let batch = &returned[at];
     if batch.node != node {

@@ -1,4 +1,5 @@
-ghost use Rattle.std.specs.Prelude.{◌≡◌, ◌<◌, ◌≤◌, ◌+◌, ◌++◌, ◌∷◌, [], nat_le, if◌then◌else◌, length, Some, None, slice_get, slice_set};
+ghost use Rattle.std.specs.Prelude.{◌≡◌, ◌<◌, ◌≤◌, ◌+◌, ◌++◌, ◌∷◌, [], nat_le, if◌then◌else◌};
+ghost use Rattle.std.specs.Prelude.{length, Some, None, slice_get, slice_set};
 ghost use Rattle.book_core.specs.Book.{piece_of, batch_of};
 ghost use Rattle.book_core.specs.Changes.{attempts_of, note_of};
 ghost use Rattle.book_core.specs.Indexes.{pieces_back, batches_back, stopped_after};

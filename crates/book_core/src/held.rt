@@ -1,4 +1,5 @@
-ghost use Rattle.std.specs.Prelude.{◌≡◌, ℕ, true, ◌+◌, ◌<◌, ◌≤◌, ◌∷◌, List, length, map, [], Contains, OnOk, IfOk};
+ghost use Rattle.std.specs.Prelude.{◌≡◌, ℕ, true, ◌+◌, ◌<◌, ◌≤◌, ◌∷◌, List, length, map, []};
+ghost use Rattle.std.specs.Prelude.{Contains, OnOk, IfOk};
 ghost use Rattle.beam_model.specs.Holds.{Hold, piece_hold, estimator_in};
 ghost use Rattle.beam_values.specs.Checked.{IsChecked, is_estimator_allowed};
 ghost use Rattle.beam_values.specs.Marks.{mark_of, least_mark};
@@ -61,7 +62,8 @@ impl NodeHolds {
 
     /// The least mark of each node, or FINAL.
     pub fn least(&self, alloc: Global) -> Result<Vec<Mark>, NoMemory>
-        ensures { IfOk result (λ least. least.items ≡ map (λ holds. least_mark holds.marks) self.now) }
+        ensures { IfOk result
+            (λ least. least.items ≡ map (λ holds. least_mark holds.marks) self.now) }
     {
         let mut least = Vec::new(alloc);
         for holds in &self.nodes {
@@ -85,7 +87,8 @@ impl NodeHolds {
     pub fn add_kept(&mut self, node: u32, mark: Mark)
         requires within { node < length self.old }
         requires room { 0 < room_in self.old node }
-        ensures added { (holds : List Hold) → AreHeldIn self.old holds → AreHeldIn self.new (record { node = node; mark = mark } ∷ holds) }
+        ensures added { (holds : List Hold) → AreHeldIn self.old holds
+            → AreHeldIn self.new (record { node = node; mark = mark } ∷ holds) }
         ensures used { (n : ℕ) → room_in self.old n ≤ room_in self.new n + 1 }
         ensures sized { length self.new ≡ length self.old }
     {
@@ -96,7 +99,9 @@ impl NodeHolds {
     pub fn remove(&mut self, node: u32, mark: Mark)
         requires within { node < length self.old }
         requires held { Contains (marks_in self.old node) mark }
-        ensures removed { (holds : List Hold) → AreHeldIn self.old (record { node = node; mark = mark } ∷ holds) → AreHeldIn self.new holds }
+        ensures removed { (holds : List Hold)
+            → AreHeldIn self.old (record { node = node; mark = mark } ∷ holds)
+            → AreHeldIn self.new holds }
         ensures kept { (n : ℕ) → room_in self.old n ≤ room_in self.new n }
         ensures sized { length self.new ≡ length self.old }
     {
@@ -117,7 +122,8 @@ fn keep_room(held: &mut [Holds], node: u32, places: usize) -> Result<(), NoMemor
 fn add_kept(held: &mut [Holds], node: u32, mark: Mark)
     requires within { node < length held.old }
     requires room { 0 < room_in held.old node }
-    ensures added { (holds : List Hold) → AreHeldIn held.old holds → AreHeldIn held.new (record { node = node; mark = mark } ∷ holds) }
+    ensures added { (holds : List Hold) → AreHeldIn held.old holds
+        → AreHeldIn held.new (record { node = node; mark = mark } ∷ holds) }
     ensures used { (n : ℕ) → room_in held.old n ≤ room_in held.new n + 1 }
 {
     let holds = &mut held[node as usize];
@@ -129,7 +135,9 @@ fn add_kept(held: &mut [Holds], node: u32, mark: Mark)
 fn remove(held: &mut [Holds], node: u32, mark: Mark)
     requires within { node < length held.old }
     requires held { Contains (marks_in held.old node) mark }
-    ensures removed { (holds : List Hold) → AreHeldIn held.old (record { node = node; mark = mark } ∷ holds) → AreHeldIn held.new holds }
+    ensures removed { (holds : List Hold)
+        → AreHeldIn held.old (record { node = node; mark = mark } ∷ holds)
+        → AreHeldIn held.new holds }
     ensures kept { (n : ℕ) → room_in held.old n ≤ room_in held.new n }
 {
     let holds = &mut held[node as usize];

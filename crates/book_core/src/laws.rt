@@ -6,11 +6,14 @@ ghost use Rattle.beam_values.specs.declared.fault.Cause.{Cause};
 ghost use Rattle.beam_values.specs.declared.file_text.FileText.{FileText};
 ghost use Rattle.bundle_commit.specs.declared.job.Job.{Job};
 ghost use Rattle.book_core.specs.Book.{BookData};
-ghost use Rattle.book_core.specs.Facts.{AreAtWrites, AreAttemptsCounted, AreCellsKept, AreHeldOnce, AreKept, AreKeptOf, AreMarksKept, ArePartitioned, IsStopNoted, IsWellFormed};
+ghost use Rattle.book_core.specs.Facts.{AreAtWrites, AreAttemptsCounted, AreCellsKept, AreHeldOnce};
+ghost use Rattle.book_core.specs.Facts.{AreKept, AreKeptOf, AreMarksKept, ArePartitioned};
+ghost use Rattle.book_core.specs.Facts.{IsStopNoted, IsWellFormed};
 ghost use Rattle.book_core.specs.Jobs.{next_job};
 ghost use Rattle.book_core.specs.Left.{GoesOnAt, IsBelow, left, rounds_left};
 ghost use Rattle.book_core.specs.Runs.{HonestlyReached, IsThrough, Reached};
-ghost use Rattle.book_core.specs.Steps.{Answer, Commit, Committed, IsClaiming, IsFailing, IsIdle, IsTaking, Step};
+ghost use Rattle.book_core.specs.Steps.{Answer, Commit, Committed, IsClaiming, IsFailing, IsIdle};
+ghost use Rattle.book_core.specs.Steps.{IsTaking, Step};
 ghost use Rattle.book_core.specs.Work.{Surroundings};
 
 use pipeline_graph::laws::{
@@ -39,8 +42,10 @@ pub fn panes_are_held_once()
 /// No job has failed more often than it may, nor more often than jobs failed at all; and what stopped a
 /// book by a fault failed as often as it may.
 pub fn attempts_are_counted()
-    ensures counted { (told : Option (List FileText)) (b : BookData) → Reached told b → AreAttemptsCounted b }
-    ensures noted { (told : Option (List FileText)) (b : BookData) → Reached told b → IsStopNoted b b.stopped }
+    ensures counted { (told : Option (List FileText)) (b : BookData)
+        → Reached told b → AreAttemptsCounted b }
+    ensures noted { (told : Option (List FileText)) (b : BookData)
+        → Reached told b → IsStopNoted b b.stopped }
 {}
 
 /// The last marks of a book follow from all that isn't committed, and no mark has fallen from one commit
@@ -52,8 +57,10 @@ pub fn marks_are_kept()
 /// The arrivals at the Groups are legal, own windows of sessions are as long as the gap, and what was written
 /// is at Writes.
 pub fn cells_are_kept()
-    ensures cells { (told : Option (List FileText)) (b : BookData) → Reached told b → AreCellsKept b }
-    ensures writes { (told : Option (List FileText)) (b : BookData) → Reached told b → AreAtWrites b }
+    ensures cells { (told : Option (List FileText)) (b : BookData)
+        → Reached told b → AreCellsKept b }
+    ensures writes { (told : Option (List FileText)) (b : BookData)
+        → Reached told b → AreAtWrites b }
 {
     nodes_take_elements_of_their_strategy();
     strategies_follow_kinds();
@@ -78,7 +85,8 @@ pub fn told_books_are_kept()
 
 /// A book that has no job left, and works none, is through.
 pub fn books_with_no_job_left_are_through()
-    ensures { (told : Option (List FileText)) (b : BookData) → Reached told b → next_job b ≡ None → IsIdle b → IsThrough b }
+    ensures { (told : Option (List FileText)) (b : BookData)
+        → Reached told b → next_job b ≡ None → IsIdle b → IsThrough b }
 {
     nodes_take_elements_of_their_strategy();
     strategies_follow_kinds();
@@ -88,17 +96,20 @@ pub fn books_with_no_job_left_are_through()
 
 /// Each fail lowers what is left of a run, and no take raises it.
 pub fn fails_lower_what_is_left()
-    ensures fail { (told : Option (List FileText)) (b new : BookData) (slot at : ℕ) (cause : Cause) (answer : Answer)
+    ensures fail { (told : Option (List FileText)) (b new : BookData)
+        (slot at : ℕ) (cause : Cause) (answer : Answer)
         → Reached told b → IsFailing b slot at cause answer new → IsBelow (left new) (left b) }
     ensures take { (told : Option (List FileText)) (b new : BookData) (slot : ℕ) (job : Job)
-        → Reached told b → IsTaking b slot job new → IsBelow (left new) (left b) ⊎ (left new ≡ left b) }
+        → Reached told b → IsTaking b slot job new
+        → IsBelow (left new) (left b) ⊎ (left new ≡ left b) }
 {}
 
 /// Each commit lowers what is left of a run, where a position of its range was attempted, the range is
 /// empty, or its panes went on; and no claim raises it.
 pub fn commits_lower_what_is_left()
     ensures commit { (told : Option (List FileText)) (b new : BookData) (slot : ℕ)
-        → Reached told b → Step told b slot Commit Committed new → GoesOnAt b slot → IsBelow (left new) (left b) }
+        → Reached told b → Step told b slot Commit Committed new
+        → GoesOnAt b slot → IsBelow (left new) (left b) }
     ensures claim { (told : Option (List FileText)) (b new : BookData) (slot p : ℕ) (granted : Bool)
         → Reached told b → IsClaiming b slot p granted new → left new ≡ left b }
 {
@@ -115,8 +126,10 @@ pub fn rounds_are_bounded()
     ensures claim { (told : Option (List FileText)) (b new : BookData) (slot p : ℕ) (granted : Bool)
         → Reached told b → IsClaiming b slot p granted new → rounds_left new ≡ rounds_left b }
     ensures commit { (told : Option (List FileText)) (b new : BookData) (slot : ℕ)
-        → Reached told b → Step told b slot Commit Committed new → GoesOnAt b slot → rounds_left new < rounds_left b }
-    ensures fail { (told : Option (List FileText)) (b new : BookData) (slot at : ℕ) (cause : Cause) (answer : Answer)
+        → Reached told b → Step told b slot Commit Committed new
+        → GoesOnAt b slot → rounds_left new < rounds_left b }
+    ensures fail { (told : Option (List FileText)) (b new : BookData)
+        (slot at : ℕ) (cause : Cause) (answer : Answer)
         → Reached told b → IsFailing b slot at cause answer new → rounds_left new < rounds_left b }
 {
     nodes_take_elements_of_their_strategy();
@@ -126,5 +139,6 @@ pub fn rounds_are_bounded()
 
 /// A book that is reached by honest fails is reached, so all that holds of reached books holds of it.
 pub fn honest_runs_are_runs()
-    ensures { (known : Surroundings) (b : BookData) → HonestlyReached known b → Reached known.told b }
+    ensures { (known : Surroundings) (b : BookData)
+        → HonestlyReached known b → Reached known.told b }
 {}

@@ -1,4 +1,5 @@
-ghost use Rattle.std.specs.Prelude.{◌≡◌, ◌+◌, ◌-◌, ◌<◌, ◌≤◌, [], ◌∷◌, ◌++◌, length, slice_get, insert, unwrap_or, IfOk, OnOk};
+ghost use Rattle.std.specs.Prelude.{◌≡◌, ◌+◌, ◌-◌, ◌<◌, ◌≤◌, [], ◌∷◌, ◌++◌, length, slice_get};
+ghost use Rattle.std.specs.Prelude.{insert, unwrap_or, IfOk, OnOk};
 ghost use Rattle.std.specs.List.{filter};
 ghost use Rattle.std.specs.List.Sorted.{IsSorted};
 ghost use Rattle.std.specs.Option.{option_map};
@@ -42,7 +43,8 @@ impl Results {
     /// The marks after the last commit.
     pub fn last_marks(&self) -> &[StageMarks]
         requires { 0 < length self.now.commits.items }
-        ensures { result.now ≡ unwrap_or (option_map (λ commit. commit.marks) (slice_get self.now.commits.items (length self.now.commits.items - 1))) [] }
+        ensures { result.now ≡ unwrap_or (option_map (λ commit. commit.marks)
+            (slice_get self.now.commits.items (length self.now.commits.items - 1))) [] }
     {
         let commits = self.commits.as_slice();
         commits[commits.len() - 1].marks.as_slice()
@@ -75,7 +77,8 @@ impl Results {
         requires room { HasRoomFor self.old (length fired) (length left) }
         ensures panes { self.new.panes.items ≡ self.old.panes.items ++ fired }
         ensures done { self.new.done.items ≡ with_done_in done self.old.done.items }
-        ensures written { self.new.written.items ≡ self.old.written.items ++ filter (λ arrival. is_write plan.now arrival.node) left }
+        ensures written { self.new.written.items
+            ≡ self.old.written.items ++ filter (λ arrival. is_write plan.now arrival.node) left }
         ensures commits { self.new.commits.items ≡ self.old.commits.items ++ as_commit marks ∷ [] }
     {
         put_done(&mut self.done, done);
@@ -106,7 +109,8 @@ fn put_panes(panes: &mut RoomyList<Pane>, fired: List<Pane>)
 
 fn put_written(plan: &Plan, written: &mut RoomyList<Arrival>, left: List<Arrival>)
     requires { length left ≤ written.old.room }
-    ensures { written.new.items ≡ written.old.items ++ filter (λ arrival. is_write plan.now arrival.node) left }
+    ensures { written.new.items
+        ≡ written.old.items ++ filter (λ arrival. is_write plan.now arrival.node) left }
 {
     for arrival in left.into_vec() {
         put_if_written(plan, written, arrival);
@@ -115,7 +119,8 @@ fn put_written(plan: &Plan, written: &mut RoomyList<Arrival>, left: List<Arrival
 
 fn put_if_written(plan: &Plan, written: &mut RoomyList<Arrival>, arrival: Arrival)
     requires { 0 < written.old.room }
-    ensures items { written.new.items ≡ written.old.items ++ filter (λ a. is_write plan.now a.node) (arrival ∷ []) }
+    ensures items { written.new.items
+        ≡ written.old.items ++ filter (λ a. is_write plan.now a.node) (arrival ∷ []) }
     ensures used { written.old.room ≤ written.new.room + 1 }
 {
     if is_write(plan, arrival.node) {

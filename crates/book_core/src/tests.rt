@@ -1,6 +1,7 @@
 //! A run over one file, worked by hand: lines in windows of a minute are grouped and written.
 
-ghost use Rattle.std.specs.Prelude.{◌≡◌, ℕ, ◌≤◌, ◌≤ℤ◌, ◌+ℤ◌, true, false, [], ◌∷◌, map, IfOk, IfSome, OnOk, None};
+ghost use Rattle.std.specs.Prelude.{◌≡◌, ℕ, ◌≤◌, ◌≤ℤ◌, ◌+ℤ◌, true, false, [], ◌∷◌, map, IfOk};
+ghost use Rattle.std.specs.Prelude.{IfSome, OnOk, None};
 ghost use Rattle.std.specs.List.{All};
 ghost use Rattle.beam_model.specs.Chains.{Arrives, chain};
 ghost use Rattle.beam_model.specs.Positions.{items};
@@ -30,8 +31,10 @@ fn minutes(alloc: Global) -> Result<Plan, NoMemory>
     ensures unknown { IfOk result (λ plan. is_known None plan 0 ≡ false) }
     ensures reaches { IfOk result (λ plan. reaches_barrier plan 0 2 ≡ true) }
     ensures fixed { IfOk result (λ plan. (span : Interval) → HasLength (strategy_of plan 2) span) }
-    ensures onward { IfOk result (λ plan. (e : Element) → chain plan 2 e ≡ Arrives (record { node = 3; element = e }) ∷ []) }
-    ensures lengths { IfOk result (λ plan. AreLengthsOf (items [] plan) (record { node = 0; item = 0; len = 10 } ∷ [])) }
+    ensures onward { IfOk result
+        (λ plan. (e : Element) → chain plan 2 e ≡ Arrives (record { node = 3; element = e }) ∷ []) }
+    ensures lengths { IfOk result
+        (λ plan. AreLengthsOf (items [] plan) (record { node = 0; item = 0; len = 10 } ∷ [])) }
 {
     let mut nodes = List::new(alloc);
     let mut files = List::new(alloc);
@@ -74,7 +77,8 @@ fn minutes(alloc: Global) -> Result<Plan, NoMemory>
 // A number at the start of a minute, which comes to the Group.
 fn number(minute: u32, n: i64) -> Result<Arrival, Fail>
     ensures at { IfOk result (λ arrival. arrival.node ≡ 2) }
-    ensures ends { IfOk result (λ arrival. arrival.element.span.end ≤ℤ (greatest_time +ℤ greatest_length)) }
+    ensures ends { IfOk result
+        (λ arrival. arrival.element.span.end ≤ℤ (greatest_time +ℤ greatest_length)) }
 {
     let start = i64::from(minute) * 60_000;
     Ok(Arrival {
@@ -111,7 +115,8 @@ fn fits(piece: &Piece, last: u64, seen: Time) -> bool
 }
 
 fn batch_in(taken: Taken) -> Option<(u32, List<Pane>)>
-    ensures { IfSome result (λ batch. (first : ℕ) × (attempts : ℕ) × (taken ≡ Taken.Job (Job.Batch batch.0 first batch.1 attempts))) }
+    ensures { IfSome result (λ batch. (first : ℕ) × (attempts : ℕ)
+        × (taken ≡ Taken.Job (Job.Batch batch.0 first batch.1 attempts))) }
 {
     match taken {
         Taken::Job(job) => match job {
@@ -135,7 +140,8 @@ fn work_range(
     requires reaches { reaches_barrier book.old.plan 0 2 ≡ true }
     requires fixed { (span : Interval) → HasLength (strategy_of book.old.plan 2) span }
     requires at { All (λ arrival. arrival.node ≡ 2) arrivals }
-    requires ends { All (λ arrival. arrival.element.span.end ≤ℤ (greatest_time +ℤ greatest_length)) arrivals }
+    requires ends { All
+        (λ arrival. arrival.element.span.end ≤ℤ (greatest_time +ℤ greatest_length)) arrivals }
     ensures free { OnOk result (IsFree book.new slot) }
     ensures plan { OnOk result (book.new.plan ≡ book.old.plan) }
 {
@@ -161,7 +167,8 @@ fn work_range(
 // Takes a batch of the Group's panes, and writes their elements. Answers how many.
 fn pass_on(alloc: Global, book: &mut Book, slot: u32) -> Result<usize, Fail>
     requires free { IsFree book.old slot }
-    requires onward { (e : Element) → chain book.old.plan 2 e ≡ Arrives (record { node = 3; element = e }) ∷ [] }
+    requires onward { (e : Element)
+        → chain book.old.plan 2 e ≡ Arrives (record { node = 3; element = e }) ∷ [] }
     ensures free { OnOk result (IsFree book.new slot) }
     ensures plan { OnOk result (book.new.plan ≡ book.old.plan) }
 {
@@ -184,7 +191,8 @@ fn pass_on(alloc: Global, book: &mut Book, slot: u32) -> Result<usize, Fail>
 }
 
 fn written(alloc: Global, panes: List<Pane>) -> Result<List<Arrival>, NoMemory>
-    ensures { IfOk result (λ arrivals. arrivals ≡ map (λ pane. record { node = 3; element = pane.element }) panes) }
+    ensures { IfOk result
+        (λ arrivals. arrivals ≡ map (λ pane. record { node = 3; element = pane.element }) panes) }
 {
     let mut arrivals = List::new(alloc);
     for pane in panes.into_vec() {
@@ -200,8 +208,10 @@ fn written(alloc: Global, panes: List<Pane>) -> Result<List<Arrival>, NoMemory>
 fn open_book(alloc: Global) -> Result<Book, Fail>
     ensures unknown { IfOk result (λ book. is_known None book.plan 0 ≡ false) }
     ensures reaches { IfOk result (λ book. reaches_barrier book.plan 0 2 ≡ true) }
-    ensures fixed { IfOk result (λ book. (span : Interval) → HasLength (strategy_of book.plan 2) span) }
-    ensures onward { IfOk result (λ book. (e : Element) → chain book.plan 2 e ≡ Arrives (record { node = 3; element = e }) ∷ []) }
+    ensures fixed { IfOk result
+        (λ book. (span : Interval) → HasLength (strategy_of book.plan 2) span) }
+    ensures onward { IfOk result (λ book. (e : Element)
+        → chain book.plan 2 e ≡ Arrives (record { node = 3; element = e }) ∷ []) }
 {
     let Ok(graph) = Graph::check(alloc, minutes(alloc)?) else {
         return Err("refused".into());

@@ -1,4 +1,5 @@
-ghost use Rattle.std.specs.Prelude.{◌≡◌, ◌≢◌, ◌≤◌, ◌<◌, ◌+◌, ◌==◌, if◌then◌else◌, ℕ, true, false, length, Option, Some, None, slice_get, MatchOption};
+ghost use Rattle.std.specs.Prelude.{◌≡◌, ◌≢◌, ◌≤◌, ◌<◌, ◌+◌, ◌==◌, if◌then◌else◌, ℕ, true, false};
+ghost use Rattle.std.specs.Prelude.{length, Option, Some, None, slice_get, MatchOption};
 ghost use Rattle.std.specs.List.{All, flat_map};
 ghost use Rattle.beam_values.specs.declared.piece.Piece.{Piece};
 ghost use Rattle.book_core.specs.Book.{piece_of, batch_of, tracker_of};
@@ -14,7 +15,8 @@ use offset_tracker::Tracker;
 
 /// The range that a slot works, and the last position that was attempted in it.
 pub fn span_at(slots: &[Option<Live>], slot: u32) -> Option<(Piece, Option<u64>)>
-    ensures { MatchOption result ((piece : Piece) (attempted : Option ℕ) → slice_get slots.now slot ≢ Some (Some (live.Span piece attempted)))
+    ensures { MatchOption result ((piece : Piece) (attempted : Option ℕ)
+        → slice_get slots.now slot ≢ Some (Some (live.Span piece attempted)))
         (λ span. slice_get slots.now slot ≡ Some (Some (live.Span span.0 span.1))) }
 {
     match slots.get(slot as usize) {
@@ -97,7 +99,8 @@ fn works_batch(slot: &Option<Live>) -> bool
 
 /// What is answered where nothing can be taken.
 pub fn idle_answer(slots: &[Option<Live>]) -> Taken
-    ensures { result ≡ (if length (flat_map piece_of slots.now) + length (flat_map batch_of slots.now) == 0 then Taken.Finished
+    ensures { result ≡ (if length (flat_map piece_of slots.now)
+        + length (flat_map batch_of slots.now) == 0 then Taken.Finished
         else Taken.Nothing) }
 {
     if count_pieces(slots) == 0 && count_batches(slots) == 0 {
@@ -111,7 +114,8 @@ pub fn idle_answer(slots: &[Option<Live>]) -> Taken
 fn left_if_split(slots: &[Option<Live>], slot: u32) -> Option<u64>
     requires { All IsAttemptedWithin slots.now }
     ensures { MatchOption result
-        ((piece : Piece) (attempted : Option ℕ) → slice_get slots.now slot ≡ Some (Some (live.Span piece attempted))
+        ((piece : Piece) (attempted : Option ℕ)
+        → slice_get slots.now slot ≡ Some (Some (live.Span piece attempted))
         → piece.range.to ≤ split_point_of (tracker_of piece attempted) 1 2)
         (IsLeftOf slots.now slot) }
 {

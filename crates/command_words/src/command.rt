@@ -1,6 +1,7 @@
 ghost use Rattle.std.specs.Prelude.{◌≡◌, ◌≢◌, ◌↔◌, Ok, IfOk, IfSome, IsErr, IsTrue};
 ghost use Rattle.beam_values.specs.Strategies.{IsLength};
-ghost use Rattle.command_words.specs.Commands.{AsksHelp, IsAllowed, asks_help, command_named, command_of, is_file_name, size_of, words_of};
+ghost use Rattle.command_words.specs.Commands.{AsksHelp, IsAllowed, asks_help, command_named};
+ghost use Rattle.command_words.specs.Commands.{command_of, is_file_name, size_of, words_of};
 ghost use Rattle.command_words.specs.Gathering.{panes_gathered, run_gathered, shown_gathered};
 ghost use Rattle.command_words.specs.Rules.{Asks, IsRefused};
 ghost use Rattle.command_words.specs.Shown.{shown_answer, shown_command};

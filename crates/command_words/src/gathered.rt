@@ -1,7 +1,9 @@
 ghost use Rattle.std.specs.Prelude.{◌≡◌, ◌≤◌, map, IfSome};
 ghost use Rattle.std.specs.Option.{option_map};
 ghost use Rattle.command_words.specs.Commands.{AreOptions, greatest_of, words_of};
-ghost use Rattle.command_words.specs.Gathering.{gathering_of, options_gathered, shown_gathered, shown_gathering, value_of_few, with_part, with_parts};
+ghost use Rattle.command_words.specs.Gathering.{gathering_of, options_gathered, shown_gathered};
+ghost use Rattle.command_words.specs.Gathering.{shown_gathering, value_of_few, with_part};
+ghost use Rattle.command_words.specs.Gathering.{with_parts};
 ghost use Rattle.command_words.specs.Parts.{Positional, parts_of};
 ghost use Rattle.command_words.specs.Shown.{shown_few, shown_part};
 
@@ -75,7 +77,8 @@ pub fn gather(words: &[String]) -> Result<Gathered<'_>, Usage>
 
 // The same with one more part after them.
 fn with_part<'a>(gathered: Gathered<'a>, part: Part<'a>) -> Gathered<'a>
-    ensures { shown_gathered result ≡ with_part (shown_gathered gathered.entry) (shown_part part.entry) }
+    ensures { shown_gathered result
+        ≡ with_part (shown_gathered gathered.entry) (shown_part part.entry) }
 {
     match part {
         Part::Chosen(Setting::Workers, text) => Gathered {
@@ -103,7 +106,8 @@ fn with_part<'a>(gathered: Gathered<'a>, part: Part<'a>) -> Gathered<'a>
 
 // The same with positional words after them.
 fn with_positional_words<'a>(mut gathered: Gathered<'a>, words: &'a [String]) -> Gathered<'a>
-    ensures { shown_gathered result ≡ with_parts (shown_gathered gathered.entry) (map Positional (words_of words.now)) }
+    ensures { shown_gathered result
+        ≡ with_parts (shown_gathered gathered.entry) (map Positional (words_of words.now)) }
 {
     for word in words {
         gathered = with_part(gathered, Part::Positional(word.as_str()));

@@ -18,7 +18,8 @@ pub enum Part<'a> {
 pub fn first_part<'a>(word: &'a str, after: &'a [String]) -> Result<(Part<'a>, &'a [String]), Usage>
     requires { ends_options word.now ≡ false }
     ensures part { IfOk result (λ first.
-        parts_of (word.now ∷ words_of after.now) ≡ then_part (shown_part first.0) (parts_of (words_of first.1.now))) }
+        parts_of (word.now ∷ words_of after.now)
+        ≡ then_part (shown_part first.0) (parts_of (words_of first.1.now))) }
     ensures shorter { IfOk result (λ first. length first.1.now ≤ length after.now) }
     ensures refused { OnErr result (parts_of (word.now ∷ words_of after.now) ≡ None) }
 {

@@ -35,7 +35,8 @@ pub fn int_of(value: &Value) -> Option<i64>
 
 /// The two parts of a pair.
 pub fn pair_of(value: &Value) -> Option<Keyed<'_>>
-    ensures { option_map (λ pair. record { key = pair.key.now; part = pair.part.now }) result ≡ as_pair value.now }
+    ensures { option_map (λ pair. record { key = pair.key.now; part = pair.part.now }) result
+        ≡ as_pair value.now }
 {
     match value {
         Value::Pair(key, part) => Some(Keyed { key, part }),

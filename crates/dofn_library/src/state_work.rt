@@ -31,7 +31,8 @@ pub trait StateWork {
         out: &mut List<Element>,
     ) -> Result<(), CallRefusal>
         requires { is_state_allowed work args.now ≡ true }
-        ensures { Steps (on_element work args.now key.now e.now (kept_in state.old timers.old)) state.new timers.new out.old out.new result };
+        ensures { Steps (on_element work args.now key.now e.now (kept_in state.old timers.old))
+            state.new timers.new out.old out.new result };
 
     /// The same on timer 0, which is never poison.
     fn on_timer(
@@ -43,7 +44,8 @@ pub trait StateWork {
         timers: &mut Timers,
         out: &mut List<Element>,
     ) -> Result<(), NoMemory>
-        ensures { OnOk result (IsStepped (on_first_timer work key.now span time (kept_in state.old timers.old)) state.new timers.new out.old out.new) };
+        ensures { OnOk result (IsStepped (on_first_timer work key.now span time
+            (kept_in state.old timers.old)) state.new timers.new out.old out.new) };
 }
 
 impl<W: StateWork + Send + Drop> StatefulFn for Strict<W> {
@@ -68,7 +70,8 @@ impl<W: StateWork + Send + Drop> StatefulFn for Strict<W> {
         out: &mut List<Element>,
     ) -> Result<(), CallRefusal>
         requires { is_state_allowed W.work args.now ≡ true }
-        ensures gives { Steps (steps W.work args.now key.now span input.now (kept_in state.old timers.old)) state.new timers.new out.old out.new result }
+        ensures gives { Steps (steps W.work args.now key.now span input.now
+            (kept_in state.old timers.old)) state.new timers.new out.old out.new result }
         ensures counts { self.new ≡ counted self.old result }
         ensures rises { self.old ≤ self.new }
     {

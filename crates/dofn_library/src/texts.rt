@@ -1,4 +1,5 @@
-ghost use Rattle.std.specs.Prelude.{◌≡◌, ◌<◌, [], ◌∷◌, length, not, position, slice_get, if◌then◌else◌, IfSome, MatchOption};
+ghost use Rattle.std.specs.Prelude.{◌≡◌, ◌<◌, [], ◌∷◌, length, not, position, slice_get};
+ghost use Rattle.std.specs.Prelude.{if◌then◌else◌, IfSome, MatchOption};
 ghost use Rattle.std.specs.Option.{option_copied};
 ghost use Rattle.std.specs.Char.{is_ascii_alphanumeric};
 ghost use Rattle.beam_values.specs.Functions.{digits_value};
@@ -32,7 +33,8 @@ pub fn begins_with(text: &[u8], prefix: &[u8]) -> bool
 
 /// The first run of ASCII letters and digits, and the text after it.
 pub fn first_word(text: &[u8]) -> Option<(&[u8], &[u8])>
-    ensures found { MatchOption result (words text.now ≡ []) (λ found. words text.now ≡ found.0.now ∷ words found.1.now) }
+    ensures found { MatchOption result (words text.now ≡ [])
+        (λ found. words text.now ≡ found.0.now ∷ words found.1.now) }
     ensures shorter { IfSome result (λ found. length found.1.now < length text.now) }
 {
     let start = word_start(text)?;

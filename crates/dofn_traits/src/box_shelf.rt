@@ -1,5 +1,8 @@
-ghost use Rattle.std.specs.Prelude.{◌≡◌, ◌⊎◌, ◌==◌, ◌<◌, position, OnOk, OnErr, IfOk, IfSome, OnSome, IfNone};
-ghost use Rattle.dofn_traits.specs.Shelves.{fn_number, source_number, state_number, is_shelf_strict, shelf_faults, HasEach, LacksOne, IsPlaced};
+ghost use Rattle.std.specs.Prelude.{◌≡◌, ◌⊎◌, ◌==◌, ◌<◌, position, OnOk, OnErr, IfOk, IfSome};
+ghost use Rattle.std.specs.Prelude.{OnSome, IfNone};
+ghost use Rattle.dofn_traits.specs.Shelves.{fn_number, source_number, state_number};
+ghost use Rattle.dofn_traits.specs.Shelves.{is_shelf_strict, shelf_faults, HasEach, LacksOne};
+ghost use Rattle.dofn_traits.specs.Shelves.{IsPlaced};
 
 use crate::{CallRefusal, DoFn, Emission, Found, Shelf, SplittableFn, StatefulFn};
 use beam_values::{Args, Element, FnKind, List, LogInput, SourceKind, Span, StateKind, Value};
@@ -49,15 +52,22 @@ pub struct BoxShelf<D: DoFn, S: SplittableFn, T: StatefulFn> {
 
 impl<D: DoFn, S: SplittableFn, T: StatefulFn> Model for BoxShelf<D, S, T> {
     ghost use Rattle.dofn_traits.specs.declared.box_shelf.TheConstants.{FNS, SOURCES, STATES};
-    ghost use Rattle.dofn_traits.specs.Shelves.{Boxes, IsPlaced, fn_number, source_number, state_number};
+    ghost use Rattle.dofn_traits.specs.Shelves.{Boxes, IsPlaced, fn_number, source_number};
+    ghost use Rattle.dofn_traits.specs.Shelves.{state_number};
 
     ghost Value = { Boxes D S T };
 
-    ghost view = { λ shelf. record { fns = shelf.fns.items; splits = shelf.splits.items; states = shelf.states.items } };
+    ghost view = { λ shelf. record {
+      fns = shelf.fns.items;
+      splits = shelf.splits.items;
+      states = shelf.states.items;
+    } };
 
-    ghost invariant = { λ shelf. IsPlaced (λ box. fn_number (D.work box)) FNS shelf.fns.items shelf.fn_places
+    ghost invariant = { λ shelf.
+        IsPlaced (λ box. fn_number (D.work box)) FNS shelf.fns.items shelf.fn_places
         × IsPlaced (λ box. source_number (S.work box)) SOURCES shelf.splits.items shelf.split_places
-        × IsPlaced (λ box. state_number (T.work box)) STATES shelf.states.items shelf.state_places };
+        × IsPlaced (λ box. state_number (T.work box))
+        STATES shelf.states.items shelf.state_places };
 }
 
 impl<D: DoFn, S: SplittableFn, T: StatefulFn> BoxShelf<D, S, T> {
@@ -67,9 +77,12 @@ impl<D: DoFn, S: SplittableFn, T: StatefulFn> BoxShelf<D, S, T> {
         splits: List<S>,
         states: List<T>,
     ) -> Result<BoxShelf<D, S, T>, ShelfRefusal>
-        ensures boxes { IfOk result (λ shelf. shelf ≡ record { fns = fns; splits = splits; states = states }) }
-        ensures complete { OnOk result (HasEach D.work fns × HasEach S.work splits × HasEach T.work states) }
-        ensures missing { OnErr result (LacksOne D.work fns ⊎ LacksOne S.work splits ⊎ LacksOne T.work states) }
+        ensures boxes { IfOk result
+            (λ shelf. shelf ≡ record { fns = fns; splits = splits; states = states }) }
+        ensures complete { OnOk result
+            (HasEach D.work fns × HasEach S.work splits × HasEach T.work states) }
+        ensures missing { OnErr result
+            (LacksOne D.work fns ⊎ LacksOne S.work splits ⊎ LacksOne T.work states) }
     {
         let Some(fn_places) = fn_places(fns.as_slice()) else {
             return Err(ShelfRefusal::Missing);
@@ -156,7 +169,8 @@ fn fn_place<D: DoFn>(fns: &[D], number: usize) -> Option<usize>
 }
 
 fn split_places<S: SplittableFn>(splits: &[S]) -> Option<[usize; SOURCES]>
-    ensures placed { IfSome result (IsPlaced (λ box. source_number (S.work box)) SOURCES splits.now) }
+    ensures placed { IfSome result
+        (IsPlaced (λ box. source_number (S.work box)) SOURCES splits.now) }
     ensures complete { OnSome result (HasEach S.work splits.now) }
     ensures missing { IfNone result (LacksOne S.work splits.now) }
 {

@@ -37,7 +37,8 @@ pub trait DoFn: Send + Drop {
     fn call(&mut self, args: &Args, e: &Element, out: &mut List<Element>) -> Result<(), CallRefusal>
         requires allowed { is_function_allowed (work self.old) args.now ≡ true }
         ensures outputs { OnOk result (AddsOutputs (work self.old) args.now e.now out.old out.new) }
-        ensures failed { IsErrOf result CallRefusal.Failed → Rose (faults self.old) (faults self.new) }
+        ensures failed { IsErrOf result CallRefusal.Failed
+            → Rose (faults self.old) (faults self.new) }
         ensures counts { faults self.old ≤ faults self.new }
         ensures unharmed { strict self.old ≡ true → emits (work self.old) args.now e.now ≢ None
             → IsUnharmed (IsErrOf result CallRefusal.Failed) (faults self.old) (faults self.new) }

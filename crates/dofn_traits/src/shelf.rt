@@ -1,10 +1,13 @@
-ghost use Rattle.std.specs.Prelude.{◌≡◌, ◌≢◌, ◌↔◌, ◌≤◌, ℕ, Bool, true, None, List as ListOf, OnOk, IfOk, IsErrOf};
-ghost use Rattle.beam_values.specs.Checked.{is_function_allowed, is_source_argument, is_state_allowed};
+ghost use Rattle.std.specs.Prelude.{◌≡◌, ◌≢◌, ◌↔◌, ◌≤◌, ℕ, Bool, true, None, List as ListOf, OnOk};
+ghost use Rattle.std.specs.Prelude.{IfOk, IsErrOf};
+ghost use Rattle.beam_values.specs.Checked.{is_function_allowed, is_source_argument};
+ghost use Rattle.beam_values.specs.Checked.{is_state_allowed};
 ghost use Rattle.beam_ports.specs.Counts.{Rose};
 ghost use Rattle.beam_model.specs.Functions.{emits};
 ghost use Rattle.beam_model.specs.Positions as model;
 ghost use Rattle.beam_model.specs.Steps.{steps};
-ghost use Rattle.dofn_traits.specs.Calls.{is_cut_short, kept_in, AddsOutputs, AddsStep, IsView, IsViewOf, IsFound, IsNextWithin, IsUnharmed};
+ghost use Rattle.dofn_traits.specs.Calls.{is_cut_short, kept_in, AddsOutputs, AddsStep, IsView};
+ghost use Rattle.dofn_traits.specs.Calls.{IsViewOf, IsFound, IsNextWithin, IsUnharmed};
 
 use crate::{CallRefusal, Emission, Found};
 use beam_values::{Args, Element, FnKind, List, LogInput, SourceKind, Span, StateKind, Value};
@@ -38,7 +41,8 @@ pub trait Shelf: Send {
     ) -> Result<(), CallRefusal>
         requires allowed { is_function_allowed kind args.now ≡ true }
         ensures outputs { OnOk result (AddsOutputs kind args.now e.now out.old out.new) }
-        ensures failed { IsErrOf result CallRefusal.Failed → Rose (faults self.old) (faults self.new) }
+        ensures failed { IsErrOf result CallRefusal.Failed
+            → Rose (faults self.old) (faults self.new) }
         ensures counts { faults self.old ≤ faults self.new }
         ensures unharmed { strict self.old ≡ true → emits kind args.now e.now ≢ None
             → IsUnharmed (IsErrOf result CallRefusal.Failed) (faults self.old) (faults self.new) }
@@ -57,17 +61,22 @@ pub trait Shelf: Send {
     ) -> Result<Found, CallRefusal>
         requires allowed { is_source_argument kind args.now ≡ true }
         requires view { IsView kind args.now bytes.now base len p }
-        ensures found { IfOk result (λ found. (file : ListOf ℕ) → IsViewOf file kind args.now bytes.now base len
+        ensures found { IfOk result
+            (λ found. (file : ListOf ℕ) → IsViewOf file kind args.now bytes.now base len
             → IsFound kind args.now file p out.old out.new found) }
         ensures next { IfOk result (IsNextWithin p len) }
         ensures unchanged { IfOk result (λ found. found ≡ Found.More → out.new ≡ out.old) }
-        ensures more { IfOk result (λ found. (found ≡ Found.More) ↔ (is_cut_short kind bytes.now base len p ≡ true)) }
-        ensures failed { IsErrOf result CallRefusal.Failed → Rose (faults self.old) (faults self.new) }
+        ensures more { IfOk result
+            (λ found. (found ≡ Found.More) ↔ (is_cut_short kind bytes.now base len p ≡ true)) }
+        ensures failed { IsErrOf result CallRefusal.Failed
+            → Rose (faults self.old) (faults self.new) }
         ensures counts { faults self.old ≤ faults self.new }
-        ensures unharmed { strict self.old ≡ true → (file : ListOf ℕ) → IsViewOf file kind args.now bytes.now base len
+        ensures unharmed { strict self.old ≡ true → (file : ListOf ℕ)
+            → IsViewOf file kind args.now bytes.now base len
             → model.emission kind args.now file p ≢ model.Poison
             → IsUnharmed (IsErrOf result CallRefusal.Failed) (faults self.old) (faults self.new) }
-        ensures unharmed_more { strict self.old ≡ true → is_cut_short kind bytes.now base len p ≡ true
+        ensures unharmed_more { strict self.old ≡ true
+            → is_cut_short kind bytes.now base len p ≡ true
             → IsUnharmed (IsErrOf result CallRefusal.Failed) (faults self.old) (faults self.new) }
         ensures strict { strict self.new ≡ strict self.old };
 
@@ -84,11 +93,14 @@ pub trait Shelf: Send {
         out: &mut List<Element>,
     ) -> Result<(), CallRefusal>
         requires allowed { is_state_allowed kind args.now ≡ true }
-        ensures step { OnOk result (AddsStep kind args.now key.now span input.now (kept_in state.old timers.old)
+        ensures step { OnOk result
+            (AddsStep kind args.now key.now span input.now (kept_in state.old timers.old)
             state.new timers.new out.old out.new) }
-        ensures failed { IsErrOf result CallRefusal.Failed → Rose (faults self.old) (faults self.new) }
+        ensures failed { IsErrOf result CallRefusal.Failed
+            → Rose (faults self.old) (faults self.new) }
         ensures counts { faults self.old ≤ faults self.new }
-        ensures unharmed { strict self.old ≡ true → steps kind args.now key.now span input.now (kept_in state.old timers.old) ≢ None
+        ensures unharmed { strict self.old ≡ true
+            → steps kind args.now key.now span input.now (kept_in state.old timers.old) ≢ None
             → IsUnharmed (IsErrOf result CallRefusal.Failed) (faults self.old) (faults self.new) }
         ensures strict { strict self.new ≡ strict self.old };
 }

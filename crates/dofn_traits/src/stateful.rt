@@ -38,11 +38,15 @@ pub trait StatefulFn: Send + Drop {
         out: &mut List<Element>,
     ) -> Result<(), CallRefusal>
         requires allowed { is_state_allowed (work self.old) args.now ≡ true }
-        ensures step { OnOk result (AddsStep (work self.old) args.now key.now span input.now (kept_in state.old timers.old)
+        ensures step { OnOk result
+            (AddsStep (work self.old) args.now key.now span input.now (kept_in state.old timers.old)
             state.new timers.new out.old out.new) }
-        ensures failed { IsErrOf result CallRefusal.Failed → Rose (faults self.old) (faults self.new) }
+        ensures failed { IsErrOf result CallRefusal.Failed
+            → Rose (faults self.old) (faults self.new) }
         ensures counts { faults self.old ≤ faults self.new }
-        ensures unharmed { strict self.old ≡ true → steps (work self.old) args.now key.now span input.now (kept_in state.old timers.old) ≢ None
+        ensures unharmed { strict self.old ≡ true
+            → steps (work self.old) args.now key.now span input.now (kept_in state.old timers.old)
+            ≢ None
             → IsUnharmed (IsErrOf result CallRefusal.Failed) (faults self.old) (faults self.new) }
         ensures work { work self.new ≡ work self.old }
         ensures strict { strict self.new ≡ strict self.old };

@@ -13,7 +13,8 @@ ghost use Rattle.beam_model.specs.Covers.{IsCovered};
 ghost use Rattle.beam_model.specs.Estimators.{AreSoundAbove};
 ghost use Rattle.beam_model.specs.Flow.{elements_at};
 ghost use Rattle.beam_model.specs.Panes.{ArePanesLegal};
-ghost use Rattle.beam_model.specs.Plain.{ArePlainlyWrittenWhere, HasDefaultTriggersAbove, IsPlainAt, NothingIsDroppedAbove};
+ghost use Rattle.beam_model.specs.Plain.{ArePlainlyWrittenWhere, HasDefaultTriggersAbove};
+ghost use Rattle.beam_model.specs.Plain.{IsPlainAt, NothingIsDroppedAbove};
 ghost use Rattle.beam_model.specs.Positions.{items};
 ghost use Rattle.book_core.specs.Book.{BookData};
 ghost use Rattle.book_core.specs.Calls.{IsOutcomeOf};
@@ -39,7 +40,8 @@ use windowing::laws::windows_hold_their_time;
 /// Each offset of each source item lies in exactly one committed range, and no committed range has
 /// another offset: nothing is left out, and nothing is read twice.
 pub fn outcomes_are_covered()
-    ensures { (told : Option (List FileText)) (b : BookData) (o : Outcome) → Reached told b → IsThrough b → IsOutcomeOf b o → IsCovered o }
+    ensures { (told : Option (List FileText)) (b : BookData) (o : Outcome)
+        → Reached told b → IsThrough b → IsOutcomeOf b o → IsCovered o }
 {
     reached_books_are_partitioned();
     reached_books_are_well_formed();
@@ -48,7 +50,8 @@ pub fn outcomes_are_covered()
 /// Where the files are told, every position's outputs and every pane came to each barrier that they
 /// reach exactly once, and nothing else did.
 pub fn outcomes_are_accounted()
-    ensures { (told : List FileText) (b : BookData) (o : Outcome) → Reached (Some told) b → AreTold told b → IsThrough b → IsOutcomeOf b o
+    ensures { (told : List FileText) (b : BookData) (o : Outcome)
+        → Reached (Some told) b → AreTold told b → IsThrough b → IsOutcomeOf b o
         → IsAccounted (items told b.plan) o }
 {
     reached_books_are_partitioned();
@@ -60,7 +63,8 @@ pub fn outcomes_are_accounted()
 /// The panes of an outcome are legal under the trigger of each Group, also those of a run that was given
 /// up, and they stand by commit, node, key and window.
 pub fn outcomes_have_legal_panes()
-    ensures { (told : Option (List FileText)) (b : BookData) (o : Outcome) → Reached told b → IsOutcomeOf b o
+    ensures { (told : Option (List FileText)) (b : BookData) (o : Outcome)
+        → Reached told b → IsOutcomeOf b o
         → ArePanesLegal o.plan o.commits o.cells o.dropped o.panes }
 {
     cells_are_kept();
@@ -69,9 +73,12 @@ pub fn outcomes_have_legal_panes()
 /// The lists of an outcome are in order: done ranges by node, item and range, cells by node, key and
 /// window, and panes by commit, node, key and window.
 pub fn outcomes_are_in_order()
-    ensures done { (told : Option (List FileText)) (b : BookData) (o : Outcome) → Reached told b → IsOutcomeOf b o → IsSorted done_cmp o.done }
-    ensures cells { (told : Option (List FileText)) (b : BookData) (o : Outcome) → Reached told b → IsOutcomeOf b o → IsSorted cell_cmp o.cells }
-    ensures panes { (told : Option (List FileText)) (b : BookData) (o : Outcome) → Reached told b → IsOutcomeOf b o → IsSorted pane_cmp o.panes }
+    ensures done { (told : Option (List FileText)) (b : BookData) (o : Outcome)
+        → Reached told b → IsOutcomeOf b o → IsSorted done_cmp o.done }
+    ensures cells { (told : Option (List FileText)) (b : BookData) (o : Outcome)
+        → Reached told b → IsOutcomeOf b o → IsSorted cell_cmp o.cells }
+    ensures panes { (told : Option (List FileText)) (b : BookData) (o : Outcome)
+        → Reached told b → IsOutcomeOf b o → IsSorted pane_cmp o.panes }
 {
     reached_books_are_well_formed();
     cells_are_kept();
@@ -80,8 +87,10 @@ pub fn outcomes_are_in_order()
 /// Where the files are told, no Group above a node drops an element, also in a run that was given up, if
 /// each of these Groups has the default trigger and each estimator above the node is sound.
 pub fn sound_groups_drop_nothing()
-    ensures { (told : List FileText) (b : BookData) (o : Outcome) (node : ℕ) → Reached (Some told) b → IsOutcomeOf b o
-        → HasDefaultTriggersAbove o.plan node → AreSoundAbove o.plan (items told b.plan) node → NothingIsDroppedAbove o.plan node o.dropped }
+    ensures { (told : List FileText) (b : BookData) (o : Outcome) (node : ℕ)
+        → Reached (Some told) b → IsOutcomeOf b o
+        → HasDefaultTriggersAbove o.plan node → AreSoundAbove o.plan (items told b.plan) node
+        → NothingIsDroppedAbove o.plan node o.dropped }
 {
     nodes_have_inputs_and_settings_of_their_kind();
     nodes_take_elements_of_their_strategy();
@@ -95,7 +104,8 @@ pub fn sound_groups_drop_nothing()
 /// dropped an element, whatever was split, bundled or tried again. Windows may be sessions, and Groups may
 /// stand one above another. The values of panes are ones that a program can hold.
 pub fn outcomes_are_plainly_written()
-    ensures { (told : List FileText) (b : BookData) (o : Outcome) → Reached (Some told) b → AreTold told b → IsThrough b → IsOutcomeOf b o
+    ensures { (told : List FileText) (b : BookData) (o : Outcome)
+        → Reached (Some told) b → AreTold told b → IsThrough b → IsOutcomeOf b o
         → ArePanesStorable o → ArePlainlyWrittenWhere (items told b.plan) o }
 {
     no_node_is_stateful();
@@ -110,22 +120,27 @@ pub fn outcomes_are_plainly_written()
 /// Group dropped a line, so that what was written is no plain grouping. Of two lines the second is 5001
 /// milliseconds before the first, and the lag is 5000.
 pub fn a_lag_one_millisecond_too_small_drops_a_line()
-    ensures { (told : List FileText) × (b : BookData) × (o : Outcome) × (node : ℕ) × IsEndedRun told b o node × HasDefaultTriggersAbove o.plan node
-        × (NothingIsDroppedAbove o.plan node o.dropped → ⊥) × (IsPlainAt o.plan (items told b.plan) node (elements_at node o.written) → ⊥) }
+    ensures { (told : List FileText) × (b : BookData) × (o : Outcome) × (node : ℕ)
+        × IsEndedRun told b o node × HasDefaultTriggersAbove o.plan node
+        × (NothingIsDroppedAbove o.plan node o.dropped → ⊥)
+        × (IsPlainAt o.plan (items told b.plan) node (elements_at node o.written) → ⊥) }
 {}
 
 /// And it asks for default triggers: there is a run with sound estimators that came to its end and dropped
 /// nothing, where what was written is no plain grouping. A Group that fires early shows the first of two
 /// lines before the second comes.
 pub fn an_early_trigger_splits_a_pane()
-    ensures { (told : List FileText) × (b : BookData) × (o : Outcome) × (node : ℕ) × IsEndedRun told b o node × AreSoundAbove o.plan (items told b.plan) node
-        × NothingIsDroppedAbove o.plan node o.dropped × (IsPlainAt o.plan (items told b.plan) node (elements_at node o.written) → ⊥) }
+    ensures { (told : List FileText) × (b : BookData) × (o : Outcome) × (node : ℕ)
+        × IsEndedRun told b o node × AreSoundAbove o.plan (items told b.plan) node
+        × NothingIsDroppedAbove o.plan node o.dropped
+        × (IsPlainAt o.plan (items told b.plan) node (elements_at node o.written) → ⊥) }
 {}
 
 /// A run that was given up by a fault met that fault: some job of it failed there honestly, as often as
 /// it may.
 pub fn stops_are_honest()
-    ensures { (known : Surroundings) (b : BookData) (note : FaultNote) → HonestlyReached known b → b.stopped ≡ Some (stop.Spent note)
+    ensures { (known : Surroundings) (b : BookData) (note : FaultNote)
+        → HonestlyReached known b → b.stopped ≡ Some (stop.Spent note)
         → IsHonestStop known b note }
 {
     attempts_are_counted();
@@ -134,10 +149,13 @@ pub fn stops_are_honest()
 /// Where the files are told and calls fail on poison alone, no call fails in a run that takes no poison.
 /// So it is given up only by reads, of which at least as many failed as a job has attempts.
 pub fn runs_without_poison_fail_by_reads()
-    ensures calls { (known : Surroundings) (told : List FileText) (b : BookData) → known.told ≡ Some told → known.strict ≡ true → AreTold told b
+    ensures calls { (known : Surroundings) (told : List FileText) (b : BookData)
+        → known.told ≡ Some told → known.strict ≡ true → AreTold told b
         → TakesNoPoison known b.plan b.options → HonestlyReached known b → b.calls ≡ 0 }
-    ensures reads { (known : Surroundings) (told : List FileText) (b : BookData) (note : FaultNote) → known.told ≡ Some told → known.strict ≡ true → AreTold told b
-        → TakesNoPoison known b.plan b.options → HonestlyReached known b → b.stopped ≡ Some (stop.Spent note) → b.options.attempts ≤ b.reads }
+    ensures reads { (known : Surroundings) (told : List FileText) (b : BookData) (note : FaultNote)
+        → known.told ≡ Some told → known.strict ≡ true → AreTold told b
+        → TakesNoPoison known b.plan b.options → HonestlyReached known b
+        → b.stopped ≡ Some (stop.Spent note) → b.options.attempts ≤ b.reads }
 {
     reached_books_are_kept();
 }

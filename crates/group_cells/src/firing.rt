@@ -1,13 +1,15 @@
 //! What one cell fires. A pane is built before anything is changed, so want of memory leaves a cell
 //! as it was.
 
-ghost use Rattle.std.specs.Prelude.{◌≡◌, ◌+◌, ◌<◌, ◌^◌, map, option_to_list, Some, IsSome, IfOk, OnOk, OnErr};
+ghost use Rattle.std.specs.Prelude.{◌≡◌, ◌+◌, ◌<◌, ◌^◌, map, option_to_list, Some, IsSome, IfOk};
+ghost use Rattle.std.specs.Prelude.{OnOk, OnErr};
 ghost use Rattle.std.specs.List.Sorted.{IsSorted};
 ghost use Rattle.beam_values.specs.Bags.{IsSameBag};
 ghost use Rattle.beam_values.specs.Grouping.{part_of, pane_as};
 ghost use Rattle.beam_values.specs.Orders.{value_cmp};
 ghost use Rattle.beam_model.specs.Panes.{is_on_time, taken_entry, IsFiredAs, IsPaneOf};
-ghost use Rattle.group_cells.specs.Cells.{after_firing, entries_held, firing_of, once_fired, shown, unseen_in};
+ghost use Rattle.group_cells.specs.Cells.{after_firing, entries_held, firing_of, once_fired, shown};
+ghost use Rattle.group_cells.specs.Cells.{unseen_in};
 ghost use Rattle.group_cells.specs.Firings.{is_held};
 ghost use Rattle.pane_triggers.specs.Fires.{timing_of};
 
@@ -68,10 +70,13 @@ pub fn pane_of(
     mark: Mark,
     cell: &Cell,
 ) -> Result<Option<Pane>, NoMemory>
-    ensures pane { IfOk result (λ pane. IsFiredAs cell.now.node cell.now.key commit cell.now.span cell.now.next_index
-        (map (taken_entry cell.now.node) (entries_held rules.now.trigger.mode cell.now.entries)) (firing_of rules.now mark cell.now) (option_to_list pane)) }
+    ensures pane { IfOk result
+        (λ pane. IsFiredAs cell.now.node cell.now.key commit cell.now.span cell.now.next_index
+        (map (taken_entry cell.now.node) (entries_held rules.now.trigger.mode cell.now.entries))
+        (firing_of rules.now mark cell.now) (option_to_list pane)) }
     // A count of panes at its end is answered as want of memory.
-    ensures counted { IfOk result (λ pane. IsSome (firing_of rules.now mark cell.now) → cell.now.next_index + 1 < 2 ^ 32) }
+    ensures counted { IfOk result
+        (λ pane. IsSome (firing_of rules.now mark cell.now) → cell.now.next_index + 1 < 2 ^ 32) }
 {
     match firing_of(rules, mark, cell) {
         None => Ok(None),
@@ -108,8 +113,10 @@ pub fn fire_cell(
     cell: &mut Cell,
 ) -> Result<Option<Pane>, NoMemory>
     ensures cell { OnOk result (cell.new ≡ after_firing rules.now mark cell.old) }
-    ensures pane { IfOk result (λ pane. IsFiredAs cell.old.node cell.old.key commit cell.old.span cell.old.next_index
-        (map (taken_entry cell.old.node) (entries_held rules.now.trigger.mode cell.old.entries)) (firing_of rules.now mark cell.old) (option_to_list pane)) }
+    ensures pane { IfOk result
+        (λ pane. IsFiredAs cell.old.node cell.old.key commit cell.old.span cell.old.next_index
+        (map (taken_entry cell.old.node) (entries_held rules.now.trigger.mode cell.old.entries))
+        (firing_of rules.now mark cell.old) (option_to_list pane)) }
     ensures err { OnErr result (cell.new ≡ cell.old) }
 {
     let pane = pane_of(alloc, rules, commit, mark, cell)?;
@@ -125,7 +132,8 @@ pub fn pane_with(
     timing: Timing,
     cell: &Cell,
 ) -> Result<Pane, NoMemory>
-    ensures pane { IfOk result (λ pane. IsPaneOf cell.now.node cell.now.key commit cell.now.span timing cell.now.next_index
+    ensures pane { IfOk result
+        (λ pane. IsPaneOf cell.now.node cell.now.key commit cell.now.span timing cell.now.next_index
         (map (taken_entry cell.now.node) (entries_held mode cell.now.entries)) pane) }
     ensures counted { OnOk result (cell.now.next_index + 1 < 2 ^ 32) }
 {
@@ -166,7 +174,8 @@ fn pane_as(
 // The parts of the entries that a pane holds, ascending by their spellings.
 fn parts_of(alloc: Global, mode: Mode, entries: &[Entry]) -> Result<List<Value>, NoMemory>
     ensures ascending { IfOk result (IsSorted value_cmp) }
-    ensures those { IfOk result (λ parts. IsSameBag parts (map (λ entry. part_of entry.element) (entries_held mode entries.now))) }
+    ensures those { IfOk result (λ parts. IsSameBag parts
+        (map (λ entry. part_of entry.element) (entries_held mode entries.now))) }
 {
     let mut parts = copy_parts(alloc, mode, entries)?;
     parts.sort_by(|a, b| cmp_values(a, b))?;
@@ -174,7 +183,8 @@ fn parts_of(alloc: Global, mode: Mode, entries: &[Entry]) -> Result<List<Value>,
 }
 
 fn copy_parts(alloc: Global, mode: Mode, entries: &[Entry]) -> Result<Vec<Value>, NoMemory>
-    ensures { IfOk result (λ parts. parts.items ≡ map (λ entry. part_of entry.element) (entries_held mode entries.now)) }
+    ensures { IfOk result (λ parts. parts.items
+        ≡ map (λ entry. part_of entry.element) (entries_held mode entries.now)) }
 {
     let mut parts = Vec::new(alloc);
     for entry in entries {

@@ -57,7 +57,11 @@ impl Model for Groups {
 
     ghost coded = { Prim.hlevel (codes, values.the_row.coded) };
 
-    ghost view = { λ g. record { plan = g.plan; cells = g.draft.cells.items; dropped = g.draft.dropped.items } };
+    ghost view = { λ g. record {
+      plan = g.plan;
+      cells = g.draft.cells.items;
+      dropped = g.draft.dropped.items;
+    } };
 
     ghost invariant = { λ g. IsSettled g.plan g.draft g.standing g.indexed };
 }
@@ -66,7 +70,8 @@ impl Groups {
     /// No cell, and nothing dropped.
     pub fn new(alloc: Global, plan: &Plan) -> Result<Groups, NoMemory>
         requires { IsChecked plan.now }
-        ensures { IfOk result (λ groups. groups ≡ record { plan = plan.now; cells = []; dropped = [] }) }
+        ensures { IfOk result
+            (λ groups. groups ≡ record { plan = plan.now; cells = []; dropped = [] }) }
     {
         Ok(Groups {
             plan: plan.copy(alloc)?,
@@ -102,12 +107,18 @@ impl Groups {
         requires marks { length marks.old ≡ length plan.now.nodes }
         requires gaps { All (HasGap plan.now) arrivals.old }
         requires rises { RisesFrom plan.now (hold_at holds.now) marks.old }
-        ensures legal { IfOk result (KeepsLegal plan.now commit marks.old marks.new self.old self.new) }
-        ensures committed { IfOk result (IsCommitted plan.now commit marks.old marks.new (hold_at holds.now) arrivals.old arrivals.new self.old self.new) }
-        ensures rises { OnOk result ((held : ℕ → ℤ) → AreMarks plan.now held marks.old → NoneFalls marks.old marks.new) }
-        ensures few { IfOk result (λ fired. length fired ≤ length self.old.cells + length arrivals.old) }
-        ensures grown { OnOk result (length self.new.cells ≤ length self.old.cells + length arrivals.old) }
-        ensures err { OnErr result ((self.new ≡ self.old) × (marks.new ≡ marks.old) × (arrivals.new ≡ arrivals.old)) }
+        ensures legal { IfOk result
+            (KeepsLegal plan.now commit marks.old marks.new self.old self.new) }
+        ensures committed { IfOk result (IsCommitted plan.now commit marks.old marks.new
+            (hold_at holds.now) arrivals.old arrivals.new self.old self.new) }
+        ensures rises { OnOk result
+            ((held : ℕ → ℤ) → AreMarks plan.now held marks.old → NoneFalls marks.old marks.new) }
+        ensures few { IfOk result
+            (λ fired. length fired ≤ length self.old.cells + length arrivals.old) }
+        ensures grown { OnOk result
+            (length self.new.cells ≤ length self.old.cells + length arrivals.old) }
+        ensures err { OnErr result
+            ((self.new ≡ self.old) × (marks.new ≡ marks.old) × (arrivals.new ≡ arrivals.old)) }
     {
         let indexed = self.indexed;
         self.indexed = false;

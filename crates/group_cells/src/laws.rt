@@ -12,36 +12,46 @@ ghost use Rattle.beam_values.specs.declared.marks.StageMarks.{StageMarks};
 ghost use Rattle.beam_values.specs.declared.plan.Plan.{Plan};
 ghost use Rattle.beam_values.specs.Nodes.{is_group};
 ghost use Rattle.beam_model.specs.Panes.{ArePanesLegal, IsKeyed, taken_by};
-ghost use Rattle.group_cells.specs.Commits.{SeenGroups, AreRounds, HasGap, HaveGaps, KeepsLegal, NeverFalls, NoneFalls, as_commit, dropped_arrival, is_dropped, is_taken, taken_arrival};
+ghost use Rattle.group_cells.specs.Commits.{SeenGroups, AreRounds, HasGap, HaveGaps, KeepsLegal};
+ghost use Rattle.group_cells.specs.Commits.{NeverFalls, NoneFalls, as_commit, dropped_arrival};
+ghost use Rattle.group_cells.specs.Commits.{is_dropped, is_taken, taken_arrival};
 
 /// A commit that goes by rounds, and drops what comes too late, keeps what is legal.
 pub fn rounds_keep_what_is_legal()
-    ensures { (plan : Plan) (c : ℕ) (before after : List StageMarks) (arrivals : List Arrival) (old new : SeenGroups) (fired : List Pane)
+    ensures { (plan : Plan) (c : ℕ) (before after : List StageMarks)
+        (arrivals : List Arrival) (old new : SeenGroups) (fired : List Pane)
         → IsChecked plan → length before ≡ length plan.nodes → length after ≡ length plan.nodes
         → All (HasGap plan) arrivals
-        → new.dropped ≡ old.dropped ++ map (dropped_arrival c) (filter (is_dropped plan before) arrivals)
+        → new.dropped
+        ≡ old.dropped ++ map (dropped_arrival c) (filter (is_dropped plan before) arrivals)
         → AreRounds plan c before after arrivals old.cells new.cells fired
         → KeepsLegal plan c before after old new fired }
 {}
 
 /// Rounds lose no entry and no arrival in time: all of them are entries now, in whichever cells.
 pub fn rounds_keep_all_entries()
-    ensures { (plan : Plan) (c : ℕ) (before after : List StageMarks) (arrivals : List Arrival) (cells new : List Cell) (fired : List Pane)
+    ensures { (plan : Plan) (c : ℕ) (before after : List StageMarks)
+        (arrivals : List Arrival) (cells new : List Cell) (fired : List Pane)
         → All IsKeyed cells → All (λ cell. is_group plan cell.node ≡ true) cells
         → AreRounds plan c before after arrivals cells new fired
-        → IsSameBag (taken_by new) (taken_by cells ++ map (taken_arrival c) (filter (is_taken plan before) arrivals)) }
+        → IsSameBag (taken_by new)
+        (taken_by cells ++ map (taken_arrival c) (filter (is_taken plan before) arrivals)) }
 {}
 
 /// Nothing at all is legal after the opening, from which the first commit goes on.
 pub fn nothing_is_legal()
-    ensures { (plan : Plan) (opening : CommitMarks) → length opening.marks ≡ length plan.nodes → ArePanesLegal plan (opening ∷ []) [] [] [] }
+    ensures { (plan : Plan) (opening : CommitMarks) → length opening.marks ≡ length plan.nodes
+        → ArePanesLegal plan (opening ∷ []) [] [] [] }
 {}
 
 /// What sessions took keeps own windows of the gap's length, where the arrivals have them.
 pub fn rounds_keep_gaps()
-    ensures { (plan : Plan) (c : ℕ) (before : List StageMarks) (arrivals : List Arrival) (cells new : List Cell)
-        → IsSameBag (taken_by new) (taken_by cells ++ map (taken_arrival c) (filter (is_taken plan before) arrivals))
-        → HaveGaps plan (taken_by cells) → All (HasGap plan) arrivals → HaveGaps plan (taken_by new) }
+    ensures { (plan : Plan) (c : ℕ) (before : List StageMarks)
+        (arrivals : List Arrival) (cells new : List Cell)
+        → IsSameBag (taken_by new)
+        (taken_by cells ++ map (taken_arrival c) (filter (is_taken plan before) arrivals))
+        → HaveGaps plan (taken_by cells)
+        → All (HasGap plan) arrivals → HaveGaps plan (taken_by new) }
 {}
 
 /// Marks that never fall go on so with a commit at which none falls.

@@ -6,7 +6,8 @@ ghost use Rattle.std.specs.List.{filter};
 ghost use Rattle.beam_values.specs.Checked.{IsChecked};
 ghost use Rattle.beam_values.specs.Marks.{AreMarks};
 ghost use Rattle.beam_values.specs.Nodes.{facts_of};
-ghost use Rattle.group_cells.specs.Commits.{HasGap, IsCommitted, KeepsLegal, NoneFalls, RisesFrom, dropped_arrival, is_at_group, is_dropped};
+ghost use Rattle.group_cells.specs.Commits.{HasGap, IsCommitted, KeepsLegal, NoneFalls, RisesFrom};
+ghost use Rattle.group_cells.specs.Commits.{dropped_arrival, is_at_group, is_dropped};
 ghost use Rattle.group_cells.specs.Plain.{AreCellsNext};
 ghost use Rattle.watermarks.specs.Holds.{hold_at};
 
@@ -55,7 +56,8 @@ impl PlainGroups {
     /// No cell, and nothing dropped.
     pub fn new(alloc: Global, plan: &Plan) -> Result<PlainGroups, NoMemory>
         requires { IsChecked plan.now }
-        ensures { IfOk result (λ groups. groups ≡ record { plan = plan.now; cells = []; dropped = [] }) }
+        ensures { IfOk result
+            (λ groups. groups ≡ record { plan = plan.now; cells = []; dropped = [] }) }
     {
         Ok(PlainGroups {
             plan: plan.copy(alloc)?,
@@ -84,10 +86,14 @@ impl PlainGroups {
         requires marks { length marks.old ≡ length plan.now.nodes }
         requires gaps { All (HasGap plan.now) arrivals.old }
         requires rises { RisesFrom plan.now (hold_at holds.now) marks.old }
-        ensures legal { IfOk result (KeepsLegal plan.now commit marks.old marks.new self.old self.new) }
-        ensures committed { IfOk result (IsCommitted plan.now commit marks.old marks.new (hold_at holds.now) arrivals.old arrivals.new self.old self.new) }
-        ensures rises { OnOk result ((held : ℕ → ℤ) → AreMarks plan.now held marks.old → NoneFalls marks.old marks.new) }
-        ensures err { OnErr result ((self.new ≡ self.old) × (marks.new ≡ marks.old) × (arrivals.new ≡ arrivals.old)) }
+        ensures legal { IfOk result
+            (KeepsLegal plan.now commit marks.old marks.new self.old self.new) }
+        ensures committed { IfOk result (IsCommitted plan.now commit marks.old marks.new
+            (hold_at holds.now) arrivals.old arrivals.new self.old self.new) }
+        ensures rises { OnOk result
+            ((held : ℕ → ℤ) → AreMarks plan.now held marks.old → NoneFalls marks.old marks.new) }
+        ensures err { OnErr result
+            ((self.new ≡ self.old) × (marks.new ≡ marks.old) × (arrivals.new ≡ arrivals.old)) }
     {
         let next = next_groups(
             self.alloc,
@@ -164,9 +170,12 @@ fn next_groups(
     requires checked { IsChecked plan.now }
     requires holds { length holds.now ≡ length plan.now.nodes }
     requires marks { length before.now ≡ length plan.now.nodes }
-    ensures cells { IfOk result (λ next. AreCellsNext plan.now before.now (hold_at holds.now) commit arrivals.now cells.now next.cells next.marks next.fired) }
-    ensures dropped { IfOk result (λ next. next.dropped ≡ dropped.now ++ map (dropped_arrival commit) (filter (is_dropped plan.now before.now) arrivals.now)) }
-    ensures others { IfOk result (λ next. next.others ≡ filter (λ arrival. not (is_at_group plan.now arrival)) arrivals.now) }
+    ensures cells { IfOk result (λ next. AreCellsNext plan.now before.now
+        (hold_at holds.now) commit arrivals.now cells.now next.cells next.marks next.fired) }
+    ensures dropped { IfOk result (λ next. next.dropped ≡ dropped.now
+        ++ map (dropped_arrival commit) (filter (is_dropped plan.now before.now) arrivals.now)) }
+    ensures others { IfOk result (λ next. next.others
+        ≡ filter (λ arrival. not (is_at_group plan.now arrival)) arrivals.now) }
 {
     let facts = facts_of(alloc, plan.nodes.as_slice())?;
     let facts = facts.as_slice();
@@ -203,7 +212,8 @@ fn next_cells(
     requires facts { facts.now ≡ facts_of plan.now.nodes }
     requires holds { length holds.now ≡ length plan.now.nodes }
     requires marks { length marks.old.items ≡ length plan.now.nodes }
-    ensures { IfOk result (AreCellsNext plan.now before.now (hold_at holds.now) commit arrivals.now cells.old.items cells.new.items marks.new.items) }
+    ensures { IfOk result (AreCellsNext plan.now before.now
+        (hold_at holds.now) commit arrivals.now cells.old.items cells.new.items marks.new.items) }
 {
     let taken = taken_of(alloc, plan, facts, before, arrivals)?;
     place_all(alloc, plan, facts, before, commit, taken, cells)?;

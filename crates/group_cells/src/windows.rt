@@ -1,6 +1,7 @@
 //! For which windows there are to be cells.
 
-ghost use Rattle.std.specs.Prelude.{◌≡◌, ◌≤◌, ◌≤ℤ◌, ◌<ℤ◌, ◌∷◌, [], ◌++◌, ⊤, length, option_to_list, All, Any, Contains, List as ListOf, IfOk, OnOk, MatchOption};
+ghost use Rattle.std.specs.Prelude.{◌≡◌, ◌≤◌, ◌≤ℤ◌, ◌<ℤ◌, ◌∷◌, [], ◌++◌, ⊤, length, option_to_list};
+ghost use Rattle.std.specs.Prelude.{All, Any, Contains, List as ListOf, IfOk, OnOk, MatchOption};
 ghost use Rattle.std.specs.List.{AllWithin, filter};
 ghost use Rattle.beam_values.specs.Intervals.{Interval};
 ghost use Rattle.beam_values.specs.Sessions.{IsNonEmpty, LiesIn};
@@ -48,7 +49,8 @@ pub fn windows_for(
     own: &[Span],
     cells: &[Cell],
 ) -> Result<List<Span>, NoMemory>
-    ensures windows { IfOk result (AreWindowsFor rules.now.merges own.now (open_windows rules.now before (filter (is_cell_at_key node key.now) cells.now))) }
+    ensures windows { IfOk result (AreWindowsFor rules.now.merges own.now
+        (open_windows rules.now before (filter (is_cell_at_key node key.now) cells.now))) }
     ensures few { IfOk result (λ windows. length windows ≤ length own.now) }
 {
     if rules.merges {
@@ -67,7 +69,8 @@ fn open_windows(
     key: &Value,
     cells: &[Cell],
 ) -> Result<List<Span>, NoMemory>
-    ensures { IfOk result (λ open_. open_ ≡ open_windows rules.now before (filter (is_cell_at_key node key.now) cells.now)) }
+    ensures { IfOk result (λ open_. open_
+        ≡ open_windows rules.now before (filter (is_cell_at_key node key.now) cells.now)) }
 {
     let mut open = List::new(alloc);
     for cell in cells {
@@ -98,7 +101,8 @@ pub fn sessions_over(alloc: Global, own: &[Span], open: &[Span]) -> Result<List<
 fn sessions_of(alloc: Global, listed: &[Span], own: &[Span]) -> Result<List<Span>, NoMemory>
     requires { AreApart listed.now }
     ensures listed { IfOk result (All (Contains listed.now)) }
-    ensures covers { IfOk result (λ windows. All (λ span. Any (LiesIn span) listed.now → Any (LiesIn span) windows) own.now) }
+    ensures covers { IfOk result (λ windows.
+        All (λ span. Any (LiesIn span) listed.now → Any (LiesIn span) windows) own.now) }
     ensures few { IfOk result (λ windows. length windows ≤ length own.now) }
 {
     let mut windows = List::new(alloc);
@@ -146,7 +150,8 @@ pub fn push_if(windows: &mut List<Span>, window: Option<Span>) -> Result<(), NoM
 fn merge(sessions: &mut SessionSet, span: Span) -> Result<(), NoMemory>
     ensures some { IsNonEmpty span }
     ensures sessions { OnOk result ((spans : ListOf Interval) → All IsNonEmpty spans
-        → AreSessionsOf (Contains spans) sessions.old → AreSessionsOf (Contains (spans ++ span ∷ [])) sessions.new) }
+        → AreSessionsOf (Contains spans) sessions.old
+        → AreSessionsOf (Contains (spans ++ span ∷ [])) sessions.new) }
 {
     let _some = span.end();
     sessions.insert(span)?;

@@ -1,6 +1,8 @@
-ghost use Rattle.std.specs.Prelude.{◌≡◌, ◌<◌, [], ◌∷◌, ◌++◌, slice_set, replicate, IfOk, OnOk, OnErr};
+ghost use Rattle.std.specs.Prelude.{◌≡◌, ◌<◌, [], ◌∷◌, ◌++◌, slice_set, replicate, IfOk, OnOk};
+ghost use Rattle.std.specs.Prelude.{OnErr};
 ghost use Rattle.std.specs.Option.{option_copied};
-ghost use Rattle.beam_values.specs.declared.state_cell.StateCell.TheVariants.{Unset, Number, Text, Bag};
+ghost use Rattle.beam_values.specs.declared.state_cell.StateCell.TheVariants.{Unset, Number, Text};
+ghost use Rattle.beam_values.specs.declared.state_cell.StateCell.TheVariants.{Bag};
 ghost use Rattle.beam_values.specs.States.{cell_of, number_in, bytes_in, bag_in, values_in};
 
 use beam_values::{Bytes, Duplicate, List, NoMemory, StateCell, Value};
@@ -105,7 +107,8 @@ impl KeyState {
     /// A cell of another form becomes a bag with this one value.
     pub fn add(&mut self, name: u8, value: Value) -> Result<(), NoMemory>
         requires { name < 8 }
-        ensures ok { OnOk result (self.new ≡ slice_set self.old name (Bag (values_in (cell_of self.old name) ++ value ∷ []))) }
+        ensures ok { OnOk result (self.new
+            ≡ slice_set self.old name (Bag (values_in (cell_of self.old name) ++ value ∷ []))) }
         ensures err { OnErr result (self.new ≡ self.old) }
     {
         let cell = &mut self.cells[name as usize];

@@ -10,7 +10,8 @@ pub fn a_split_partitions_the_restriction()
     ensures { (t : Tracked) (num den p : ℕ) (part : Offsets)
         → IfSome t.attempted (λ last. t.range.from ≤ last)
         → residual (split_point_of t num den) t.range.to ≡ Some part
-        → times_in t.range p ≡ times_in (primary t (split_point_of t num den)).range p + times_in part p }
+        → times_in t.range p
+        ≡ times_in (primary t (split_point_of t num den)).range p + times_in part p }
 {}
 
 /// A split gives no attempted position away: its residual begins above the last one.

@@ -1,5 +1,6 @@
 ghost use Rattle.std.specs.Prelude.{◌≡◌, ◌+◌, ◌-◌, ◌^◌, ◌<◌, ◌≤◌, ◌↔◌, Some, None, IsTrue, IfSome};
-ghost use Rattle.beam_values.specs.Tracking.{Tracked, MayClaim, first_unattempted, split_point_of, residual, primary, claimed, is_granted, IsDone};
+ghost use Rattle.beam_values.specs.Tracking.{Tracked, MayClaim, first_unattempted, split_point_of};
+ghost use Rattle.beam_values.specs.Tracking.{residual, primary, claimed, is_granted, IsDone};
 
 use beam_values::Range;
 use std::marker::Model;

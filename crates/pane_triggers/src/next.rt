@@ -9,9 +9,11 @@ use beam_values::{Time, Trigger};
 /// The least mark, in milliseconds, at which a cell fires a pane, as long as nothing else changes.
 /// Takes no memory.
 pub fn next_mark(t: &Trigger, end: i64, on_time: bool, unseen: u64) -> Option<i64>
-    ensures least { MatchOption result (IsNeverDue t.now end on_time unseen) (IsNextMark t.now end on_time unseen) }
+    ensures least { MatchOption result (IsNeverDue t.now end on_time unseen)
+        (IsNextMark t.now end on_time unseen) }
     ensures due { (mark : ℤ) → least_time ≤ℤ mark → mark ≤ℤ final_mark
-        → (IsSome (firing t.now end mark on_time unseen) ↔ IsSomeAnd result (λ least. least ≤ℤ mark)) }
+        → (IsSome (firing t.now end mark on_time unseen)
+        ↔ IsSomeAnd result (λ least. least ≤ℤ mark)) }
     ensures value { result ≡ next_mark t.now end on_time unseen }
 {
     if !on_time {

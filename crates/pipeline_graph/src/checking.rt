@@ -1,6 +1,7 @@
 ghost use Rattle.std.specs.Prelude.{◌≡◌, ◌≤◌, [], length, nat_lt, None, IfOk, IfErr, OnOk, OnErr};
 ghost use Rattle.std.specs.List.{list_all, list_any};
-ghost use Rattle.beam_values.specs.Checked.{IsChecked, file_count, files_of_kind, graph_refusal, has_input, is_write_in, node_refusal, nodes_refusal};
+ghost use Rattle.beam_values.specs.Checked.{IsChecked, file_count, files_of_kind, graph_refusal};
+ghost use Rattle.beam_values.specs.Checked.{has_input, is_write_in, node_refusal, nodes_refusal};
 ghost use Rattle.beam_values.specs.Nodes.{facts_of, is_write_kind};
 ghost use Rattle.pipeline_graph.specs.Settings.{is_set_after};
 ghost use Rattle.pipeline_graph.specs.Refusals.{IsFirst};

@@ -1,4 +1,5 @@
-ghost use Rattle.std.specs.Prelude.{◌≡◌, ◌<◌, ◌≤◌, ◌++◌, [], ◌∷◌, ℕ, All, IfOk, OnOk, length, replicate, slice_index_or};
+ghost use Rattle.std.specs.Prelude.{◌≡◌, ◌<◌, ◌≤◌, ◌++◌, [], ◌∷◌, ℕ, All, IfOk, OnOk, length};
+ghost use Rattle.std.specs.Prelude.{replicate, slice_index_or};
 ghost use Rattle.beam_values.specs.declared.plan.Node.{Node};
 ghost use Rattle.pipeline_graph.specs.Followers.{named, IsFollowed};
 
@@ -34,7 +35,8 @@ fn add_follower(followers: &mut Vec<List<u32>>, number: u32, inputs: &[u32]) -> 
     requires { All (λ input. input < length followers.old.items) inputs.now }
     ensures each { OnOk result (length followers.new.items ≡ length followers.old.items) }
     ensures added { OnOk result ((from : ℕ) → from < length followers.old.items
-        → slice_index_or followers.new.items from [] ≡ slice_index_or followers.old.items from [] ++ named from number inputs.now) }
+        → slice_index_or followers.new.items from []
+        ≡ slice_index_or followers.old.items from [] ++ named from number inputs.now) }
 {
     for input in inputs {
         push_at(followers, *input as usize, number)?;
@@ -46,7 +48,8 @@ fn push_at(lists: &mut Vec<List<u32>>, at: usize, number: u32) -> Result<(), NoM
     requires { at < length lists.old.items }
     ensures each { OnOk result (length lists.new.items ≡ length lists.old.items) }
     ensures added { OnOk result ((from : ℕ) → from < length lists.old.items
-        → slice_index_or lists.new.items from [] ≡ slice_index_or lists.old.items from [] ++ named from number (at ∷ [])) }
+        → slice_index_or lists.new.items from []
+        ≡ slice_index_or lists.old.items from [] ++ named from number (at ∷ [])) }
 {
     let list = &mut lists[at];
     list.push(number)

@@ -1,6 +1,9 @@
 ghost use Rattle.std.specs.Prelude.{◌≡◌, ◌≤◌};
 ghost use Rattle.std.specs.List.{list_all};
-ghost use Rattle.beam_values.specs.Checked.{are_files, is_early_allowed, is_estimator_allowed, is_file_name, is_function_allowed, is_no_file, is_nothing, is_number_upto, is_source_allowed, is_text_upto, is_trigger_allowed, is_two_upto};
+ghost use Rattle.beam_values.specs.Checked.{are_files, is_early_allowed, is_estimator_allowed};
+ghost use Rattle.beam_values.specs.Checked.{is_file_name, is_function_allowed, is_no_file};
+ghost use Rattle.beam_values.specs.Checked.{is_nothing, is_number_upto, is_source_allowed};
+ghost use Rattle.beam_values.specs.Checked.{is_text_upto, is_trigger_allowed, is_two_upto};
 ghost use Rattle.beam_values.specs.Strategies.{is_allowed};
 
 use beam_values::{Args, Bytes, Estimator, FnKind, SourceKind, Strategy, Trigger};

@@ -1,4 +1,5 @@
-ghost use Rattle.std.specs.Prelude.{◌≡◌, ◌+◌, ◌*◌, ◌^◌, ◌<◌, ◌≤◌, pos, [], ◌∷◌, ◌++◌, length, codes, decimal, IfOk};
+ghost use Rattle.std.specs.Prelude.{◌≡◌, ◌+◌, ◌*◌, ◌^◌, ◌<◌, ◌≤◌, pos, [], ◌∷◌, ◌++◌, length};
+ghost use Rattle.std.specs.Prelude.{codes, decimal, IfOk};
 ghost use Rattle.beam_values.specs.Lines.{line_at, next_start};
 ghost use Rattle.beam_values.specs.Functions as functions;
 ghost use Rattle.beam_model.specs.Values.{int};
@@ -69,7 +70,8 @@ fn emission_within(
 ) -> Result<Emitted, NoMemory>
     requires limits { IsWithinLimits work args.now }
     requires position { p < model.positions_in work args.now file.now }
-    ensures { IfOk result (λ emitted. shown emitted ≡ model.emission_within work args.now file.now p) }
+    ensures { IfOk result
+        (λ emitted. shown emitted ≡ model.emission_within work args.now file.now p) }
 {
     match work {
         SourceKind::Lines | SourceKind::TimedLines if !starts_line(file, p as usize) => {
@@ -154,7 +156,8 @@ fn line_at(file: &[u8], p: usize) -> &[u8]
 
 // What a line of timed lines emits.
 fn timed_emission(alloc: Global, line: &[u8]) -> Result<Emitted, NoMemory>
-    ensures { IfOk result (λ emitted. shown emitted ≡ model.line_emission (functions.timed_line line.now)) }
+    ensures { IfOk result
+        (λ emitted. shown emitted ≡ model.line_emission (functions.timed_line line.now)) }
 {
     match timed_line(line) {
         TimedLine::Timed(time, text) => {
@@ -170,7 +173,8 @@ fn timed_emission(alloc: Global, line: &[u8]) -> Result<Emitted, NoMemory>
 fn count_emission(alloc: Global, step: u64, p: u64) -> Result<Emitted, NoMemory>
     requires counted { p < 1000000000 }
     requires steps { step ≤ 1000000 }
-    ensures { IfOk result (λ emitted. shown emitted ≡ model.emits_one (int (pos p)) (pos (p * step))) }
+    ensures { IfOk result
+        (λ emitted. shown emitted ≡ model.emits_one (int (pos p)) (pos (p * step))) }
 {
     emits_one(alloc, Value::Int(p as i64), time_at(p * step))
 }
@@ -180,7 +184,8 @@ fn made_emission(alloc: Global, number: u64, p: u64) -> Result<Emitted, NoMemory
     requires counted { p < 1000000 }
     requires number { number ≤ 1000000 }
     ensures { IfOk result
-        (λ emitted. shown emitted ≡ model.line_emission (functions.timed_line (model.made_line number p))) }
+        (λ emitted. shown emitted
+        ≡ model.line_emission (functions.timed_line (model.made_line number p))) }
 {
     let time = time_at(100 * p + 37 * (p + number) % 100);
     let text = made_text(alloc, (7 * p + number) % 16, (p + number) % 1000)?;

@@ -92,7 +92,8 @@ fn merged_span(element: &Element, elements: &[Element]) -> Span
 /// The first window of the key of `element` that overlaps the session and doesn't lie in it.
 fn first_extending(session: Span, element: &Element, elements: &[Element]) -> Option<Span>
     ensures { MatchOption result (All (IsSettled session) (spans_with element.now elements.now))
-        (λ span. IsOneOf (spans_with element.now elements.now) span × Overlaps session span × (LiesIn span session → ⊥)) }
+        (λ span. IsOneOf (spans_with element.now elements.now) span
+        × Overlaps session span × (LiesIn span session → ⊥)) }
 {
     for other in elements {
         if extends(session, other.span) && is_keyed_alike(element, other) {

@@ -12,7 +12,8 @@ pub enum Next {
 /// What comes after one more attempt than `attempts` has failed, where `limit` attempts are allowed.
 pub fn next_attempt(attempts: u32, limit: u32) -> Next
     requires { attempts < limit }
-    ensures { result ≡ (if nat_lt (attempts + 1) limit then Next.Retry (attempts + 1) else Next.Spent) }
+    ensures { result
+        ≡ (if nat_lt (attempts + 1) limit then Next.Retry (attempts + 1) else Next.Spent) }
 {
     let made = attempts + 1;
     if made < limit {

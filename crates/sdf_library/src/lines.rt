@@ -1,4 +1,5 @@
-ghost use Rattle.std.specs.Prelude.{◌≡◌, ◌+◌, ◌-◌, ◌≤◌, true, false, length, min, IfNone, IfSome, OnSome};
+ghost use Rattle.std.specs.Prelude.{◌≡◌, ◌+◌, ◌-◌, ◌≤◌, true, false, length, min, IfNone, IfSome};
+ghost use Rattle.std.specs.Prelude.{OnSome};
 ghost use Rattle.std.specs.List.{list_any};
 ghost use Rattle.beam_values.specs.Lines.{is_line_feed, starts_line, line_len, line_at, next_start};
 ghost use Rattle.beam_values.specs.declared.plan.SourceKind.TheVariants as kinds;

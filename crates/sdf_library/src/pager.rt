@@ -1,4 +1,5 @@
-ghost use Rattle.std.specs.Prelude.{◌≡◌, ◌+◌, ◌<◌, ◌≤◌, ℕ, [], length, IsSomeAnd, IsErrOf, IsOk, IsOkAnd, OnOk, IfOk, Ok};
+ghost use Rattle.std.specs.Prelude.{◌≡◌, ◌+◌, ◌<◌, ◌≤◌, ℕ, [], length, IsSomeAnd, IsErrOf, IsOk};
+ghost use Rattle.std.specs.Prelude.{IsOkAnd, OnOk, IfOk, Ok};
 ghost use Rattle.std.specs.Borrow.{sem};
 ghost use Rattle.std.specs.Io.BufRead.{Rests};
 ghost use Rattle.beam_ports.specs.Counts.{Rose};
@@ -54,13 +55,19 @@ impl Model for Pager {
 
     ghost Value = { Paged };
 
-    ghost view = { λ it. record { file = it.file; len = it.len; base = 0; bytes = it.bytes.items } };
+    ghost view = { λ it. record {
+      file = it.file;
+      len = it.len;
+      base = 0;
+      bytes = it.bytes.items;
+    } };
 
     ghost invariant = { λ it. 0 < length it.bytes.items → length it.bytes.items ≡ it.len };
 }
 
 impl Pager {
-    ghost use Rattle.sdf_library.specs.Paging.{HoldsFile, Serves, ShowsText, ReachesOn, IsEnough, KeepsPage, shown_by};
+    ghost use Rattle.sdf_library.specs.Paging.{HoldsFile, Serves, ShowsText, ReachesOn, IsEnough};
+    ghost use Rattle.sdf_library.specs.Paging.{KeepsPage, shown_by};
     ghost use Rattle.sdf_library.specs.contracts.pager.Pager.{the_row};
 
     /// The pager of an opened file. It holds nothing of it yet.
@@ -98,16 +105,20 @@ impl Pager {
         more: bool,
     ) -> Result<(), PageRefusal>
         requires inside { p < self.old.len }
-        requires open { IsSomeAnd (S.opened store.old self.old.file) (λ opening. opening.len ≡ self.old.len) }
+        requires open { IsSomeAnd (S.opened store.old self.old.file)
+            (λ opening. opening.len ≡ self.old.len) }
         requires held { HoldsFile (S.opened store.old self.old.file) self.old }
         ensures serves { OnOk result (Serves self.new p) }
         ensures more { OnOk result (ReachesOn more self.old self.new) }
-        ensures enough { IsEnough more self.old p → IsOk result × (self.new ≡ self.old) × (store.new ≡ store.old) }
-        ensures failed { IsErrOf result PageRefusal.Failed → Rose (S.faults store.old) (S.faults store.new) }
+        ensures enough { IsEnough more self.old p
+            → IsOk result × (self.new ≡ self.old) × (store.new ≡ store.old) }
+        ensures failed { IsErrOf result PageRefusal.Failed
+            → Rose (S.faults store.old) (S.faults store.new) }
         // After every answer:
         ensures file { self.new.file ≡ self.old.file }
         ensures len { self.new.len ≡ self.old.len }
-        ensures open { IsSomeAnd (S.opened store.new self.new.file) (λ opening. opening.len ≡ self.new.len) }
+        ensures open { IsSomeAnd (S.opened store.new self.new.file)
+            (λ opening. opening.len ≡ self.new.len) }
         ensures held { HoldsFile (S.opened store.new self.new.file) self.new }
         ensures shown { ShowsText (S.opened store.new self.new.file) self.new }
         ensures told { S.files store.new ≡ S.files store.old }
@@ -128,18 +139,25 @@ impl Pager {
         more: bool,
     ) -> Result<Look<'_>, PageRefusal>
         requires inside { p < self.old.len }
-        requires open { IsSomeAnd (S.opened store.old self.old.file) (λ opening. opening.len ≡ self.old.len) }
+        requires open { IsSomeAnd (S.opened store.old self.old.file)
+            (λ opening. opening.len ≡ self.old.len) }
         requires held { HoldsFile (S.opened store.old self.old.file) self.old }
         ensures len { IfOk result (λ look. look.len ≡ self.old.len) }
         ensures serves { IfOk result (λ look. Serves (shown_by self.old.file look) p) }
         ensures more { IfOk result (λ look. ReachesOn more self.old (shown_by self.old.file look)) }
-        ensures shown { IfOk result (λ look. ShowsText (S.opened store.new self.old.file) (shown_by self.old.file look)) }
-        ensures enough { IsEnough more self.old p → IsOkAnd result (λ look. shown_by self.old.file look ≡ self.old) × (store.new ≡ store.old) }
-        ensures failed { IsErrOf result PageRefusal.Failed → Rose (S.faults store.old) (S.faults store.new) }
+        ensures shown { IfOk result
+            (λ look. ShowsText (S.opened store.new self.old.file) (shown_by self.old.file look)) }
+        ensures enough { IsEnough more self.old p
+            → IsOkAnd result (λ look. shown_by self.old.file look ≡ self.old)
+            × (store.new ≡ store.old) }
+        ensures failed { IsErrOf result PageRefusal.Failed
+            → Rose (S.faults store.old) (S.faults store.new) }
         // After every answer; of the pager, once the look isn't used any more:
-        ensures* page { sem 𝓛 (Rests the_row self.entry (λ new. KeepsPage (S.opened store.new self.old.file) self.old new
+        ensures* page { sem 𝓛 (Rests the_row self.entry
+            (λ new. KeepsPage (S.opened store.new self.old.file) self.old new
             × IfOk result (λ look. new ≡ shown_by self.old.file look))) }
-        ensures open { IsSomeAnd (S.opened store.new self.old.file) (λ opening. opening.len ≡ self.old.len) }
+        ensures open { IsSomeAnd (S.opened store.new self.old.file)
+            (λ opening. opening.len ≡ self.old.len) }
         ensures told { S.files store.new ≡ S.files store.old }
         ensures kept { KeepsOpenings (S.opened store.old) (S.opened store.new) }
         ensures counts { S.faults store.old ≤ S.faults store.new }

@@ -1,4 +1,5 @@
-ghost use Rattle.std.specs.Prelude.{◌≡◌, ◌≤◌, ℕ, List, Some, length, IfOk, OnOk, OnErr, IsErrOf, IsSomeAnd};
+ghost use Rattle.std.specs.Prelude.{◌≡◌, ◌≤◌, ℕ, List, Some, length, IfOk, OnOk, OnErr, IsErrOf};
+ghost use Rattle.std.specs.Prelude.{IsSomeAnd};
 ghost use Rattle.beam_ports.specs.Counts.{Rose};
 ghost use Rattle.beam_ports.specs.Files.{KeepsOpenings};
 
@@ -15,9 +16,11 @@ pub(crate) fn read_whole<S: Store>(
 ) -> Result<Vec<u8>, PageRefusal>
     requires { IsSomeAnd (S.opened store.old file) (λ opening. opening.len ≡ len) }
     ensures whole { IfOk result (λ bytes. length bytes.items ≡ len) }
-    ensures bytes { IfOk result (λ bytes. (text : List ℕ) → S.opened store.old file ≡ Some (record { len = len; text = Some text }) → length text ≡ len
+    ensures bytes { IfOk result (λ bytes. (text : List ℕ) → S.opened store.old file
+        ≡ Some (record { len = len; text = Some text }) → length text ≡ len
         → bytes.items ≡ text) }
-    ensures failed { IsErrOf result PageRefusal.Failed → Rose (S.faults store.old) (S.faults store.new) }
+    ensures failed { IsErrOf result PageRefusal.Failed
+        → Rose (S.faults store.old) (S.faults store.new) }
     ensures told { S.files store.new ≡ S.files store.old }
     ensures kept { KeepsOpenings (S.opened store.old) (S.opened store.new) }
     ensures counts { S.faults store.old ≤ S.faults store.new }
@@ -35,7 +38,8 @@ pub(crate) fn read_whole<S: Store>(
 fn fill<S: Store>(store: &mut S, file: u32, len: u64, buffer: &mut [u8]) -> Result<(), Failed>
     requires open { IsSomeAnd (S.opened store.old file) (λ opening. opening.len ≡ len) }
     requires fits { length buffer.old ≡ len }
-    ensures bytes { OnOk result ((text : List ℕ) → S.opened store.old file ≡ Some (record { len = len; text = Some text }) → length text ≡ len
+    ensures bytes { OnOk result ((text : List ℕ) → S.opened store.old file
+        ≡ Some (record { len = len; text = Some text }) → length text ≡ len
         → buffer.new ≡ text) }
     ensures failed { OnErr result (Rose (S.faults store.old) (S.faults store.new)) }
     ensures told { S.files store.new ≡ S.files store.old }

@@ -1,4 +1,6 @@
-ghost use Rattle.std.specs.Prelude.{◌≡◌, ◌≤◌, ◌<◌, ◌≤ℤ◌, ◌<ℤ◌, ◌∷◌, ◌++◌, length, take, drop, slice_range, slice_get, Contains, Some, MatchOption, IfOk, OnOk, OnErr};
+ghost use Rattle.std.specs.Prelude.{◌≡◌, ◌≤◌, ◌<◌, ◌≤ℤ◌, ◌<ℤ◌, ◌∷◌, ◌++◌, length, take, drop};
+ghost use Rattle.std.specs.Prelude.{slice_range, slice_get, Contains, Some, MatchOption, IfOk};
+ghost use Rattle.std.specs.Prelude.{OnOk, OnErr};
 ghost use Rattle.std.specs.List.{AllWithin};
 ghost use Rattle.beam_values.specs.Sessions.{IsNonEmpty, hull};
 ghost use Rattle.session_merge.specs.Merging.{AreApart};
@@ -26,7 +28,8 @@ struct Run {
 /// Puts a window in the place of those that it overlaps, grown so that it holds them.
 pub fn merge_into(alloc: Global, spans: &mut Vec<Span>, span: Span) -> Result<Merged, NoMemory>
     requires { AreApart spans.old.items }
-    ensures ok { IfOk result (λ merged. IsMerge spans.old.items span merged.absorbed merged.span spans.new.items) }
+    ensures ok { IfOk result
+        (λ merged. IsMerge spans.old.items span merged.absorbed merged.span spans.new.items) }
     ensures err { OnErr result (spans.new.items ≡ spans.old.items) }
 {
     let run = overlapped(spans.as_slice(), span);
@@ -42,7 +45,8 @@ pub fn merge_into(alloc: Global, spans: &mut Vec<Span>, span: Span) -> Result<Me
 /// The place of a window, if it is listed.
 pub fn place_of(spans: &[Span], span: Span) -> Option<usize>
     requires { AreApart spans.now }
-    ensures { MatchOption result (Contains spans.now span → ⊥) (λ at. (at < length spans.now) × (slice_get spans.now at ≡ Some span)) }
+    ensures { MatchOption result (Contains spans.now span → ⊥)
+        (λ at. (at < length spans.now) × (slice_get spans.now at ≡ Some span)) }
 {
     let at = count_ended(spans, span);
     if at < spans.len() && spans[at] == span {
@@ -58,7 +62,8 @@ fn overlapped(spans: &[Span], span: Span) -> Run
     ensures some { IsNonEmpty span }
     ensures ordered { result.start ≤ result.end }
     ensures within { result.end ≤ length spans.now }
-    ensures run { IsRun spans.now span (take result.start spans.now) (slice_range spans.now result.start result.end) (drop result.end spans.now) }
+    ensures run { IsRun spans.now span (take result.start spans.now)
+        (slice_range spans.now result.start result.end) (drop result.end spans.now) }
 {
     Run {
         start: count_ended(spans, span),
@@ -110,7 +115,8 @@ fn hull(a: Span, b: Span) -> Span
 fn put_over(spans: &mut Vec<Span>, run: Run, merged: Span) -> Result<(), NoMemory>
     requires ordered { run.start ≤ run.end }
     requires within { run.end ≤ length spans.old.items }
-    ensures ok { OnOk result (spans.new.items ≡ take run.start spans.old.items ++ merged ∷ drop run.end spans.old.items) }
+    ensures ok { OnOk result (spans.new.items
+        ≡ take run.start spans.old.items ++ merged ∷ drop run.end spans.old.items) }
     ensures err { OnErr result (spans.new.items ≡ spans.old.items) }
 {
     if run.start == run.end {

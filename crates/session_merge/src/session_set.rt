@@ -1,8 +1,10 @@
-ghost use Rattle.std.specs.Prelude.{◌≡◌, ◌↔◌, List, [], ◌∷◌, ◌++◌, All, Contains, IsTrue, IfOk, OnOk, OnErr};
+ghost use Rattle.std.specs.Prelude.{◌≡◌, ◌↔◌, List, [], ◌∷◌, ◌++◌, All, Contains, IsTrue, IfOk};
+ghost use Rattle.std.specs.Prelude.{OnOk, OnErr};
 ghost use Rattle.std.specs.Bool.{OnTrue, OnFalse};
 ghost use Rattle.beam_values.specs.Intervals.{Interval};
 ghost use Rattle.beam_values.specs.Sessions.{LiesIn, IsNonEmpty, IsSession};
-ghost use Rattle.session_merge.specs.Merging.{AreApart, GivesWay, IsTakenOut, AreSessionsOf, those_outside};
+ghost use Rattle.session_merge.specs.Merging.{AreApart, GivesWay, IsTakenOut, AreSessionsOf};
+ghost use Rattle.session_merge.specs.Merging.{those_outside};
 
 use crate::runs::{Merged, merge_into, place_of};
 use beam_values::{NoMemory, Span};
@@ -54,12 +56,14 @@ impl SessionSet {
         // What repeated merging makes of the window is a session of the listed windows and itself.
         ensures session { IfOk result (λ merged. IsSession (self.old ++ span ∷ []) merged.span) }
         ensures holds { IfOk result (λ merged. LiesIn span merged.span) }
-        ensures listed { IfOk result (λ merged. GivesWay self.old merged.absorbed merged.span self.new) }
+        ensures listed { IfOk result
+            (λ merged. GivesWay self.old merged.absorbed merged.span self.new) }
         ensures err { OnErr result (self.new ≡ self.old) }
 
         // What is listed stays the sessions of all that was inserted.
         ensures sessions { OnOk result ((spans : List Interval) → All IsNonEmpty spans
-            → AreSessionsOf (Contains spans) self.old → AreSessionsOf (Contains (spans ++ span ∷ [])) self.new) }
+            → AreSessionsOf (Contains spans) self.old
+            → AreSessionsOf (Contains (spans ++ span ∷ [])) self.new) }
     {
         merge_into(self.alloc, &mut self.spans, span)
     }
@@ -72,7 +76,8 @@ impl SessionSet {
 
         // What is listed stays the sessions of all that was inserted and doesn't lie in this window.
         ensures sessions { OnTrue result ((spans : List Interval) → All IsNonEmpty spans
-            → AreSessionsOf (Contains spans) self.old → AreSessionsOf (Contains (those_outside span spans)) self.new) }
+            → AreSessionsOf (Contains spans) self.old
+            → AreSessionsOf (Contains (those_outside span spans)) self.new) }
     {
         let Some(at) = place_of(self.spans.as_slice(), span) else {
             return false;

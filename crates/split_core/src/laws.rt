@@ -17,7 +17,13 @@ pub fn the_middle_of_a_range_may_be_cut_out()
         → IsSameBag out (part node item from to ∷ others)
         → IsSameBag rest (part node item from s ∷ part node item t to ∷ others)
         → IsCutOut out
-        (record { node = node; item = item; range = record { from = s; to = t }; seen = seen; attempts = attempts }) rest }
+        (record {
+          node = node;
+          item = item;
+          range = record { from = s; to = t };
+          seen = seen;
+          attempts = attempts;
+        }) rest }
 {}
 
 /// Where no item is listed, nothing is pending and nothing is out.
@@ -28,5 +34,6 @@ pub fn nothing_is_held_at_first()
 /// In which order the items are listed, and the ranges that are out, is no matter.
 pub fn the_order_of_items_and_ranges_is_no_matter()
     ensures { (items others : List FileLen) (pending : List Piece) (out outs : List Done)
-        → IsSameBag items others → IsSameBag out outs → IsPartition items pending out → IsPartition others pending outs }
+        → IsSameBag items others → IsSameBag out outs
+        → IsPartition items pending out → IsPartition others pending outs }
 {}

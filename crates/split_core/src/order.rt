@@ -28,7 +28,8 @@ pub fn is_lower(a: &Piece, b: &Piece) -> bool
 pub fn place_of(items: &[Piece], piece: &Piece) -> usize
     requires { IsAscending (reverse items.now) }
     ensures within { result ≤ length items.now }
-    ensures place { reverse (insert items.now result piece.now) ≡ with_piece piece.now (reverse items.now) }
+    ensures place { reverse (insert items.now result piece.now)
+        ≡ with_piece piece.now (reverse items.now) }
 {
     items.partition_point(|item| !is_lower(item, piece))
 }

@@ -1,4 +1,6 @@
-ghost use Rattle.std.specs.Prelude.{◌≡◌, ◌↔◌, ◌≢◌, ◌+◌, ◌<◌, ◌≤◌, [], ◌∷◌, ◌++◌, List, false, length, reverse, All, IsTrue, OnOk, OnErr, IfNone, IfSome, MatchOption};
+ghost use Rattle.std.specs.Prelude.{◌≡◌, ◌↔◌, ◌≢◌, ◌+◌, ◌<◌, ◌≤◌, [], ◌∷◌, ◌++◌, List, false};
+ghost use Rattle.std.specs.Prelude.{length, reverse, All, IsTrue, OnOk, OnErr, IfNone, IfSome};
+ghost use Rattle.std.specs.Prelude.{MatchOption};
 ghost use Rattle.beam_values.specs.declared.piece.Done.{Done};
 ghost use Rattle.beam_values.specs.declared.piece.FileLen.{FileLen};
 ghost use Rattle.split_core.specs.Order.{is_lower, with_piece, with_pieces, first_pieces};
@@ -26,7 +28,10 @@ impl Model for Pieces {
 
     ghost Value = { SeenPieces };
 
-    ghost view = { λ p. record { pending = reverse p.items.items; room = p.places - length p.items.items } };
+    ghost view = { λ p. record {
+      pending = reverse p.items.items;
+      room = p.places - length p.items.items;
+    } };
 
     ghost invariant = { λ p. IsKept p.items.items p.items.room p.places };
 }
@@ -48,11 +53,14 @@ impl Pieces {
     /// that are lower, so many items are best cut from the last to the first.
     pub fn initial(&mut self, node: u32, item: u32, len: u64, chunk: u64) -> Result<(), NoMemory>
         requires { 1 ≤ chunk }
-        ensures ok { OnOk result (self.new.pending ≡ with_pieces (first_pieces node item len chunk) self.old.pending) }
+        ensures ok { OnOk result
+            (self.new.pending ≡ with_pieces (first_pieces node item len chunk) self.old.pending) }
         ensures err { OnErr result (self.new ≡ self.old) }
         ensures kept { self.old.room ≤ self.new.room }
-        ensures cover { OnOk result ((items : List FileLen) (out : List Done) → IsPartition items self.old.pending out
-            → IsPartition (items ++ record { node = node; item = item; len = len } ∷ []) self.new.pending out) }
+        ensures cover { OnOk result
+            ((items : List FileLen) (out : List Done) → IsPartition items self.old.pending out
+            → IsPartition (items ++ record { node = node; item = item; len = len } ∷ [])
+            self.new.pending out) }
     {
         let count = len.div_ceil(chunk) as usize;
         let Some(all) = self.items.len().checked_add(count) else {
@@ -67,11 +75,14 @@ impl Pieces {
 
     /// Takes the lowest piece. Its place is kept.
     pub fn take(&mut self) -> Option<Piece>
-        ensures first { MatchOption result (self.old.pending ≡ []) (λ piece. self.old.pending ≡ piece ∷ self.new.pending) }
-        ensures lowest { IfSome result (λ piece. All (λ other. is_lower other piece ≡ false) self.new.pending) }
+        ensures first { MatchOption result (self.old.pending ≡ [])
+            (λ piece. self.old.pending ≡ piece ∷ self.new.pending) }
+        ensures lowest { IfSome result
+            (λ piece. All (λ other. is_lower other piece ≡ false) self.new.pending) }
         ensures none { IfNone result (self.new ≡ self.old) }
         ensures kept { IfSome result (λ _. self.old.room + 1 ≤ self.new.room) }
-        ensures cover { IfSome result (λ piece. (items : List FileLen) (out : List Done) → IsPartition items self.old.pending out
+        ensures cover { IfSome result (λ piece. (items : List FileLen) (out : List Done)
+            → IsPartition items self.old.pending out
             → IsPartition items self.new.pending (out ++ range_of piece ∷ [])) }
     {
         self.items.pop()
@@ -82,7 +93,8 @@ impl Pieces {
         requires { 0 < self.old.room }
         ensures pending { self.new.pending ≡ with_piece piece self.old.pending }
         ensures used { self.old.room ≤ self.new.room + 1 }
-        ensures cover { (items : List FileLen) (out rest : List Done) → IsCutOut out piece rest → IsPartition items self.old.pending out
+        ensures cover { (items : List FileLen) (out rest : List Done)
+            → IsCutOut out piece rest → IsPartition items self.old.pending out
             → IsPartition items self.new.pending rest }
     {
         put_in_order(&mut self.items, piece);
@@ -94,7 +106,8 @@ impl Pieces {
         ensures ok { OnOk result (self.new.pending ≡ with_piece piece self.old.pending) }
         ensures err { OnErr result (self.new ≡ self.old) }
         ensures kept { self.old.room ≤ self.new.room }
-        ensures cover { OnOk result ((items : List FileLen) (out rest : List Done) → IsCutOut out piece rest
+        ensures cover { OnOk result
+            ((items : List FileLen) (out rest : List Done) → IsCutOut out piece rest
             → IsPartition items self.old.pending out → IsPartition items self.new.pending rest) }
     {
         self.keep_more(1)?;

@@ -1,4 +1,5 @@
-ghost use Rattle.std.specs.Prelude.{◌≡◌, ◌<◌, ◌≤ℤ◌, Some, None, slice_set, replicate, IfSome, MatchOption};
+ghost use Rattle.std.specs.Prelude.{◌≡◌, ◌<◌, ◌≤ℤ◌, Some, None, slice_set, replicate, IfSome};
+ghost use Rattle.std.specs.Prelude.{MatchOption};
 ghost use Rattle.beam_values.specs.States.{timer_of, IsFirstTimer, IsNoneDue};
 ghost use Rattle.timer_core.specs.FirstTimers.{IsNoneSet, IsLeastTime, earlier};
 
@@ -60,7 +61,8 @@ impl Timers {
 
     /// The timer that fires first once the watermark is at `mark`. A timer is due at its own time.
     pub fn first_due(&self, mark: Mark) -> Option<Timer>
-        ensures first { MatchOption result (IsNoneDue self.now mark) (λ timer. IsFirstTimer self.now timer × (timer.time ≤ℤ mark)) }
+        ensures first { MatchOption result (IsNoneDue self.now mark)
+            (λ timer. IsFirstTimer self.now timer × (timer.time ≤ℤ mark)) }
         ensures named { IfSome result (λ timer. timer.name < 8) }
     {
         let first = self.first()?;

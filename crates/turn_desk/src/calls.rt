@@ -1,9 +1,11 @@
 //! What a desk does.
 ghost use Rattle.std.specs.Prelude.{◌≡◌, ◌<◌, ◌+◌, IfOk};
 ghost use Rattle.turn_desk.specs.declared.held.Note.{Note};
-ghost use Rattle.turn_desk.specs.Notes.{IsSound, size_of, opening_note, kept_part, given_part, joined_note};
+ghost use Rattle.turn_desk.specs.Notes.{IsSound, size_of, opening_note, kept_part, given_part};
+ghost use Rattle.turn_desk.specs.Notes.{joined_note};
 ghost use Rattle.turn_desk.specs.Plays.{HasDrawn, IsInTurn};
-ghost use Rattle.turn_desk.specs.Seen.{constant_of, note_of, turn_note, lent_value, present_value, IsPassOf, IsTurnOf};
+ghost use Rattle.turn_desk.specs.Seen.{constant_of, note_of, turn_note, lent_value, present_value};
+ghost use Rattle.turn_desk.specs.Seen.{IsPassOf, IsTurnOf};
 
 use crate::change::Change;
 use crate::desk::{Desk, Hold, Pass, Place, Turn};
@@ -117,9 +119,12 @@ impl<V: Held> Desk<V> {
     #[inline(always)]
     pub fn give<M: Change<V>>(&self, turn: Turn<V>, by: &M) -> Pass<V>
         requires desk { IsTurnOf self.now turn }
-        requires moves { V.moves (constant_of self.now) (lent_value turn) (turn_note turn) (present_value turn) (M.new_note by.now (lent_value turn) (turn_note turn) (present_value turn)) }
+        requires moves { V.moves (constant_of self.now)
+            (lent_value turn) (turn_note turn) (present_value turn)
+            (M.new_note by.now (lent_value turn) (turn_note turn) (present_value turn)) }
         ensures desk { IsPassOf self.now result }
-        ensures note { note_of result ≡ M.new_note by.now (lent_value turn) (turn_note turn) (present_value turn) }
+        ensures note { note_of result
+            ≡ M.new_note by.now (lent_value turn) (turn_note turn) (present_value turn) }
     {
         let note = noted(&turn, by);
         let Turn {
@@ -142,7 +147,8 @@ impl<V: Held> Desk<V> {
         requires free { 0 < (note_of pass.old).free }
         ensures desk { IsPassOf self.now pass.new × IsPassOf self.now result }
         ensures kept { note_of pass.new ≡ kept_part (V.kept (note_of pass.old)) (note_of pass.old) }
-        ensures given { note_of result ≡ given_part (V.given (note_of pass.old)) (note_of pass.old) }
+        ensures given { note_of result
+            ≡ given_part (V.given (note_of pass.old)) (note_of pass.old) }
     {
         let split = self.table.shared.split_seat::<Cut<V>>(&mut pass.seat);
         Pass { seat: split }
@@ -152,7 +158,8 @@ impl<V: Held> Desk<V> {
     pub fn join_pass(&self, pass: &mut Pass<V>, other: Pass<V>)
         requires desk { IsPassOf self.now pass.old × IsPassOf self.now other }
         ensures desk { IsPassOf self.now pass.new }
-        ensures note { note_of pass.new ≡ joined_note (V.joined (note_of pass.old) (note_of other)) (note_of pass.old) (note_of other) }
+        ensures note { note_of pass.new ≡ joined_note (V.joined (note_of pass.old) (note_of other))
+            (note_of pass.old) (note_of other) }
     {
         let Pass { seat: joined } = other;
         let shared = &self.table.shared;

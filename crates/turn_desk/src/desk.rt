@@ -48,7 +48,8 @@ pub struct Turn<V: Held> {
 pub(crate) struct Hold<V: Held> {
     pub(crate) lent: Snapshot<V>,
     pub(crate) seat: Place<V>,
-    ghost taken: { HasTaken lent.value seat.me.0.stage } by { HasTaken-prop V.code lent.value seat.me.0.stage },
+    ghost taken: { HasTaken lent.value seat.me.0.stage } by { HasTaken-prop V.code
+        lent.value seat.me.0.stage },
     ghost out: { map (λ k. k.0) seat.me.1 ≡ 0 ∷ [] },
     ghost vacant: { map (λ k. is_some k.1.value) seat.me.1 ≡ false ∷ [] },
 }

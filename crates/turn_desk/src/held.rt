@@ -21,7 +21,8 @@ pub trait Held {
 
     ghost use Rattle.std.specs.Prelude.{◌<◌};
     ghost use Rattle.turn_desk.specs.declared.held.Note.{Note};
-    ghost use Rattle.turn_desk.specs.Notes.{IsSound, IsApart, HasSameNumbers, kept_part, given_part, joined_note};
+    ghost use Rattle.turn_desk.specs.Notes.{IsSound, IsApart, HasSameNumbers, kept_part};
+    ghost use Rattle.turn_desk.specs.Notes.{given_part, joined_note};
 
     /// What the constant and a note say of a value, for one pass.
     ghost fits: { Self → Self.Constant → Note Self.About → Type 0 };
@@ -42,14 +43,20 @@ pub trait Held {
     ghost joined: { Note Self.About → Note Self.About → Self.About };
 
     /// After a move the new value fits the moving pass's new note, which has the same numbers.
-    ghost keeps_own: { (c : Self.Constant) (x y : Self) (m n : Note Self.About) → IsSound m → fits x c m → moves c x m y n → fits y c n × HasSameNumbers m n };
+    ghost keeps_own: { (c : Self.Constant) (x y : Self) (m n : Note Self.About)
+        → IsSound m → fits x c m → moves c x m y n → fits y c n × HasSameNumbers m n };
 
     /// After a move the new value fits each note that the old one fitted and that shares no number with the moving one.
-    ghost keeps_others: { (c : Self.Constant) (x y : Self) (m n other : Note Self.About) → IsSound m → IsSound other → IsApart m other → fits x c m → moves c x m y n → fits x c other → fits y c other };
+    ghost keeps_others: { (c : Self.Constant) (x y : Self) (m n other : Note Self.About)
+        → IsSound m → IsSound other → IsApart m other → fits x c m
+        → moves c x m y n → fits x c other → fits y c other };
 
     /// A value that fits a note fits both its parts.
-    ghost parts_fit: { (c : Self.Constant) (x : Self) (m : Note Self.About) → IsSound m → 0 < m.free → fits x c m → fits x c (kept_part (kept m) m) × fits x c (given_part (given m) m) };
+    ghost parts_fit: { (c : Self.Constant) (x : Self) (m : Note Self.About) → IsSound m → 0 < m.free
+        → fits x c m → fits x c (kept_part (kept m) m) × fits x c (given_part (given m) m) };
 
     /// A value that fits two notes that share no number fits their join.
-    ghost join_fits: { (c : Self.Constant) (x : Self) (m n : Note Self.About) → IsSound m → IsSound n → IsApart m n → fits x c m → fits x c n → fits x c (joined_note (joined m n) m n) };
+    ghost join_fits: { (c : Self.Constant) (x : Self) (m n : Note Self.About)
+        → IsSound m → IsSound n → IsApart m n → fits x c m
+        → fits x c n → fits x c (joined_note (joined m n) m n) };
 }

@@ -57,7 +57,8 @@ pub(crate) struct Merge<V> {
 }
 
 impl<V: Held> Join<View<V, V::About, V::Constant>> for Merge<V> {
-    ghost both = { λ v w. view_at (joined_note (V.joined v.note w.note) v.note w.note) v.constant v.stage };
+    ghost both = { λ v w.
+        view_at (joined_note (V.joined v.note w.note) v.note w.note) v.constant v.stage };
 
     ghost spent = { view_at (opening_note V.opening) None Spent };
 }

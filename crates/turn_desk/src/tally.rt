@@ -1,5 +1,6 @@
 //! A list of counts, one for each pass that is split off, and its use by sixteen threads.
-ghost use Rattle.std.specs.Prelude.{◌≡◌, ◌^◌, ◌+◌, ◌-◌, ◌<◌, ℕ, [], ◌∷◌, length, slice_index, slice_set, vec_len, IfOk, All};
+ghost use Rattle.std.specs.Prelude.{◌≡◌, ◌^◌, ◌+◌, ◌-◌, ◌<◌, ℕ, [], ◌∷◌, length, slice_index};
+ghost use Rattle.std.specs.Prelude.{slice_set, vec_len, IfOk, All};
 ghost use Rattle.turn_desk.specs.Notes.{size_of, given_part};
 ghost use Rattle.turn_desk.specs.Seen.{constant_of, note_of, IsPassOf};
 ghost use Rattle.turn_desk.specs.Tally.{place_of, raised_note, first_note};
@@ -41,7 +42,8 @@ impl Held for Tally {
 
     ghost keeps_own = { λ c x y m n. tally_own c x.counts.items y.counts.items m n };
 
-    ghost keeps_others = { λ c x y m n other. tally_others c x.counts.items y.counts.items m n other };
+    ghost keeps_others = { λ c x y m n other.
+        tally_others c x.counts.items y.counts.items m n other };
 
     ghost parts_fit = { λ c x m. tally_parts c x.counts.items m };
 
@@ -52,7 +54,8 @@ impl Tally {
     fn raise(&mut self, place: usize)
         requires place { place < vec_len self.old.counts }
         requires room { slice_index self.old.counts.items place + 1 < 2 ^ 64 }
-        ensures { self.new.counts.items ≡ slice_set self.old.counts.items place (slice_index self.old.counts.items place + 1) }
+        ensures { self.new.counts.items
+            ≡ slice_set self.old.counts.items place (slice_index self.old.counts.items place + 1) }
     {
         self.counts[place] += 1;
     }
@@ -70,7 +73,8 @@ impl Change<Tally> for Raise {
 // Raises the pass's own count in one turn.
 fn raise_once<R: Wait>(rt: &R, desk: &Desk<Tally>, pass: Pass<Tally>, place: usize) -> Pass<Tally>
     requires desk { IsPassOf desk.now pass }
-    requires place { (place ≡ place_of (slice_index (note_of pass).numbers 0)) × (place < constant_of desk.now) }
+    requires place { (place ≡ place_of (slice_index (note_of pass).numbers 0))
+        × (place < constant_of desk.now) }
     requires room { slice_index (note_of pass).about 0 + 1 < 2 ^ 64 }
     ensures desk { IsPassOf desk.now result }
     ensures note { note_of result ≡ raised_note (note_of pass) }
@@ -118,8 +122,10 @@ fn split_off(
     requires new { (note_of pass.old).free ≡ 4294967295 }
     requires count { count < 4294967295 }
     ensures desk { IsPassOf desk.now pass.new }
-    ensures workers { IfOk result (λ v. All (λ w. IsPassOf desk.now w.pass × (w.place < count) × (note_of w.pass ≡ first_note w.place 0)) v.items) }
-    ensures sizes { IfOk result (λ v. (vec_len v ≡ count) × (size_of (note_of pass.new) + count ≡ size_of (note_of pass.old))) }
+    ensures workers { IfOk result (λ v. All (λ w. IsPassOf desk.now w.pass
+        × (w.place < count) × (note_of w.pass ≡ first_note w.place 0)) v.items) }
+    ensures sizes { IfOk result (λ v. (vec_len v ≡ count)
+        × (size_of (note_of pass.new) + count ≡ size_of (note_of pass.old))) }
 {
     let mut workers = Vec::new(alloc);
     for place in 0..count {
@@ -151,7 +157,8 @@ fn sixteen<R: Threads + Wait + Sync>(rt: &R, alloc: Global) -> Result<Tally, NoM
         rt,
         workers,
         &|w: Worker| -> Pass<Tally>
-            requires { IsPassOf shared.now w.pass × (constant_of shared.now ≡ 16) × (w.place < 16) × (note_of w.pass ≡ first_note w.place 0) }
+            requires { IsPassOf shared.now w.pass × (constant_of shared.now ≡ 16)
+                × (w.place < 16) × (note_of w.pass ≡ first_note w.place 0) }
             ensures { IsPassOf shared.entry.now result × (size_of (note_of result) ≡ 1) }
         { raise_often(rt, shared, w.pass, w.place, 1000) },
     )?;

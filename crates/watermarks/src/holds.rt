@@ -1,4 +1,5 @@
-ghost use Rattle.std.specs.Prelude.{◌≡◌, ◌↔◌, ◌+◌, ◌<◌, ◌≤◌, [], ◌∷◌, List, ℤ, slice_get, int_lt, Contains, IsTrue, IsOk, IsSomeAnd, OnOk, OnErr, MatchOption};
+ghost use Rattle.std.specs.Prelude.{◌≡◌, ◌↔◌, ◌+◌, ◌<◌, ◌≤◌, [], ◌∷◌, List, ℤ, slice_get, int_lt};
+ghost use Rattle.std.specs.Prelude.{Contains, IsTrue, IsOk, IsSomeAnd, OnOk, OnErr, MatchOption};
 ghost use Rattle.beam_values.specs.Bags.{IsSameBag};
 ghost use Rattle.beam_values.specs.Marks.{least_mark};
 ghost use Rattle.watermarks.specs.HeldMarks.{marks_of, AreKept, IsPlace, IsListed};
@@ -32,7 +33,10 @@ impl Model for Holds {
 
     ghost use Rattle.watermarks.specs.HeldMarks.{marks_of, AreKept};
 
-    ghost view = { λ h. record { marks = marks_of h.items.items; room = h.items.cap - h.items.len } };
+    ghost view = { λ h. record {
+      marks = marks_of h.items.items;
+      room = h.items.cap - h.items.len;
+    } };
 
     ghost invariant = { λ h. AreKept h.items.items };
 }
@@ -128,7 +132,8 @@ fn is_below(held: &Held, m: Mark) -> bool
 
 /// Whether the mark is listed there, and its count isn't full.
 fn can_count_more(items: &[Held], at: usize, m: Mark) -> bool
-    ensures { IsTrue result ↔ IsSomeAnd (slice_get items.now at) (λ held. (held.mark ≡ m) × (held.count < u64.MAX)) }
+    ensures { IsTrue result
+        ↔ IsSomeAnd (slice_get items.now at) (λ held. (held.mark ≡ m) × (held.count < u64.MAX)) }
 {
     match items.get(at) {
         Some(held) => held.mark == m && held.count < u64::MAX,

@@ -1,7 +1,8 @@
 //! The strategies of the nodes of a plan, node after node.
 
 ghost use Rattle.std.specs.Prelude.{◌≡◌, IfOk, OnOk};
-ghost use Rattle.beam_values.specs.Nodes.{below_group, facts_after, facts_at, facts_of, first_strategy, with_facts};
+ghost use Rattle.beam_values.specs.Nodes.{below_group, facts_after, facts_at, facts_of};
+ghost use Rattle.beam_values.specs.Nodes.{first_strategy, with_facts};
 
 use beam_values::{List, NoMemory, Node, NodeKind, Strategy};
 use std::alloc::Global;

@@ -37,7 +37,8 @@ impl Model for Bodies {
 
     ghost view = { λ b. b.graph };
 
-    ghost invariant = { λ b. (b.indexed.plan ≡ b.graph) × (b.plain.plan ≡ b.graph) × (length b.marks.items ≡ length b.graph.nodes) };
+    ghost invariant = { λ b. (b.indexed.plan ≡ b.graph) × (b.plain.plan ≡ b.graph)
+        × (length b.marks.items ≡ length b.graph.nodes) };
 }
 
 impl Bodies {

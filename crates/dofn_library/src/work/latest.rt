@@ -1,4 +1,5 @@
-ghost use Rattle.std.specs.Prelude.{◌≡◌, ◌++◌, ℤ, ◌≤ℤ◌, List as ListOf, Option as OptionOf, map, unwrap_or, IfOk, OnOk};
+ghost use Rattle.std.specs.Prelude.{◌≡◌, ◌++◌, ℤ, ◌≤ℤ◌, List as ListOf, Option as OptionOf, map};
+ghost use Rattle.std.specs.Prelude.{unwrap_or, IfOk, OnOk};
 ghost use Rattle.beam_values.specs.States.{cell_of, number_in};
 ghost use Rattle.beam_values.specs.Times.{least_time};
 ghost use Rattle.beam_values.specs.declared.plan.StateKind.TheVariants as kinds;
@@ -60,8 +61,10 @@ impl StateWork for LatestThenEmit {
 // Keeps the value where none of a later time is kept, and gives the time of the one that is kept then.
 #[tactic(auto, using(crate::proofs::Cells::one_value, crate::proofs::Cells::number_put))]
 fn keep_latest(alloc: Global, e: &Element, state: &mut KeyState) -> Result<i64, NoMemory>
-    ensures kept { OnOk result ((timers : ListOf (OptionOf ℤ)) → with_latest e.now (kept_in state.old timers) ≡ kept_in state.new timers) }
-    ensures latest { IfOk result (λ ms. ms ≡ unwrap_or (number_in (cell_of state.new 1)) e.now.time) }
+    ensures kept { OnOk result ((timers : ListOf (OptionOf ℤ))
+        → with_latest e.now (kept_in state.old timers) ≡ kept_in state.new timers) }
+    ensures latest { IfOk result
+        (λ ms. ms ≡ unwrap_or (number_in (cell_of state.new 1)) e.now.time) }
     ensures past_least { IfOk result (λ ms. least_time ≤ℤ ms) }
 {
     let time = e.time.ms();
@@ -85,7 +88,8 @@ fn push_each(
     values: &[Value],
     out: &mut List<Element>,
 ) -> Result<(), NoMemory>
-    ensures { OnOk result (out.new ≡ out.old ++ map (λ v. timer_output span time (pair key.now v)) values.now) }
+    ensures { OnOk result
+        (out.new ≡ out.old ++ map (λ v. timer_output span time (pair key.now v)) values.now) }
 {
     let key = Boxed::new(alloc, key.copy(alloc)?)?;
     for value in values {

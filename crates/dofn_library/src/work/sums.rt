@@ -57,7 +57,9 @@ impl StateWork for RunningSum {
 
 // The sum with the number of one element more, where that is one and 64 bits hold the sum.
 fn sum_with(state: &KeyState, e: &Element) -> Option<i64>
-    ensures { result ≡ option_and_then (λ n. in_word (unwrap_or (number_in (cell_of state.now 0)) (pos 0) +ℤ n)) (as_int (part_of e.now)) }
+    ensures { result
+        ≡ option_and_then (λ n. in_word (unwrap_or (number_in (cell_of state.now 0)) (pos 0) +ℤ n))
+        (as_int (part_of e.now)) }
 {
     let number = int_of(part_of(e))?;
     let before = state.number(0).unwrap_or(0);

@@ -1,4 +1,5 @@
-ghost use Rattle.std.specs.Prelude.{◌≡◌, [], ◌++◌, ◌+◌, ◌<◌, ◌≤◌, ◌^◌, true, length, map, not, take, IfOk, OnOk, OnErr};
+ghost use Rattle.std.specs.Prelude.{◌≡◌, [], ◌++◌, ◌+◌, ◌<◌, ◌≤◌, ◌^◌, true, length, map, not};
+ghost use Rattle.std.specs.Prelude.{take, IfOk, OnOk, OnErr};
 ghost use Rattle.std.specs.List.{filter};
 ghost use Rattle.beam_values.specs.Checked.{IsChecked};
 ghost use Rattle.beam_values.specs.Nodes.{facts_of};
@@ -50,20 +51,26 @@ impl Draft {
         requires marks { length before.now ≡ length plan.now.nodes }
         requires indexed { indexed ≡ true → IsIndexOf self.old.index self.old.cells.items }
         requires due { indexed ≡ true → IsDueOf plan.now self.old.due self.old.cells.items }
-        requires standing { indexed ≡ true → AreStanding plan.now standing.old self.old.cells.items }
+        requires standing { indexed ≡ true
+            → AreStanding plan.now standing.old self.old.cells.items }
         requires stand { UnmergedStand plan.now self.old.cells.items }
         requires changes { self.old.changes.items ≡ [] }
-        ensures cells { IfOk result (λ next. AreCellsNext plan.now before.now (hold_at holds.now) commit arrivals.now self.old.cells.items self.new.cells.items next.marks next.fired) }
+        ensures cells { IfOk result (λ next. AreCellsNext plan.now before.now (hold_at holds.now)
+            commit arrivals.now self.old.cells.items self.new.cells.items next.marks next.fired) }
         ensures stand { OnOk result (UnmergedStand plan.now self.new.cells.items) }
         ensures indexed { OnOk result (IsIndexOf self.new.index self.new.cells.items) }
         ensures due { OnOk result (IsDueOf plan.now self.new.due self.new.cells.items) }
         ensures standing { OnOk result (AreStanding plan.now standing.new self.new.cells.items) }
         ensures small { OnOk result (length self.new.cells.items < 2 ^ 32) }
-        ensures grown { OnOk result (length self.new.cells.items ≤ length self.old.cells.items + length arrivals.now) }
-        ensures dropped { OnOk result (self.new.dropped.items ≡ self.old.dropped.items ++ map (dropped_arrival commit) (filter (is_dropped plan.now before.now) arrivals.now)) }
-        ensures others { IfOk result (λ next. next.others ≡ filter (λ arrival. not (is_at_group plan.now arrival)) arrivals.now) }
+        ensures grown { OnOk result
+            (length self.new.cells.items ≤ length self.old.cells.items + length arrivals.now) }
+        ensures dropped { OnOk result (self.new.dropped.items ≡ self.old.dropped.items ++ map
+            (dropped_arrival commit) (filter (is_dropped plan.now before.now) arrivals.now)) }
+        ensures others { IfOk result (λ next. next.others
+            ≡ filter (λ arrival. not (is_at_group plan.now arrival)) arrivals.now) }
         ensures changes { self.new.changes.items ≡ [] }
-        ensures err { OnErr result ((self.new.cells.items ≡ self.old.cells.items) × (self.new.dropped.items ≡ self.old.dropped.items)) }
+        ensures err { OnErr result ((self.new.cells.items ≡ self.old.cells.items)
+            × (self.new.dropped.items ≡ self.old.dropped.items)) }
     {
         let kept = self.dropped.len();
         match self.advance(
@@ -96,19 +103,26 @@ impl Draft {
         requires marks { length before.now ≡ length plan.now.nodes }
         requires indexed { indexed ≡ true → IsIndexOf self.old.index self.old.cells.items }
         requires due { indexed ≡ true → IsDueOf plan.now self.old.due self.old.cells.items }
-        requires standing { indexed ≡ true → AreStanding plan.now standing.old self.old.cells.items }
+        requires standing { indexed ≡ true
+            → AreStanding plan.now standing.old self.old.cells.items }
         requires stand { UnmergedStand plan.now self.old.cells.items }
-        ensures cells { IfOk result (λ next. AreCellsNext plan.now before.now (hold_at holds.now) commit arrivals.now self.old.cells.items self.new.cells.items next.marks next.fired) }
+        ensures cells { IfOk result (λ next. AreCellsNext plan.now before.now (hold_at holds.now)
+            commit arrivals.now self.old.cells.items self.new.cells.items next.marks next.fired) }
         ensures stand { OnOk result (UnmergedStand plan.now self.new.cells.items) }
         ensures indexed { OnOk result (IsIndexOf self.new.index self.new.cells.items) }
         ensures due { OnOk result (IsDueOf plan.now self.new.due self.new.cells.items) }
         ensures standing { OnOk result (AreStanding plan.now standing.new self.new.cells.items) }
         ensures small { OnOk result (length self.new.cells.items < 2 ^ 32) }
-        ensures grown { OnOk result (length self.new.cells.items ≤ length self.old.cells.items + length arrivals.now) }
-        ensures dropped { OnOk result (self.new.dropped.items ≡ self.old.dropped.items ++ map (dropped_arrival commit) (filter (is_dropped plan.now before.now) arrivals.now)) }
-        ensures others { IfOk result (λ next. next.others ≡ filter (λ arrival. not (is_at_group plan.now arrival)) arrivals.now) }
-        ensures kept { take (length self.old.dropped.items) self.new.dropped.items ≡ self.old.dropped.items }
-        ensures undo { undone_all self.new.changes.items self.new.cells.items ≡ undone_all self.old.changes.items self.old.cells.items }
+        ensures grown { OnOk result
+            (length self.new.cells.items ≤ length self.old.cells.items + length arrivals.now) }
+        ensures dropped { OnOk result (self.new.dropped.items ≡ self.old.dropped.items ++ map
+            (dropped_arrival commit) (filter (is_dropped plan.now before.now) arrivals.now)) }
+        ensures others { IfOk result (λ next. next.others
+            ≡ filter (λ arrival. not (is_at_group plan.now arrival)) arrivals.now) }
+        ensures kept { take (length self.old.dropped.items) self.new.dropped.items
+            ≡ self.old.dropped.items }
+        ensures undo { undone_all self.new.changes.items self.new.cells.items
+            ≡ undone_all self.old.changes.items self.old.cells.items }
     {
         let facts = facts_of(alloc, plan.nodes.as_slice())?;
         let facts = facts.as_slice();
@@ -147,11 +161,13 @@ impl Draft {
         requires facts { facts.now ≡ facts_of plan.now.nodes }
         requires indexed { indexed ≡ true → IsIndexOf self.old.index self.old.cells.items }
         requires due { indexed ≡ true → IsDueOf plan.now self.old.due self.old.cells.items }
-        requires standing { indexed ≡ true → AreStanding plan.now standing.old self.old.cells.items }
+        requires standing { indexed ≡ true
+            → AreStanding plan.now standing.old self.old.cells.items }
         ensures indexed { OnOk result (IsIndexOf self.new.index self.new.cells.items) }
         ensures due { OnOk result (IsDueOf plan.now self.new.due self.new.cells.items) }
         ensures standing { OnOk result (AreStanding plan.now standing.new self.new.cells.items) }
-        ensures others { (self.new.cells ≡ self.old.cells) × (self.new.dropped ≡ self.old.dropped) × (self.new.changes ≡ self.old.changes) }
+        ensures others { (self.new.cells ≡ self.old.cells)
+            × (self.new.dropped ≡ self.old.dropped) × (self.new.changes ≡ self.old.changes) }
     {
         if !indexed {
             self.index = CellIndex::of(alloc, self.cells.as_slice())?;

@@ -1,4 +1,5 @@
-ghost use Rattle.std.specs.Prelude.{◌≡◌, ◌<◌, ◌∷◌, [], ◌++◌, Some, length, slice_get, slice_set, OnOk, OnErr, IfOk, IfSome, None, false, take};
+ghost use Rattle.std.specs.Prelude.{◌≡◌, ◌<◌, ◌∷◌, [], ◌++◌, Some, length, slice_get, slice_set};
+ghost use Rattle.std.specs.Prelude.{OnOk, OnErr, IfOk, IfSome, None, false, take};
 ghost use Rattle.beam_values.specs.Grouping.{key_of};
 ghost use Rattle.beam_values.specs.declared.cell.Cell.{Cell as CellOf};
 ghost use Rattle.group_cells.specs.Arrivals.{arrived};
@@ -45,7 +46,8 @@ pub struct Draft {
 /// Where a cell has its place, an entry goes to it.
 fn put_at(cells: &mut Vec<Cell>, place: u32, entry: Entry) -> Result<(), NoMemory>
     requires { place < length cells.old.items }
-    ensures ok { OnOk result ((cell : CellOf) → slice_get cells.old.items place ≡ Some cell → cells.new.items ≡ slice_set cells.old.items place (with_entry entry cell)) }
+    ensures ok { OnOk result ((cell : CellOf) → slice_get cells.old.items place ≡ Some cell
+        → cells.new.items ≡ slice_set cells.old.items place (with_entry entry cell)) }
     ensures err { OnErr result (cells.new.items ≡ cells.old.items) }
 {
     let cell = &mut cells[place as usize];
@@ -56,7 +58,8 @@ fn put_at(cells: &mut Vec<Cell>, place: u32, entry: Entry) -> Result<(), NoMemor
 /// Takes the last entry of the cell away.
 fn take_last(cells: &mut Vec<Cell>, place: u32)
     requires { place < length cells.old.items }
-    ensures { (cell : CellOf) → slice_get cells.old.items place ≡ Some cell → cells.new.items ≡ slice_set cells.old.items place (without_last cell) }
+    ensures { (cell : CellOf) → slice_get cells.old.items place ≡ Some cell
+        → cells.new.items ≡ slice_set cells.old.items place (without_last cell) }
 {
     let cell = &mut cells[place as usize];
     let kept = cell.entries.len().saturating_sub(1);
@@ -66,7 +69,8 @@ fn take_last(cells: &mut Vec<Cell>, place: u32)
 /// The cell at a place becomes again what it was before it fired.
 fn unfire_at(alloc: Global, cells: &mut Vec<Cell>, place: u32, before: &Unfired)
     requires { place < length cells.old.items }
-    ensures { (cell : CellOf) → slice_get cells.old.items place ≡ Some cell → cells.new.items ≡ slice_set cells.old.items place (unfired before.now cell) }
+    ensures { (cell : CellOf) → slice_get cells.old.items place ≡ Some cell
+        → cells.new.items ≡ slice_set cells.old.items place (unfired before.now cell) }
 {
     unfire(alloc, before, &mut cells[place as usize]);
 }
@@ -95,7 +99,8 @@ fn undo(alloc: Global, cells: &mut Vec<Cell>, change: Change)
 impl Draft {
     /// Undoes all changes, the last one first.
     pub fn undo_all(&mut self, alloc: Global, dropped: usize)
-        ensures cells { self.new.cells.items ≡ undone_all self.old.changes.items self.old.cells.items }
+        ensures cells { self.new.cells.items
+            ≡ undone_all self.old.changes.items self.old.cells.items }
         ensures dropped { self.new.dropped.items ≡ take dropped self.old.dropped.items }
         ensures changes { self.new.changes.items ≡ [] }
     {
@@ -108,9 +113,12 @@ impl Draft {
     /// The cell at a place takes an entry.
     pub fn put(&mut self, place: u32, entry: Entry) -> Result<(), NoMemory>
         requires { place < length self.old.cells.items }
-        ensures ok { OnOk result ((cell : CellOf) → slice_get self.old.cells.items place ≡ Some cell → self.new.cells.items ≡ slice_set self.old.cells.items place (with_entry entry cell)) }
-        ensures others { (self.new.index ≡ self.old.index) × (self.new.dropped ≡ self.old.dropped) × (self.new.due ≡ self.old.due) }
-        ensures undo { undone_all self.new.changes.items self.new.cells.items ≡ undone_all self.old.changes.items self.old.cells.items }
+        ensures ok { OnOk result ((cell : CellOf) → slice_get self.old.cells.items place ≡ Some cell
+            → self.new.cells.items ≡ slice_set self.old.cells.items place (with_entry entry cell)) }
+        ensures others { (self.new.index ≡ self.old.index)
+            × (self.new.dropped ≡ self.old.dropped) × (self.new.due ≡ self.old.due) }
+        ensures undo { undone_all self.new.changes.items self.new.cells.items
+            ≡ undone_all self.old.changes.items self.old.cells.items }
     {
         self.changes.reserve(1)?;
         put_at(&mut self.cells, place, entry)?;
@@ -123,10 +131,12 @@ impl Draft {
         requires within { place < length self.old.cells.items }
         requires unseen { entry.shown ≡ false }
         requires due { IsDueOf plan.now self.old.due self.old.cells.items }
-        ensures ok { OnOk result ((cell : CellOf) → slice_get self.old.cells.items place ≡ Some cell → self.new.cells.items ≡ slice_set self.old.cells.items place (with_entry entry cell)) }
+        ensures ok { OnOk result ((cell : CellOf) → slice_get self.old.cells.items place ≡ Some cell
+            → self.new.cells.items ≡ slice_set self.old.cells.items place (with_entry entry cell)) }
         ensures due { OnOk result (IsDueOf plan.now self.new.due self.new.cells.items) }
         ensures others { (self.new.index ≡ self.old.index) × (self.new.dropped ≡ self.old.dropped) }
-        ensures undo { undone_all self.new.changes.items self.new.cells.items ≡ undone_all self.old.changes.items self.old.cells.items }
+        ensures undo { undone_all self.new.changes.items self.new.cells.items
+            ≡ undone_all self.old.changes.items self.old.cells.items }
     {
         let was = self.due.moment_at(plan, place, &self.cells[place as usize]);
         let count = self.due.one_more(place)?;
@@ -139,11 +149,14 @@ impl Draft {
     pub fn open(&mut self, plan: &Plan, key: CellKey, cell: Cell) -> Result<(), NoMemory>
         requires { (cell.node ≡ key.node) × (cell.key ≡ key.key) × (cell.span ≡ key.span) }
         ensures ok { OnOk result (self.new.cells.items ≡ self.old.cells.items ++ cell ∷ []) }
-        ensures indexed { OnOk result (IsIndexOf self.old.index self.old.cells.items → place_of key.node key.key key.span self.old.cells.items ≡ None
+        ensures indexed { OnOk result (IsIndexOf self.old.index self.old.cells.items
+            → place_of key.node key.key key.span self.old.cells.items ≡ None
             → IsIndexOf self.new.index self.new.cells.items) }
-        ensures due { OnOk result (IsDueOf plan.now self.old.due self.old.cells.items → IsDueOf plan.now self.new.due self.new.cells.items) }
+        ensures due { OnOk result (IsDueOf plan.now self.old.due self.old.cells.items
+            → IsDueOf plan.now self.new.due self.new.cells.items) }
         ensures dropped { self.new.dropped ≡ self.old.dropped }
-        ensures undo { undone_all self.new.changes.items self.new.cells.items ≡ undone_all self.old.changes.items self.old.cells.items }
+        ensures undo { undone_all self.new.changes.items self.new.cells.items
+            ≡ undone_all self.old.changes.items self.old.cells.items }
     {
         let place = u32::try_from(self.cells.len()).map_err(|_| NoMemory)?;
         self.index.add(key, place)?;
@@ -153,9 +166,11 @@ impl Draft {
     /// Puts a cell behind the others.
     pub fn push(&mut self, plan: &Plan, cell: Cell) -> Result<(), NoMemory>
         ensures ok { OnOk result (self.new.cells.items ≡ self.old.cells.items ++ cell ∷ []) }
-        ensures due { OnOk result (IsDueOf plan.now self.old.due self.old.cells.items → IsDueOf plan.now self.new.due self.new.cells.items) }
+        ensures due { OnOk result (IsDueOf plan.now self.old.due self.old.cells.items
+            → IsDueOf plan.now self.new.due self.new.cells.items) }
         ensures others { (self.new.index ≡ self.old.index) × (self.new.dropped ≡ self.old.dropped) }
-        ensures undo { undone_all self.new.changes.items self.new.cells.items ≡ undone_all self.old.changes.items self.old.cells.items }
+        ensures undo { undone_all self.new.changes.items self.new.cells.items
+            ≡ undone_all self.old.changes.items self.old.cells.items }
     {
         self.changes.reserve(1)?;
         self.due.add(plan, self.cells.len(), &cell)?;
@@ -175,11 +190,13 @@ impl Draft {
         requires indexed { IsIndexOf self.old.index self.old.cells.items }
         requires unseen { entry.shown ≡ false }
         requires due { IsDueOf plan.now self.old.due self.old.cells.items }
-        ensures ok { OnOk result (self.new.cells.items ≡ arrived node (key_of entry.element) entry.element.span entry self.old.cells.items) }
+        ensures ok { OnOk result (self.new.cells.items
+            ≡ arrived node (key_of entry.element) entry.element.span entry self.old.cells.items) }
         ensures indexed { OnOk result (IsIndexOf self.new.index self.new.cells.items) }
         ensures due { OnOk result (IsDueOf plan.now self.new.due self.new.cells.items) }
         ensures dropped { self.new.dropped ≡ self.old.dropped }
-        ensures undo { undone_all self.new.changes.items self.new.cells.items ≡ undone_all self.old.changes.items self.old.cells.items }
+        ensures undo { undone_all self.new.changes.items self.new.cells.items
+            ≡ undone_all self.old.changes.items self.old.cells.items }
     {
         match self.guessed(node, &entry.element) {
             Some(guessed) => self.put_unseen(plan, guessed, entry),
@@ -198,11 +215,13 @@ impl Draft {
         requires indexed { IsIndexOf self.old.index self.old.cells.items }
         requires unseen { entry.shown ≡ false }
         requires due { IsDueOf plan.now self.old.due self.old.cells.items }
-        ensures ok { OnOk result (self.new.cells.items ≡ arrived node (key_of entry.element) entry.element.span entry self.old.cells.items) }
+        ensures ok { OnOk result (self.new.cells.items
+            ≡ arrived node (key_of entry.element) entry.element.span entry self.old.cells.items) }
         ensures indexed { OnOk result (IsIndexOf self.new.index self.new.cells.items) }
         ensures due { OnOk result (IsDueOf plan.now self.new.due self.new.cells.items) }
         ensures dropped { self.new.dropped ≡ self.old.dropped }
-        ensures undo { undone_all self.new.changes.items self.new.cells.items ≡ undone_all self.old.changes.items self.old.cells.items }
+        ensures undo { undone_all self.new.changes.items self.new.cells.items
+            ≡ undone_all self.old.changes.items self.old.cells.items }
     {
         let key = cell_key(alloc, node, &entry)?;
         match self.index.find_again(&key) {
@@ -217,7 +236,8 @@ impl Draft {
     /// The place of the cell of an element's window, where a guess is right.
     fn guessed(&self, node: u32, element: &Element) -> Option<u32>
         requires indexed { IsIndexOf self.now.index self.now.cells.items }
-        ensures { IfSome result (λ place. Some place ≡ place_of node (key_of element.now) element.now.span self.now.cells.items) }
+        ensures { IfSome result (λ place. Some place
+            ≡ place_of node (key_of element.now) element.now.span self.now.cells.items) }
     {
         let null = Value::Null;
         let key = key_or(element, &null);
@@ -232,7 +252,8 @@ impl Draft {
 }
 
 fn cell_key(alloc: Global, node: u32, entry: &Entry) -> Result<CellKey, NoMemory>
-    ensures { IfOk result (λ key. key ≡ record { node = node; span = entry.now.element.span; key = key_of entry.now.element }) }
+    ensures { IfOk result (λ key. key
+        ≡ record { node = node; span = entry.now.element.span; key = key_of entry.now.element }) }
 {
     Ok(CellKey {
         node,
@@ -243,7 +264,8 @@ fn cell_key(alloc: Global, node: u32, entry: &Entry) -> Result<CellKey, NoMemory
 
 /// A new cell with its first entry.
 fn first_cell(alloc: Global, key: &CellKey, entry: Entry) -> Result<Cell, NoMemory>
-    ensures { IfOk result (λ cell. cell ≡ fresh_cell key.now.node key.now.key key.now.span (entry ∷ [])) }
+    ensures { IfOk result
+        (λ cell. cell ≡ fresh_cell key.now.node key.now.key key.now.span (entry ∷ [])) }
 {
     let mut entries = List::new(alloc);
     entries.push(entry)?;

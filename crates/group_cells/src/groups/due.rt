@@ -1,7 +1,10 @@
-ghost use Rattle.std.specs.Prelude.{◌≡◌, ◌+◌, ◌<◌, ◌^◌, ◌≤ℤ◌, ◌∷◌, [], ◌++◌, ℤ, true, false, Contains, List as ListOf, Some, length, map, if◌then◌else◌, slice_get, slice_set, IfOk, OnOk};
+ghost use Rattle.std.specs.Prelude.{◌≡◌, ◌+◌, ◌<◌, ◌^◌, ◌≤ℤ◌, ◌∷◌, [], ◌++◌, ℤ, true, false};
+ghost use Rattle.std.specs.Prelude.{Contains, List as ListOf, Some, length, map, if◌then◌else◌};
+ghost use Rattle.std.specs.Prelude.{slice_get, slice_set, IfOk, OnOk};
 ghost use Rattle.std.specs.BTreeSet.{contains, keys_between};
 ghost use Rattle.std.specs.Option.{option_map};
-ghost use Rattle.std.specs.Ordering.{as_partial_cmp, eq_by_cmp, int_cmp, is_gt, nat_cmp, on, then_cmp};
+ghost use Rattle.std.specs.Ordering.{as_partial_cmp, eq_by_cmp, int_cmp, is_gt, nat_cmp, on};
+ghost use Rattle.std.specs.Ordering.{then_cmp};
 ghost use Rattle.std.specs.declared.ops.Bound.TheVariants.{Included};
 ghost use Rattle.std.specs.Cmp.{partial_order_from_own_ties};
 ghost use Rattle.std.specs.Cmp.Rules.{comparing};
@@ -10,7 +13,8 @@ ghost use Rattle.beam_values.specs.declared.cell.Cell.{Cell as CellOf};
 ghost use Rattle.beam_values.specs.Times.{least_time};
 ghost use Rattle.beam_values.specs.declared.plan.Plan.{Plan as PlanOf};
 ghost use Rattle.group_cells.specs.Cells.{unseen_in};
-ghost use Rattle.group_cells.specs.Due.{due_cmp, has_moment, is_key_of, own_moment, IsDueOf, IsFirstBetween};
+ghost use Rattle.group_cells.specs.Due.{due_cmp, has_moment, is_key_of, own_moment, IsDueOf};
+ghost use Rattle.group_cells.specs.Due.{IsFirstBetween};
 ghost use Rattle.group_cells.specs.Looking.{IsNextDue};
 ghost use Rattle.group_cells.specs.declared.groups.due.DueKey.{DueKey as DueKeyOf};
 
@@ -57,7 +61,8 @@ impl DueKey {
 }
 
 fn cmp_moments(a: &DueKey, b: &DueKey) -> Ordering
-    ensures { result ≡ then_cmp (on (λ k. k.moment) int_cmp) (on (λ k. k.place) nat_cmp) a.now b.now }
+    ensures { result
+        ≡ then_cmp (on (λ k. k.moment) int_cmp) (on (λ k. k.place) nat_cmp) a.now b.now }
 {
     match a.moment.cmp(&b.moment) {
         Ordering::Equal => a.place.cmp(&b.place),
@@ -82,7 +87,8 @@ impl Eq for DueKey {
 impl PartialOrd for DueKey {
     ghost partial_cmp = { as_partial_cmp due_cmp };
 
-    ghost laws = { partial_order_from_own_ties (Prim.search (comparing, rules) depth 12) (Prim.search (comparing, rules) depth 12) };
+    ghost laws = { partial_order_from_own_ties (Prim.search (comparing, rules) depth 12)
+        (Prim.search (comparing, rules) depth 12) };
 
     fn partial_cmp(&self, other: &DueKey) -> Option<Ordering> {
         Some(self.cmp(other))
@@ -139,7 +145,9 @@ impl DueCells {
 
     /// One more cell, behind the others.
     pub fn add(&mut self, plan: &Plan, place: usize, cell: &Cell) -> Result<(), NoMemory>
-        ensures { OnOk result ((cells : ListOf CellOf) → place ≡ length cells → IsDueOf plan.now self.old cells → IsDueOf plan.now self.new (cells ++ cell.now ∷ [])) }
+        ensures { OnOk result
+            ((cells : ListOf CellOf) → place ≡ length cells → IsDueOf plan.now self.old cells
+            → IsDueOf plan.now self.new (cells ++ cell.now ∷ [])) }
     {
         let place = u32::try_from(place).map_err(|_| NoMemory)?;
         let count = unseen(cell.entries.as_slice());
@@ -151,7 +159,8 @@ impl DueCells {
     /// The moment of the cell at a place.
     pub fn moment_at(&self, plan: &Plan, place: u32, cell: &Cell) -> Option<i64>
         requires { place < length self.now.unseen.items }
-        ensures { (cells : ListOf CellOf) → IsDueOf plan.now self.now cells → slice_get cells place ≡ Some cell.now → result ≡ own_moment plan.now cell.now }
+        ensures { (cells : ListOf CellOf) → IsDueOf plan.now self.now cells
+            → slice_get cells place ≡ Some cell.now → result ≡ own_moment plan.now cell.now }
     {
         moment_with(plan, cell, self.unseen[place as usize])
     }
@@ -159,7 +168,9 @@ impl DueCells {
     /// How many entries of the cell at a place are unseen once one more is.
     pub fn one_more(&self, place: u32) -> Result<u64, NoMemory>
         requires { place < length self.now.unseen.items }
-        ensures { IfOk result (λ count. (plan : PlanOf) (cells : ListOf CellOf) (cell : CellOf) → IsDueOf plan self.now cells → slice_get cells place ≡ Some cell → count ≡ unseen_in cell.entries + 1) }
+        ensures { IfOk result (λ count. (plan : PlanOf) (cells : ListOf CellOf) (cell : CellOf)
+            → IsDueOf plan self.now cells → slice_get cells place ≡ Some cell
+            → count ≡ unseen_in cell.entries + 1) }
     {
         self.unseen[place as usize].checked_add(1).ok_or(NoMemory)
     }
@@ -168,8 +179,10 @@ impl DueCells {
     pub fn both(&self, place: u32, other: u32) -> Result<u64, NoMemory>
         requires place { place < length self.now.unseen.items }
         requires other { other < length self.now.unseen.items }
-        ensures { IfOk result (λ count. (plan : PlanOf) (cells : ListOf CellOf) (cell with_ : CellOf) → IsDueOf plan self.now cells → slice_get cells place ≡ Some cell
-            → slice_get cells other ≡ Some with_ → count ≡ unseen_in cell.entries + unseen_in with_.entries) }
+        ensures { IfOk result (λ count. (plan : PlanOf) (cells : ListOf CellOf)
+            (cell with_ : CellOf) → IsDueOf plan self.now cells → slice_get cells place ≡ Some cell
+            → slice_get cells other ≡ Some with_
+            → count ≡ unseen_in cell.entries + unseen_in with_.entries) }
     {
         self.unseen[place as usize]
             .checked_add(self.unseen[other as usize])
@@ -186,8 +199,11 @@ impl DueCells {
         count: u64,
     ) -> Result<(), NoMemory>
         requires { place < length self.old.unseen.items }
-        ensures { OnOk result ((cells : ListOf CellOf) (before : CellOf) → IsDueOf plan.now self.old cells → slice_get cells place ≡ Some before → was ≡ own_moment plan.now before
-            → cell.now.node ≡ before.node → count ≡ unseen_in cell.now.entries → IsDueOf plan.now self.new (slice_set cells place cell.now)) }
+        ensures { OnOk result
+            ((cells : ListOf CellOf) (before : CellOf) → IsDueOf plan.now self.old cells
+            → slice_get cells place ≡ Some before → was ≡ own_moment plan.now before
+            → cell.now.node ≡ before.node → count ≡ unseen_in cell.now.entries
+            → IsDueOf plan.now self.new (slice_set cells place cell.now)) }
     {
         let now = moment_with(plan, cell, count);
         self.unseen[place as usize] = count;
@@ -199,7 +215,9 @@ impl DueCells {
     }
 
     fn leave(&mut self, node: u32, place: u32, moment: Option<i64>)
-        ensures moments { (q : DueKeyOf) → contains due_cmp self.new.moments q ≡ (if is_key_of node place moment q then false else contains due_cmp self.old.moments q) }
+        ensures moments { (q : DueKeyOf) → contains due_cmp self.new.moments q
+            ≡ (if is_key_of node place moment q
+            then false else contains due_cmp self.old.moments q) }
         ensures unseen { self.new.unseen ≡ self.old.unseen }
     {
         if let Some(moment) = moment {
@@ -212,7 +230,9 @@ impl DueCells {
     }
 
     fn enter(&mut self, node: u32, place: u32, moment: Option<i64>) -> Result<(), NoMemory>
-        ensures moments { OnOk result ((q : DueKeyOf) → contains due_cmp self.new.moments q ≡ (if is_key_of node place moment q then true else contains due_cmp self.old.moments q)) }
+        ensures moments { OnOk result ((q : DueKeyOf)
+            → contains due_cmp self.new.moments q ≡ (if is_key_of node place moment q
+            then true else contains due_cmp self.old.moments q)) }
         ensures unseen { self.new.unseen ≡ self.old.unseen }
     {
         if let Some(moment) = moment {
@@ -227,7 +247,8 @@ impl DueCells {
 
     /// The places of the cells of a node whose moments a mark has reached, by their moments.
     pub fn places_until(&self, alloc: Global, node: u32, mark: Mark) -> Result<Vec<u32>, NoMemory>
-        ensures { IfOk result (λ places. (q : DueKeyOf) → q.node ≡ node → least_time ≤ℤ q.moment → q.moment ≤ℤ mark → q.place < 2 ^ 32
+        ensures { IfOk result (λ places. (q : DueKeyOf) → q.node ≡ node
+            → least_time ≤ℤ q.moment → q.moment ≤ℤ mark → q.place < 2 ^ 32
             → contains due_cmp self.now.moments q ≡ true → Contains places.items q.place) }
     {
         self.places_between(alloc, DueKey::first(node), DueKey::last(node, mark))
@@ -235,7 +256,8 @@ impl DueCells {
 
     /// The least moment of the cells of a node.
     pub fn next(&self, node: u32) -> Option<i64>
-        ensures { (plan : PlanOf) (cells : ListOf CellOf) → IsDueOf plan self.now cells → IsNextDue plan node cells result }
+        ensures { (plan : PlanOf) (cells : ListOf CellOf)
+            → IsDueOf plan self.now cells → IsNextDue plan node cells result }
     {
         the_next_mark_is_the_least();
         moment_in(self.first_between(DueKey::first(node), DueKey::last(node, Mark::FINAL)))
@@ -258,7 +280,8 @@ impl DueCells {
         last: DueKey,
     ) -> Result<Vec<u32>, NoMemory>
         requires { is_gt (due_cmp first last) ≡ false }
-        ensures { IfOk result (λ places. places.items ≡ map (λ key. key.place) (keys_between due_cmp (Included first) (Included last) self.now.moments)) }
+        ensures { IfOk result (λ places. places.items ≡ map (λ key. key.place)
+            (keys_between due_cmp (Included first) (Included last) self.now.moments)) }
     {
         let mut places = Vec::new(alloc);
         for key in self.moments.range(first..=last) {

@@ -1,6 +1,7 @@
 //! A cell fires where it lies, and keeps by what it is undone where memory is refused later.
 
-ghost use Rattle.std.specs.Prelude.{◌≡◌, ◌+◌, ◌<◌, ◌^◌, Some, length, map, IfOk, IfSome, OnErr, OnOk};
+ghost use Rattle.std.specs.Prelude.{◌≡◌, ◌+◌, ◌<◌, ◌^◌, Some, length, map, IfOk, IfSome, OnErr};
+ghost use Rattle.std.specs.Prelude.{OnOk};
 ghost use Rattle.group_cells.specs.Cells.{once_fired};
 ghost use Rattle.group_cells.specs.Unfiring.{shown_as, unfired, was_first, was_shown, AreShownAs};
 

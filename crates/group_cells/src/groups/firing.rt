@@ -1,13 +1,17 @@
-ghost use Rattle.std.specs.Prelude.{◌≡◌, ◌<◌, ◌≤◌, List as ListOf, Some, None, [], true, false, length, option_to_list, slice_get, slice_set, IfOk, OnErr, OnOk};
+ghost use Rattle.std.specs.Prelude.{◌≡◌, ◌<◌, ◌≤◌, List as ListOf, Some, None, [], true, false};
+ghost use Rattle.std.specs.Prelude.{length, option_to_list, slice_get, slice_set, IfOk, OnErr};
+ghost use Rattle.std.specs.Prelude.{OnOk};
 ghost use Rattle.std.specs.List.Sorted.{IsNonDecreasing};
 ghost use Rattle.beam_values.specs.Checked.{IsChecked};
 ghost use Rattle.beam_values.specs.Nodes.{facts_of, is_group};
 ghost use Rattle.beam_values.specs.declared.cell.Cell.{Cell as CellOf};
 ghost use Rattle.beam_model.specs.Panes.{rules_of, trigger_of};
 ghost use Rattle.group_cells.specs.Cells.{once_fired};
-ghost use Rattle.group_cells.specs.Plain.{after_node, AreGroupFired, AreNodesFired, FiresAs, firing_at, IsNodeDone};
+ghost use Rattle.group_cells.specs.Plain.{after_node, AreGroupFired, AreNodesFired, FiresAs};
+ghost use Rattle.group_cells.specs.Plain.{firing_at, IsNodeDone};
 ghost use Rattle.group_cells.specs.Due.{IsDueOf};
-ghost use Rattle.group_cells.specs.FiredUpTo.{AreAllDue, AreCellsFired, AreFiredUpTo, CanFireAt, HasFiredAt, IsFiredPast, IsNoneDue};
+ghost use Rattle.group_cells.specs.FiredUpTo.{AreAllDue, AreCellsFired, AreFiredUpTo, CanFireAt};
+ghost use Rattle.group_cells.specs.FiredUpTo.{HasFiredAt, IsFiredPast, IsNoneDue};
 ghost use Rattle.group_cells.specs.Undoing.{undone_all};
 ghost use Rattle.group_cells.specs.Unfiring.{unfired};
 ghost use Rattle.watermarks.specs.Holds.{hold_at};
@@ -41,10 +45,12 @@ impl Draft {
         requires holds { length holds.now ≡ length plan.now.nodes }
         requires marks { length marks.old.items ≡ length plan.now.nodes }
         requires due { IsDueOf plan.now self.old.due self.old.cells.items }
-        ensures fired { IfOk result (AreNodesFired plan.now before.now (hold_at holds.now) commit self.old.cells.items self.new.cells.items marks.new.items) }
+        ensures fired { IfOk result (AreNodesFired plan.now before.now
+            (hold_at holds.now) commit self.old.cells.items self.new.cells.items marks.new.items) }
         ensures due { OnOk result (IsDueOf plan.now self.new.due self.new.cells.items) }
         ensures others { (self.new.index ≡ self.old.index) × (self.new.dropped ≡ self.old.dropped) }
-        ensures undo { undone_all self.new.changes.items self.new.cells.items ≡ undone_all self.old.changes.items self.old.cells.items }
+        ensures undo { undone_all self.new.changes.items self.new.cells.items
+            ≡ undone_all self.old.changes.items self.old.cells.items }
     {
         let mut fired = List::new(alloc);
         for (n, hold) in holds.iter().enumerate() {
@@ -71,10 +77,12 @@ impl Draft {
         requires within { n < length plan.now.nodes }
         requires marks { length marks.old.items ≡ length plan.now.nodes }
         requires due { IsDueOf plan.now self.old.due self.old.cells.items }
-        ensures fired { IfOk result (IsNodeDone plan.now before.now hold commit n self.old.cells.items self.new.cells.items marks.old.items marks.new.items) }
+        ensures fired { IfOk result (IsNodeDone plan.now before.now hold commit n
+            self.old.cells.items self.new.cells.items marks.old.items marks.new.items) }
         ensures due { OnOk result (IsDueOf plan.now self.new.due self.new.cells.items) }
         ensures others { (self.new.index ≡ self.old.index) × (self.new.dropped ≡ self.old.dropped) }
-        ensures undo { undone_all self.new.changes.items self.new.cells.items ≡ undone_all self.old.changes.items self.old.cells.items }
+        ensures undo { undone_all self.new.changes.items self.new.cells.items
+            ≡ undone_all self.old.changes.items self.old.cells.items }
     {
         let node = &plan.nodes.as_slice()[n as usize];
         let mark_in = marks_of_node(node, hold, marks.as_slice()).mark_in;
@@ -97,11 +105,14 @@ impl Draft {
         requires facts { facts.now ≡ facts_of plan.now.nodes }
         requires due { IsDueOf plan.now self.old.due self.old.cells.items }
         ensures fires { IfOk result (λ fired. is_group plan.now n ≡ true
-            → AreGroupFired (rules_of plan.now n) n commit mark self.old.cells.items self.new.cells.items fired) }
-        ensures rests { IfOk result (λ fired. is_group plan.now n ≡ false → (self.new.cells.items ≡ self.old.cells.items) × (fired ≡ [])) }
+            → AreGroupFired (rules_of plan.now n) n commit mark
+            self.old.cells.items self.new.cells.items fired) }
+        ensures rests { IfOk result (λ fired. is_group plan.now n ≡ false
+            → (self.new.cells.items ≡ self.old.cells.items) × (fired ≡ [])) }
         ensures due { OnOk result (IsDueOf plan.now self.new.due self.new.cells.items) }
         ensures others { (self.new.index ≡ self.old.index) × (self.new.dropped ≡ self.old.dropped) }
-        ensures undo { undone_all self.new.changes.items self.new.cells.items ≡ undone_all self.old.changes.items self.old.cells.items }
+        ensures undo { undone_all self.new.changes.items self.new.cells.items
+            ≡ undone_all self.old.changes.items self.old.cells.items }
     {
         if !is_group(plan, n) {
             return Ok(List::new(alloc));
@@ -122,10 +133,12 @@ impl Draft {
     ) -> Result<List<Pane>, NoMemory>
         requires due { IsDueOf plan.now self.old.due self.old.cells.items }
         requires trigger { rules.now.trigger ≡ trigger_of plan.now node }
-        ensures fired { IfOk result (AreGroupFired rules.now node commit mark self.old.cells.items self.new.cells.items) }
+        ensures fired { IfOk result
+            (AreGroupFired rules.now node commit mark self.old.cells.items self.new.cells.items) }
         ensures due { OnOk result (IsDueOf plan.now self.new.due self.new.cells.items) }
         ensures others { (self.new.index ≡ self.old.index) × (self.new.dropped ≡ self.old.dropped) }
-        ensures undo { undone_all self.new.changes.items self.new.cells.items ≡ undone_all self.old.changes.items self.old.cells.items }
+        ensures undo { undone_all self.new.changes.items self.new.cells.items
+            ≡ undone_all self.old.changes.items self.old.cells.items }
     {
         let mut panes = self.fire_cells(alloc, plan, rules, node, commit, mark)?;
         sort_by_ranks(&mut panes);
@@ -144,10 +157,12 @@ impl Draft {
     ) -> Result<Vec<Pane>, NoMemory>
         requires due { IsDueOf plan.now self.old.due self.old.cells.items }
         requires trigger { rules.now.trigger ≡ trigger_of plan.now node }
-        ensures fired { IfOk result (λ panes. AreCellsFired rules.now node commit mark self.old.cells.items self.new.cells.items panes.items) }
+        ensures fired { IfOk result (λ panes. AreCellsFired rules.now node
+            commit mark self.old.cells.items self.new.cells.items panes.items) }
         ensures due { OnOk result (IsDueOf plan.now self.new.due self.new.cells.items) }
         ensures others { (self.new.index ≡ self.old.index) × (self.new.dropped ≡ self.old.dropped) }
-        ensures undo { undone_all self.new.changes.items self.new.cells.items ≡ undone_all self.old.changes.items self.old.cells.items }
+        ensures undo { undone_all self.new.changes.items self.new.cells.items
+            ≡ undone_all self.old.changes.items self.old.cells.items }
     {
         cells_are_due_from_their_next_mark_on();
         the_next_mark_is_the_least();
@@ -171,10 +186,12 @@ impl Draft {
         requires due { IsDueOf plan.now self.old.due self.old.cells.items }
         requires ascending { IsNonDecreasing places.now }
         requires all { AreAllDue rules.now node mark self.old.cells.items places.now }
-        ensures fired { IfOk result (λ panes. AreCellsFired rules.now node commit mark self.old.cells.items self.new.cells.items panes.items) }
+        ensures fired { IfOk result (λ panes. AreCellsFired rules.now node
+            commit mark self.old.cells.items self.new.cells.items panes.items) }
         ensures due { OnOk result (IsDueOf plan.now self.new.due self.new.cells.items) }
         ensures others { (self.new.index ≡ self.old.index) × (self.new.dropped ≡ self.old.dropped) }
-        ensures undo { undone_all self.new.changes.items self.new.cells.items ≡ undone_all self.old.changes.items self.old.cells.items }
+        ensures undo { undone_all self.new.changes.items self.new.cells.items
+            ≡ undone_all self.old.changes.items self.old.cells.items }
     {
         let mut panes = Vec::new(alloc);
         let mut done = 0;
@@ -208,12 +225,16 @@ impl Draft {
         panes: &mut Vec<Pane>,
     ) -> Result<usize, NoMemory>
         requires due { IsDueOf plan.now self.old.due self.old.cells.items }
-        ensures fired { IfOk result (λ next. (cells : ListOf CellOf) → AreFiredUpTo rules.now node commit mark cells done self.old.cells.items panes.old.items
+        ensures fired { IfOk result (λ next. (cells : ListOf CellOf)
+            → AreFiredUpTo rules.now node commit mark cells done
+            self.old.cells.items panes.old.items
             → (done ≤ place → place < length cells → IsNoneDue rules.now node mark cells done place)
-            → IsFiredPast rules.now node commit mark cells place done next self.new.cells.items panes.new.items) }
+            → IsFiredPast rules.now node commit mark cells place
+            done next self.new.cells.items panes.new.items) }
         ensures due { OnOk result (IsDueOf plan.now self.new.due self.new.cells.items) }
         ensures others { (self.new.index ≡ self.old.index) × (self.new.dropped ≡ self.old.dropped) }
-        ensures undo { undone_all self.new.changes.items self.new.cells.items ≡ undone_all self.old.changes.items self.old.cells.items }
+        ensures undo { undone_all self.new.changes.items self.new.cells.items
+            ≡ undone_all self.old.changes.items self.old.cells.items }
     {
         if place < done {
             return Ok(done);
@@ -239,13 +260,17 @@ impl Draft {
     ) -> Result<Option<Pane>, NoMemory>
         requires within { place < length self.old.cells.items }
         requires due { IsDueOf plan.now self.old.due self.old.cells.items }
-        ensures cells { OnOk result ((cell : CellOf) → slice_get self.old.cells.items place ≡ Some cell
-            → self.new.cells.items ≡ slice_set self.old.cells.items place (after_node rules.now node mark cell)) }
-        ensures pane { IfOk result (λ pane. (cell : CellOf) → slice_get self.old.cells.items place ≡ Some cell
+        ensures cells { OnOk result
+            ((cell : CellOf) → slice_get self.old.cells.items place ≡ Some cell
+            → self.new.cells.items
+            ≡ slice_set self.old.cells.items place (after_node rules.now node mark cell)) }
+        ensures pane { IfOk result
+            (λ pane. (cell : CellOf) → slice_get self.old.cells.items place ≡ Some cell
             → FiresAs rules.now node commit mark cell (option_to_list pane)) }
         ensures due { OnOk result (IsDueOf plan.now self.new.due self.new.cells.items) }
         ensures others { (self.new.index ≡ self.old.index) × (self.new.dropped ≡ self.old.dropped) }
-        ensures undo { undone_all self.new.changes.items self.new.cells.items ≡ undone_all self.old.changes.items self.old.cells.items }
+        ensures undo { undone_all self.new.changes.items self.new.cells.items
+            ≡ undone_all self.old.changes.items self.old.cells.items }
     {
         match timing_at(rules, node, mark, &self.cells[place]) {
             None => Ok(None),
@@ -269,10 +294,12 @@ impl Draft {
         requires within { place < length self.old.cells.items }
         requires due { IsDueOf plan.now self.old.due self.old.cells.items }
         requires counted { CanFireAt place self.old.cells.items }
-        ensures ok { OnOk result (HasFiredAt place timing self.old.cells.items self.new.cells.items) }
+        ensures ok { OnOk result
+            (HasFiredAt place timing self.old.cells.items self.new.cells.items) }
         ensures due { OnOk result (IsDueOf plan.now self.new.due self.new.cells.items) }
         ensures others { (self.new.index ≡ self.old.index) × (self.new.dropped ≡ self.old.dropped) }
-        ensures undo { undone_all self.new.changes.items self.new.cells.items ≡ undone_all self.old.changes.items self.old.cells.items }
+        ensures undo { undone_all self.new.changes.items self.new.cells.items
+            ≡ undone_all self.old.changes.items self.old.cells.items }
     {
         let at = u32::try_from(place).map_err(|_| NoMemory)?;
         let was = self.due.moment_at(plan, at, &self.cells[place]);
@@ -290,9 +317,12 @@ impl Draft {
         requires within { place < length self.old.cells.items }
         requires at { at ≡ place }
         requires counted { CanFireAt place self.old.cells.items }
-        ensures ok { OnOk result (HasFiredAt place timing self.old.cells.items self.new.cells.items) }
-        ensures others { (self.new.index ≡ self.old.index) × (self.new.dropped ≡ self.old.dropped) × (self.new.due ≡ self.old.due) }
-        ensures undo { undone_all self.new.changes.items self.new.cells.items ≡ undone_all self.old.changes.items self.old.cells.items }
+        ensures ok { OnOk result
+            (HasFiredAt place timing self.old.cells.items self.new.cells.items) }
+        ensures others { (self.new.index ≡ self.old.index)
+            × (self.new.dropped ≡ self.old.dropped) × (self.new.due ≡ self.old.due) }
+        ensures undo { undone_all self.new.changes.items self.new.cells.items
+            ≡ undone_all self.old.changes.items self.old.cells.items }
     {
         self.changes.reserve(1)?;
         let before = set_fired_at(alloc, timing, &mut self.cells, place)?;
@@ -320,7 +350,9 @@ fn set_fired_at(
     requires within { place < length cells.old.items }
     requires counted { CanFireAt place cells.old.items }
     ensures cell { OnOk result (HasFiredAt place timing cells.old.items cells.new.items) }
-    ensures before { IfOk result (λ before. (cell : CellOf) → slice_get cells.old.items place ≡ Some cell → unfired before (once_fired (Some timing) cell) ≡ cell) }
+    ensures before { IfOk result
+        (λ before. (cell : CellOf) → slice_get cells.old.items place ≡ Some cell
+        → unfired before (once_fired (Some timing) cell) ≡ cell) }
     ensures err { OnErr result (cells.new.items ≡ cells.old.items) }
 {
     let before = set_fired(alloc, timing, &mut cells[place])?;

@@ -39,7 +39,8 @@ impl Guesses {
 
     /// The place that was noted last for a hash, if it is still there.
     pub fn place(&self, hash: u32) -> Option<u32>
-        ensures { IfSome result (λ place. Contains self.now.slots.items (record { hash = hash; place = place })) }
+        ensures { IfSome result
+            (λ place. Contains self.now.slots.items (record { hash = hash; place = place })) }
     {
         let guess = self.guess_at(slot_of(hash, self.slots.len()))?;
         if guess.hash == hash {
@@ -58,7 +59,8 @@ impl Guesses {
 
     /// Notes a guess in its slot, in the place of the one there.
     pub fn note(&mut self, guess: Guess)
-        ensures { (places : TreeMap CellKeyOf ℕ) → All (IsOfKey places) self.old.slots.items → IsOfKey places guess → All (IsOfKey places) self.new.slots.items }
+        ensures { (places : TreeMap CellKeyOf ℕ) → All (IsOfKey places) self.old.slots.items
+            → IsOfKey places guess → All (IsOfKey places) self.new.slots.items }
     {
         let at = slot_of(guess.hash, self.slots.len());
         if at < self.slots.len() {
@@ -69,7 +71,8 @@ impl Guesses {
     /// Makes room for the guesses of so many cells, at least two slots for each. Where there is no
     /// memory, the slots stay as they are.
     pub fn make_room(&mut self, cells: usize)
-        ensures { (places : TreeMap CellKeyOf ℕ) → All (IsOfKey places) self.old.slots.items → All (IsOfKey places) self.new.slots.items }
+        ensures { (places : TreeMap CellKeyOf ℕ) → All (IsOfKey places) self.old.slots.items
+            → All (IsOfKey places) self.new.slots.items }
     {
         let count = self.slots.len();
         if count / 2 < cells {
@@ -82,7 +85,8 @@ impl Guesses {
 
     /// Notes the guesses of the first slots anew, of which half have their slots among those added.
     fn spread(&mut self, count: usize)
-        ensures { (places : TreeMap CellKeyOf ℕ) → All (IsOfKey places) self.old.slots.items → All (IsOfKey places) self.new.slots.items }
+        ensures { (places : TreeMap CellKeyOf ℕ) → All (IsOfKey places) self.old.slots.items
+            → All (IsOfKey places) self.new.slots.items }
     {
         for at in 0..count {
             let Some(guess) = self.guess_at(at) else {

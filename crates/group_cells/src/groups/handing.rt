@@ -1,9 +1,12 @@
 //! A cell gives way to a session: its entries move to the session's cell, which is the last one, and back
 //! where memory is refused later.
 
-ghost use Rattle.std.specs.Prelude.{◌≡◌, ◌+◌, ◌++◌, ◌<◌, None, Some, length, slice_get, slice_set, IfErr, IfOk, OnErr, OnOk};
+ghost use Rattle.std.specs.Prelude.{◌≡◌, ◌+◌, ◌++◌, ◌<◌, None, Some, length, slice_get, slice_set};
+ghost use Rattle.std.specs.Prelude.{IfErr, IfOk, OnErr, OnOk};
 ghost use Rattle.beam_values.specs.declared.cell.Cell.{Cell as CellOf};
-ghost use Rattle.group_cells.specs.Handing.{given_entries, given_way, handed_back, kept_entries, standing_with, with_entries, without_given, HasGivenWay};
+ghost use Rattle.group_cells.specs.Handing.{given_entries, given_way, handed_back, kept_entries};
+ghost use Rattle.group_cells.specs.Handing.{standing_with, with_entries, without_given};
+ghost use Rattle.group_cells.specs.Handing.{HasGivenWay};
 
 use crate::groups::room::{Room, move_behind};
 use beam_values::{Cell, Entry, List, NoMemory, Span};
@@ -30,9 +33,11 @@ pub fn give_way(
 ) -> Result<Given, NoMemory>
     requires before { place < last }
     requires last { last + 1 ≡ length cells.old.items }
-    requires stands { (cell : CellOf) → slice_get cells.old.items place ≡ Some cell → cell.merged_into ≡ None }
+    requires stands { (cell : CellOf)
+        → slice_get cells.old.items place ≡ Some cell → cell.merged_into ≡ None }
     ensures ok { OnOk result (HasGivenWay session place last cells.old.items cells.new.items) }
-    ensures undo { IfOk result (λ given. handed_back place given cells.new.items ≡ cells.old.items) }
+    ensures undo { IfOk result
+        (λ given. handed_back place given cells.new.items ≡ cells.old.items) }
     ensures err { OnErr result (cells.new.items ≡ cells.old.items) }
 {
     let entries = take_entries(alloc, cells, session, place);
@@ -61,8 +66,10 @@ pub fn hand_back(alloc: Global, cells: &mut Vec<Cell>, place: u32, given: Given)
 
 fn take_entries(alloc: Global, cells: &mut Vec<Cell>, session: Span, place: u32) -> List<Entry>
     requires { place < length cells.old.items }
-    ensures cells { (cell : CellOf) → slice_get cells.old.items place ≡ Some cell → cells.new.items ≡ slice_set cells.old.items place (given_way session cell) }
-    ensures entries { (cell : CellOf) → slice_get cells.old.items place ≡ Some cell → result ≡ cell.entries }
+    ensures cells { (cell : CellOf) → slice_get cells.old.items place ≡ Some cell
+        → cells.new.items ≡ slice_set cells.old.items place (given_way session cell) }
+    ensures entries { (cell : CellOf)
+        → slice_get cells.old.items place ≡ Some cell → result ≡ cell.entries }
 {
     let cell = &mut cells[place as usize];
     cell.merged_into = Some(session);
@@ -71,7 +78,8 @@ fn take_entries(alloc: Global, cells: &mut Vec<Cell>, session: Span, place: u32)
 
 fn put_entries(cells: &mut Vec<Cell>, place: u32, entries: List<Entry>)
     requires { place < length cells.old.items }
-    ensures { (cell : CellOf) → slice_get cells.old.items place ≡ Some cell → cells.new.items ≡ slice_set cells.old.items place (standing_with entries cell) }
+    ensures { (cell : CellOf) → slice_get cells.old.items place ≡ Some cell
+        → cells.new.items ≡ slice_set cells.old.items place (standing_with entries cell) }
 {
     let cell = &mut cells[place as usize];
     cell.merged_into = None;
@@ -86,9 +94,14 @@ fn put_behind(
     entries: List<Entry>,
 ) -> Result<Given, List<Entry>>
     requires { last < length cells.old.items }
-    ensures ok { OnOk result ((taker : CellOf) → slice_get cells.old.items last ≡ Some taker → cells.new.items ≡ slice_set cells.old.items last (with_entries entries taker)) }
-    ensures kept { IfOk result (λ given. (taker : CellOf) → slice_get cells.old.items last ≡ Some taker → kept_entries given (taker.entries ++ entries) ≡ taker.entries) }
-    ensures given { IfOk result (λ given. (taker : CellOf) → slice_get cells.old.items last ≡ Some taker → given_entries given (taker.entries ++ entries) ≡ entries) }
+    ensures ok { OnOk result ((taker : CellOf) → slice_get cells.old.items last ≡ Some taker
+        → cells.new.items ≡ slice_set cells.old.items last (with_entries entries taker)) }
+    ensures kept { IfOk result
+        (λ given. (taker : CellOf) → slice_get cells.old.items last ≡ Some taker
+        → kept_entries given (taker.entries ++ entries) ≡ taker.entries) }
+    ensures given { IfOk result
+        (λ given. (taker : CellOf) → slice_get cells.old.items last ≡ Some taker
+        → given_entries given (taker.entries ++ entries) ≡ entries) }
     ensures err { OnErr result (cells.new.items ≡ cells.old.items) }
     ensures answered { IfErr result (λ back. back ≡ entries) }
 {
@@ -131,8 +144,10 @@ fn append_behind(
 
 fn take_given(alloc: Global, cells: &mut Vec<Cell>, last: usize, given: Given) -> List<Entry>
     requires { last < length cells.old.items }
-    ensures cells { (taker : CellOf) → slice_get cells.old.items last ≡ Some taker → cells.new.items ≡ slice_set cells.old.items last (without_given given taker) }
-    ensures entries { (taker : CellOf) → slice_get cells.old.items last ≡ Some taker → result ≡ given_entries given taker.entries }
+    ensures cells { (taker : CellOf) → slice_get cells.old.items last ≡ Some taker
+        → cells.new.items ≡ slice_set cells.old.items last (without_given given taker) }
+    ensures entries { (taker : CellOf) → slice_get cells.old.items last ≡ Some taker
+        → result ≡ given_entries given taker.entries }
 {
     split(alloc, &mut cells[last].entries, given)
 }

@@ -1,4 +1,5 @@
-ghost use Rattle.std.specs.Prelude.{◌≡◌, List as ListOf, [], ◌∷◌, ◌++◌, length, None, IfOk, IfSome, OnOk};
+ghost use Rattle.std.specs.Prelude.{◌≡◌, List as ListOf, [], ◌∷◌, ◌++◌, length, None, IfOk, IfSome};
+ghost use Rattle.std.specs.Prelude.{OnOk};
 ghost use Rattle.std.specs.Ordering.{as_partial_cmp, eq_by_cmp, on, then_cmp};
 ghost use Rattle.std.specs.Cmp.{partial_order_from_own_ties};
 ghost use Rattle.std.specs.Cmp.Rules.{comparing};
@@ -24,7 +25,8 @@ pub struct CellKey {
 }
 
 fn cmp_windows(a: &CellKey, b: &CellKey) -> Ordering
-    ensures { result ≡ then_cmp (on (λ k. k.span) span_cmp) (on (λ k. k.key) value_cmp) a.now b.now }
+    ensures { result
+        ≡ then_cmp (on (λ k. k.span) span_cmp) (on (λ k. k.key) value_cmp) a.now b.now }
 {
     match cmp_spans(a.span, b.span) {
         Ordering::Equal => cmp_values(&a.key, &b.key),
@@ -49,7 +51,8 @@ impl Eq for CellKey {
 impl PartialOrd for CellKey {
     ghost partial_cmp = { as_partial_cmp cell_key_cmp };
 
-    ghost laws = { partial_order_from_own_ties (Prim.search (comparing, rules) depth 12) (Prim.search (comparing, rules) depth 12) };
+    ghost laws = { partial_order_from_own_ties (Prim.search (comparing, rules) depth 12)
+        (Prim.search (comparing, rules) depth 12) };
 
     fn partial_cmp(&self, other: &CellKey) -> Option<Ordering> {
         Some(self.cmp(other))
@@ -104,7 +107,8 @@ impl CellIndex {
     }
 
     fn add_cell(&mut self, alloc: Global, cell: &Cell, place: usize) -> Result<(), NoMemory>
-        ensures { OnOk result ((cells : ListOf CellOf) → IsIndexOf self.old cells → place ≡ length cells → IsIndexOf self.new (cells ++ cell.now ∷ [])) }
+        ensures { OnOk result ((cells : ListOf CellOf) → IsIndexOf self.old cells
+            → place ≡ length cells → IsIndexOf self.new (cells ++ cell.now ∷ [])) }
     {
         let key = key_of_cell(alloc, cell)?;
         match self.find(&key) {
@@ -117,15 +121,18 @@ impl CellIndex {
     }
 
     pub fn find(&self, key: &CellKey) -> Option<u32>
-        ensures { (cells : ListOf CellOf) → IsIndexOf self.now cells → result ≡ place_of key.now.node key.now.key key.now.span cells }
+        ensures { (cells : ListOf CellOf) → IsIndexOf self.now cells
+            → result ≡ place_of key.now.node key.now.key key.now.span cells }
     {
         self.places.get(key).copied()
     }
 
     /// The same, with a guess for the next time.
     pub fn find_again(&mut self, key: &CellKey) -> Option<u32>
-        ensures found { (cells : ListOf CellOf) → IsIndexOf self.old cells → result ≡ place_of key.now.node key.now.key key.now.span cells }
-        ensures indexed { (cells : ListOf CellOf) → IsIndexOf self.old cells → IsIndexOf self.new cells }
+        ensures found { (cells : ListOf CellOf) → IsIndexOf self.old cells
+            → result ≡ place_of key.now.node key.now.key key.now.span cells }
+        ensures indexed { (cells : ListOf CellOf)
+            → IsIndexOf self.old cells → IsIndexOf self.new cells }
     {
         let place = self.find(key)?;
         let hash = hash_of(key.node, &key.key, key.span);
@@ -135,16 +142,19 @@ impl CellIndex {
 
     /// A place that may be that of the cell of a node, key and window: that of some cell.
     pub fn guess(&self, node: u32, key: &Value, span: Span) -> Option<u32>
-        ensures { (cells : ListOf CellOf) → IsIndexOf self.now cells → IfSome result (IsFoundPlace cells) }
+        ensures { (cells : ListOf CellOf) → IsIndexOf self.now cells
+            → IfSome result (IsFoundPlace cells) }
     {
         self.guesses.place(hash_of(node, key, span))
     }
 
     /// The place of one more cell, behind the others.
     pub fn add(&mut self, key: CellKey, place: u32) -> Result<(), NoMemory>
-        ensures { OnOk result ((cells : ListOf CellOf) (cell : CellOf) → IsIndexOf self.old cells → place ≡ length cells
+        ensures { OnOk result ((cells : ListOf CellOf) (cell : CellOf)
+            → IsIndexOf self.old cells → place ≡ length cells
             → cell.node ≡ key.node → cell.key ≡ key.key → cell.span ≡ key.span
-            → place_of key.node key.key key.span cells ≡ None → IsIndexOf self.new (cells ++ cell ∷ [])) }
+            → place_of key.node key.key key.span cells ≡ None
+            → IsIndexOf self.new (cells ++ cell ∷ [])) }
     {
         let hash = hash_of(key.node, &key.key, key.span);
         self.places.insert(key, place)?;
@@ -155,7 +165,8 @@ impl CellIndex {
 }
 
 fn key_of_cell(alloc: Global, cell: &Cell) -> Result<CellKey, NoMemory>
-    ensures { IfOk result (λ key. key ≡ record { node = cell.now.node; span = cell.now.span; key = cell.now.key }) }
+    ensures { IfOk result
+        (λ key. key ≡ record { node = cell.now.node; span = cell.now.span; key = cell.now.key }) }
 {
     Ok(CellKey {
         node: cell.node,

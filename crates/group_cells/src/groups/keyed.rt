@@ -1,7 +1,8 @@
 //! Lists by Group and key: the arrivals of a commit, and the places of the cells that stand at Groups of
 //! sessions.
 
-ghost use Rattle.std.specs.Prelude.{◌≡◌, ◌+◌, ◌∷◌, ◌++◌, [], length, List as ListOf, if◌then◌else◌, IfOk, OnOk};
+ghost use Rattle.std.specs.Prelude.{◌≡◌, ◌+◌, ◌∷◌, ◌++◌, [], length, List as ListOf, if◌then◌else◌};
+ghost use Rattle.std.specs.Prelude.{IfOk, OnOk};
 ghost use Rattle.std.specs.Ordering.{as_partial_cmp, eq_by_cmp, is_eq};
 ghost use Rattle.std.specs.Cmp.{partial_order_from_own_ties};
 ghost use Rattle.std.specs.Cmp.Rules.{comparing};
@@ -45,7 +46,8 @@ impl Eq for GroupKey {
 impl PartialOrd for GroupKey {
     ghost partial_cmp = { as_partial_cmp group_key_cmp };
 
-    ghost laws = { partial_order_from_own_ties (Prim.search (comparing, rules) depth 12) (Prim.search (comparing, rules) depth 12) };
+    ghost laws = { partial_order_from_own_ties (Prim.search (comparing, rules) depth 12)
+        (Prim.search (comparing, rules) depth 12) };
 
     fn partial_cmp(&self, other: &GroupKey) -> Option<Ordering> {
         Some(self.cmp(other))
@@ -76,7 +78,8 @@ pub fn take<T: Drop>(
     key: &GroupKey,
 ) -> List<T>
     ensures list { result ≡ listed lists.old key.now }
-    ensures others { (q : GroupKeyOf) → listed lists.new q ≡ (if is_eq (group_key_cmp key.now q) then [] else listed lists.old q) }
+    ensures others { (q : GroupKeyOf) → listed lists.new q
+        ≡ (if is_eq (group_key_cmp key.now q) then [] else listed lists.old q) }
     ensures count { all_listed lists.new + length result ≡ all_listed lists.old }
 {
     match lists.remove(key) {
@@ -91,8 +94,10 @@ pub fn put<T: Drop>(
     key: GroupKey,
     list: List<T>,
 ) -> Result<(), NoMemory>
-    ensures others { OnOk result ((q : GroupKeyOf) → listed lists.new q ≡ (if is_eq (group_key_cmp key q) then list else listed lists.old q)) }
-    ensures count { OnOk result (all_listed lists.new + length (listed lists.old key) ≡ all_listed lists.old + length list) }
+    ensures others { OnOk result ((q : GroupKeyOf)
+        → listed lists.new q ≡ (if is_eq (group_key_cmp key q) then list else listed lists.old q)) }
+    ensures count { OnOk result (all_listed lists.new + length (listed lists.old key)
+        ≡ all_listed lists.old + length list) }
 {
     lists.insert(key, list)?;
     Ok(())
@@ -105,7 +110,9 @@ fn push<T: Drop>(
     key: GroupKey,
     item: T,
 ) -> Result<(), NoMemory>
-    ensures others { OnOk result ((q : GroupKeyOf) → listed lists.new q ≡ (if is_eq (group_key_cmp key q) then listed lists.old key ++ item ∷ [] else listed lists.old q)) }
+    ensures others { OnOk result ((q : GroupKeyOf)
+        → listed lists.new q ≡ (if is_eq (group_key_cmp key q)
+        then listed lists.old key ++ item ∷ [] else listed lists.old q)) }
     ensures count { OnOk result (all_listed lists.new ≡ all_listed lists.old + 1) }
 {
     let mut list = take(alloc, lists, &key);
@@ -118,7 +125,8 @@ pub fn by_key(
     alloc: Global,
     arrivals: List<Arrival>,
 ) -> Result<BTreeMap<GroupKey, List<Element>>, NoMemory>
-    ensures lists { IfOk result (λ lists. (q : GroupKeyOf) → listed lists q ≡ elements_keyed q.node q.key arrivals) }
+    ensures lists { IfOk result
+        (λ lists. (q : GroupKeyOf) → listed lists q ≡ elements_keyed q.node q.key arrivals) }
     ensures count { IfOk result (λ lists. all_listed lists ≡ length arrivals) }
 {
     let mut lists = BTreeMap::new(alloc);
@@ -133,8 +141,10 @@ fn push_arrival(
     lists: &mut BTreeMap<GroupKey, List<Element>>,
     arrival: Arrival,
 ) -> Result<(), NoMemory>
-    ensures lists { OnOk result ((before : ListOf ArrivalOf) → ((q : GroupKeyOf) → listed lists.old q ≡ elements_keyed q.node q.key before)
-        → (q : GroupKeyOf) → listed lists.new q ≡ elements_keyed q.node q.key (before ++ arrival ∷ [])) }
+    ensures lists { OnOk result ((before : ListOf ArrivalOf)
+        → ((q : GroupKeyOf) → listed lists.old q ≡ elements_keyed q.node q.key before)
+        → (q : GroupKeyOf)
+        → listed lists.new q ≡ elements_keyed q.node q.key (before ++ arrival ∷ [])) }
     ensures count { OnOk result (all_listed lists.new ≡ all_listed lists.old + 1) }
 {
     let key = GroupKey {
@@ -170,7 +180,9 @@ fn push_cell(
     standing: &mut BTreeMap<GroupKey, List<u32>>,
 ) -> Result<(), NoMemory>
     requires { facts.now ≡ facts_of plan.now.nodes }
-    ensures { OnOk result ((cells : ListOf CellOf) → place ≡ length cells → AreStanding plan.now standing.old cells → AreStanding plan.now standing.new (cells ++ cell.now ∷ [])) }
+    ensures { OnOk result
+        ((cells : ListOf CellOf) → place ≡ length cells → AreStanding plan.now standing.old cells
+        → AreStanding plan.now standing.new (cells ++ cell.now ∷ [])) }
 {
     if !merges_at(plan, facts, cell.node) {
         return Ok(());

@@ -1,4 +1,5 @@
-ghost use Rattle.std.specs.Prelude.{◌≡◌, ◌<◌, ◌++◌, ◌∷◌, [], length, map, take, OnOk, if◌then◌else◌};
+ghost use Rattle.std.specs.Prelude.{◌≡◌, ◌<◌, ◌++◌, ◌∷◌, [], length, map, take, OnOk};
+ghost use Rattle.std.specs.Prelude.{if◌then◌else◌};
 ghost use Rattle.std.specs.List.{filter};
 ghost use Rattle.beam_values.specs.Grouping.{key_of};
 ghost use Rattle.beam_values.specs.Marks.{marks_at};
@@ -46,13 +47,18 @@ impl Draft {
         requires facts { commit.facts.now ≡ facts_of commit.plan.now.nodes }
         requires marks { length commit.before.now ≡ length commit.plan.now.nodes }
         requires due { IsDueOf commit.plan.now self.old.due self.old.cells.items }
-        ensures ok { OnOk result (self.new.cells.items ≡ with_arrivals commit.entry.plan.now commit.entry.before.now commit.entry.number self.old.cells.items arrivals.now) }
+        ensures ok { OnOk result (self.new.cells.items ≡ with_arrivals commit.entry.plan.now
+            commit.entry.before.now commit.entry.number self.old.cells.items arrivals.now) }
         ensures dropped { OnOk result (self.new.dropped.items
-            ≡ self.old.dropped.items ++ map (dropped_arrival commit.entry.number) (filter (is_dropped commit.entry.plan.now commit.entry.before.now) arrivals.now)) }
+            ≡ self.old.dropped.items ++ map (dropped_arrival commit.entry.number)
+            (filter (is_dropped commit.entry.plan.now commit.entry.before.now) arrivals.now)) }
         ensures indexed { OnOk result (IsIndexOf self.new.index self.new.cells.items) }
-        ensures due { OnOk result (IsDueOf commit.entry.plan.now self.new.due self.new.cells.items) }
-        ensures kept { take (length self.old.dropped.items) self.new.dropped.items ≡ self.old.dropped.items }
-        ensures undo { undone_all self.new.changes.items self.new.cells.items ≡ undone_all self.old.changes.items self.old.cells.items }
+        ensures due { OnOk result
+            (IsDueOf commit.entry.plan.now self.new.due self.new.cells.items) }
+        ensures kept { take (length self.old.dropped.items) self.new.dropped.items
+            ≡ self.old.dropped.items }
+        ensures undo { undone_all self.new.changes.items self.new.cells.items
+            ≡ undone_all self.old.changes.items self.old.cells.items }
     {
         for arrival in arrivals {
             self.place(alloc, commit, arrival)?;
@@ -65,13 +71,19 @@ impl Draft {
         requires facts { commit.facts.now ≡ facts_of commit.plan.now.nodes }
         requires marks { length commit.before.now ≡ length commit.plan.now.nodes }
         requires due { IsDueOf commit.plan.now self.old.due self.old.cells.items }
-        ensures ok { OnOk result (self.new.cells.items ≡ with_arrival commit.entry.plan.now commit.entry.before.now commit.entry.number self.old.cells.items arrival.now) }
+        ensures ok { OnOk result (self.new.cells.items ≡ with_arrival commit.entry.plan.now
+            commit.entry.before.now commit.entry.number self.old.cells.items arrival.now) }
         ensures dropped { OnOk result (self.new.dropped.items
-            ≡ self.old.dropped.items ++ map (dropped_arrival commit.entry.number) (if is_dropped commit.entry.plan.now commit.entry.before.now arrival.now then arrival.now ∷ [] else [])) }
+            ≡ self.old.dropped.items ++ map (dropped_arrival commit.entry.number)
+            (if is_dropped commit.entry.plan.now commit.entry.before.now arrival.now
+            then arrival.now ∷ [] else [])) }
         ensures indexed { OnOk result (IsIndexOf self.new.index self.new.cells.items) }
-        ensures due { OnOk result (IsDueOf commit.entry.plan.now self.new.due self.new.cells.items) }
-        ensures kept { take (length self.old.dropped.items) self.new.dropped.items ≡ self.old.dropped.items }
-        ensures undo { undone_all self.new.changes.items self.new.cells.items ≡ undone_all self.old.changes.items self.old.cells.items }
+        ensures due { OnOk result
+            (IsDueOf commit.entry.plan.now self.new.due self.new.cells.items) }
+        ensures kept { take (length self.old.dropped.items) self.new.dropped.items
+            ≡ self.old.dropped.items }
+        ensures undo { undone_all self.new.changes.items self.new.cells.items
+            ≡ undone_all self.old.changes.items self.old.cells.items }
     {
         if !is_group(commit.plan, arrival.node) {
             return Ok(());
@@ -96,12 +108,15 @@ impl Draft {
     ) -> Result<(), NoMemory>
         requires indexed { IsIndexOf self.old.index self.old.cells.items }
         requires due { IsDueOf plan.now self.old.due self.old.cells.items }
-        ensures ok { OnOk result (self.new.cells.items ≡ (if rules.now.merges then self.old.cells.items
-            else arrived arrival.now.node (key_of arrival.now.element) arrival.now.element.span (entry_of commit arrival.now.element) self.old.cells.items)) }
+        ensures ok { OnOk result
+            (self.new.cells.items ≡ (if rules.now.merges then self.old.cells.items
+            else arrived arrival.now.node (key_of arrival.now.element) arrival.now.element.span
+            (entry_of commit arrival.now.element) self.old.cells.items)) }
         ensures indexed { OnOk result (IsIndexOf self.new.index self.new.cells.items) }
         ensures due { OnOk result (IsDueOf plan.now self.new.due self.new.cells.items) }
         ensures dropped { self.new.dropped ≡ self.old.dropped }
-        ensures undo { undone_all self.new.changes.items self.new.cells.items ≡ undone_all self.old.changes.items self.old.cells.items }
+        ensures undo { undone_all self.new.changes.items self.new.cells.items
+            ≡ undone_all self.old.changes.items self.old.cells.items }
     {
         if rules.merges {
             return Ok(());
@@ -115,9 +130,12 @@ impl Draft {
     }
 
     fn drop_late(&mut self, alloc: Global, commit: u32, arrival: &Arrival) -> Result<(), NoMemory>
-        ensures ok { OnOk result (self.new.dropped.items ≡ self.old.dropped.items ++ dropped_arrival commit arrival.now ∷ []) }
-        ensures kept { take (length self.old.dropped.items) self.new.dropped.items ≡ self.old.dropped.items }
-        ensures others { (self.new.cells ≡ self.old.cells) × (self.new.index ≡ self.old.index) × (self.new.changes ≡ self.old.changes) × (self.new.due ≡ self.old.due) }
+        ensures ok { OnOk result (self.new.dropped.items
+            ≡ self.old.dropped.items ++ dropped_arrival commit arrival.now ∷ []) }
+        ensures kept { take (length self.old.dropped.items) self.new.dropped.items
+            ≡ self.old.dropped.items }
+        ensures others { (self.new.cells ≡ self.old.cells) × (self.new.index ≡ self.old.index)
+            × (self.new.changes ≡ self.old.changes) × (self.new.due ≡ self.old.due) }
     {
         let element = arrival.element.copy(alloc)?;
         self.dropped.push(Dropped {

@@ -1,7 +1,8 @@
 //! The items of a list move behind those of another, and come back without memory: the list keeps its
 //! room for them.
 
-ghost use Rattle.std.specs.Prelude.{◌≡◌, ◌++◌, ◌-◌, ◌<◌, ◌≤◌, ◌+◌, length, reverse, take, drop, vec_capacity, vec_len, IfErr, IfOk, OnOk, OnErr};
+ghost use Rattle.std.specs.Prelude.{◌≡◌, ◌++◌, ◌-◌, ◌<◌, ◌≤◌, ◌+◌, length, reverse, take, drop};
+ghost use Rattle.std.specs.Prelude.{vec_capacity, vec_len, IfErr, IfOk, OnOk, OnErr};
 
 use beam_values::Entry;
 
@@ -33,8 +34,10 @@ pub fn move_behind(entries: &mut Vec<Entry>, more: Vec<Entry>) -> Result<Room, V
 impl Room {
     /// Takes so many of the last entries as were moved. Takes no memory.
     pub fn take_back(self, entries: &mut Vec<Entry>) -> Vec<Entry>
-        ensures kept { entries.new.items ≡ take (length entries.old.items - self.count) entries.old.items }
-        ensures back { result.items ≡ drop (length entries.old.items - self.count) entries.old.items }
+        ensures kept { entries.new.items
+            ≡ take (length entries.old.items - self.count) entries.old.items }
+        ensures back { result.items
+            ≡ drop (length entries.old.items - self.count) entries.old.items }
     {
         let Room { count, mut list } = self;
         for _ in 0..count {
@@ -47,7 +50,8 @@ impl Room {
 
 fn move_last(from: &mut Vec<Entry>, to: &mut Vec<Entry>)
     requires { vec_len to.old < vec_capacity to.old }
-    ensures whole { from.new.items ++ reverse to.new.items ≡ from.old.items ++ reverse to.old.items }
+    ensures whole { from.new.items ++ reverse to.new.items
+        ≡ from.old.items ++ reverse to.old.items }
     ensures fewer { length from.new.items ≡ length from.old.items - 1 }
     ensures more { vec_len to.new ≤ vec_len to.old + 1 }
     ensures room { vec_capacity to.new ≡ vec_capacity to.old }

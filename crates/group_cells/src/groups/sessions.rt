@@ -1,7 +1,9 @@
 //! Arrivals at Groups of sessions, one key after another: only the cells of the key that stand are looked
 //! at. A cell that gives way to a session is replaced, and the session's stands behind the others.
 
-ghost use Rattle.std.specs.Prelude.{◌≡◌, ◌+◌, ◌∷◌, [], ◌++◌, ◌<◌, ◌≤◌, ℕ, List as ListOf, None, Some, false, true, fold, length, map, All, option_to_list, slice_get, OnOk, IfOk};
+ghost use Rattle.std.specs.Prelude.{◌≡◌, ◌+◌, ◌∷◌, [], ◌++◌, ◌<◌, ◌≤◌, ℕ, List as ListOf, None};
+ghost use Rattle.std.specs.Prelude.{Some, false, true, fold, length, map, All, option_to_list};
+ghost use Rattle.std.specs.Prelude.{slice_get, OnOk, IfOk};
 ghost use Rattle.std.specs.List.{filter, find, flat_map, list_any};
 ghost use Rattle.beam_values.specs.Marks.{marks_at};
 ghost use Rattle.beam_values.specs.Nodes.{facts_of, is_group};
@@ -14,7 +16,8 @@ ghost use Rattle.group_cells.specs.Handing.{with_entries, HasGivenWay};
 ghost use Rattle.group_cells.specs.Indexes.{IsIndexOf};
 ghost use Rattle.group_cells.specs.KeyLists.{open_span, standing_places, stands, AreStanding};
 ghost use Rattle.group_cells.specs.Placing.{fresh_cell, handed_over, once_opened, stands_as, takes};
-ghost use Rattle.group_cells.specs.Plain.{opened_all_at, opened_at, opening_of, put_all_at, put_at, AreAllPlaced, ArePlacedAt};
+ghost use Rattle.group_cells.specs.Plain.{opened_all_at, opened_at, opening_of, put_all_at, put_at};
+ghost use Rattle.group_cells.specs.Plain.{AreAllPlaced, ArePlacedAt};
 ghost use Rattle.group_cells.specs.Rounds.{entry_of, open_windows, AreSessionsOver};
 ghost use Rattle.group_cells.specs.Undoing.{undone_all};
 
@@ -42,17 +45,23 @@ impl Draft {
     ) -> Result<(), NoMemory>
         requires facts { commit.facts.now ≡ facts_of commit.plan.now.nodes }
         requires groups { All (λ arrival. is_group commit.plan.now arrival.node ≡ true) taken }
-        requires merging { All (λ arrival. (rules_of commit.plan.now arrival.node).merges ≡ true) taken }
+        requires merging { All
+            (λ arrival. (rules_of commit.plan.now arrival.node).merges ≡ true) taken }
         requires indexed { IsIndexOf self.old.index self.old.cells.items }
         requires due { IsDueOf commit.plan.now self.old.due self.old.cells.items }
         requires standing { AreStanding commit.plan.now standing.old self.old.cells.items }
-        ensures ok { OnOk result (AreAllPlaced commit.entry.plan.now commit.entry.before.now commit.entry.number taken self.old.cells.items self.new.cells.items) }
-        ensures grown { OnOk result (length self.new.cells.items ≤ length self.old.cells.items + length taken) }
+        ensures ok { OnOk result (AreAllPlaced commit.entry.plan.now commit.entry.before.now
+            commit.entry.number taken self.old.cells.items self.new.cells.items) }
+        ensures grown { OnOk result
+            (length self.new.cells.items ≤ length self.old.cells.items + length taken) }
         ensures indexed { OnOk result (IsIndexOf self.new.index self.new.cells.items) }
-        ensures due { OnOk result (IsDueOf commit.entry.plan.now self.new.due self.new.cells.items) }
-        ensures standing { OnOk result (AreStanding commit.entry.plan.now standing.new self.new.cells.items) }
+        ensures due { OnOk result
+            (IsDueOf commit.entry.plan.now self.new.due self.new.cells.items) }
+        ensures standing { OnOk result
+            (AreStanding commit.entry.plan.now standing.new self.new.cells.items) }
         ensures dropped { self.new.dropped ≡ self.old.dropped }
-        ensures undo { undone_all self.new.changes.items self.new.cells.items ≡ undone_all self.old.changes.items self.old.cells.items }
+        ensures undo { undone_all self.new.changes.items self.new.cells.items
+            ≡ undone_all self.old.changes.items self.old.cells.items }
     {
         let mut left = by_key(alloc, taken)?;
         'keys: while let Some((key, own)) = left.pop_first() {
@@ -79,13 +88,19 @@ impl Draft {
         requires indexed { IsIndexOf self.old.index self.old.cells.items }
         requires due { IsDueOf commit.plan.now self.old.due self.old.cells.items }
         requires standing { AreStanding commit.plan.now standing.old self.old.cells.items }
-        ensures ok { OnOk result (ArePlacedAt (rules_of commit.entry.plan.now key.node) (marks_at commit.entry.before.now key.node).mark_in key.node key.key commit.entry.number own self.old.cells.items self.new.cells.items) }
-        ensures grown { OnOk result (length self.new.cells.items ≤ length self.old.cells.items + length own) }
+        ensures ok { OnOk result (ArePlacedAt (rules_of commit.entry.plan.now key.node)
+            (marks_at commit.entry.before.now key.node).mark_in key.node key.key
+            commit.entry.number own self.old.cells.items self.new.cells.items) }
+        ensures grown { OnOk result
+            (length self.new.cells.items ≤ length self.old.cells.items + length own) }
         ensures indexed { OnOk result (IsIndexOf self.new.index self.new.cells.items) }
-        ensures due { OnOk result (IsDueOf commit.entry.plan.now self.new.due self.new.cells.items) }
-        ensures standing { OnOk result (AreStanding commit.entry.plan.now standing.new self.new.cells.items) }
+        ensures due { OnOk result
+            (IsDueOf commit.entry.plan.now self.new.due self.new.cells.items) }
+        ensures standing { OnOk result
+            (AreStanding commit.entry.plan.now standing.new self.new.cells.items) }
         ensures dropped { self.new.dropped ≡ self.old.dropped }
-        ensures undo { undone_all self.new.changes.items self.new.cells.items ≡ undone_all self.old.changes.items self.old.cells.items }
+        ensures undo { undone_all self.new.changes.items self.new.cells.items
+            ≡ undone_all self.old.changes.items self.old.cells.items }
     {
         let rules = rules_of(commit.plan, commit.facts, key.node);
         let mark = mark_into(commit.before, key.node);
@@ -121,8 +136,10 @@ impl Draft {
         own: &[Element],
         places: &[u32],
     ) -> Result<List<Span>, NoMemory>
-        ensures windows { IfOk result (λ windows. (node : ℕ) (key : ValueOf) → places.now ≡ standing_places node key self.now.cells.items
-            → AreSessionsOver (map (λ e. e.span) own.now) (open_windows rules.now before (filter (is_cell_at_key node key) self.now.cells.items)) windows) }
+        ensures windows { IfOk result (λ windows. (node : ℕ) (key : ValueOf)
+            → places.now ≡ standing_places node key self.now.cells.items
+            → AreSessionsOver (map (λ e. e.span) own.now) (open_windows rules.now before
+            (filter (is_cell_at_key node key) self.now.cells.items)) windows) }
         ensures few { IfOk result (λ windows. length windows ≤ length own.now) }
     {
         let spans = own_spans(alloc, own)?;
@@ -145,12 +162,15 @@ impl Draft {
         requires places { places ≡ standing_places key.now.node key.now.key self.old.cells.items }
         requires indexed { IsIndexOf self.old.index self.old.cells.items }
         requires due { IsDueOf plan.now self.old.due self.old.cells.items }
-        ensures ok { OnOk result (self.new.cells.items ≡ opened_all_at rules.now before key.now.node (map (opening_of key.now.key) windows.now) self.old.cells.items) }
-        ensures places { IfOk result (λ after. after ≡ standing_places key.now.node key.now.key self.new.cells.items) }
+        ensures ok { OnOk result (self.new.cells.items ≡ opened_all_at rules.now before key.now.node
+            (map (opening_of key.now.key) windows.now) self.old.cells.items) }
+        ensures places { IfOk result
+            (λ after. after ≡ standing_places key.now.node key.now.key self.new.cells.items) }
         ensures indexed { OnOk result (IsIndexOf self.new.index self.new.cells.items) }
         ensures due { OnOk result (IsDueOf plan.now self.new.due self.new.cells.items) }
         ensures dropped { self.new.dropped ≡ self.old.dropped }
-        ensures undo { undone_all self.new.changes.items self.new.cells.items ≡ undone_all self.old.changes.items self.old.cells.items }
+        ensures undo { undone_all self.new.changes.items self.new.cells.items
+            ≡ undone_all self.old.changes.items self.old.cells.items }
     {
         let mut places = places;
         for span in windows {
@@ -173,12 +193,15 @@ impl Draft {
         requires places { places ≡ standing_places key.now.node key.now.key self.old.cells.items }
         requires indexed { IsIndexOf self.old.index self.old.cells.items }
         requires due { IsDueOf plan.now self.old.due self.old.cells.items }
-        ensures ok { OnOk result (self.new.cells.items ≡ opened_at rules.now before key.now.node self.old.cells.items (opening_of key.now.key span)) }
-        ensures places { IfOk result (λ after. after ≡ standing_places key.now.node key.now.key self.new.cells.items) }
+        ensures ok { OnOk result (self.new.cells.items ≡ opened_at rules.now before
+            key.now.node self.old.cells.items (opening_of key.now.key span)) }
+        ensures places { IfOk result
+            (λ after. after ≡ standing_places key.now.node key.now.key self.new.cells.items) }
         ensures indexed { OnOk result (IsIndexOf self.new.index self.new.cells.items) }
         ensures due { OnOk result (IsDueOf plan.now self.new.due self.new.cells.items) }
         ensures dropped { self.new.dropped ≡ self.old.dropped }
-        ensures undo { undone_all self.new.changes.items self.new.cells.items ≡ undone_all self.old.changes.items self.old.cells.items }
+        ensures undo { undone_all self.new.changes.items self.new.cells.items
+            ≡ undone_all self.old.changes.items self.old.cells.items }
     {
         if any_stands_as(self.cells.as_slice(), span, places.as_slice()) {
             return Ok(places);
@@ -205,12 +228,16 @@ impl Draft {
     ) -> Result<(), NoMemory>
         requires indexed { IsIndexOf self.old.index self.old.cells.items }
         requires due { IsDueOf plan.now self.old.due self.old.cells.items }
-        ensures ok { OnOk result (self.new.cells.items ≡ fold (changed_at (once_opened rules.now before span)) self.old.cells.items places.now
-            ++ fresh_cell key.now.node key.now.key span (given_all (once_opened rules.now before span) (handed_over rules.now before span) places.now self.old.cells.items) ∷ []) }
+        ensures ok { OnOk result (self.new.cells.items
+            ≡ fold (changed_at (once_opened rules.now before span)) self.old.cells.items places.now
+            ++ fresh_cell key.now.node key.now.key span
+            (given_all (once_opened rules.now before span) (handed_over rules.now before span)
+            places.now self.old.cells.items) ∷ []) }
         ensures indexed { OnOk result (IsIndexOf self.new.index self.new.cells.items) }
         ensures due { OnOk result (IsDueOf plan.now self.new.due self.new.cells.items) }
         ensures dropped { self.new.dropped ≡ self.old.dropped }
-        ensures undo { undone_all self.new.changes.items self.new.cells.items ≡ undone_all self.old.changes.items self.old.cells.items }
+        ensures undo { undone_all self.new.changes.items self.new.cells.items
+            ≡ undone_all self.old.changes.items self.old.cells.items }
     {
         self.push_session(alloc, plan, key, span)?;
         for place in places {
@@ -231,13 +258,16 @@ impl Draft {
     ) -> Result<(), NoMemory>
         requires indexed { IsIndexOf self.old.index self.old.cells.items }
         requires due { IsDueOf plan.now self.old.due self.old.cells.items }
-        ensures ok { OnOk result ((front : ListOf CellOf) (taker : CellOf) → self.old.cells.items ≡ front ++ taker ∷ []
+        ensures ok { OnOk result
+            ((front : ListOf CellOf) (taker : CellOf) → self.old.cells.items ≡ front ++ taker ∷ []
             → self.new.cells.items ≡ changed_at (once_opened rules.now before span) front place
-            ++ with_entries (at_place (handed_over rules.now before span) [] front place) taker ∷ []) }
+            ++ with_entries (at_place (handed_over rules.now before span) [] front place) taker
+            ∷ []) }
         ensures indexed { OnOk result (IsIndexOf self.new.index self.new.cells.items) }
         ensures due { OnOk result (IsDueOf plan.now self.new.due self.new.cells.items) }
         ensures dropped { self.new.dropped ≡ self.old.dropped }
-        ensures undo { undone_all self.new.changes.items self.new.cells.items ≡ undone_all self.old.changes.items self.old.cells.items }
+        ensures undo { undone_all self.new.changes.items self.new.cells.items
+            ≡ undone_all self.old.changes.items self.old.cells.items }
     {
         if self.cells.len() <= place as usize + 1 {
             return Ok(());
@@ -260,14 +290,17 @@ impl Draft {
     ) -> Result<(), NoMemory>
         requires before { place < last }
         requires last { last + 1 ≡ length self.old.cells.items }
-        requires stands { (cell : CellOf) → slice_get self.old.cells.items place ≡ Some cell → cell.merged_into ≡ None }
+        requires stands { (cell : CellOf)
+            → slice_get self.old.cells.items place ≡ Some cell → cell.merged_into ≡ None }
         requires indexed { IsIndexOf self.old.index self.old.cells.items }
         requires due { IsDueOf plan.now self.old.due self.old.cells.items }
-        ensures ok { OnOk result (HasGivenWay span place last self.old.cells.items self.new.cells.items) }
+        ensures ok { OnOk result
+            (HasGivenWay span place last self.old.cells.items self.new.cells.items) }
         ensures indexed { OnOk result (IsIndexOf self.new.index self.new.cells.items) }
         ensures due { OnOk result (IsDueOf plan.now self.new.due self.new.cells.items) }
         ensures dropped { self.new.dropped ≡ self.old.dropped }
-        ensures undo { undone_all self.new.changes.items self.new.cells.items ≡ undone_all self.old.changes.items self.old.cells.items }
+        ensures undo { undone_all self.new.changes.items self.new.cells.items
+            ≡ undone_all self.old.changes.items self.old.cells.items }
     {
         let was = self.due.moment_at(plan, place, &self.cells[place as usize]);
         let taker_was = self.due.moment_at(plan, last, &self.cells[last as usize]);
@@ -288,10 +321,14 @@ impl Draft {
     ) -> Result<(), NoMemory>
         requires before { place < last }
         requires last { last + 1 ≡ length self.old.cells.items }
-        requires stands { (cell : CellOf) → slice_get self.old.cells.items place ≡ Some cell → cell.merged_into ≡ None }
-        ensures ok { OnOk result (HasGivenWay span place last self.old.cells.items self.new.cells.items) }
-        ensures others { (self.new.index ≡ self.old.index) × (self.new.dropped ≡ self.old.dropped) × (self.new.due ≡ self.old.due) }
-        ensures undo { undone_all self.new.changes.items self.new.cells.items ≡ undone_all self.old.changes.items self.old.cells.items }
+        requires stands { (cell : CellOf)
+            → slice_get self.old.cells.items place ≡ Some cell → cell.merged_into ≡ None }
+        ensures ok { OnOk result
+            (HasGivenWay span place last self.old.cells.items self.new.cells.items) }
+        ensures others { (self.new.index ≡ self.old.index)
+            × (self.new.dropped ≡ self.old.dropped) × (self.new.due ≡ self.old.due) }
+        ensures undo { undone_all self.new.changes.items self.new.cells.items
+            ≡ undone_all self.old.changes.items self.old.cells.items }
     {
         self.changes.reserve(1)?;
         let given = give_way(alloc, &mut self.cells, span, place, last)?;
@@ -310,11 +347,13 @@ impl Draft {
     ) -> Result<(), NoMemory>
         requires indexed { IsIndexOf self.old.index self.old.cells.items }
         requires due { IsDueOf plan.now self.old.due self.old.cells.items }
-        ensures ok { OnOk result (self.new.cells.items ≡ self.old.cells.items ++ fresh_cell key.now.node key.now.key span [] ∷ []) }
+        ensures ok { OnOk result (self.new.cells.items
+            ≡ self.old.cells.items ++ fresh_cell key.now.node key.now.key span [] ∷ []) }
         ensures indexed { OnOk result (IsIndexOf self.new.index self.new.cells.items) }
         ensures due { OnOk result (IsDueOf plan.now self.new.due self.new.cells.items) }
         ensures dropped { self.new.dropped ≡ self.old.dropped }
-        ensures undo { undone_all self.new.changes.items self.new.cells.items ≡ undone_all self.old.changes.items self.old.cells.items }
+        ensures undo { undone_all self.new.changes.items self.new.cells.items
+            ≡ undone_all self.old.changes.items self.old.cells.items }
     {
         let cell = session_cell(alloc, key, span)?;
         let own = session_key(alloc, key, span)?;
@@ -334,15 +373,19 @@ impl Draft {
         own: List<Element>,
         places: &[u32],
     ) -> Result<(), NoMemory>
-        requires places { places.now ≡ standing_places key.now.node key.now.key self.old.cells.items }
+        requires places { places.now
+            ≡ standing_places key.now.node key.now.key self.old.cells.items }
         requires indexed { IsIndexOf self.old.index self.old.cells.items }
         requires due { IsDueOf plan.now self.old.due self.old.cells.items }
-        ensures ok { OnOk result (self.new.cells.items ≡ put_all_at rules.now key.now.node key.now.key (map (entry_of commit) own) self.old.cells.items) }
-        ensures places { OnOk result (places.now ≡ standing_places key.now.node key.now.key self.new.cells.items) }
+        ensures ok { OnOk result (self.new.cells.items ≡ put_all_at rules.now
+            key.now.node key.now.key (map (entry_of commit) own) self.old.cells.items) }
+        ensures places { OnOk result
+            (places.now ≡ standing_places key.now.node key.now.key self.new.cells.items) }
         ensures indexed { OnOk result (IsIndexOf self.new.index self.new.cells.items) }
         ensures due { OnOk result (IsDueOf plan.now self.new.due self.new.cells.items) }
         ensures dropped { self.new.dropped ≡ self.old.dropped }
-        ensures undo { undone_all self.new.changes.items self.new.cells.items ≡ undone_all self.old.changes.items self.old.cells.items }
+        ensures undo { undone_all self.new.changes.items self.new.cells.items
+            ≡ undone_all self.old.changes.items self.old.cells.items }
     {
         for element in own.into_vec() {
             let entry = Entry {
@@ -364,15 +407,19 @@ impl Draft {
         places: &[u32],
     ) -> Result<(), NoMemory>
         requires unseen { entry.shown ≡ false }
-        requires places { places.now ≡ standing_places key.now.node key.now.key self.old.cells.items }
+        requires places { places.now
+            ≡ standing_places key.now.node key.now.key self.old.cells.items }
         requires indexed { IsIndexOf self.old.index self.old.cells.items }
         requires due { IsDueOf plan.now self.old.due self.old.cells.items }
-        ensures ok { OnOk result (self.new.cells.items ≡ put_at rules.now key.now.node key.now.key entry self.old.cells.items) }
-        ensures places { OnOk result (places.now ≡ standing_places key.now.node key.now.key self.new.cells.items) }
+        ensures ok { OnOk result (self.new.cells.items
+            ≡ put_at rules.now key.now.node key.now.key entry self.old.cells.items) }
+        ensures places { OnOk result
+            (places.now ≡ standing_places key.now.node key.now.key self.new.cells.items) }
         ensures indexed { OnOk result (IsIndexOf self.new.index self.new.cells.items) }
         ensures due { OnOk result (IsDueOf plan.now self.new.due self.new.cells.items) }
         ensures dropped { self.new.dropped ≡ self.old.dropped }
-        ensures undo { undone_all self.new.changes.items self.new.cells.items ≡ undone_all self.old.changes.items self.old.cells.items }
+        ensures undo { undone_all self.new.changes.items self.new.cells.items
+            ≡ undone_all self.old.changes.items self.old.cells.items }
     {
         match taker(rules, &entry, self.cells.as_slice(), places) {
             None => Ok(()),
@@ -389,7 +436,8 @@ fn open_spans(
     cells: &[Cell],
     places: &[u32],
 ) -> Result<List<Span>, NoMemory>
-    ensures { IfOk result (λ spans. spans ≡ flat_map (at_place (open_span rules.now before) [] cells.now) places.now) }
+    ensures { IfOk result (λ spans. spans
+        ≡ flat_map (at_place (open_span rules.now before) [] cells.now) places.now) }
 {
     let mut spans = List::new(alloc);
     for place in places {
@@ -487,7 +535,8 @@ fn session_cell(alloc: Global, key: &GroupKey, span: Span) -> Result<Cell, NoMem
 }
 
 fn session_key(alloc: Global, key: &GroupKey, span: Span) -> Result<CellKey, NoMemory>
-    ensures { IfOk result (λ own. own ≡ record { node = key.now.node; span = span; key = key.now.key }) }
+    ensures { IfOk result
+        (λ own. own ≡ record { node = key.now.node; span = span; key = key.now.key }) }
 {
     Ok(CellKey {
         node: key.node,

@@ -4,7 +4,8 @@ ghost use Rattle.std.specs.Prelude.{◌≡◌, map, not, IfOk};
 ghost use Rattle.std.specs.List.{filter};
 ghost use Rattle.beam_values.specs.Marks.{marks_at};
 ghost use Rattle.beam_values.specs.Nodes.{facts_of};
-ghost use Rattle.group_cells.specs.Commits.{arrives_in_time, dropped_arrival, is_at_group, is_dropped, is_taken};
+ghost use Rattle.group_cells.specs.Commits.{arrives_in_time, dropped_arrival, is_at_group};
+ghost use Rattle.group_cells.specs.Commits.{is_dropped, is_taken};
 
 use crate::rules::{is_group, rules_of};
 use beam_values::{Arrival, Dropped, Duplicate, List, Mark, NoMemory, Plan, StageMarks};
@@ -42,7 +43,8 @@ pub fn dropped_of(
     arrivals: &[Arrival],
 ) -> Result<List<Dropped>, NoMemory>
     requires { facts.now ≡ facts_of plan.now.nodes }
-    ensures { IfOk result (λ dropped. dropped ≡ map (dropped_arrival commit) (filter (is_dropped plan.now before.now) arrivals.now)) }
+    ensures { IfOk result (λ dropped. dropped
+        ≡ map (dropped_arrival commit) (filter (is_dropped plan.now before.now) arrivals.now)) }
 {
     let mut dropped = List::new(alloc);
     for arrival in arrivals {
@@ -63,7 +65,8 @@ pub fn others_of(
     plan: &Plan,
     arrivals: &[Arrival],
 ) -> Result<List<Arrival>, NoMemory>
-    ensures { IfOk result (λ others. others ≡ filter (λ arrival. not (is_at_group plan.now arrival)) arrivals.now) }
+    ensures { IfOk result
+        (λ others. others ≡ filter (λ arrival. not (is_at_group plan.now arrival)) arrivals.now) }
 {
     let mut others = List::new(alloc);
     for arrival in arrivals {

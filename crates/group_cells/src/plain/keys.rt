@@ -1,6 +1,7 @@
 //! The arrivals that are in time, one Group and key after another.
 
-ghost use Rattle.std.specs.Prelude.{◌≡◌, ◌+◌, ◌≤◌, ◌∷◌, ◌++◌, [], List as ListOf, length, not, true, All, IfOk, OnOk, MatchOption};
+ghost use Rattle.std.specs.Prelude.{◌≡◌, ◌+◌, ◌≤◌, ◌∷◌, ◌++◌, [], List as ListOf, length, not};
+ghost use Rattle.std.specs.Prelude.{true, All, IfOk, OnOk, MatchOption};
 ghost use Rattle.std.specs.List.{filter};
 ghost use Rattle.beam_values.specs.Grouping.{key_of};
 ghost use Rattle.beam_values.specs.Marks.{marks_at};
@@ -46,7 +47,8 @@ pub fn place_all(
 ) -> Result<(), NoMemory>
     requires facts { facts.now ≡ facts_of plan.now.nodes }
     requires groups { All (λ arrival. is_group plan.now arrival.node ≡ true) taken }
-    ensures placed { OnOk result (AreAllPlaced plan.now before.now commit taken cells.old.items cells.new.items) }
+    ensures placed { OnOk result
+        (AreAllPlaced plan.now before.now commit taken cells.old.items cells.new.items) }
     ensures grown { OnOk result (length cells.new.items ≤ length cells.old.items + length taken) }
 {
     let mut left = taken;
@@ -59,7 +61,8 @@ pub fn place_all(
 // The Group and key of the first arrival.
 fn next_place(alloc: Global, left: &[Arrival]) -> Result<Option<Place>, NoMemory>
     ensures { IfOk result (λ next. MatchOption next (left.now ≡ [])
-        (λ place. (first : ArrivalOf) × (rest : ListOf ArrivalOf) × (left.now ≡ first ∷ rest) × (place ≡ record { node = first.node; key = key_of first.element }))) }
+        (λ place. (first : ArrivalOf) × (rest : ListOf ArrivalOf) × (left.now ≡ first ∷ rest)
+        × (place ≡ record { node = first.node; key = key_of first.element }))) }
 {
     match left.first() {
         None => Ok(None),
@@ -82,10 +85,13 @@ fn place_next(
     cells: &mut Vec<Cell>,
 ) -> Result<List<Arrival>, NoMemory>
     requires { facts.now ≡ facts_of plan.now.nodes }
-    ensures others { IfOk result (λ others. others ≡ filter (λ arrival. not (is_arrival_at place.node place.key arrival)) left) }
-    ensures placed { OnOk result (ArePlacedAt (rules_of plan.now place.node) (marks_at before.now place.node).mark_in place.node place.key commit
+    ensures others { IfOk result (λ others. others
+        ≡ filter (λ arrival. not (is_arrival_at place.node place.key arrival)) left) }
+    ensures placed { OnOk result (ArePlacedAt (rules_of plan.now place.node)
+        (marks_at before.now place.node).mark_in place.node place.key commit
         (elements_keyed place.node place.key left) cells.old.items cells.new.items) }
-    ensures grown { IfOk result (λ others. length cells.new.items + length others ≤ length cells.old.items + length left) }
+    ensures grown { IfOk result
+        (λ others. length cells.new.items + length others ≤ length cells.old.items + length left) }
 {
     let split = split_off(alloc, &place, left)?;
     let rules = rules_of(plan, facts, place.node);
@@ -98,8 +104,10 @@ fn place_next(
 }
 
 fn split_off(alloc: Global, place: &Place, arrivals: List<Arrival>) -> Result<Split, NoMemory>
-    ensures own { IfOk result (λ split. split.own ≡ elements_keyed place.now.node place.now.key arrivals) }
-    ensures others { IfOk result (λ split. split.others ≡ filter (λ arrival. not (is_arrival_at place.now.node place.now.key arrival)) arrivals) }
+    ensures own { IfOk result
+        (λ split. split.own ≡ elements_keyed place.now.node place.now.key arrivals) }
+    ensures others { IfOk result (λ split. split.others
+        ≡ filter (λ arrival. not (is_arrival_at place.now.node place.now.key arrival)) arrivals) }
 {
     let mut own = List::new(alloc);
     let mut others = List::new(alloc);
@@ -115,8 +123,10 @@ fn sort_out(
     own: &mut List<Element>,
     others: &mut List<Arrival>,
 ) -> Result<(), NoMemory>
-    ensures own { OnOk result (own.new ≡ own.old ++ elements_keyed place.now.node place.now.key (arrival ∷ [])) }
-    ensures others { OnOk result (others.new ≡ others.old ++ filter (λ a. not (is_arrival_at place.now.node place.now.key a)) (arrival ∷ [])) }
+    ensures own { OnOk result
+        (own.new ≡ own.old ++ elements_keyed place.now.node place.now.key (arrival ∷ [])) }
+    ensures others { OnOk result (others.new ≡ others.old
+        ++ filter (λ a. not (is_arrival_at place.now.node place.now.key a)) (arrival ∷ [])) }
 {
     if is_arrival_at(place, &arrival) {
         own.push(arrival.element)

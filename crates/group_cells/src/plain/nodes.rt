@@ -1,6 +1,7 @@
 //! The marks of the nodes in their order, and what the cells of each Group fire at the mark into it.
 
-ghost use Rattle.std.specs.Prelude.{◌≡◌, [], ◌++◌, ◌<◌, false, true, length, map, option_to_list, IfOk, OnOk};
+ghost use Rattle.std.specs.Prelude.{◌≡◌, [], ◌++◌, ◌<◌, false, true, length, map, option_to_list};
+ghost use Rattle.std.specs.Prelude.{IfOk, OnOk};
 ghost use Rattle.std.specs.Int.{int_min};
 ghost use Rattle.std.specs.Ordering.{nat_cmp, on, then_cmp};
 ghost use Rattle.beam_values.specs.Cells.{pane_cmp, span_cmp};
@@ -11,7 +12,8 @@ ghost use Rattle.beam_values.specs.Nodes.{facts_of, is_group};
 ghost use Rattle.beam_values.specs.Orders.{value_cmp};
 ghost use Rattle.beam_model.specs.Holds.{pane_hold};
 ghost use Rattle.beam_model.specs.Panes.{rules_of};
-ghost use Rattle.group_cells.specs.Plain.{after_node, AreFired, AreGroupFired, AreNodesFired, FiresAs, IsNodeDone};
+ghost use Rattle.group_cells.specs.Plain.{after_node, AreFired, AreGroupFired, AreNodesFired};
+ghost use Rattle.group_cells.specs.Plain.{FiresAs, IsNodeDone};
 ghost use Rattle.watermarks.specs.Holds.{hold_at};
 
 use crate::firing::fire_cell;
@@ -37,7 +39,8 @@ pub fn fire_all(
     requires facts { facts.now ≡ facts_of plan.now.nodes }
     requires holds { length holds.now ≡ length plan.now.nodes }
     requires marks { length marks.old.items ≡ length plan.now.nodes }
-    ensures { IfOk result (AreNodesFired plan.now before.now (hold_at holds.now) commit cells.old.items cells.new.items marks.new.items) }
+    ensures { IfOk result (AreNodesFired plan.now before.now
+        (hold_at holds.now) commit cells.old.items cells.new.items marks.new.items) }
 {
     let mut fired = List::new(alloc);
     for (n, hold) in holds.iter().enumerate() {
@@ -65,7 +68,8 @@ fn fire_node(
     requires facts { facts.now ≡ facts_of plan.now.nodes }
     requires within { n < length plan.now.nodes }
     requires marks { length marks.old.items ≡ length plan.now.nodes }
-    ensures { IfOk result (IsNodeDone plan.now before.now hold commit n cells.old.items cells.new.items marks.old.items marks.new.items) }
+    ensures { IfOk result (IsNodeDone plan.now before.now hold commit n
+        cells.old.items cells.new.items marks.old.items marks.new.items) }
 {
     let node = &plan.nodes.as_slice()[n as usize];
     let mark_in = marks_of_node(node, hold, marks.as_slice()).mark_in;
@@ -86,8 +90,10 @@ fn fire_if_group(
     cells: &mut Vec<Cell>,
 ) -> Result<List<Pane>, NoMemory>
     requires { facts.now ≡ facts_of plan.now.nodes }
-    ensures fires { IfOk result (λ fired. is_group plan.now n ≡ true → AreGroupFired (rules_of plan.now n) n commit mark cells.old.items cells.new.items fired) }
-    ensures rests { IfOk result (λ fired. is_group plan.now n ≡ false → (cells.new.items ≡ cells.old.items) × (fired ≡ [])) }
+    ensures fires { IfOk result (λ fired. is_group plan.now n ≡ true
+        → AreGroupFired (rules_of plan.now n) n commit mark cells.old.items cells.new.items fired) }
+    ensures rests { IfOk result (λ fired. is_group plan.now n ≡ false
+        → (cells.new.items ≡ cells.old.items) × (fired ≡ [])) }
 {
     if !is_group(plan, n) {
         return Ok(List::new(alloc));
@@ -98,7 +104,8 @@ fn fire_if_group(
 
 // The lesser of a hold and those of some panes.
 pub fn least_with(before: &[StageMarks], hold: Mark, fired: &[Pane]) -> Mark
-    ensures { result ≡ int_min hold (least_mark (map (λ pane. (pane_hold before.now pane).mark) fired.now)) }
+    ensures { result
+        ≡ int_min hold (least_mark (map (λ pane. (pane_hold before.now pane).mark) fired.now)) }
 {
     let mut least = Mark::FINAL;
     for pane in fired {
@@ -140,7 +147,8 @@ fn fire_group(
     mark: Mark,
     cells: &mut Vec<Cell>,
 ) -> Result<List<Pane>, NoMemory>
-    ensures { IfOk result (AreGroupFired rules.now node commit mark cells.old.items cells.new.items) }
+    ensures { IfOk result
+        (AreGroupFired rules.now node commit mark cells.old.items cells.new.items) }
 {
     let mut panes = fire_cells(alloc, rules, node, commit, mark, cells)?;
     panes.sort_by(|a, b| cmp_panes(a, b))?;
@@ -155,8 +163,10 @@ fn fire_cells(
     mark: Mark,
     cells: &mut Vec<Cell>,
 ) -> Result<Vec<Pane>, NoMemory>
-    ensures cells { OnOk result (cells.new.items ≡ map (after_node rules.now node mark) cells.old.items) }
-    ensures panes { IfOk result (λ panes. AreFired rules.now node commit mark cells.old.items panes.items) }
+    ensures cells { OnOk result
+        (cells.new.items ≡ map (after_node rules.now node mark) cells.old.items) }
+    ensures panes { IfOk result
+        (λ panes. AreFired rules.now node commit mark cells.old.items panes.items) }
 {
     let mut panes = Vec::new(alloc);
     for cell in cells.iter_mut() {
@@ -176,7 +186,8 @@ fn fire_at(
     cell: &mut Cell,
 ) -> Result<Option<Pane>, NoMemory>
     ensures cell { OnOk result (cell.new ≡ after_node rules.now node mark cell.old) }
-    ensures pane { IfOk result (λ pane. FiresAs rules.now node commit mark cell.old (option_to_list pane)) }
+    ensures pane { IfOk result
+        (λ pane. FiresAs rules.now node commit mark cell.old (option_to_list pane)) }
 {
     if cell.node == node {
         fire_cell(alloc, rules, commit, mark, cell)
@@ -205,7 +216,9 @@ pub fn cmp_panes(a: &Pane, b: &Pane) -> Ordering
 }
 
 fn cmp_panes_of_commit(a: &Pane, b: &Pane) -> Ordering
-    ensures { result ≡ then_cmp (on (λ pane. pane.node) nat_cmp) (then_cmp (on (λ pane. key_of pane.element) value_cmp) (on (λ pane. pane.element.span) span_cmp)) a.now b.now }
+    ensures { result ≡ then_cmp (on (λ pane. pane.node) nat_cmp)
+        (then_cmp (on (λ pane. key_of pane.element) value_cmp)
+        (on (λ pane. pane.element.span) span_cmp)) a.now b.now }
 {
     match a.node.cmp(&b.node) {
         Ordering::Equal => cmp_panes_of_node(a, b),
@@ -214,7 +227,8 @@ fn cmp_panes_of_commit(a: &Pane, b: &Pane) -> Ordering
 }
 
 fn cmp_panes_of_node(a: &Pane, b: &Pane) -> Ordering
-    ensures { result ≡ then_cmp (on (λ pane. key_of pane.element) value_cmp) (on (λ pane. pane.element.span) span_cmp) a.now b.now }
+    ensures { result ≡ then_cmp (on (λ pane. key_of pane.element) value_cmp)
+        (on (λ pane. pane.element.span) span_cmp) a.now b.now }
 {
     match cmp_keys(&a.element, &b.element) {
         Ordering::Equal => cmp_spans(a.element.span, b.element.span),

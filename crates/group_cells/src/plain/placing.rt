@@ -1,11 +1,14 @@
 //! Where the entries of one Group and key go.
 
-ghost use Rattle.std.specs.Prelude.{◌≡◌, ◌+◌, ◌++◌, ◌<◌, ◌≤◌, length, map, if◌then◌else◌, slice_index_or, slice_set, IfOk, OnOk, MatchOption};
+ghost use Rattle.std.specs.Prelude.{◌≡◌, ◌+◌, ◌++◌, ◌<◌, ◌≤◌, length, map, if◌then◌else◌};
+ghost use Rattle.std.specs.Prelude.{slice_index_or, slice_set, IfOk, OnOk, MatchOption};
 ghost use Rattle.std.specs.List.{flat_map, list_any};
 ghost use Rattle.beam_values.specs.Spans.{lies_in, same_span};
 ghost use Rattle.beam_values.specs.declared.cell.Cell.{Cell as CellOf};
 ghost use Rattle.group_cells.specs.Placing.{gives_way, is_absorbed, takes, with_entry};
-ghost use Rattle.group_cells.specs.Plain.{ArePlacedAt, handed_over_at, once_opened_at, opened_all_at, opened_at, opening_of, put_all_at, put_at, stands_at, takes_at};
+ghost use Rattle.group_cells.specs.Plain.{ArePlacedAt, handed_over_at, once_opened_at};
+ghost use Rattle.group_cells.specs.Plain.{opened_all_at, opened_at, opening_of, put_all_at, put_at};
+ghost use Rattle.group_cells.specs.Plain.{stands_at, takes_at};
 ghost use Rattle.group_cells.specs.Rounds.{entry_of};
 
 use crate::rules::Rules;
@@ -26,7 +29,8 @@ pub fn place_key(
     own: List<Element>,
     cells: &mut Vec<Cell>,
 ) -> Result<(), NoMemory>
-    ensures placed { OnOk result (ArePlacedAt rules.now before node key.now commit own cells.old.items cells.new.items) }
+    ensures placed { OnOk result
+        (ArePlacedAt rules.now before node key.now commit own cells.old.items cells.new.items) }
     ensures grown { OnOk result (length cells.new.items ≤ length cells.old.items + length own) }
 {
     let spans = own_spans(alloc, own.as_slice())?;
@@ -62,7 +66,8 @@ fn open_all(
     windows: &[Span],
     cells: &mut Vec<Cell>,
 ) -> Result<(), NoMemory>
-    ensures { OnOk result (cells.new.items ≡ opened_all_at rules.now before node (map (opening_of key.now) windows.now) cells.old.items) }
+    ensures { OnOk result (cells.new.items ≡ opened_all_at rules.now before node
+        (map (opening_of key.now) windows.now) cells.old.items) }
 {
     for span in windows {
         open(alloc, rules, before, node, key, *span, cells)?;
@@ -80,7 +85,8 @@ fn open(
     span: Span,
     cells: &mut Vec<Cell>,
 ) -> Result<(), NoMemory>
-    ensures { OnOk result (cells.new.items ≡ opened_at rules.now before node cells.old.items (opening_of key.now span)) }
+    ensures { OnOk result (cells.new.items
+        ≡ opened_at rules.now before node cells.old.items (opening_of key.now span)) }
 {
     if has_standing(node, key, span, cells.as_slice()) {
         return Ok(());
@@ -119,8 +125,10 @@ fn hand_all_over(
     span: Span,
     cells: &mut Vec<Cell>,
 ) -> Result<List<Entry>, NoMemory>
-    ensures cells { OnOk result (cells.new.items ≡ map (once_opened_at rules.now before node (opening_of key.now span)) cells.old.items) }
-    ensures entries { IfOk result (λ entries. entries ≡ flat_map (handed_over_at rules.now before node (opening_of key.now span)) cells.old.items) }
+    ensures cells { OnOk result (cells.new.items
+        ≡ map (once_opened_at rules.now before node (opening_of key.now span)) cells.old.items) }
+    ensures entries { IfOk result (λ entries. entries ≡ flat_map
+        (handed_over_at rules.now before node (opening_of key.now span)) cells.old.items) }
 {
     let mut entries = List::new(alloc);
     for cell in cells.iter_mut() {
@@ -139,8 +147,10 @@ fn hand_over(
     cell: &mut Cell,
     entries: &mut List<Entry>,
 ) -> Result<(), NoMemory>
-    ensures cell { OnOk result (cell.new ≡ once_opened_at rules.now before node (opening_of key.now span) cell.old) }
-    ensures entries { OnOk result (entries.new ≡ entries.old ++ handed_over_at rules.now before node (opening_of key.now span) cell.old) }
+    ensures cell { OnOk result
+        (cell.new ≡ once_opened_at rules.now before node (opening_of key.now span) cell.old) }
+    ensures entries { OnOk result (entries.new
+        ≡ entries.old ++ handed_over_at rules.now before node (opening_of key.now span) cell.old) }
 {
     if !is_cell_at_key(node, key, cell) {
         return Ok(());
@@ -179,7 +189,8 @@ fn put_all(
     own: List<Element>,
     cells: &mut Vec<Cell>,
 ) -> Result<(), NoMemory>
-    ensures { OnOk result (cells.new.items ≡ put_all_at rules.now node key.now (map (entry_of commit) own) cells.old.items) }
+    ensures { OnOk result (cells.new.items
+        ≡ put_all_at rules.now node key.now (map (entry_of commit) own) cells.old.items) }
 {
     for element in own.into_vec() {
         let entry = Entry {
@@ -214,7 +225,8 @@ fn put(
 // Where the first cell stands that takes an entry.
 pub fn taker(rules: &Rules, node: u32, key: &Value, entry: &Entry, cells: &[Cell]) -> Option<usize>
     ensures { MatchOption result (put_at rules.now node key.now entry.now cells.now ≡ cells.now)
-        (λ at. (at < length cells.now) × ((d : CellOf) → put_at rules.now node key.now entry.now cells.now
+        (λ at. (at < length cells.now)
+        × ((d : CellOf) → put_at rules.now node key.now entry.now cells.now
         ≡ slice_set cells.now at (with_entry entry.now (slice_index_or cells.now at d)))) }
 {
     for (at, cell) in cells.iter().enumerate() {
