@@ -56,6 +56,10 @@ plan_of d = do
   nodes ← nodes_of names array
   checked (record { version = 1; nodes = nodes })
 
+-- the names of its nodes, in their order
+abbrev pub array_names_of : Data → Meaning (List (List ℕ))
+array_names_of d = array_of d >>= names_of
+
 -- ---- the bytes
 
 abbrev pub longest_document : ℕ
@@ -73,3 +77,8 @@ text_of bytes = ok_or (json_of bytes) Syntax >>= plan_of
 
 abbrev pub document_of : List ℕ → Meaning Plan
 document_of bytes = option_map_or (λ refusal. Err refusal) (length_refusal (length bytes)) (text_of bytes)
+
+-- The names of the nodes of a document, each by the number of its node. Those of a document that is a plan are as many as its nodes, and this is said
+-- where they are read.
+abbrev pub node_names_of : List ℕ → Meaning (List (List ℕ))
+node_names_of bytes = ok_or (json_of bytes) Syntax >>= array_names_of

@@ -1,14 +1,14 @@
 ghost use Rattle.std.specs.Prelude.{◌≡◌, ◌≤◌, length, map, ok_or, Ok, IfErr, IfOk};
 ghost use Rattle.serde_json.specs.View.{view};
-ghost use Rattle.plan_reader.specs.Documents.{HasFewNodes, array_of, document_of, json_of, length_refusal, longest_document, plan_of, version_of};
+ghost use Rattle.plan_reader.specs.Documents.{HasFewNodes, array_names_of, array_of, document_of, json_of, length_refusal, longest_document, node_names_of, plan_of, version_of};
 ghost use Rattle.plan_reader.specs.Refusals.{Gives, IsFirst, Reads};
 
 use crate::forms::{any_number_in, needed};
 use crate::keys::has_only;
-use crate::names::names_of;
+use crate::names::{names_of, owned_names};
 use crate::nodes::nodes_of;
 use crate::refusal::{Place, PlanKey, PlanReadRefusal, PlanRefusal};
-use beam_values::Plan;
+use beam_values::{Bytes, List, Plan};
 use pipeline_graph::Graph;
 use serde_json::{Category, Value};
 use std::alloc::Global;
@@ -27,16 +27,35 @@ pub fn length_refusal(len: u64) -> Option<PlanRefusal>
     }
 }
 
+/// A checked pipeline, and the names that its document gives its nodes, each by the number of the node.
+#[derive(Debug, Drop)]
+pub struct NamedPlan {
+    pub names: List<Bytes>,
+    pub graph: Graph,
+}
+
 /// Reads the bytes of a plan document as a pipeline. A refusal is the first rule that the document breaks.
 pub fn read_plan(alloc: Global, bytes: &[u8]) -> Result<Graph, PlanReadRefusal>
     ensures plan { IfOk result (λ graph. document_of bytes.now ≡ Ok graph) }
+    ensures refused { IfErr result (IsFirst (document_of bytes.now)) }
+{
+    let NamedPlan { names: _, graph } = read_named_plan(alloc, bytes)?;
+    Ok(graph)
+}
+
+/// Reads the bytes of a plan document as a pipeline with the names of its nodes. A refusal is the first rule
+/// that the document breaks.
+pub fn read_named_plan(alloc: Global, bytes: &[u8]) -> Result<NamedPlan, PlanReadRefusal>
+    ensures plan { IfOk result (λ named. document_of bytes.now ≡ Ok named.graph) }
+    ensures names { IfOk result (λ named. node_names_of bytes.now ≡ Ok named.names) }
+    ensures each { IfOk result (λ named. length named.names ≡ length named.graph.nodes) }
     ensures refused { IfErr result (IsFirst (document_of bytes.now)) }
 {
     if let Some(refusal) = length_refusal(bytes.len() as u64) {
         return Err(PlanReadRefusal::Bad(refusal));
     }
     let document = json_of(alloc, bytes)?;
-    plan_of(alloc, &document)
+    named_plan_of(alloc, &document)
 }
 
 #[tactic(auto, using(crate::proofs::FewNodes::few_nodes, crate::proofs::Texts::json_read, crate::proofs::Texts::json_refused))]
@@ -54,16 +73,20 @@ fn json_of(alloc: Global, bytes: &[u8]) -> Result<Value, PlanReadRefusal>
     }
 }
 
-fn plan_of(alloc: Global, document: &Value) -> Result<Graph, PlanReadRefusal>
+fn named_plan_of(alloc: Global, document: &Value) -> Result<NamedPlan, PlanReadRefusal>
     requires { HasFewNodes (view document.now) }
-    ensures { Reads (λ graph. graph) result (plan_of (view document.now)) }
+    ensures plan { Reads (λ named. named.graph) result (plan_of (view document.now)) }
+    ensures names { IfOk result (λ named. array_names_of (view document.now) ≡ Ok named.names) }
+    ensures each { IfOk result (λ named. length named.names ≡ length named.graph.nodes) }
 {
     check_version(document)?;
     let nodes = array_of(document)?;
     let names = names_of(alloc, nodes)?;
     let nodes = nodes_of(alloc, &names, nodes)?;
+    let names = owned_names(alloc, &names)?;
     let plan = Plan { version: 1, nodes };
-    Ok(Graph::check(alloc, plan)?)
+    let graph = Graph::check(alloc, plan)?;
+    Ok(NamedPlan { names, graph })
 }
 
 // An object of version 1.

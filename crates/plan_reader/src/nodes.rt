@@ -1,4 +1,4 @@
-ghost use Rattle.std.specs.Prelude.{◌≡◌, ◌<◌, ◌^◌, length, map};
+ghost use Rattle.std.specs.Prelude.{◌≡◌, ◌<◌, ◌^◌, length, map, IfOk};
 ghost use Rattle.indexmap.specs.IndexSet.{index_set_len};
 ghost use Rattle.serde_json.specs.View.{view};
 ghost use Rattle.plan_reader.specs.Nodes.{closed, inputs_of, kind_of, node_of, nodes_of};
@@ -25,7 +25,8 @@ pub(crate) fn nodes_of(
 ) -> Result<List<Node>, PlanReadRefusal>
     requires few_names { index_set_len names.now < 2 ^ 32 }
     requires few { length nodes.now < 2 ^ 32 }
-    ensures { Reads (λ nodes. nodes) result (nodes_of (names_in names.now) (map view nodes.now)) }
+    ensures nodes { Reads (λ nodes. nodes) result (nodes_of (names_in names.now) (map view nodes.now)) }
+    ensures each { IfOk result (λ read. length read ≡ length nodes.now) }
 {
     let mut read = Vec::with_capacity(alloc, nodes.len())?;
     for object in nodes {
