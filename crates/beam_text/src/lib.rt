@@ -4,7 +4,8 @@
 //! `beam_model::specs::Rendering`: the layer above may rely on the one being the rendering of the
 //! outcome, whatever order the elements and the logs came in, and on the other being its totals. A text
 //! is appended in one pass. Where memory is refused, [`push_value`] and [`push_blob`] leave the text as
-//! it was. What is put in order is references: no element is copied. Read `rendering.rt` first.
+//! it was, and [`push_escaped`] says how one byte is escaped there. What is put in order is references: no
+//! element is copied. Read `rendering.rt` first.
 #![tactic(auto)]
 
 mod element;
@@ -17,4 +18,4 @@ mod writes;
 pub use element::push_element;
 pub use rendering::render;
 pub use totals::summary;
-pub use value::{push_blob, push_value};
+pub use value::{push_blob, push_escaped, push_value};

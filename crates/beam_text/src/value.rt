@@ -92,7 +92,7 @@ fn append_bytes(bytes: &[u8], out: &mut Bytes) -> Result<(), NoMemory>
         out.extend_from_slice(plain)?;
         rest = others;
         if let Some((byte, after)) = others.split_first() {
-            append_escaped(*byte, out)?;
+            push_escaped(*byte, out)?;
             rest = after;
         }
     }
@@ -119,7 +119,9 @@ fn is_escaped(byte: u8) -> bool
     byte == b'"' || byte == b'\\' || byte < b' ' || byte > b'~'
 }
 
-fn append_escaped(byte: u8, out: &mut Bytes) -> Result<(), NoMemory>
+/// Appends a byte that isn't printed as it is: a quote or a backslash, or one outside of the printable ASCII
+/// bytes, as LF by `\n` and the byte 7 by `\x07`.
+pub fn push_escaped(byte: u8, out: &mut Bytes) -> Result<(), NoMemory>
     requires { is_escaped byte ≡ true }
     ensures ok { OnOk result (out.new ≡ out.old ++ byte_text byte) }
     ensures err { OnErr result (out.new ≡ out.old) }
