@@ -1,12 +1,16 @@
-ghost use Rattle.std.specs.Prelude.{◌≡◌, ◌++◌, IfOk, OnOk, IfSome, IfNone, ◌⊎◌, decimal};
-ghost use Rattle.beam_command.specs.Notes.{changed_text, note_line, work_text, place_text, attempt_text, cause_text};
-ghost use Rattle.beam_command.specs.Ends.{IsLongNoted};
+//! The line that a command writes to its notes where it doesn't end well.
 
+ghost use Rattle.std.specs.Prelude.{◌≡◌, ◌++◌, ℕ, IfOk, OnOk, IfSome, IfNone, ◌⊎◌, decimal};
+ghost use Rattle.beam_ports.specs.Observed.{observed_sink};
+ghost use Rattle.beam_command.specs.Notes.{changed_text, note_line, work_text, place_text, attempt_text, cause_text};
+ghost use Rattle.beam_command.specs.Ends.{IsLongNoted, IsNoted, IsNotedUpTo, StaysOrNoMemory};
+
+use beam_ports::Sink;
 use beam_text::push_blob;
 use beam_values::{Bytes, Cause, FaultNote, NoMemory};
 use itoa::Buffer;
 use plan_reader::refusal_text;
-use run_engine::Status;
+use run_engine::{Status, put};
 use std::alloc::Global;
 
 /// The line of a status whose line has no part of its own, so that it needs no memory.
@@ -49,6 +53,37 @@ pub fn note_line(alloc: Global, status: &Status) -> Result<Bytes, NoMemory>
     }
     line.push(b'\n')?;
     Ok(line)
+}
+
+/// Writes the note of an end. A fault of the notes ends the line and changes nothing else.
+pub fn noted<N: Sink>(alloc: Global, status: Status, notes: &mut N) -> Status
+    ensures stays { StaysOrNoMemory status result }
+    ensures noted { IsNoted result (observed_sink N.faults N.taken notes.old notes.new) }
+{
+    if let Status::Ok | Status::Help = status {
+        return status;
+    }
+    if let Some(line) = fixed_line(&status) {
+        write_note(notes, line);
+        return status;
+    }
+    match note_line(alloc, &status) {
+        Ok(line) => {
+            write_note(notes, line.as_slice());
+            status
+        }
+        Err(_refused) => {
+            write_note(notes, b"no memory\n");
+            Status::NoMemory
+        }
+    }
+}
+
+/// Writes a line to the notes, or the front of it where they fail.
+pub fn write_note<N: Sink>(notes: &mut N, line: &[u8])
+    ensures { (n : ℕ) × IsNotedUpTo line.now (observed_sink N.faults N.taken notes.old notes.new) n }
+{
+    let _ = put(notes, line, 1);
 }
 
 fn push_changed(name: &Bytes, first: u64, other: u64, line: &mut Bytes) -> Result<(), NoMemory>

@@ -4,21 +4,23 @@ ghost use Rattle.std.specs.Prelude.{◌≡◌, ◌≤◌, ◌<◌, ◌+◌, Ok, 
 ghost use Rattle.beam_ports.specs.Counts.{rise};
 ghost use Rattle.beam_ports.specs.Files.{KeepsOpenings};
 ghost use Rattle.beam_ports.specs.Observed.{observed_store, WhereTold};
-ghost use Rattle.beam_command.specs.Asking.{IsMeaningOf};
+ghost use Rattle.beam_command.specs.Asking.{AreNamesOf, IsMeaningOf};
 ghost use Rattle.beam_command.specs.Ends.{IsPlanRefused};
 ghost use Rattle.beam_command.specs.PlanFiles.{IsOpenedWhole, IsOpenRefused, IsReadRefused, IsTextOf};
 ghost use Rattle.run_engine.specs.Openings.{IsNoSourceOrNoMemory};
 
 use beam_ports::{Failed, OpenRefusal, Store};
-use beam_values::Bytes;
+use beam_values::{Bytes, List};
 use pipeline_graph::Graph;
-use plan_reader::{PlanReadRefusal, length_refusal, read_plan};
+use plan_reader::{NamedPlan, PlanReadRefusal, length_refusal, read_named_plan};
 use run_engine::Status;
 use std::alloc::Global;
 
-/// A checked pipeline, and how often the store failed while its document was read.
+/// A checked pipeline with the names of its nodes, each by its number, and how often the store failed while
+/// its document was read.
 #[derive(Debug, Drop)]
 pub struct PlanRead {
+    pub names: List<Bytes>,
     pub graph: Graph,
     pub failed: u32,
 }
@@ -33,6 +35,8 @@ pub fn read_plan_file<S: Store>(
 ) -> Result<PlanRead, Status>
     requires { 1 ≤ attempts }
     ensures plan { IfOk result (λ read. WhereTold (S.files store.old) (λ told. IsMeaningOf told name.now (Ok read.graph))) }
+    ensures names { IfOk result (λ read. WhereTold (S.files store.old) (λ told. AreNamesOf told name.now read.names)) }
+    ensures each { IfOk result (λ read. length read.names ≡ length read.graph.nodes) }
     ensures failed { IfOk result (λ read. read.failed ≤ rise (S.faults store.old) (S.faults store.new)) }
     ensures refused { IfErr result (IsPlanRefused (observed_store S.files S.faults store.old store.new) name.now attempts) }
     ensures told { S.files store.new ≡ S.files store.old }
@@ -51,8 +55,9 @@ pub fn read_plan_file<S: Store>(
         Ok(text) => text,
         Err(status) => return Err(status),
     };
-    match read_plan(alloc, text.bytes.as_slice()) {
-        Ok(graph) => Ok(PlanRead {
+    match read_named_plan(alloc, text.bytes.as_slice()) {
+        Ok(NamedPlan { names, graph }) => Ok(PlanRead {
+            names,
             graph,
             failed: text.failed,
         }),

@@ -12,12 +12,12 @@ ghost use Rattle.worker_loop.specs.Outside.{IsKitKept};
 ghost use Rattle.beam_model.specs.Plans.{panes_plan};
 ghost use Rattle.beam_command.specs.Asking.{IsPlanOf};
 ghost use Rattle.beam_command.specs.Promises.{HasLegalPanes, IsPlanAsked};
-ghost use Rattle.beam_command.specs.Ends.{AreFound, IsRun, IsEndOf, IsHelpEnd, IsNoted, IsNotedUpTo, IsPipelineEnd, StaysOrNoMemory};
+ghost use Rattle.beam_command.specs.Ends.{AreFound, IsRun, IsEndOf, IsHelpEnd, IsNoted, IsPipelineEnd};
 ghost use Rattle.beam_command.specs.Kits.{IsOutcomeOfOpened, first_files, in_use, kit_files, observed_in_use, observed_kits, workers_of};
 ghost use Rattle.beam_command.specs.Completeness.{AsksForPoison};
 ghost use Rattle.beam_command.specs.Clauses.{asked_by, EndsAsAsked, HasNotBegun, IsChange, ArePanesPlain, EndsWhereAbsent, EndsWherePoison, EndsWhereClean, EndsWhereFewFaults, EndsWhereNoPoison};
 
-use crate::notes::{fixed_line, note_line};
+use crate::notes::noted;
 use crate::pipeline::{ended, run_graph, written};
 use crate::plan_file::read_plan_file;
 use crate::plans::panes_graph;
@@ -31,7 +31,7 @@ use ended_runs::laws::{
     outcomes_are_accounted, outcomes_are_covered, outcomes_are_plainly_written,
     outcomes_have_legal_panes, runs_without_poison_fail_by_reads, stops_are_honest,
 };
-use run_engine::{Kit, RunEnd, Status, put};
+use run_engine::{Kit, RunEnd, Status};
 use std::alloc::Global;
 use std::sync::Wait;
 use std::thread::Threads;
@@ -253,34 +253,4 @@ fn run_file<R: Threads + Wait + Sync, F: Shelf, S: Store, W: Sink, G: Gate>(
         Ok(read) => run_graph(rt, alloc, read.graph, options, read.failed, kits, out, gate),
         Err(status) => ended(status),
     }
-}
-
-// Writes the note of an end. A fault of the notes ends the line and changes nothing else.
-fn noted<N: Sink>(alloc: Global, status: Status, notes: &mut N) -> Status
-    ensures stays { StaysOrNoMemory status result }
-    ensures noted { IsNoted result (observed_sink N.faults N.taken notes.old notes.new) }
-{
-    if let Status::Ok | Status::Help = status {
-        return status;
-    }
-    if let Some(line) = fixed_line(&status) {
-        write_note(notes, line);
-        return status;
-    }
-    match note_line(alloc, &status) {
-        Ok(line) => {
-            write_note(notes, line.as_slice());
-            status
-        }
-        Err(_refused) => {
-            write_note(notes, b"no memory\n");
-            Status::NoMemory
-        }
-    }
-}
-
-fn write_note<N: Sink>(notes: &mut N, line: &[u8])
-    ensures { (n : ℕ) × IsNotedUpTo line.now (observed_sink N.faults N.taken notes.old notes.new) n }
-{
-    let _ = put(notes, line, 1);
 }
