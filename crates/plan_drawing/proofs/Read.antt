@@ -1,0 +1,42 @@
+-- Each word is read as what it stands for.
+use Rattle.std.proofs.Common.{◌≡◌, Some, refl}
+use Rattle.beam_values.specs.declared.plan.FnKind.{FnKind}
+use Rattle.beam_values.specs.declared.plan.FnKind.TheVariants.{KeyField, Words, Field, KeepPrefix, FieldInt, Swap, Shift, SumSeq, CountSeq, MaxSeq, Unseq, Values}
+use Rattle.beam_values.specs.declared.plan.Mode.{Mode}
+use Rattle.beam_values.specs.declared.plan.Mode.TheVariants.{Discarding, Accumulating}
+use Rattle.beam_values.specs.declared.plan.SourceKind.{SourceKind}
+use Rattle.beam_values.specs.declared.plan.SourceKind.TheVariants.{Lines, TimedLines, Count, Made}
+use Rattle.beam_values.specs.declared.plan.StateKind.{StateKind}
+use Rattle.beam_values.specs.declared.plan.StateKind.TheVariants.{Dedupe, RunningSum, BatchUntil, LatestThenEmit}
+use Rattle.plan_reader.specs.Words.{functions, meaning_in, modes, sources, stateful_functions}
+use Rattle.plan_drawing.specs.Words.{function_word, mode_word, source_word, state_word}
+
+pub sources_read : (work : SourceKind) → meaning_in sources (source_word work) ≡ Some work
+sources_read Lines = refl
+sources_read TimedLines = refl
+sources_read Count = refl
+sources_read Made = refl
+
+pub functions_read : (work : FnKind) → meaning_in functions (function_word work) ≡ Some work
+functions_read KeyField = refl
+functions_read Words = refl
+functions_read Field = refl
+functions_read KeepPrefix = refl
+functions_read FieldInt = refl
+functions_read Swap = refl
+functions_read Shift = refl
+functions_read SumSeq = refl
+functions_read CountSeq = refl
+functions_read MaxSeq = refl
+functions_read Unseq = refl
+functions_read Values = refl
+
+pub stateful_read : (work : StateKind) → meaning_in stateful_functions (state_word work) ≡ Some work
+stateful_read Dedupe = refl
+stateful_read RunningSum = refl
+stateful_read BatchUntil = refl
+stateful_read LatestThenEmit = refl
+
+pub modes_read : (mode : Mode) → meaning_in modes (mode_word mode) ≡ Some mode
+modes_read Discarding = refl
+modes_read Accumulating = refl

@@ -1,0 +1,4 @@
+pub mod Drawing
+pub mod Labels
+pub mod Vectors
+pub mod Words
