@@ -1,5 +1,6 @@
 pub mod Causes
 pub mod Deliveries
+pub mod Messages
 pub mod Passing
 pub mod Unused
 pub mod Positions

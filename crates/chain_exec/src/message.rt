@@ -4,6 +4,11 @@ use std::error::Error;
 use std::fmt;
 
 impl fmt::Display for ExecRefusal {
+    ghost use Rattle.std.specs.Prelude.{Some};
+    ghost use Rattle.chain_exec.specs.Messages.{exec_message};
+
+    ghost output = { λ refusal. Some (exec_message refusal) };
+
     fn fmt<W: fmt::Write>(&self, f: &mut fmt::Formatter<W>) -> fmt::Result {
         match self {
             ExecRefusal::Faulted { at, cause } => match cause {

@@ -1,6 +1,7 @@
 pub mod Documents
 pub mod Forms
 pub mod Keys
+pub mod Messages
 pub mod Nodes
 pub mod Places
 pub mod Refusals

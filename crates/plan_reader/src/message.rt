@@ -62,6 +62,11 @@ impl fmt::Display for PlanRefusal {
 impl Error for PlanRefusal {}
 
 impl fmt::Display for PlanReadRefusal {
+    ghost use Rattle.std.specs.Prelude.{Some};
+    ghost use Rattle.plan_reader.specs.Messages.{read_message};
+
+    ghost output = { λ refusal. Some (read_message refusal) };
+
     fn fmt<W: fmt::Write>(&self, f: &mut fmt::Formatter<W>) -> fmt::Result {
         match self {
             PlanReadRefusal::Bad(refusal) => write!(f, "{refusal}"),
