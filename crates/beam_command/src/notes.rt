@@ -2,7 +2,8 @@
 
 ghost use Rattle.std.specs.Prelude.{◌≡◌, ◌++◌, ℕ, IfOk, OnOk, IfSome, IfNone, ◌⊎◌, decimal};
 ghost use Rattle.beam_ports.specs.Observed.{observed_sink};
-ghost use Rattle.beam_command.specs.Notes.{changed_text, note_line, work_text, place_text, attempt_text, cause_text};
+ghost use Rattle.beam_command.specs.Notes.{changed_text, note_line, work_text, place_text};
+ghost use Rattle.beam_command.specs.Notes.{attempt_text, cause_text};
 ghost use Rattle.beam_command.specs.Ends.{IsLongNoted, IsNoted, IsNotedUpTo, StaysOrNoMemory};
 
 use beam_ports::Sink;
@@ -16,7 +17,8 @@ use std::alloc::Global;
 /// The line of a status whose line has no part of its own, so that it needs no memory.
 pub fn fixed_line(status: &Status) -> Option<&'static [u8]>
     ensures some { IfSome result (λ line. line.now ≡ note_line status.now) }
-    ensures none { IfNone result ((status.now ≡ Status.Ok) ⊎ ((status.now ≡ Status.Help) ⊎ IsLongNoted status.now)) }
+    ensures none { IfNone result
+        ((status.now ≡ Status.Ok) ⊎ ((status.now ≡ Status.Help) ⊎ IsLongNoted status.now)) }
 {
     match status {
         Status::Usage => Some(b"usage: see beam_run help\n"),
@@ -81,7 +83,8 @@ pub fn noted<N: Sink>(alloc: Global, status: Status, notes: &mut N) -> Status
 
 /// Writes a line to the notes, or the front of it where they fail.
 pub fn write_note<N: Sink>(notes: &mut N, line: &[u8])
-    ensures { (n : ℕ) × IsNotedUpTo line.now (observed_sink N.faults N.taken notes.old notes.new) n }
+    ensures { (n : ℕ)
+        × IsNotedUpTo line.now (observed_sink N.faults N.taken notes.old notes.new) n }
 {
     let _ = put(notes, line, 1);
 }

@@ -45,11 +45,15 @@ pub fn run_graph<R: Threads + Wait + Sync, F: Shelf, S: Store, W: Sink, G: Gate>
     requires allowed { AreOptions options.now }
     requires some { 0 < length kits.old }
     requires workers { length kits.old ≤ options.now.workers }
-    ensures ends { IsGraphEnd (observed_kits F.strict F.faults S.files S.faults W.faults W.taken kits.old kits.new out.old out.new)
+    ensures ends { IsGraphEnd (observed_kits F.strict F.faults S.files
+        S.faults W.faults W.taken kits.old kits.new out.old out.new)
         graph options.now failed result.status result.outcome }
-    ensures outcome { IfSome result.outcome (λ o. (o.plan ≡ graph) × IsOutcomeOfOpened S.files S.opened kits.new o) }
-    ensures idle { HasNotBegun result.status → EachBecomes kits.old kits.new (λ old new. new.shelf ≡ old.shelf) }
-    ensures kept { EachBecomes kits.old kits.new (λ old new. IsKitKept F.faults F.strict S.faults S.files S.opened old.shelf new.shelf old.store new.store) }
+    ensures outcome { IfSome result.outcome
+        (λ o. (o.plan ≡ graph) × IsOutcomeOfOpened S.files S.opened kits.new o) }
+    ensures idle { HasNotBegun result.status
+        → EachBecomes kits.old kits.new (λ old new. new.shelf ≡ old.shelf) }
+    ensures kept { EachBecomes kits.old kits.new (λ old new. IsKitKept F.faults
+        F.strict S.faults S.files S.opened old.shelf new.shelf old.store new.store) }
 {
     if let Err(status) = open_sources(alloc, &graph, options, kits, failed) {
         return ended(status);
@@ -65,7 +69,8 @@ pub fn run_graph<R: Threads + Wait + Sync, F: Shelf, S: Store, W: Sink, G: Gate>
 fn finished<W: Sink>(alloc: Global, outcome: Option<Outcome>, attempts: u32, out: &mut W) -> RunEnd
     requires some { IsSome outcome }
     requires attempts { 1 ≤ attempts }
-    ensures { (o : OutcomeOf) → outcome ≡ Some o → IsRunPrinted (observed_sink W.faults W.taken out.old out.new) attempts o result.status result.outcome }
+    ensures { (o : OutcomeOf) → outcome ≡ Some o → IsRunPrinted
+        (observed_sink W.faults W.taken out.old out.new) attempts o result.status result.outcome }
 {
     let Some(outcome) = outcome else {
         unreachable!()
@@ -76,7 +81,8 @@ fn finished<W: Sink>(alloc: Global, outcome: Option<Outcome>, attempts: u32, out
 // Writes the rendering of an outcome.
 fn printed<W: Sink>(alloc: Global, outcome: Outcome, attempts: u32, out: &mut W) -> RunEnd
     requires { 1 ≤ attempts }
-    ensures { IsRunPrinted (observed_sink W.faults W.taken out.old out.new) attempts outcome result.status result.outcome }
+    ensures { IsRunPrinted (observed_sink W.faults W.taken out.old out.new)
+        attempts outcome result.status result.outcome }
 {
     match render(alloc, &outcome) {
         Ok(text) => RunEnd {

@@ -1,12 +1,14 @@
 //! The file of a plan document, opened and read by a store whose calls may fail.
 
-ghost use Rattle.std.specs.Prelude.{◌≡◌, ◌≤◌, ◌<◌, ◌+◌, Ok, length, IsSomeAnd, IfOk, IfErr, OnOk, OnErr};
+ghost use Rattle.std.specs.Prelude.{◌≡◌, ◌≤◌, ◌<◌, ◌+◌, Ok, length, IsSomeAnd, IfOk, IfErr, OnOk};
+ghost use Rattle.std.specs.Prelude.{OnErr};
 ghost use Rattle.beam_ports.specs.Counts.{rise};
 ghost use Rattle.beam_ports.specs.Files.{KeepsOpenings};
 ghost use Rattle.beam_ports.specs.Observed.{observed_store, WhereTold};
 ghost use Rattle.beam_command.specs.Asking.{AreNamesOf, IsMeaningOf};
 ghost use Rattle.beam_command.specs.Ends.{IsPlanRefused};
-ghost use Rattle.beam_command.specs.PlanFiles.{IsOpenedWhole, IsOpenRefused, IsReadRefused, IsTextOf};
+ghost use Rattle.beam_command.specs.PlanFiles.{IsOpenedWhole, IsOpenRefused, IsReadRefused};
+ghost use Rattle.beam_command.specs.PlanFiles.{IsTextOf};
 ghost use Rattle.run_engine.specs.Openings.{IsNoSourceOrNoMemory};
 
 use beam_ports::{Failed, OpenRefusal, Store};
@@ -34,11 +36,15 @@ pub fn read_plan_file<S: Store>(
     attempts: u32,
 ) -> Result<PlanRead, Status>
     requires { 1 ≤ attempts }
-    ensures plan { IfOk result (λ read. WhereTold (S.files store.old) (λ told. IsMeaningOf told name.now (Ok read.graph))) }
-    ensures names { IfOk result (λ read. WhereTold (S.files store.old) (λ told. AreNamesOf told name.now read.names)) }
+    ensures plan { IfOk result (λ read. WhereTold (S.files store.old)
+        (λ told. IsMeaningOf told name.now (Ok read.graph))) }
+    ensures names { IfOk result
+        (λ read. WhereTold (S.files store.old) (λ told. AreNamesOf told name.now read.names)) }
     ensures each { IfOk result (λ read. length read.names ≡ length read.graph.nodes) }
-    ensures failed { IfOk result (λ read. read.failed ≤ rise (S.faults store.old) (S.faults store.new)) }
-    ensures refused { IfErr result (IsPlanRefused (observed_store S.files S.faults store.old store.new) name.now attempts) }
+    ensures failed { IfOk result
+        (λ read. read.failed ≤ rise (S.faults store.old) (S.faults store.new)) }
+    ensures refused { IfErr result
+        (IsPlanRefused (observed_store S.files S.faults store.old store.new) name.now attempts) }
     ensures told { S.files store.new ≡ S.files store.old }
     ensures kept { KeepsOpenings (S.opened store.old) (S.opened store.new) }
     ensures counts { S.faults store.old ≤ S.faults store.new }
@@ -91,8 +97,10 @@ fn open_whole<S: Store>(
 ) -> Result<OpenedWhole, OpenRefusal>
     requires { 1 ≤ attempts }
     ensures opened { IfOk result (IsOpenedWhole (S.files store.old) (S.opened store.new) name.now) }
-    ensures failed { IfOk result (λ opened. (opened.failed < attempts) × (opened.failed ≤ rise (S.faults store.old) (S.faults store.new))) }
-    ensures refused { IfErr result (IsOpenRefused (observed_store S.files S.faults store.old store.new) name.now attempts) }
+    ensures failed { IfOk result (λ opened. (opened.failed < attempts)
+        × (opened.failed ≤ rise (S.faults store.old) (S.faults store.new))) }
+    ensures refused { IfErr result
+        (IsOpenRefused (observed_store S.files S.faults store.old store.new) name.now attempts) }
     ensures told { S.files store.new ≡ S.files store.old }
     ensures kept { KeepsOpenings (S.opened store.old) (S.opened store.new) }
     ensures counts { S.faults store.old ≤ S.faults store.new }
@@ -128,11 +136,15 @@ fn read_text<S: Store>(
     opened: &OpenedWhole,
     attempts: u32,
 ) -> Result<TextRead, Status>
-    requires open { IsSomeAnd (S.opened store.old opened.now.file) (λ opening. opening.len ≡ opened.now.len) }
+    requires open { IsSomeAnd (S.opened store.old opened.now.file)
+        (λ opening. opening.len ≡ opened.now.len) }
     requires failed { opened.now.failed < attempts }
-    ensures text { IfOk result (λ text. IsTextOf (S.opened store.old opened.now.file) opened.now.len text.bytes.items) }
-    ensures failed { IfOk result (λ text. text.failed ≤ opened.now.failed + rise (S.faults store.old) (S.faults store.new)) }
-    ensures refused { IfErr result (IsReadRefused (observed_store S.files S.faults store.old store.new) opened.now.failed attempts) }
+    ensures text { IfOk result
+        (λ text. IsTextOf (S.opened store.old opened.now.file) opened.now.len text.bytes.items) }
+    ensures failed { IfOk result
+        (λ text. text.failed ≤ opened.now.failed + rise (S.faults store.old) (S.faults store.new)) }
+    ensures refused { IfErr result (IsReadRefused
+        (observed_store S.files S.faults store.old store.new) opened.now.failed attempts) }
     ensures told { S.files store.new ≡ S.files store.old }
     ensures kept { KeepsOpenings (S.opened store.old) (S.opened store.new) }
     ensures counts { S.faults store.old ≤ S.faults store.new }
@@ -153,12 +165,16 @@ fn fill<S: Store>(
     attempts: u32,
     buffer: &mut [u8],
 ) -> Result<u32, Failed>
-    requires open { IsSomeAnd (S.opened store.old opened.now.file) (λ opening. opening.len ≡ opened.now.len) }
+    requires open { IsSomeAnd (S.opened store.old opened.now.file)
+        (λ opening. opening.len ≡ opened.now.len) }
     requires fits { length buffer.old ≡ opened.now.len }
     requires failed { opened.now.failed < attempts }
-    ensures bytes { OnOk result (IsTextOf (S.opened store.old opened.now.file) opened.now.len buffer.new) }
-    ensures failed { IfOk result (λ failed. failed ≤ opened.now.failed + rise (S.faults store.old) (S.faults store.new)) }
-    ensures refused { OnErr result (attempts ≤ opened.now.failed + rise (S.faults store.old) (S.faults store.new)) }
+    ensures bytes { OnOk result
+        (IsTextOf (S.opened store.old opened.now.file) opened.now.len buffer.new) }
+    ensures failed { IfOk result
+        (λ failed. failed ≤ opened.now.failed + rise (S.faults store.old) (S.faults store.new)) }
+    ensures refused { OnErr result
+        (attempts ≤ opened.now.failed + rise (S.faults store.old) (S.faults store.new)) }
     ensures told { S.files store.new ≡ S.files store.old }
     ensures kept { KeepsOpenings (S.opened store.old) (S.opened store.new) }
     ensures counts { S.faults store.old ≤ S.faults store.new }

@@ -5,17 +5,22 @@ ghost use Rattle.beam_model.specs.Covers.{IsCovered};
 ghost use Rattle.beam_model.specs.Plain.{ArePlainlyWrittenWhere};
 ghost use Rattle.beam_model.specs.Positions.{items, item_len};
 ghost use Rattle.beam_values.specs.Strategies.{IsLength};
-ghost use Rattle.command_words.specs.Commands.{command_of, words_of, Panes as PanesOf, Run as RunOf};
+ghost use Rattle.command_words.specs.Commands.{command_of, words_of, Panes as PanesOf};
+ghost use Rattle.command_words.specs.Commands.{Run as RunOf};
 ghost use Rattle.book_core.specs.Runs.{AreOptions};
 ghost use Rattle.worker_loop.specs.Kits.{EachBecomes};
 ghost use Rattle.worker_loop.specs.Outside.{IsKitKept};
 ghost use Rattle.beam_model.specs.Plans.{panes_plan};
 ghost use Rattle.beam_command.specs.Asking.{IsPlanOf};
 ghost use Rattle.beam_command.specs.Promises.{HasLegalPanes, IsPlanAsked};
-ghost use Rattle.beam_command.specs.Ends.{AreFound, IsRun, IsEndOf, IsHelpEnd, IsNoted, IsPipelineEnd};
-ghost use Rattle.beam_command.specs.Kits.{IsOutcomeOfOpened, first_files, in_use, kit_files, observed_in_use, observed_kits, workers_of};
+ghost use Rattle.beam_command.specs.Ends.{AreFound, IsRun, IsEndOf, IsHelpEnd, IsNoted};
+ghost use Rattle.beam_command.specs.Ends.{IsPipelineEnd};
+ghost use Rattle.beam_command.specs.Kits.{IsOutcomeOfOpened, first_files, in_use, kit_files};
+ghost use Rattle.beam_command.specs.Kits.{observed_in_use, observed_kits, workers_of};
 ghost use Rattle.beam_command.specs.Completeness.{AsksForPoison};
-ghost use Rattle.beam_command.specs.Clauses.{asked_by, EndsAsAsked, HasNotBegun, IsChange, ArePanesPlain, EndsWhereAbsent, EndsWherePoison, EndsWhereClean, EndsWhereFewFaults, EndsWhereNoPoison};
+ghost use Rattle.beam_command.specs.Clauses.{asked_by, EndsAsAsked, HasNotBegun, IsChange};
+ghost use Rattle.beam_command.specs.Clauses.{ArePanesPlain, EndsWhereAbsent, EndsWherePoison};
+ghost use Rattle.beam_command.specs.Clauses.{EndsWhereClean, EndsWhereFewFaults, EndsWhereNoPoison};
 
 use crate::notes::noted;
 use crate::pipeline::{ended, run_graph, written};
@@ -62,67 +67,94 @@ pub fn beam_main<R: Threads + Wait + Sync, F: Shelf, S: Store, W: Sink, N: Sink,
 ) -> RunEnd
     requires { 0 < length kits.old.items }
     ensures ends { EndsAsAsked (asked_by words.now)
-        (observed_in_use F.strict F.faults S.files S.faults W.faults W.taken (asked_by words.now) kits.old.items kits.new.items out.old out.new) result }
+        (observed_in_use F.strict F.faults S.files S.faults W.faults W.taken
+        (asked_by words.now) kits.old.items kits.new.items out.old out.new) result }
 
     // The outcome is of the plan that is asked for and of the files that it names, which are there.
-    ensures plan { IsRun result (λ o. IsPlanAsked (kit_files S.files (asked_by words.now) kits.old.items) (asked_by words.now) o.plan) }
-    ensures found { IsRun result (λ o. AreFound (kit_files S.files (asked_by words.now) kits.old.items) o.plan) }
-    ensures lengths { IsRun result (λ o. WhereTold (kit_files S.files (asked_by words.now) kits.old.items) (λ told. o.files ≡ map item_len (items told o.plan))) }
+    ensures plan { IsRun result (λ o. IsPlanAsked
+        (kit_files S.files (asked_by words.now) kits.old.items) (asked_by words.now) o.plan) }
+    ensures found { IsRun result
+        (λ o. AreFound (kit_files S.files (asked_by words.now) kits.old.items) o.plan) }
+    ensures lengths { IsRun result
+        (λ o. WhereTold (kit_files S.files (asked_by words.now) kits.old.items)
+        (λ told. o.files ≡ map item_len (items told o.plan))) }
 
     // Over any stores, whatever they tell: the plan is the one of the first kit's file, every kit in use has
     // opened each file of the plan, and the items are as long as the first kit's files were opened.
-    ensures first_plan { IfSome result.outcome (λ o. IsPlanAsked (first_files S.files kits.old.items) (asked_by words.now) o.plan) }
-    ensures opened { IfSome result.outcome (IsOutcomeOfOpened S.files S.opened (in_use (asked_by words.now) kits.new.items)) }
+    ensures first_plan { IfSome result.outcome
+        (λ o. IsPlanAsked (first_files S.files kits.old.items) (asked_by words.now) o.plan) }
+    ensures opened { IfSome result.outcome
+        (IsOutcomeOfOpened S.files S.opened (in_use (asked_by words.now) kits.new.items)) }
 
     // The committed ranges partition each item.
     ensures cover { IsRun result IsCovered }
 
     // The outputs of every position, and every pane, arrived at each barrier that they reach exactly once.
-    ensures account { IsRun result (λ o. WhereTold (kit_files S.files (asked_by words.now) kits.old.items) (λ told. IsAccounted (items told o.plan) o)) }
+    ensures account { IsRun result
+        (λ o. WhereTold (kit_files S.files (asked_by words.now) kits.old.items)
+        (λ told. IsAccounted (items told o.plan) o)) }
 
     // The panes are legal under the trigger of each Group, commit by commit.
     ensures legal_panes { IsRun result HasLegalPanes }
 
     // At each Write with the default trigger and sound estimators above it: what was written is plain
     // grouping of the whole input, and nothing was dropped. So it is always for `panes`.
-    ensures plain { IsRun result (λ o. WhereTold (kit_files S.files (asked_by words.now) kits.old.items) (λ told. ArePlainlyWrittenWhere (items told o.plan) o)) }
-    ensures panes_plain { ArePanesPlain (kit_files S.files (asked_by words.now) kits.old.items) (asked_by words.now) result }
+    ensures plain { IsRun result
+        (λ o. WhereTold (kit_files S.files (asked_by words.now) kits.old.items)
+        (λ told. ArePlainlyWrittenWhere (items told o.plan) o)) }
+    ensures panes_plain { ArePanesPlain (kit_files S.files (asked_by words.now) kits.old.items)
+        (asked_by words.now) result }
 
     // Where no store in use fails and all tell the same files, the file decides how `panes` ends: it isn't
     // there; or a line is poison, over shelves that fail on poison alone.
-    ensures absent { EndsWhereAbsent (kit_files S.files (asked_by words.now) kits.old.items) (asked_by words.now)
-        (observed_in_use F.strict F.faults S.files S.faults W.faults W.taken (asked_by words.now) kits.old.items kits.new.items out.old out.new) result.status }
-    ensures poison { EndsWherePoison (kit_files S.files (asked_by words.now) kits.old.items) (asked_by words.now)
-        (observed_in_use F.strict F.faults S.files S.faults W.faults W.taken (asked_by words.now) kits.old.items kits.new.items out.old out.new) result.status }
+    ensures absent { EndsWhereAbsent (kit_files S.files (asked_by words.now) kits.old.items)
+        (asked_by words.now)
+        (observed_in_use F.strict F.faults S.files S.faults W.faults W.taken
+        (asked_by words.now) kits.old.items kits.new.items out.old out.new) result.status }
+    ensures poison { EndsWherePoison (kit_files S.files (asked_by words.now) kits.old.items)
+        (asked_by words.now)
+        (observed_in_use F.strict F.faults S.files S.faults W.faults W.taken
+        (asked_by words.now) kits.old.items kits.new.items out.old out.new) result.status }
 
     // A file without poison comes to its end, over shelves that fail on poison alone or do not fail, where
     // fewer faults of all stores, and of `out`, are counted than a job has attempts.
-    ensures clean { EndsWhereClean (kit_files S.files (asked_by words.now) kits.old.items) (asked_by words.now)
-        (observed_in_use F.strict F.faults S.files S.faults W.faults W.taken (asked_by words.now) kits.old.items kits.new.items out.old out.new) result.status }
+    ensures clean { EndsWhereClean (kit_files S.files (asked_by words.now) kits.old.items)
+        (asked_by words.now)
+        (observed_in_use F.strict F.faults S.files S.faults W.faults W.taken
+        (asked_by words.now) kits.old.items kits.new.items out.old out.new) result.status }
 
     // No pipeline ends Ok of which a position is poison.
-    ensures not_ok { WhereTold (kit_files S.files (asked_by words.now) kits.old.items) (λ told. AsksForPoison told (asked_by words.now) → result.status ≡ Status.Ok → ⊥) }
+    ensures not_ok { WhereTold (kit_files S.files (asked_by words.now) kits.old.items)
+        (λ told. AsksForPoison told (asked_by words.now) → result.status ≡ Status.Ok → ⊥) }
 
     // Where all its files are there and fewer faults are counted than a job has attempts, a pipeline comes
     // to its end, unless there is no memory.
-    ensures complete { EndsWhereFewFaults (kit_files S.files (asked_by words.now) kits.old.items) (asked_by words.now)
-        (observed_in_use F.strict F.faults S.files S.faults W.faults W.taken (asked_by words.now) kits.old.items kits.new.items out.old out.new) result.status }
+    ensures complete { EndsWhereFewFaults (kit_files S.files (asked_by words.now) kits.old.items)
+        (asked_by words.now)
+        (observed_in_use F.strict F.faults S.files S.faults W.faults W.taken
+        (asked_by words.now) kits.old.items kits.new.items out.old out.new) result.status }
 
     // So it does over shelves that fail on poison alone, however often they fail, where no run of the plan
     // takes a job that is poison and fewer faults of all stores, and of `out`, are counted.
-    ensures complete_strict { EndsWhereNoPoison (kit_files S.files (asked_by words.now) kits.old.items) (asked_by words.now)
-        (observed_in_use F.strict F.faults S.files S.faults W.faults W.taken (asked_by words.now) kits.old.items kits.new.items out.old out.new) result.status }
+    ensures complete_strict { EndsWhereNoPoison
+        (kit_files S.files (asked_by words.now) kits.old.items) (asked_by words.now)
+        (observed_in_use F.strict F.faults S.files S.faults W.faults W.taken
+        (asked_by words.now) kits.old.items kits.new.items out.old out.new) result.status }
 
     // Files have changed only where not all stores in use tell the same ones.
-    ensures same_files { WhereTold (kit_files S.files (asked_by words.now) kits.old.items) (λ told. IsChange result.status → ⊥) }
+    ensures same_files { WhereTold (kit_files S.files (asked_by words.now) kits.old.items)
+        (λ told. IsChange result.status → ⊥) }
 
     ensures noted { IsNoted result.status (observed_sink N.faults N.taken notes.old notes.new) }
 
     // No function was called where the run did not begin. Of every kit the counts never fall, and what its store
     // tells and has opened stays. The kits that are not in use stay as they were.
-    ensures idle { HasNotBegun result.status → EachBecomes kits.old.items kits.new.items (λ old new. new.shelf ≡ old.shelf) }
-    ensures kept { EachBecomes kits.old.items kits.new.items (λ old new. IsKitKept F.faults F.strict S.faults S.files S.opened old.shelf new.shelf old.store new.store) }
-    ensures unused { drop (workers_of (asked_by words.now)) kits.new.items ≡ drop (workers_of (asked_by words.now)) kits.old.items }
+    ensures idle { HasNotBegun result.status
+        → EachBecomes kits.old.items kits.new.items (λ old new. new.shelf ≡ old.shelf) }
+    ensures kept { EachBecomes kits.old.items kits.new.items (λ old new. IsKitKept F.faults
+        F.strict S.faults S.files S.opened old.shelf new.shelf old.store new.store) }
+    ensures unused { drop (workers_of (asked_by words.now)) kits.new.items
+        ≡ drop (workers_of (asked_by words.now)) kits.old.items }
 {
     honest_runs_are_runs();
     outcomes_are_covered();
@@ -161,13 +193,19 @@ fn run<R: Threads + Wait + Sync, F: Shelf, S: Store, W: Sink, G: Gate>(
 ) -> RunEnd
     requires { 0 < length kits.old }
     ensures ends { IsEndOf (command_of (words_of words.now))
-        (observed_in_use F.strict F.faults S.files S.faults W.faults W.taken (command_of (words_of words.now)) kits.old kits.new out.old out.new)
+        (observed_in_use F.strict F.faults S.files S.faults W.faults W.taken
+        (command_of (words_of words.now)) kits.old kits.new out.old out.new)
         result.status result.outcome }
-    ensures first_plan { IfSome result.outcome (λ o. IsPlanAsked (first_files S.files kits.old) (command_of (words_of words.now)) o.plan) }
-    ensures opened { IfSome result.outcome (IsOutcomeOfOpened S.files S.opened (in_use (command_of (words_of words.now)) kits.new)) }
-    ensures idle { HasNotBegun result.status → EachBecomes kits.old kits.new (λ old new. new.shelf ≡ old.shelf) }
-    ensures kept { EachBecomes kits.old kits.new (λ old new. IsKitKept F.faults F.strict S.faults S.files S.opened old.shelf new.shelf old.store new.store) }
-    ensures unused { drop (workers_of (command_of (words_of words.now))) kits.new ≡ drop (workers_of (command_of (words_of words.now))) kits.old }
+    ensures first_plan { IfSome result.outcome
+        (λ o. IsPlanAsked (first_files S.files kits.old) (command_of (words_of words.now)) o.plan) }
+    ensures opened { IfSome result.outcome
+        (IsOutcomeOfOpened S.files S.opened (in_use (command_of (words_of words.now)) kits.new)) }
+    ensures idle { HasNotBegun result.status
+        → EachBecomes kits.old kits.new (λ old new. new.shelf ≡ old.shelf) }
+    ensures kept { EachBecomes kits.old kits.new (λ old new. IsKitKept F.faults
+        F.strict S.faults S.files S.opened old.shelf new.shelf old.store new.store) }
+    ensures unused { drop (workers_of (command_of (words_of words.now))) kits.new
+        ≡ drop (workers_of (command_of (words_of words.now))) kits.old }
 {
     match read_words(words) {
         Err(Usage) => ended(Status::Usage),
@@ -216,12 +254,15 @@ fn run_panes<R: Threads + Wait + Sync, F: Shelf, S: Store, W: Sink, G: Gate>(
     requires allowed { AreOptions options.now }
     requires some { 0 < length kits.old }
     requires workers { length kits.old ≤ options.now.workers }
-    ensures ends { IsPipelineEnd (observed_kits F.strict F.faults S.files S.faults W.faults W.taken kits.old kits.new out.old out.new)
+    ensures ends { IsPipelineEnd (observed_kits F.strict F.faults S.files
+        S.faults W.faults W.taken kits.old kits.new out.old out.new)
         (PanesOf file.now size options.now) options.now result.status result.outcome }
     ensures first_plan { IfSome result.outcome (λ o. o.plan ≡ panes_plan file.now size) }
     ensures opened { IfSome result.outcome (IsOutcomeOfOpened S.files S.opened kits.new) }
-    ensures idle { HasNotBegun result.status → EachBecomes kits.old kits.new (λ old new. new.shelf ≡ old.shelf) }
-    ensures kept { EachBecomes kits.old kits.new (λ old new. IsKitKept F.faults F.strict S.faults S.files S.opened old.shelf new.shelf old.store new.store) }
+    ensures idle { HasNotBegun result.status
+        → EachBecomes kits.old kits.new (λ old new. new.shelf ≡ old.shelf) }
+    ensures kept { EachBecomes kits.old kits.new (λ old new. IsKitKept F.faults
+        F.strict S.faults S.files S.opened old.shelf new.shelf old.store new.store) }
 {
     match panes_graph(alloc, file, size) {
         Ok(graph) => run_graph(rt, alloc, graph, options, 0, kits, out, gate),
@@ -242,12 +283,16 @@ fn run_file<R: Threads + Wait + Sync, F: Shelf, S: Store, W: Sink, G: Gate>(
     requires allowed { AreOptions options.now }
     requires some { 0 < length kits.old }
     requires workers { length kits.old ≤ options.now.workers }
-    ensures ends { IsPipelineEnd (observed_kits F.strict F.faults S.files S.faults W.faults W.taken kits.old kits.new out.old out.new)
+    ensures ends { IsPipelineEnd (observed_kits F.strict F.faults S.files
+        S.faults W.faults W.taken kits.old kits.new out.old out.new)
         (RunOf plan.now options.now) options.now result.status result.outcome }
-    ensures first_plan { IfSome result.outcome (λ o. IsPlanOf (first_files S.files kits.old) (RunOf plan.now options.now) o.plan) }
+    ensures first_plan { IfSome result.outcome
+        (λ o. IsPlanOf (first_files S.files kits.old) (RunOf plan.now options.now) o.plan) }
     ensures opened { IfSome result.outcome (IsOutcomeOfOpened S.files S.opened kits.new) }
-    ensures idle { HasNotBegun result.status → EachBecomes kits.old kits.new (λ old new. new.shelf ≡ old.shelf) }
-    ensures kept { EachBecomes kits.old kits.new (λ old new. IsKitKept F.faults F.strict S.faults S.files S.opened old.shelf new.shelf old.store new.store) }
+    ensures idle { HasNotBegun result.status
+        → EachBecomes kits.old kits.new (λ old new. new.shelf ≡ old.shelf) }
+    ensures kept { EachBecomes kits.old kits.new (λ old new. IsKitKept F.faults
+        F.strict S.faults S.files S.opened old.shelf new.shelf old.store new.store) }
 {
     match read_plan_file(alloc, &mut kits[0].store, plan, options.attempts) {
         Ok(read) => run_graph(rt, alloc, read.graph, options, read.failed, kits, out, gate),

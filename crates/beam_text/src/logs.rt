@@ -2,7 +2,8 @@ ghost use Rattle.std.specs.Prelude.{◌≡◌, ◌++◌, IfOk, OnOk};
 ghost use Rattle.std.specs.List.{filter, flat_map};
 ghost use Rattle.std.specs.Ordering.{int_cmp, ordering_then};
 ghost use Rattle.beam_values.specs.Orders.{value_cmp};
-ghost use Rattle.beam_model.specs.Rendering.{IsLogged, input_text, is_logged_kind, is_printed, log_cmp, log_line, log_lines};
+ghost use Rattle.beam_model.specs.Rendering.{IsLogged, input_text, is_logged_kind, is_printed};
+ghost use Rattle.beam_model.specs.Rendering.{log_cmp, log_line, log_lines};
 ghost use Rattle.beam_text.specs.Parts.{AppendsText, call_place, logs_in};
 
 use crate::element::push_field;
@@ -31,7 +32,8 @@ fn printed_logs<'a>(
     plan: &Plan,
     logs: &'a [KeyLog],
 ) -> Result<Vec<&'a KeyLog>, NoMemory>
-    ensures { IfOk result (λ printed. logs_in printed.items ≡ filter (is_printed plan.now) logs.now) }
+    ensures { IfOk result
+        (λ printed. logs_in printed.items ≡ filter (is_printed plan.now) logs.now) }
 {
     let mut printed = Vec::new(alloc);
     for log in logs {
@@ -80,7 +82,8 @@ fn cmp_logs(a: &KeyLog, b: &KeyLog) -> Ordering
 
 fn cmp_keys(a: &KeyLog, b: &KeyLog) -> Ordering
     ensures { result ≡ ordering_then (value_cmp a.now.key b.now.key)
-        (ordering_then (int_cmp a.now.span.start b.now.span.start) (int_cmp a.now.span.end b.now.span.end)) }
+        (ordering_then (int_cmp a.now.span.start b.now.span.start)
+        (int_cmp a.now.span.end b.now.span.end)) }
 {
     match cmp_values(&a.key, &b.key) {
         Ordering::Equal => {

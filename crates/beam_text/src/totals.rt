@@ -1,4 +1,5 @@
-ghost use Rattle.std.specs.Prelude.{◌≡◌, ◌++◌, [], ◌+ℤ◌, IfOk, OnOk, length, map, sum_by, unwrap_or};
+ghost use Rattle.std.specs.Prelude.{◌≡◌, ◌++◌, [], ◌+ℤ◌, IfOk, OnOk, length, map, sum_by};
+ghost use Rattle.std.specs.Prelude.{unwrap_or};
 ghost use Rattle.std.specs.List.{flat_map, fold};
 ghost use Rattle.beam_model.specs.Functions.{sum_of};
 ghost use Rattle.beam_model.specs.Values.{as_seq};
@@ -68,7 +69,8 @@ fn sum_of_items(written: &[Arrival]) -> Result<i128, NoMemory>
 }
 
 fn with_items(sum: i128, items: &[Value]) -> Result<i128, NoMemory>
-    ensures { IfOk result (λ total. total ≡ fold (λ sum n. sum +ℤ n) sum (map number_or_zero items.now)) }
+    ensures { IfOk result
+        (λ total. total ≡ fold (λ sum n. sum +ℤ n) sum (map number_or_zero items.now)) }
 {
     let mut total = sum;
     for item in items {

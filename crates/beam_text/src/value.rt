@@ -1,6 +1,8 @@
-ghost use Rattle.std.specs.Prelude.{◌≡◌, ◌++◌, ◌∷◌, [], ◌<◌, ◌≤◌, length, slice_index, take, true, OnOk, OnErr, map};
+ghost use Rattle.std.specs.Prelude.{◌≡◌, ◌++◌, ◌∷◌, [], ◌<◌, ◌≤◌, length, slice_index, take, true};
+ghost use Rattle.std.specs.Prelude.{OnOk, OnErr, map};
 ghost use Rattle.std.specs.List.{flat_map};
-ghost use Rattle.beam_values.specs.Texts.{value_text, joined, is_escaped, blob_text, byte_text, hex_digit};
+ghost use Rattle.beam_values.specs.Texts.{value_text, joined, is_escaped, blob_text, byte_text};
+ghost use Rattle.beam_values.specs.Texts.{hex_digit};
 
 use beam_values::{Bytes, NoMemory, Value};
 use itoa::Buffer;

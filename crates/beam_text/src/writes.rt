@@ -1,4 +1,5 @@
-ghost use Rattle.std.specs.Prelude.{◌≡◌, ◌++◌, ◌∷◌, [], ◌<◌, ℕ, IfOk, OnOk, count_by, length, nat_lt, slice_index_or};
+ghost use Rattle.std.specs.Prelude.{◌≡◌, ◌++◌, ◌∷◌, [], ◌<◌, ℕ, IfOk, OnOk, count_by, length};
+ghost use Rattle.std.specs.Prelude.{nat_lt, slice_index_or};
 ghost use Rattle.std.specs.List.{flat_map};
 ghost use Rattle.beam_values.specs.Nodes.{is_write_kind};
 ghost use Rattle.beam_values.specs.Texts.{element_line};
@@ -18,7 +19,8 @@ pub(crate) fn push_writes(
     out: &mut Bytes,
 ) -> Result<(), NoMemory>
     ensures { OnOk result
-        (AppendsText (IsWritten (nat_lt 1 (length (writes plan.now))) written.now (writes plan.now)) out.old out.new) }
+        (AppendsText (IsWritten (nat_lt 1 (length (writes plan.now))) written.now (writes plan.now))
+        out.old out.new) }
 {
     let nodes = plan.nodes.as_slice();
     let labelled = write_count(nodes) > 1;
@@ -76,9 +78,11 @@ fn push_at<'a>(
 ) -> Result<(), NoMemory>
     ensures count { OnOk result (length lists.new.items ≡ length lists.old.items) }
     ensures added { OnOk result
-        (node < length lists.old.items → slice_index_or (contents lists.new.items) node [] ≡ slice_index_or (contents lists.old.items) node [] ++ element.now ∷ []) }
+        (node < length lists.old.items → slice_index_or (contents lists.new.items) node []
+        ≡ slice_index_or (contents lists.old.items) node [] ++ element.now ∷ []) }
     ensures others { OnOk result
-        ((other : ℕ) → (other ≡ node → ⊥) → slice_index_or (contents lists.new.items) other [] ≡ slice_index_or (contents lists.old.items) other []) }
+        ((other : ℕ) → (other ≡ node → ⊥) → slice_index_or (contents lists.new.items) other []
+        ≡ slice_index_or (contents lists.old.items) other []) }
 {
     if node < lists.len() {
         let list = &mut lists[node];
@@ -94,7 +98,8 @@ fn push_node(
     elements: &mut Vec<&Element>,
     out: &mut Bytes,
 ) -> Result<(), NoMemory>
-    ensures { OnOk result (AppendsText (IsNodeText labelled kind.now (elements_in elements.old.items)) out.old out.new) }
+    ensures { OnOk result (AppendsText
+        (IsNodeText labelled kind.now (elements_in elements.old.items)) out.old out.new) }
 {
     if let NodeKind::Write { label } = kind {
         push_title(labelled, label.as_slice(), out)?;

@@ -40,7 +40,10 @@ impl Staging {
 
     /// Adds an element that comes to a barrier.
     pub fn add(&mut self, node: u32, element: Element) -> Result<(), NoMemory>
-        ensures ok { OnOk result (self.new ≡ record self.old { arrivals = self.old.arrivals ++ record { node = node; element = element } ∷ [] }) }
+        ensures ok { OnOk result (self.new ≡ record self.old {
+          arrivals = self.old.arrivals
+              ++ record { node = node; element = element } ∷ [];
+        }) }
         ensures err { OnErr result (self.new ≡ self.old) }
     {
         self.receipt.arrivals.push(Arrival { node, element })
@@ -49,7 +52,8 @@ impl Staging {
     /// Notes a position: the greatest time of its outputs, and the mark that it declared. What was seen
     /// never falls. Takes no memory.
     pub fn observe(&mut self, e: &Estimator, time: Option<Time>, declared: Option<Time>)
-        ensures { self.new ≡ record self.old { seen = seen_after e.now self.old.seen time declared } }
+        ensures { self.new
+            ≡ record self.old { seen = seen_after e.now self.old.seen time declared } }
     {
         self.receipt.seen = observe(e, self.receipt.seen, time, declared);
     }
@@ -71,7 +75,8 @@ impl Staging {
     /// Keeps the first `count` elements, and takes back what was seen to a time that [`Staging::seen`] told
     /// before. Takes no memory.
     pub fn back_to(&mut self, count: usize, seen: Time)
-        ensures { self.new ≡ record self.old { arrivals = take count self.old.arrivals; seen = seen } }
+        ensures { self.new
+            ≡ record self.old { arrivals = take count self.old.arrivals; seen = seen } }
     {
         self.receipt.arrivals.truncate(count);
         self.receipt.seen = seen;

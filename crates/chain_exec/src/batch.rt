@@ -25,10 +25,14 @@ pub fn run_batch<F: Shelf>(
 ) -> Result<(), ExecRefusal>
     requires known { node < length graph.now.nodes }
     // What is staged arrives, so nothing of it is poison.
-    ensures staged { OnOk result (map Arrives staging.new.arrivals ≡ map Arrives staging.old.arrivals ++ batch_outputs graph.now node panes.now) }
+    ensures staged { OnOk result (map Arrives staging.new.arrivals
+        ≡ map Arrives staging.old.arrivals ++ batch_outputs graph.now node panes.now) }
     ensures only { staging.new ≡ record staging.old { arrivals = staging.new.arrivals } }
-    ensures refused { IfErr result (IsCallRefused (observed_shelf F.strict F.faults shelf.old shelf.new) (batch_outputs graph.now node panes.now)) }
-    ensures unharmed { F.strict shelf.old ≡ true → first_poison (batch_outputs graph.now node panes.now) ≡ None
+    ensures refused { IfErr result
+        (IsCallRefused (observed_shelf F.strict F.faults shelf.old shelf.new)
+        (batch_outputs graph.now node panes.now)) }
+    ensures unharmed { F.strict shelf.old ≡ true
+        → first_poison (batch_outputs graph.now node panes.now) ≡ None
         → F.faults shelf.new ≡ F.faults shelf.old }
     ensures counts { F.faults shelf.old ≤ F.faults shelf.new }
     ensures strict { F.strict shelf.new ≡ F.strict shelf.old }

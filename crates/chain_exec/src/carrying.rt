@@ -1,4 +1,5 @@
-ghost use Rattle.std.specs.Prelude.{◌≡◌, ◌≢◌, ◌≤◌, ◌<◌, ◌+◌, ◌++◌, [], true, None, length, map, take, IfErr, OnOk};
+ghost use Rattle.std.specs.Prelude.{◌≡◌, ◌≢◌, ◌≤◌, ◌<◌, ◌+◌, ◌++◌, [], true, None, length, map};
+ghost use Rattle.std.specs.Prelude.{take, IfErr, OnOk};
 ghost use Rattle.beam_values.specs.Checked.{is_function_allowed};
 ghost use Rattle.beam_values.specs.declared.plan.NodeKind.TheVariants.{ParDo};
 ghost use Rattle.beam_model.specs.Chains.{Arrives, chain};
@@ -36,12 +37,16 @@ impl Buffers {
         requires known { node < length graph.now.nodes }
         requires unused { IsUnused self.old }
         ensures unused { OnOk result (IsUnused self.new) }
-        ensures staged { OnOk result (map Arrives staging.new.arrivals ≡ map Arrives staging.old.arrivals ++ chain graph.now node element) }
+        ensures staged { OnOk result (map Arrives staging.new.arrivals
+            ≡ map Arrives staging.old.arrivals ++ chain graph.now node element) }
         ensures only { staging.new ≡ record staging.old { arrivals = staging.new.arrivals } }
-        ensures refused { IfErr result (IsCallRefused (observed_shelf F.strict F.faults shelf.old shelf.new) (chain graph.now node element)) }
+        ensures refused { IfErr result (IsCallRefused
+            (observed_shelf F.strict F.faults shelf.old shelf.new) (chain graph.now node element)) }
         ensures counts { F.faults shelf.old ≤ F.faults shelf.new }
         ensures strict { F.strict shelf.new ≡ F.strict shelf.old }
-        ensures unharmed { F.strict shelf.old ≡ true → first_poison (chain graph.now node element) ≡ None → F.faults shelf.new ≡ F.faults shelf.old }
+        ensures unharmed { F.strict shelf.old ≡ true
+            → first_poison (chain graph.now node element) ≡ None
+            → F.faults shelf.new ≡ F.faults shelf.old }
     {
         deliver(alloc, graph.followers(node), element, &mut self.stack)?;
         self.carry(alloc, graph, shelf, staging)
@@ -58,15 +63,19 @@ impl Buffers {
     ) -> Result<(), ExecRefusal>
         requires known { node < length graph.now.nodes }
         requires unused { IsUnused self.old }
-        ensures staged { OnOk result (map Arrives staging.new.arrivals ≡ map Arrives staging.old.arrivals
+        ensures staged { OnOk result
+            (map Arrives staging.new.arrivals ≡ map Arrives staging.old.arrivals
             ++ emission_outputs graph.now node (emission_of self.old.emission)) }
         ensures only { staging.new ≡ record staging.old { arrivals = staging.new.arrivals } }
-        ensures front { take (length staging.old.arrivals) staging.new.arrivals ≡ staging.old.arrivals }
-        ensures refused { IfErr result (IsCallRefused (observed_shelf F.strict F.faults shelf.old shelf.new)
+        ensures front { take (length staging.old.arrivals) staging.new.arrivals
+            ≡ staging.old.arrivals }
+        ensures refused { IfErr result
+            (IsCallRefused (observed_shelf F.strict F.faults shelf.old shelf.new)
             (emission_outputs graph.now node (emission_of self.old.emission))) }
         ensures counts { F.faults shelf.old ≤ F.faults shelf.new }
         ensures strict { F.strict shelf.new ≡ F.strict shelf.old }
-        ensures unharmed { F.strict shelf.old ≡ true → first_poison (emission_outputs graph.now node (emission_of self.old.emission)) ≡ None
+        ensures unharmed { F.strict shelf.old ≡ true
+            → first_poison (emission_outputs graph.now node (emission_of self.old.emission)) ≡ None
             → F.faults shelf.new ≡ F.faults shelf.old }
     {
         let followers = graph.followers(node);
@@ -85,13 +94,18 @@ impl Buffers {
         requires outputs { self.old.outputs ≡ [] }
         requires windows { self.old.windows ≡ [] }
         ensures unused { OnOk result (IsUnused self.new) }
-        ensures staged { OnOk result (map Arrives staging.new.arrivals ≡ map Arrives staging.old.arrivals ++ outputs_of_stack graph.now self.old.stack) }
+        ensures staged { OnOk result (map Arrives staging.new.arrivals
+            ≡ map Arrives staging.old.arrivals ++ outputs_of_stack graph.now self.old.stack) }
         ensures only { staging.new ≡ record staging.old { arrivals = staging.new.arrivals } }
-        ensures front { take (length staging.old.arrivals) staging.new.arrivals ≡ staging.old.arrivals }
-        ensures refused { IfErr result (IsCallRefused (observed_shelf F.strict F.faults shelf.old shelf.new) (outputs_of_stack graph.now self.old.stack)) }
+        ensures front { take (length staging.old.arrivals) staging.new.arrivals
+            ≡ staging.old.arrivals }
+        ensures refused { IfErr result
+            (IsCallRefused (observed_shelf F.strict F.faults shelf.old shelf.new)
+            (outputs_of_stack graph.now self.old.stack)) }
         ensures counts { F.faults shelf.old ≤ F.faults shelf.new }
         ensures strict { F.strict shelf.new ≡ F.strict shelf.old }
-        ensures unharmed { F.strict shelf.old ≡ true → first_poison (outputs_of_stack graph.now self.old.stack) ≡ None
+        ensures unharmed { F.strict shelf.old ≡ true
+            → first_poison (outputs_of_stack graph.now self.old.stack) ≡ None
             → F.faults shelf.new ≡ F.faults shelf.old }
     {
         while let Some(delivery) = self.stack.pop() {
@@ -113,15 +127,23 @@ impl Buffers {
         requires windows { self.old.windows ≡ [] }
         ensures outputs { OnOk result (self.new.outputs ≡ []) }
         ensures windows { OnOk result (self.new.windows ≡ []) }
-        ensures staged { OnOk result (map Arrives staging.new.arrivals ++ outputs_of_stack graph.now self.new.stack
-            ≡ map Arrives staging.old.arrivals ++ (outputs_of_delivery graph.now delivery ++ outputs_of_stack graph.now self.old.stack)) }
-        ensures less { OnOk result (stops_of_all graph.now self.new.stack < stops_of graph.now delivery + stops_of_all graph.now self.old.stack) }
+        ensures staged { OnOk result
+            (map Arrives staging.new.arrivals ++ outputs_of_stack graph.now self.new.stack
+            ≡ map Arrives staging.old.arrivals ++ (outputs_of_delivery graph.now delivery
+            ++ outputs_of_stack graph.now self.old.stack)) }
+        ensures less { OnOk result (stops_of_all graph.now self.new.stack
+            < stops_of graph.now delivery + stops_of_all graph.now self.old.stack) }
         ensures only { staging.new ≡ record staging.old { arrivals = staging.new.arrivals } }
-        ensures front { take (length staging.old.arrivals) staging.new.arrivals ≡ staging.old.arrivals }
-        ensures refused { IfErr result (IsCallRefused (observed_shelf F.strict F.faults shelf.old shelf.new) (outputs_of_delivery graph.now delivery)) }
+        ensures front { take (length staging.old.arrivals) staging.new.arrivals
+            ≡ staging.old.arrivals }
+        ensures refused { IfErr result
+            (IsCallRefused (observed_shelf F.strict F.faults shelf.old shelf.new)
+            (outputs_of_delivery graph.now delivery)) }
         ensures counts { F.faults shelf.old ≤ F.faults shelf.new }
         ensures strict { F.strict shelf.new ≡ F.strict shelf.old }
-        ensures unharmed { F.strict shelf.old ≡ true → first_poison (outputs_of_delivery graph.now delivery) ≡ None → F.faults shelf.new ≡ F.faults shelf.old }
+        ensures unharmed { F.strict shelf.old ≡ true
+            → first_poison (outputs_of_delivery graph.now delivery) ≡ None
+            → F.faults shelf.new ≡ F.faults shelf.old }
     {
         let Delivery { node, element } = delivery;
         // An element is on its way to nodes of the plan alone.
@@ -149,13 +171,17 @@ impl Buffers {
         requires windows { self.old.windows ≡ [] }
         ensures outputs { OnOk result (self.new.outputs ≡ []) }
         ensures windows { OnOk result (self.new.windows ≡ []) }
-        ensures passed { OnOk result (Passes node kind.now followers.now element self.old.stack self.new.stack staging.old.arrivals staging.new.arrivals) }
+        ensures passed { OnOk result (Passes node kind.now followers.now element
+            self.old.stack self.new.stack staging.old.arrivals staging.new.arrivals) }
         ensures only { staging.new ≡ record staging.old { arrivals = staging.new.arrivals } }
-        ensures front { take (length staging.old.arrivals) staging.new.arrivals ≡ staging.old.arrivals }
-        ensures refused { IfErr result (IsPassRefused (observed_shelf F.strict F.faults shelf.old shelf.new) node kind.now element) }
+        ensures front { take (length staging.old.arrivals) staging.new.arrivals
+            ≡ staging.old.arrivals }
+        ensures refused { IfErr result (IsPassRefused
+            (observed_shelf F.strict F.faults shelf.old shelf.new) node kind.now element) }
         ensures counts { F.faults shelf.old ≤ F.faults shelf.new }
         ensures strict { F.strict shelf.new ≡ F.strict shelf.old }
-        ensures unharmed { F.strict shelf.old ≡ true → put_out kind.now element ≢ None → F.faults shelf.new ≡ F.faults shelf.old }
+        ensures unharmed { F.strict shelf.old ≡ true → put_out kind.now element ≢ None
+            → F.faults shelf.new ≡ F.faults shelf.old }
     {
         match kind {
             NodeKind::Source { .. } => Ok(()),
@@ -187,10 +213,13 @@ fn call_function<F: Shelf>(
 ) -> Result<(), ExecRefusal>
     requires { is_function_allowed work args.now ≡ true }
     ensures outputs { OnOk result (AddsOutputs work args.now element.now out.old out.new) }
-    ensures refused { IfErr result (IsPassRefused (observed_shelf F.strict F.faults shelf.old shelf.new) node (ParDo work args.now) element.now) }
+    ensures refused { IfErr result
+        (IsPassRefused (observed_shelf F.strict F.faults shelf.old shelf.new) node
+        (ParDo work args.now) element.now) }
     ensures counts { F.faults shelf.old ≤ F.faults shelf.new }
     ensures strict { F.strict shelf.new ≡ F.strict shelf.old }
-    ensures unharmed { F.strict shelf.old ≡ true → emits work args.now element.now ≢ None → F.faults shelf.new ≡ F.faults shelf.old }
+    ensures unharmed { F.strict shelf.old ≡ true → emits work args.now element.now ≢ None
+        → F.faults shelf.new ≡ F.faults shelf.old }
 {
     match shelf.call_fn(work, args, element, out) {
         Ok(()) => Ok(()),

@@ -48,7 +48,8 @@ pub fn deliver_each(
     elements: &mut List<Element>,
     stack: &mut List<Delivery>,
 ) -> Result<(), NoMemory>
-    ensures stack { OnOk result (stack.new ≡ stack.old ++ reverse (flat_map (deliveries_to nodes.now) elements.old)) }
+    ensures stack { OnOk result
+        (stack.new ≡ stack.old ++ reverse (flat_map (deliveries_to nodes.now) elements.old)) }
     ensures used { OnOk result (elements.new ≡ []) }
 {
     while let Some(element) = elements.pop() {
@@ -91,7 +92,8 @@ pub fn deliver_values(
     values: &mut List<Timed>,
     stack: &mut List<Delivery>,
 ) -> Result<(), NoMemory>
-    ensures stack { OnOk result (stack.new ≡ stack.old ++ reverse (flat_map (deliveries_to nodes.now) (map element_of values.old))) }
+    ensures stack { OnOk result (stack.new
+        ≡ stack.old ++ reverse (flat_map (deliveries_to nodes.now) (map element_of values.old))) }
     ensures used { OnOk result (values.new ≡ []) }
 {
     while let Some(timed) = values.pop() {

@@ -1,4 +1,5 @@
-ghost use Rattle.std.specs.Prelude.{◌≡◌, ◌≤◌, ◌<◌, ℕ, List, None, true, map, IsSome, IfErr, IfOk, OnErr};
+ghost use Rattle.std.specs.Prelude.{◌≡◌, ◌≤◌, ◌<◌, ℕ, List, None, true, map, IsSome, IfErr, IfOk};
+ghost use Rattle.std.specs.Prelude.{OnErr};
 ghost use Rattle.std.specs.List.{All};
 ghost use Rattle.std.specs.Option.{ForSome};
 ghost use Rattle.beam_values.specs.Times.{IsTime};
@@ -8,7 +9,8 @@ ghost use Rattle.beam_model.specs.Estimators.{latest_time, later_time};
 ghost use Rattle.beam_ports.specs.Files.{KeepsOpenings};
 ghost use Rattle.dofn_traits.specs.Calls.{timed_value};
 ghost use Rattle.chain_exec.specs.Causes.{observed_shelf};
-ghost use Rattle.chain_exec.specs.Positions.{IsEmissionAt, IsNextOf, IsPositionRefused, IsWorked, outputs_in};
+ghost use Rattle.chain_exec.specs.Positions.{IsEmissionAt, IsNextOf, IsPositionRefused, IsWorked};
+ghost use Rattle.chain_exec.specs.Positions.{outputs_in};
 ghost use Rattle.chain_exec.specs.Sources.{IsCounted, IsHeldFor, IsText, source_at};
 
 use crate::ExecRefusal;
@@ -48,24 +50,31 @@ pub fn run_position<F: Shelf, S: Store>(
     requires source { IsSome (source_at graph.now node) }
     requires inside { p < pager.old.len }
     requires counted { ForSome (source_at graph.now node) (λ source. IsCounted source pager.old) }
-    requires held { ForSome (source_at graph.now node) (λ source. IsHeldFor source.work (S.opened store.old pager.old.file) pager.old) }
+    requires held { ForSome (source_at graph.now node)
+        (λ source. IsHeldFor source.work (S.opened store.old pager.old.file) pager.old) }
     // What was staged is that of one emission: of the position's, where the item's text is known.
-    ensures worked { IfOk result (λ step. (emitted : model.Emission) × IsWorked graph.now node emitted staging.old staging.new step
-        × ForSome (source_at graph.now node) (λ source. IsEmissionAt source (S.opened store.old pager.old.file) pager.old.len p emitted step.next)) }
+    ensures worked { IfOk result (λ step. (emitted : model.Emission)
+        × IsWorked graph.now node emitted staging.old staging.new step
+        × ForSome (source_at graph.now node) (λ source. IsEmissionAt source
+        (S.opened store.old pager.old.file) pager.old.len p emitted step.next)) }
     ensures next { IfOk result (λ step. IsNextOf p pager.old.len step.next) }
     ensures undone { OnErr result (staging.new ≡ staging.old) }
     ensures refused { IfErr result (λ refusal. ForSome (source_at graph.now node) (λ source.
-        IsPositionRefused (observed_shelf F.strict F.faults shelf.old shelf.new) (record { before = S.faults store.old; after = S.faults store.new })
+        IsPositionRefused (observed_shelf F.strict F.faults shelf.old shelf.new)
+        (record { before = S.faults store.old; after = S.faults store.new })
         graph.now node source (S.opened store.old pager.old.file) pager.old.len p refusal)) }
-    ensures unharmed { F.strict shelf.old ≡ true → ForSome (source_at graph.now node) (λ source. (text : List ℕ)
+    ensures unharmed { F.strict shelf.old ≡ true
+        → ForSome (source_at graph.now node) (λ source. (text : List ℕ)
         → IsText source.work (S.opened store.old pager.old.file) pager.old.len text
-        → first_poison (outputs_in graph.now node source text p) ≡ None → F.faults shelf.new ≡ F.faults shelf.old) }
+        → first_poison (outputs_in graph.now node source text p) ≡ None
+        → F.faults shelf.new ≡ F.faults shelf.old) }
     ensures counts { F.faults shelf.old ≤ F.faults shelf.new }
     ensures strict { F.strict shelf.new ≡ F.strict shelf.old }
     // After every answer:
     ensures file { pager.new.file ≡ pager.old.file }
     ensures len { pager.new.len ≡ pager.old.len }
-    ensures held { ForSome (source_at graph.now node) (λ source. IsHeldFor source.work (S.opened store.new pager.new.file) pager.new) }
+    ensures held { ForSome (source_at graph.now node)
+        (λ source. IsHeldFor source.work (S.opened store.new pager.new.file) pager.new) }
     ensures files { S.files store.new ≡ S.files store.old }
     ensures kept { KeepsOpenings (S.opened store.old) (S.opened store.new) }
     ensures store_counts { S.faults store.old ≤ S.faults store.new }
@@ -113,7 +122,8 @@ fn latest_time(values: &[Timed]) -> Option<Time>
 }
 
 fn later_time(latest: Option<Time>, time: Time) -> Option<Time>
-    ensures later { (timed : model.TimedValue) → timed.time ≡ time → result ≡ later_time latest timed }
+    ensures later { (timed : model.TimedValue)
+        → timed.time ≡ time → result ≡ later_time latest timed }
     ensures within { IsTime time }
 {
     let _ms = time.ms();

@@ -1,4 +1,5 @@
-ghost use Rattle.std.specs.Prelude.{◌≡◌, ◌≢◌, ◌≤◌, ◌<◌, ℕ, List, [], None, Some, true, length, IsSome, IfErr, IfOk, OnOk};
+ghost use Rattle.std.specs.Prelude.{◌≡◌, ◌≢◌, ◌≤◌, ◌<◌, ℕ, List, [], None, Some, true, length};
+ghost use Rattle.std.specs.Prelude.{IsSome, IfErr, IfOk, OnOk};
 ghost use Rattle.beam_values.specs.Checked.{is_source_argument, reads_file};
 ghost use Rattle.beam_model.specs.Holds.{estimator_of};
 ghost use Rattle.beam_model.specs.Positions as model;
@@ -7,8 +8,10 @@ ghost use Rattle.beam_ports.specs.Files.{KeepsOpenings};
 ghost use Rattle.dofn_traits.specs.Calls.{IsFound, IsNextWithin};
 ghost use Rattle.sdf_library.specs.Paging.{Paged, ReachesOn};
 ghost use Rattle.chain_exec.specs.Causes.{observed_shelf};
-ghost use Rattle.chain_exec.specs.Positions.{IsEmissionAt, IsNextOf, IsReadRefused, IsSeenRefused, IsSourceRefused, emission_of};
-ghost use Rattle.chain_exec.specs.Sources.{IsCounted, IsHeldFor, IsLookAt, IsLookInto, IsText, is_look_cut_short, looked_at, source_at};
+ghost use Rattle.chain_exec.specs.Positions.{IsEmissionAt, IsNextOf, IsReadRefused, IsSeenRefused};
+ghost use Rattle.chain_exec.specs.Positions.{IsSourceRefused, emission_of};
+ghost use Rattle.chain_exec.specs.Sources.{IsCounted, IsHeldFor, IsLookAt, IsLookInto, IsText};
+ghost use Rattle.chain_exec.specs.Sources.{is_look_cut_short, looked_at, source_at};
 
 use crate::ExecRefusal;
 use beam_ports::Store;
@@ -28,7 +31,8 @@ pub struct Source<'a> {
 /// The source of this number.
 pub fn source_of(graph: &Graph, node: u32) -> Source<'_>
     requires { IsSome (source_at graph.now node) }
-    ensures source { source_at graph.now node ≡ Some (record { work = result.work; args = result.args.now }) }
+    ensures source { source_at graph.now node
+        ≡ Some (record { work = result.work; args = result.args.now }) }
     ensures estimator { result.estimator.now ≡ estimator_of graph.now node }
     ensures known { node < length graph.now.nodes }
     ensures allowed { is_source_argument result.work result.args.now ≡ true }
@@ -80,12 +84,17 @@ pub fn work_source<F: Shelf, S: Store>(
     requires counted { IsCounted (record { work = work; args = args.now }) pager.old }
     requires held { IsHeldFor work (S.opened store.old pager.old.file) pager.old }
     ensures next { IfOk result (IsNextOf p pager.old.len) }
-    ensures told { IfOk result (IsEmissionAt (record { work = work; args = args.now }) (S.opened store.old pager.old.file) pager.old.len p (emission_of out.new)) }
-    ensures refused { IfErr result (IsSourceRefused (observed_shelf F.strict F.faults shelf.old shelf.new)
+    ensures told { IfOk result (IsEmissionAt (record { work = work; args = args.now })
+        (S.opened store.old pager.old.file) pager.old.len p (emission_of out.new)) }
+    ensures refused { IfErr result
+        (IsSourceRefused (observed_shelf F.strict F.faults shelf.old shelf.new)
         (record { before = S.faults store.old; after = S.faults store.new }) node
-        (record { work = work; args = args.now }) (S.opened store.old pager.old.file) pager.old.len p) }
-    ensures unharmed { F.strict shelf.old ≡ true → (text : List ℕ) → IsText work (S.opened store.old pager.old.file) pager.old.len text
-        → model.emission work args.now text p ≢ model.Poison → F.faults shelf.new ≡ F.faults shelf.old }
+        (record { work = work; args = args.now })
+        (S.opened store.old pager.old.file) pager.old.len p) }
+    ensures unharmed { F.strict shelf.old ≡ true → (text : List ℕ)
+        → IsText work (S.opened store.old pager.old.file) pager.old.len text
+        → model.emission work args.now text p ≢ model.Poison
+        → F.faults shelf.new ≡ F.faults shelf.old }
     ensures counts { F.faults shelf.old ≤ F.faults shelf.new }
     ensures strict { F.strict shelf.new ≡ F.strict shelf.old }
     // After every answer:
@@ -121,10 +130,12 @@ fn hold<S: Store>(
     requires counted { IsCounted (record { work = work; args = args.now }) pager.old }
     requires held { IsHeldFor work (S.opened store.old pager.old.file) pager.old }
     ensures view { OnOk result (IsLookAt (record { work = work; args = args.now }) pager.new p) }
-    ensures shown { OnOk result ((text : List ℕ) → IsText work (S.opened store.new pager.new.file) pager.new.len text
+    ensures shown { OnOk result
+        ((text : List ℕ) → IsText work (S.opened store.new pager.new.file) pager.new.len text
         → IsLookInto text (record { work = work; args = args.now }) pager.new) }
     ensures more { OnOk result (reads_file work ≡ true → ReachesOn more pager.old pager.new) }
-    ensures refused { IfErr result (IsReadRefused (record { before = S.faults store.old; after = S.faults store.new }) node work) }
+    ensures refused { IfErr result (IsReadRefused
+        (record { before = S.faults store.old; after = S.faults store.new }) node work) }
     // After every answer:
     ensures file { pager.new.file ≡ pager.old.file }
     ensures len { pager.new.len ≡ pager.old.len }
@@ -158,15 +169,22 @@ fn call_source<F: Shelf>(
 ) -> Result<Found, ExecRefusal>
     requires allowed { is_source_argument work args.now ≡ true }
     requires view { IsLookAt (record { work = work; args = args.now }) pager.now p }
-    ensures found { IfOk result (λ found. (file : List ℕ) → IsLookInto file (record { work = work; args = args.now }) pager.now
+    ensures found { IfOk result (λ found. (file : List ℕ)
+        → IsLookInto file (record { work = work; args = args.now }) pager.now
         → IsFound work args.now file p out.old out.new found) }
     ensures next { IfOk result (IsNextWithin p pager.now.len) }
     ensures unchanged { IfOk result (λ found. found ≡ Found.More → out.new ≡ out.old) }
-    ensures more { IfOk result (λ found. found ≡ Found.More → is_look_cut_short (record { work = work; args = args.now }) pager.now p ≡ true) }
-    ensures quiet { IfOk result (λ found. found ≡ Found.More → F.strict shelf.old ≡ true → F.faults shelf.new ≡ F.faults shelf.old) }
-    ensures refused { IfErr result (IsSeenRefused (observed_shelf F.strict F.faults shelf.old shelf.new) node (record { work = work; args = args.now }) pager.now p) }
-    ensures unharmed { F.strict shelf.old ≡ true → (file : List ℕ) → IsLookInto file (record { work = work; args = args.now }) pager.now
-        → model.emission work args.now file p ≢ model.Poison → F.faults shelf.new ≡ F.faults shelf.old }
+    ensures more { IfOk result (λ found. found ≡ Found.More
+        → is_look_cut_short (record { work = work; args = args.now }) pager.now p ≡ true) }
+    ensures quiet { IfOk result (λ found. found ≡ Found.More
+        → F.strict shelf.old ≡ true → F.faults shelf.new ≡ F.faults shelf.old) }
+    ensures refused { IfErr result
+        (IsSeenRefused (observed_shelf F.strict F.faults shelf.old shelf.new) node
+        (record { work = work; args = args.now }) pager.now p) }
+    ensures unharmed { F.strict shelf.old ≡ true → (file : List ℕ)
+        → IsLookInto file (record { work = work; args = args.now }) pager.now
+        → model.emission work args.now file p ≢ model.Poison
+        → F.faults shelf.new ≡ F.faults shelf.old }
     ensures counts { F.faults shelf.old ≤ F.faults shelf.new }
     ensures strict { F.strict shelf.new ≡ F.strict shelf.old }
 {

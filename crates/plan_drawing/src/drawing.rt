@@ -1,5 +1,6 @@
 ghost use Rattle.std.specs.Prelude.{◌≡◌, ◌++◌, IfOk, OnOk, length};
-ghost use Rattle.plan_drawing.specs.Drawing.{box_of, boxes, drawing_of, edge_of, edges, edges_of, id_of, line_of, shape_of};
+ghost use Rattle.plan_drawing.specs.Drawing.{box_of, boxes, drawing_of, edge_of, edges, edges_of};
+ghost use Rattle.plan_drawing.specs.Drawing.{id_of, line_of, shape_of};
 
 use crate::lines::push_label;
 use beam_values::{Bytes, NoMemory, Node, NodeKind, Plan};

@@ -51,7 +51,8 @@ pub(crate) fn push_word_line(words: &[u8], word: &[u8], out: &mut Bytes) -> Resu
 
 /// Appends a line of words and a text.
 pub(crate) fn push_text_line(words: &[u8], text: &[u8], out: &mut Bytes) -> Result<(), NoMemory>
-    ensures { OnOk result (out.new ≡ out.old ++ (line_break ++ (words.now ++ label_text text.now))) }
+    ensures { OnOk result
+        (out.new ≡ out.old ++ (line_break ++ (words.now ++ label_text text.now))) }
 {
     push_line(words, out)?;
     push_text(text, out)
@@ -66,7 +67,8 @@ pub(crate) fn push_count_line(words: &[u8], count: u64, out: &mut Bytes) -> Resu
 
 /// Appends a line of words and a number.
 pub(crate) fn push_number_line(words: &[u8], number: i64, out: &mut Bytes) -> Result<(), NoMemory>
-    ensures { OnOk result (out.new ≡ out.old ++ (line_break ++ (words.now ++ signed_decimal number))) }
+    ensures { OnOk result
+        (out.new ≡ out.old ++ (line_break ++ (words.now ++ signed_decimal number))) }
 {
     push_word_line(words, Buffer::new().format(number).as_bytes(), out)
 }

@@ -2,7 +2,9 @@
 
 ghost use Rattle.std.specs.Prelude.{◌≡◌, ◌++◌, OnOk, map};
 ghost use Rattle.std.specs.List.{flat_map};
-ghost use Rattle.plan_drawing.specs.Labels.{args_lines, early_lines, estimator_line, file_line, kind_lines, label_of, line_break, log_lines, strategy_line, trigger_lines};
+ghost use Rattle.plan_drawing.specs.Labels.{args_lines, early_lines, estimator_line, file_line};
+ghost use Rattle.plan_drawing.specs.Labels.{kind_lines, label_of, line_break, log_lines};
+ghost use Rattle.plan_drawing.specs.Labels.{strategy_line, trigger_lines};
 
 use crate::label::{
     push_count_line, push_line, push_number_line, push_span, push_span_line, push_text,
@@ -21,7 +23,8 @@ pub(crate) fn push_label(name: &[u8], kind: &NodeKind, out: &mut Bytes) -> Resul
 
 #[tactic(auto, using(crate::proofs::Joined::lines_append))]
 fn push_kind(kind: &NodeKind, out: &mut Bytes) -> Result<(), NoMemory>
-    ensures { OnOk result (out.new ≡ out.old ++ flat_map (λ line. line_break ++ line) (kind_lines kind.now)) }
+    ensures { OnOk result
+        (out.new ≡ out.old ++ flat_map (λ line. line_break ++ line) (kind_lines kind.now)) }
 {
     match kind {
         NodeKind::Source {
@@ -61,7 +64,8 @@ fn push_kind(kind: &NodeKind, out: &mut Bytes) -> Result<(), NoMemory>
 }
 
 fn push_args(args: &Args, out: &mut Bytes) -> Result<(), NoMemory>
-    ensures { OnOk result (out.new ≡ out.old ++ flat_map (λ line. line_break ++ line) (args_lines args.now)) }
+    ensures { OnOk result
+        (out.new ≡ out.old ++ flat_map (λ line. line_break ++ line) (args_lines args.now)) }
 {
     match args {
         Args::Nothing => Ok(()),
@@ -75,7 +79,8 @@ fn push_args(args: &Args, out: &mut Bytes) -> Result<(), NoMemory>
 }
 
 fn push_files(files: &[Bytes], out: &mut Bytes) -> Result<(), NoMemory>
-    ensures { OnOk result (out.new ≡ out.old ++ flat_map (λ line. line_break ++ line) (map file_line files.now)) }
+    ensures { OnOk result
+        (out.new ≡ out.old ++ flat_map (λ line. line_break ++ line) (map file_line files.now)) }
 {
     for file in files {
         push_text_line(b"file ", file.as_slice(), out)?;
@@ -111,7 +116,8 @@ fn push_strategy(strategy: &Strategy, out: &mut Bytes) -> Result<(), NoMemory>
 
 #[tactic(auto, using(crate::proofs::Joined::lines_append))]
 fn push_trigger(trigger: &Trigger, out: &mut Bytes) -> Result<(), NoMemory>
-    ensures { OnOk result (out.new ≡ out.old ++ flat_map (λ line. line_break ++ line) (trigger_lines trigger.now)) }
+    ensures { OnOk result
+        (out.new ≡ out.old ++ flat_map (λ line. line_break ++ line) (trigger_lines trigger.now)) }
 {
     push_early(trigger.early, out)?;
     push_count_line(b"late ", trigger.late.into(), out)?;
@@ -120,7 +126,8 @@ fn push_trigger(trigger: &Trigger, out: &mut Bytes) -> Result<(), NoMemory>
 }
 
 fn push_early(early: Option<u32>, out: &mut Bytes) -> Result<(), NoMemory>
-    ensures { OnOk result (out.new ≡ out.old ++ flat_map (λ line. line_break ++ line) (early_lines early)) }
+    ensures { OnOk result
+        (out.new ≡ out.old ++ flat_map (λ line. line_break ++ line) (early_lines early)) }
 {
     match early {
         None => Ok(()),
@@ -129,7 +136,8 @@ fn push_early(early: Option<u32>, out: &mut Bytes) -> Result<(), NoMemory>
 }
 
 fn push_log(log: bool, out: &mut Bytes) -> Result<(), NoMemory>
-    ensures { OnOk result (out.new ≡ out.old ++ flat_map (λ line. line_break ++ line) (log_lines log)) }
+    ensures { OnOk result
+        (out.new ≡ out.old ++ flat_map (λ line. line_break ++ line) (log_lines log)) }
 {
     if log { push_line(b"log", out) } else { Ok(()) }
 }

@@ -1,6 +1,8 @@
 ghost use Rattle.std.specs.Prelude.{◌≡◌, ◌≤◌, length, map, ok_or, Ok, IfErr, IfOk};
 ghost use Rattle.serde_json.specs.View.{view};
-ghost use Rattle.plan_reader.specs.Documents.{HasFewNodes, array_names_of, array_of, document_of, json_of, length_refusal, longest_document, node_names_of, plan_of, version_of};
+ghost use Rattle.plan_reader.specs.Documents.{HasFewNodes, array_names_of, array_of, document_of};
+ghost use Rattle.plan_reader.specs.Documents.{json_of, length_refusal, longest_document};
+ghost use Rattle.plan_reader.specs.Documents.{node_names_of, plan_of, version_of};
 ghost use Rattle.plan_reader.specs.Refusals.{Gives, IsFirst, Reads};
 
 use crate::forms::{any_number_in, needed};

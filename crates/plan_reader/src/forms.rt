@@ -1,6 +1,8 @@
 ghost use Rattle.std.specs.Prelude.{◌≡◌, map, ok_or, option_map};
 ghost use Rattle.serde_json.specs.View.{view, items_view, members_view, number_view};
-ghost use Rattle.plan_reader.specs.Forms.{any_number_in, bool_in, needed, number_in, only_member, only_of, pair_in, pair_of, string_in, strings_in, strings_of, text_in, value_of, within};
+ghost use Rattle.plan_reader.specs.Forms.{any_number_in, bool_in, needed, number_in, only_member};
+ghost use Rattle.plan_reader.specs.Forms.{only_of, pair_in, pair_of, string_in, strings_in};
+ghost use Rattle.plan_reader.specs.Forms.{strings_of, text_in, value_of, within};
 ghost use Rattle.plan_reader.specs.Refusals.{Gives, Reads};
 ghost use Rattle.plan_reader.specs.Seen.{texts_of};
 
@@ -26,7 +28,8 @@ pub(crate) fn needed<'v>(place: Place, object: &'v Value) -> Result<&'v Value, P
 
 /// The key and the value of an object of one key.
 pub(crate) fn only_member<'v>(value: &'v Value) -> Option<(&'v str, &'v Value)>
-    ensures { option_map (λ entry. (entry.0.now, view entry.1.now)) result ≡ only_member (view value.now) }
+    ensures { option_map (λ entry. (entry.0.now, view entry.1.now)) result
+        ≡ only_member (view value.now) }
 {
     match value.as_object() {
         None => None,
@@ -36,7 +39,8 @@ pub(crate) fn only_member<'v>(value: &'v Value) -> Option<(&'v str, &'v Value)>
 
 #[tactic(auto, using(crate::proofs::Members::only_of_others, crate::proofs::Members::only_of_one))]
 fn only_of<'v>(members: &'v Map<String, Value>) -> Option<(&'v str, &'v Value)>
-    ensures { option_map (λ entry. (entry.0.now, view entry.1.now)) result ≡ only_of (members_view members.now.entries) }
+    ensures { option_map (λ entry. (entry.0.now, view entry.1.now)) result
+        ≡ only_of (members_view members.now.entries) }
 {
     if members.len() != 1 {
         return None;
@@ -107,7 +111,8 @@ pub(crate) fn pair_in<'v>(
     place: Place,
     value: &'v Value,
 ) -> Result<(&'v Value, &'v Value), PlanRefusal>
-    ensures { Gives (λ pair. (view pair.0.now, view pair.1.now)) result (pair_in place (view value.now)) }
+    ensures { Gives (λ pair. (view pair.0.now, view pair.1.now)) result
+        (pair_in place (view value.now)) }
 {
     match value.as_array() {
         None => Err(PlanRefusal::Field(place)),
@@ -117,7 +122,8 @@ pub(crate) fn pair_in<'v>(
 
 #[tactic(auto, using(crate::proofs::Members::pair_of_others))]
 fn pair_of<'v>(place: Place, items: &'v [Value]) -> Result<(&'v Value, &'v Value), PlanRefusal>
-    ensures { Gives (λ pair. (view pair.0.now, view pair.1.now)) result (ok_or (pair_of (items_view items.now)) (PlanRefusal.Field place)) }
+    ensures { Gives (λ pair. (view pair.0.now, view pair.1.now)) result
+        (ok_or (pair_of (items_view items.now)) (PlanRefusal.Field place)) }
 {
     match items {
         [first, second] => Ok((first, second)),
@@ -126,7 +132,8 @@ fn pair_of<'v>(place: Place, items: &'v [Value]) -> Result<(&'v Value, &'v Value
 }
 
 pub(crate) fn any_number_in<'v>(place: Place, value: &'v Value) -> Result<&'v Number, PlanRefusal>
-    ensures { Gives (λ number. number_view number.now) result (any_number_in place (view value.now)) }
+    ensures { Gives (λ number. number_view number.now) result
+        (any_number_in place (view value.now)) }
 {
     match value.as_number() {
         None => Err(PlanRefusal::Field(place)),

@@ -3,7 +3,8 @@ ghost use Rattle.std.specs.BTreeMap.{keys};
 ghost use Rattle.std.specs.List.{list_all};
 ghost use Rattle.serde_json.specs.View.{view, members_view};
 ghost use Rattle.plan_reader.specs.Forms.{are_listed, has_only, is_listed};
-ghost use Rattle.plan_reader.specs.Keys.{further_keys, function_keys, node_keys, source_keys, state_keys};
+ghost use Rattle.plan_reader.specs.Keys.{further_keys, function_keys, node_keys, source_keys};
+ghost use Rattle.plan_reader.specs.Keys.{state_keys};
 
 use crate::refusal::PlanKey;
 use beam_values::{FnKind, NodeKind, SourceKind, StateKind};
@@ -36,7 +37,8 @@ fn are_listed(common: &[PlanKey], further: &[PlanKey], members: &Map<String, Val
 }
 
 fn all_listed(common: &[PlanKey], further: &[PlanKey], members: &Map<String, Value>) -> bool
-    ensures { result ≡ list_all (λ word. is_listed (common.now ++ further.now) (string_bytes word)) (keys members.now) }
+    ensures { result ≡ list_all (λ word. is_listed (common.now ++ further.now) (string_bytes word))
+        (keys members.now) }
 {
     members
         .keys()

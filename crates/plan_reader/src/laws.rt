@@ -10,12 +10,15 @@ ghost use Rattle.plan_reader.specs.declared.refusal.PlanRefusal.TheVariants as r
 /// isn't too long and its bytes read as no JSON value.
 pub fn documents_are_refused_for_their_bytes()
     ensures length { (bytes : List ℕ) (len : ℕ)
-        → (document_of bytes ≡ Err (refusal.Length len)) ↔ ((longest_document < length bytes) × (len ≡ length bytes)) }
+        → (document_of bytes ≡ Err (refusal.Length len))
+        ↔ ((longest_document < length bytes) × (len ≡ length bytes)) }
     ensures syntax { (bytes : List ℕ)
-        → (document_of bytes ≡ Err refusal.Syntax) ↔ ((length bytes ≤ longest_document) × (json_of bytes ≡ None)) }
+        → (document_of bytes ≡ Err refusal.Syntax)
+        ↔ ((length bytes ≤ longest_document) × (json_of bytes ≡ None)) }
 {}
 
 /// A document that is read is a pipeline of version 1.
 pub fn documents_are_pipelines()
-    ensures { (bytes : List ℕ) (plan : Plan) → document_of bytes ≡ Ok plan → IsChecked plan × (plan.version ≡ 1) }
+    ensures { (bytes : List ℕ) (plan : Plan) → document_of bytes ≡ Ok plan
+        → IsChecked plan × (plan.version ≡ 1) }
 {}

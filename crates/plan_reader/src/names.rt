@@ -1,8 +1,10 @@
-ghost use Rattle.std.specs.Prelude.{◌≡◌, ◌<◌, ◌^◌, ◌++◌, ◌∷◌, [], length, map, IfOk, OnOk, bytes_eq, false};
+ghost use Rattle.std.specs.Prelude.{◌≡◌, ◌<◌, ◌^◌, ◌++◌, ◌∷◌, [], length, map, IfOk, OnOk};
+ghost use Rattle.std.specs.Prelude.{bytes_eq, false};
 ghost use Rattle.std.specs.List.{list_any};
 ghost use Rattle.indexmap.specs.IndexSet.{index_set_len};
 ghost use Rattle.serde_json.specs.View.{view};
-ghost use Rattle.plan_reader.specs.Nodes.{is_new_name, inputs_in, name_of, names_of, number_of, numbers_of};
+ghost use Rattle.plan_reader.specs.Nodes.{is_new_name, inputs_in, name_of, names_of, number_of};
+ghost use Rattle.plan_reader.specs.Nodes.{numbers_of};
 ghost use Rattle.plan_reader.specs.Refusals.{Gives, Reads};
 ghost use Rattle.plan_reader.specs.Seen.{names_in, texts_of};
 
@@ -89,7 +91,8 @@ pub(crate) fn inputs_in(
     value: &Value,
 ) -> Result<List<u32>, PlanReadRefusal>
     requires { index_set_len names.now < 2 ^ 32 }
-    ensures { Reads (λ inputs. inputs) result (inputs_in (names_in names.now) place (view value.now)) }
+    ensures { Reads (λ inputs. inputs) result
+        (inputs_in (names_in names.now) place (view value.now)) }
 {
     let inputs = strings_in(alloc, place, value)?;
     numbers_of(alloc, names, place, inputs.as_slice())
@@ -103,7 +106,8 @@ fn numbers_of(
     inputs: &[&str],
 ) -> Result<List<u32>, PlanReadRefusal>
     requires { index_set_len names.now < 2 ^ 32 }
-    ensures { Reads (λ numbers. numbers) result (numbers_of (names_in names.now) place (map (λ name. name.now) inputs.now)) }
+    ensures { Reads (λ numbers. numbers) result
+        (numbers_of (names_in names.now) place (map (λ name. name.now) inputs.now)) }
 {
     let mut numbers = Vec::with_capacity(alloc, inputs.len())?;
     for name in inputs {

@@ -25,7 +25,8 @@ pub(crate) fn nodes_of(
 ) -> Result<List<Node>, PlanReadRefusal>
     requires few_names { index_set_len names.now < 2 ^ 32 }
     requires few { length nodes.now < 2 ^ 32 }
-    ensures nodes { Reads (λ nodes. nodes) result (nodes_of (names_in names.now) (map view nodes.now)) }
+    ensures nodes { Reads (λ nodes. nodes) result
+        (nodes_of (names_in names.now) (map view nodes.now)) }
     ensures each { IfOk result (λ read. length read ≡ length nodes.now) }
 {
     let mut read = Vec::with_capacity(alloc, nodes.len())?;
@@ -68,7 +69,8 @@ fn inputs_of(
     object: &Value,
 ) -> Result<List<u32>, PlanReadRefusal>
     requires { index_set_len names.now < 2 ^ 32 }
-    ensures { Reads (λ inputs. inputs) result (inputs_of word (names_in names.now) node (view object.now)) }
+    ensures { Reads (λ inputs. inputs) result
+        (inputs_of word (names_in names.now) node (view object.now)) }
 {
     let place = Place::in_node(node, PlanKey::Input);
     match value_of(PlanKey::Input, object) {

@@ -1,7 +1,11 @@
 ghost use Rattle.std.specs.Prelude.{◌≡◌, ◌≤◌};
 ghost use Rattle.serde_json.specs.View.{view};
 ghost use Rattle.plan_reader.specs.Refusals.{Gives, Reads};
-ghost use Rattle.plan_reader.specs.Settings.{counts_at, early_at, function_args, label_at, longest, group_of, log_at, mode_at, number_args, number_at, number_or, own_name, pardo_of, settings_of, source_args, source_files, source_of, state_args, stateful_of, text_args, window_of, work_at, write_of};
+ghost use Rattle.plan_reader.specs.Settings.{counts_at, early_at, function_args, label_at, longest};
+ghost use Rattle.plan_reader.specs.Settings.{group_of, log_at, mode_at, number_args, number_at};
+ghost use Rattle.plan_reader.specs.Settings.{number_or, own_name, pardo_of, settings_of};
+ghost use Rattle.plan_reader.specs.Settings.{source_args, source_files, source_of, state_args};
+ghost use Rattle.plan_reader.specs.Settings.{stateful_of, text_args, window_of, work_at, write_of};
 ghost use Rattle.plan_reader.specs.Words.{functions, sources, stateful_functions};
 
 use crate::forms::{bool_in, needed, number_in, string_in, text_in, value_of};

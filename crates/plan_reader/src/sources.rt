@@ -1,7 +1,8 @@
 ghost use Rattle.std.specs.Prelude.{◌≡◌, map};
 ghost use Rattle.serde_json.specs.View.{view};
 ghost use Rattle.plan_reader.specs.Refusals.{Reads};
-ghost use Rattle.plan_reader.specs.Settings.{estimator_at, estimator_in, file_of, files_at, files_in, files_of, lag_of};
+ghost use Rattle.plan_reader.specs.Settings.{estimator_at, estimator_in, file_of, files_at};
+ghost use Rattle.plan_reader.specs.Settings.{files_in, files_of, lag_of};
 
 use crate::forms::{needed, number_in, only_member, strings_in, value_of};
 use crate::refusal::{Place, PlanKey, PlanReadRefusal, PlanRefusal};

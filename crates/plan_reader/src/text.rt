@@ -1,5 +1,6 @@
 ghost use Rattle.std.specs.Prelude.{◌≡◌, ◌++◌, IfOk, OnOk};
-ghost use Rattle.plan_reader.specs.Texts.{graph_text, numbered, owner_text, place_text, refusal_text};
+ghost use Rattle.plan_reader.specs.Texts.{graph_text, numbered, owner_text, place_text};
+ghost use Rattle.plan_reader.specs.Texts.{refusal_text};
 
 use crate::refusal::{Place, PlanRefusal};
 use beam_values::{Bytes, GraphRefusal, NoMemory};

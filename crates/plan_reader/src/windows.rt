@@ -1,7 +1,8 @@
 ghost use Rattle.std.specs.Prelude.{◌≡◌};
 ghost use Rattle.beam_values.specs.Strategies.{is_allowed};
 ghost use Rattle.serde_json.specs.View.{view};
-ghost use Rattle.plan_reader.specs.Settings.{allowed, fixed_in, global_of, sessions_in, sliding_in, strategy_in, windows_of};
+ghost use Rattle.plan_reader.specs.Settings.{allowed, fixed_in, global_of, sessions_in, sliding_in};
+ghost use Rattle.plan_reader.specs.Settings.{strategy_in, windows_of};
 
 use crate::forms::{any_number_in, number_in, only_member, pair_in, within};
 use crate::refusal::{Place, PlanRefusal};

@@ -1,5 +1,6 @@
 ghost use Rattle.std.specs.Prelude.{◌≡◌};
-ghost use Rattle.plan_reader.specs.Words.{meaning_in, kinds, sources, functions, stateful_functions, estimators, modes};
+ghost use Rattle.plan_reader.specs.Words.{meaning_in, kinds, sources, functions};
+ghost use Rattle.plan_reader.specs.Words.{stateful_functions, estimators, modes};
 
 use beam_values::{Estimator, FnKind, Mode, SourceKind, StateKind};
 

@@ -1,10 +1,13 @@
-ghost use Rattle.std.specs.Prelude.{◌≡◌, ◌<◌, ◌≤◌, ◌++◌, ℕ, List as ListOf, [], length, OnOk, IfOk, IfErr, IsErr};
+ghost use Rattle.std.specs.Prelude.{◌≡◌, ◌<◌, ◌≤◌, ◌++◌, ℕ, List as ListOf, [], length, OnOk, IfOk};
+ghost use Rattle.std.specs.Prelude.{IfErr, IsErr};
 ghost use Rattle.std.specs.List.{AllByRecursion, flat_map};
 ghost use Rattle.worker_loop.specs.Kits.{EachBecomes};
 ghost use Rattle.worker_loop.specs.Openings.{AreOpened, IsOpenedAs, file_names, names_in};
 ghost use Rattle.worker_loop.specs.Outside.{IsStoreKept};
 ghost use Rattle.run_engine.specs.Kits.{observed_each};
-ghost use Rattle.run_engine.specs.Openings.{AgreeInLength, AreCounted, AreNamesRefused, AreOpenedByAll, HasSameLength, IsFileRefused, IsNameRefused, IsOpeningRefused, IsOtherRefused};
+ghost use Rattle.run_engine.specs.Openings.{AgreeInLength, AreCounted, AreNamesRefused};
+ghost use Rattle.run_engine.specs.Openings.{AreOpenedByAll, HasSameLength, IsFileRefused};
+ghost use Rattle.run_engine.specs.Openings.{IsNameRefused, IsOpeningRefused, IsOtherRefused};
 
 use crate::status::{Status, no_source};
 use beam_ports::{OpenRefusal, Opened, Store};
@@ -28,9 +31,11 @@ pub fn open_sources<F: Shelf, S: Store>(
     requires attempts { 1 ≤ options.now.attempts }
     requires workers { length kits.old ≤ options.now.workers }
     ensures opened { OnOk result (AreOpenedByAll S.files S.opened graph.now kits.new) }
-    ensures refused { IfErr result (IsOpeningRefused (observed_each S.files S.faults kits.old kits.new) graph.now options.now.attempts failed) }
+    ensures refused { IfErr result (IsOpeningRefused
+        (observed_each S.files S.faults kits.old kits.new) graph.now options.now.attempts failed) }
     ensures none { IsErr result → AllByRecursion (λ kit. kit.files ≡ []) kits.new }
-    ensures kept { EachBecomes kits.old kits.new (λ old new. (new.shelf ≡ old.shelf) × IsStoreKept S.faults S.files S.opened old.store new.store) }
+    ensures kept { EachBecomes kits.old kits.new (λ old new. (new.shelf ≡ old.shelf)
+        × IsStoreKept S.faults S.files S.opened old.store new.store) }
 {
     prove!(kits.len() <= options.workers as usize);
     match open_each(alloc, graph, options.attempts, kits, failed) {
@@ -62,8 +67,10 @@ fn open_each<F: Shelf, S: Store>(
     requires attempts { 1 ≤ attempts }
     requires few { length kits.old ≤ 4294967295 }
     ensures opened { OnOk result (AreOpenedByAll S.files S.opened graph.now kits.new) }
-    ensures refused { IfErr result (IsOpeningRefused (observed_each S.files S.faults kits.old kits.new) graph.now attempts failed) }
-    ensures kept { EachBecomes kits.old kits.new (λ old new. (new.shelf ≡ old.shelf) × IsStoreKept S.faults S.files S.opened old.store new.store) }
+    ensures refused { IfErr result (IsOpeningRefused
+        (observed_each S.files S.faults kits.old kits.new) graph.now attempts failed) }
+    ensures kept { EachBecomes kits.old kits.new (λ old new. (new.shelf ≡ old.shelf)
+        × IsStoreKept S.faults S.files S.opened old.store new.store) }
 {
     let Some((first, others)) = kits.split_first_mut() else {
         return Ok(());
@@ -84,10 +91,15 @@ fn open_others<F: Shelf, S: Store>(
 ) -> Result<(), Status>
     requires attempts { 1 ≤ attempts }
     requires few { length kits.old < 4294967295 }
-    ensures opened { OnOk result (AllByRecursion (λ kit. AreOpened (S.files kit.store) (S.opened kit.store) (file_names graph.now) kit.files) kits.new) }
-    ensures lengths { OnOk result (AllByRecursion (λ kit. AgreeInLength first.now kit.files) kits.new) }
-    ensures refused { IfErr result (IsOtherRefused (observed_each S.files S.faults kits.old kits.new) first.now (file_names graph.now) attempts) }
-    ensures kept { EachBecomes kits.old kits.new (λ old new. (new.shelf ≡ old.shelf) × IsStoreKept S.faults S.files S.opened old.store new.store) }
+    ensures opened { OnOk result (AllByRecursion (λ kit. AreOpened (S.files kit.store)
+        (S.opened kit.store) (file_names graph.now) kit.files) kits.new) }
+    ensures lengths { OnOk result
+        (AllByRecursion (λ kit. AgreeInLength first.now kit.files) kits.new) }
+    ensures refused { IfErr result
+        (IsOtherRefused (observed_each S.files S.faults kits.old kits.new) first.now
+        (file_names graph.now) attempts) }
+    ensures kept { EachBecomes kits.old kits.new (λ old new. (new.shelf ≡ old.shelf)
+        × IsStoreKept S.faults S.files S.opened old.store new.store) }
 {
     for at in 0..kits.len() {
         let number = at as u32 + 1;
@@ -110,10 +122,13 @@ fn open_kit<F: Shelf, S: Store>(
     first: &[Opened],
 ) -> Result<(), Status>
     requires attempts { 1 ≤ attempts }
-    ensures opened { OnOk result (AreOpened (S.files kit.new.store) (S.opened kit.new.store) (file_names graph.now) kit.new.files) }
+    ensures opened { OnOk result (AreOpened (S.files kit.new.store)
+        (S.opened kit.new.store) (file_names graph.now) kit.new.files) }
     ensures lengths { OnOk result (AgreeInLength first.now kit.new.files) }
-    ensures refused { IfErr result (λ status. (failures : ℕ) × AreCounted failed failures (S.faults kit.old.store) (S.faults kit.new.store)
-        × AreNamesRefused (S.files kit.old.store) first.now (file_names graph.now) number attempts failures status) }
+    ensures refused { IfErr result (λ status. (failures : ℕ)
+        × AreCounted failed failures (S.faults kit.old.store) (S.faults kit.new.store)
+        × AreNamesRefused (S.files kit.old.store) first.now
+        (file_names graph.now) number attempts failures status) }
     ensures shelf { kit.new.shelf ≡ kit.old.shelf }
     ensures kept { IsStoreKept S.faults S.files S.opened kit.old.store kit.new.store }
 {
@@ -145,10 +160,13 @@ fn open_nodes<S: Store>(
     first: &[Opened],
 ) -> Result<List<Opened>, Status>
     requires attempts { 1 ≤ attempts }
-    ensures opened { IfOk result (AreOpened (S.files store.new) (S.opened store.new) (flat_map (λ node. names_in node.kind) nodes.now)) }
+    ensures opened { IfOk result (AreOpened (S.files store.new)
+        (S.opened store.new) (flat_map (λ node. names_in node.kind) nodes.now)) }
     ensures lengths { IfOk result (AgreeInLength first.now) }
-    ensures refused { IfErr result (λ status. (failures : ℕ) × AreCounted failed failures (S.faults store.old) (S.faults store.new)
-        × AreNamesRefused (S.files store.old) first.now (flat_map (λ node. names_in node.kind) nodes.now) number attempts failures status) }
+    ensures refused { IfErr result (λ status. (failures : ℕ)
+        × AreCounted failed failures (S.faults store.old) (S.faults store.new)
+        × AreNamesRefused (S.files store.old) first.now
+        (flat_map (λ node. names_in node.kind) nodes.now) number attempts failures status) }
     ensures kept { IsStoreKept S.faults S.files S.opened store.old store.new }
 {
     let mut failures = failed;
@@ -184,12 +202,17 @@ fn open_names<S: Store>(
     files: &mut List<Opened>,
 ) -> Result<(), Status>
     requires attempts { 1 ≤ attempts }
-    ensures opened { OnOk result ((before : ListOf (ListOf ℕ)) → AreOpened (S.files store.old) (S.opened store.old) before files.old
+    ensures opened { OnOk result ((before : ListOf (ListOf ℕ))
+        → AreOpened (S.files store.old) (S.opened store.old) before files.old
         → AreOpened (S.files store.new) (S.opened store.new) (before ++ names.now) files.new) }
-    ensures lengths { OnOk result (AgreeInLength first.now files.old → AgreeInLength first.now files.new) }
-    ensures refused { IfErr result (λ status. (before after : ListOf (ListOf ℕ)) → AreOpened (S.files store.old) (S.opened store.old) before files.old
-        → AreNamesRefused (S.files store.old) first.now (before ++ (names.now ++ after)) number attempts failures.new status) }
-    ensures counted { AreCounted failures.old failures.new (S.faults store.old) (S.faults store.new) }
+    ensures lengths { OnOk result
+        (AgreeInLength first.now files.old → AgreeInLength first.now files.new) }
+    ensures refused { IfErr result (λ status. (before after : ListOf (ListOf ℕ))
+        → AreOpened (S.files store.old) (S.opened store.old) before files.old
+        → AreNamesRefused (S.files store.old) first.now
+        (before ++ (names.now ++ after)) number attempts failures.new status) }
+    ensures counted { AreCounted failures.old failures.new
+        (S.faults store.old) (S.faults store.new) }
     ensures kept { IsStoreKept S.faults S.files S.opened store.old store.new }
 {
     for name in names {
@@ -234,8 +257,10 @@ fn open_named<S: Store>(
 ) -> Result<Opened, Status>
     requires attempts { 1 ≤ attempts }
     ensures opened { IfOk result (IsOpenedAs (S.files store.new) (S.opened store.new) name.now) }
-    ensures refused { IfErr result (IsNameRefused (S.files store.old) name.now number attempts failures.new) }
-    ensures counted { AreCounted failures.old failures.new (S.faults store.old) (S.faults store.new) }
+    ensures refused { IfErr result
+        (IsNameRefused (S.files store.old) name.now number attempts failures.new) }
+    ensures counted { AreCounted failures.old failures.new
+        (S.faults store.old) (S.faults store.new) }
     ensures kept { IsStoreKept S.faults S.files S.opened store.old store.new }
 {
     'tries: loop {

@@ -1,4 +1,5 @@
-ghost use Rattle.std.specs.Prelude.{◌≡◌, ◌<◌, ◌≤◌, ◌∷◌, [], ℕ, List as ListOf, Option as OptionOf, length, IfOk, IfSome};
+ghost use Rattle.std.specs.Prelude.{◌≡◌, ◌<◌, ◌≤◌, ◌∷◌, [], ℕ, List as ListOf, Option as OptionOf};
+ghost use Rattle.std.specs.Prelude.{length, IfOk, IfSome};
 ghost use Rattle.beam_ports.specs.Files.{Opening};
 ghost use Rattle.beam_values.specs.declared.file_text.FileText.{FileText};
 ghost use Rattle.book_core.specs.Runs.{AreOptions, Reached};
@@ -10,7 +11,8 @@ ghost use Rattle.worker_loop.specs.Kits.{EachBecomes, observed_shelves, observed
 ghost use Rattle.worker_loop.specs.Openings.{AreOpened, file_names};
 ghost use Rattle.worker_loop.specs.Outside.{IsKitKept};
 ghost use Rattle.run_engine.specs.Openings.{AreOpenedByAll};
-ghost use Rattle.run_engine.specs.PlanRun.{AreFirstLengths, IsEndOfBook, opened_lengths, lengths_of_first, IsPlanEnd, IsStatusAfter};
+ghost use Rattle.run_engine.specs.PlanRun.{AreFirstLengths, IsEndOfBook, opened_lengths};
+ghost use Rattle.run_engine.specs.PlanRun.{lengths_of_first, IsPlanEnd, IsStatusAfter};
 
 use crate::status::{RunEnd, Status};
 use crate::storable::look_at_panes;
@@ -45,10 +47,12 @@ pub fn run_plan<R: Threads + Wait + Sync, F: Shelf, S: Store, G: Gate>(
     requires allowed { AreOptions options.now }
     requires opened { AreOpenedByAll S.files S.opened graph kits.old }
     ensures ended { IsPlanEnd (observed_shelves F.strict F.faults kits.old kits.new)
-        (observed_stores S.files S.faults kits.old kits.new) graph options.now result.status result.outcome }
+        (observed_stores S.files S.faults kits.old kits.new)
+        graph options.now result.status result.outcome }
     ensures lengths { IfSome result.outcome (λ o. o.files ≡ lengths_of_first graph kits.old) }
     ensures kept { EachBecomes kits.old kits.new (λ old new. (new.files ≡ old.files)
-        × IsKitKept F.faults F.strict S.faults S.files S.opened old.shelf new.shelf old.store new.store) }
+        × IsKitKept F.faults F.strict S.faults S.files
+        S.opened old.shelf new.shelf old.store new.store) }
 {
     match run_book(rt, alloc, graph, options, kits, gate) {
         Ok(end) => end,
@@ -71,11 +75,15 @@ fn run_book<R: Threads + Wait + Sync, F: Shelf, S: Store, G: Gate>(
     requires workers { length kits.old ≤ options.now.workers }
     requires allowed { AreOptions options.now }
     requires opened { AreOpenedByAll S.files S.opened graph kits.old }
-    ensures ended { IfOk result (λ end. IsPlanEnd (observed_shelves F.strict F.faults kits.old kits.new)
-        (observed_stores S.files S.faults kits.old kits.new) graph options.now end.status end.outcome) }
-    ensures lengths { IfOk result (λ end. IfSome end.outcome (λ o. o.files ≡ lengths_of_first graph kits.old)) }
+    ensures ended { IfOk result
+        (λ end. IsPlanEnd (observed_shelves F.strict F.faults kits.old kits.new)
+        (observed_stores S.files S.faults kits.old kits.new)
+        graph options.now end.status end.outcome) }
+    ensures lengths { IfOk result
+        (λ end. IfSome end.outcome (λ o. o.files ≡ lengths_of_first graph kits.old)) }
     ensures kept { EachBecomes kits.old kits.new (λ old new. (new.files ≡ old.files)
-        × IsKitKept F.faults F.strict S.faults S.files S.opened old.shelf new.shelf old.store new.store) }
+        × IsKitKept F.faults F.strict S.faults S.files
+        S.opened old.shelf new.shelf old.store new.store) }
 {
     attempts_are_counted();
     honest_runs_are_runs();
@@ -107,7 +115,8 @@ fn table_for<F: Shelf, S: Store>(
 // The length of each item, where these files are opened.
 fn first_lengths(alloc: Global, graph: &Graph, files: &[Opened]) -> Result<List<FileLen>, NoMemory>
     ensures exact { IfOk result (λ lengths. lengths ≡ opened_lengths graph.now files.now) }
-    ensures items { IfOk result (λ lengths. (told : OptionOf (ListOf FileText)) (opened : ℕ → OptionOf Opening) → AreOpened told opened (file_names graph.now) files.now
+    ensures items { IfOk result (λ lengths. (told : OptionOf (ListOf FileText))
+        (opened : ℕ → OptionOf Opening) → AreOpened told opened (file_names graph.now) files.now
         → AreFirstLengths told graph.now lengths) }
 {
     plans_are_small_and_write_something();

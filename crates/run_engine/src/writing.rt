@@ -9,7 +9,8 @@ use beam_ports::{Failed, Sink};
 pub fn put<W: Sink>(sink: &mut W, text: &[u8], attempts: u32) -> Result<(), Failed>
     requires { 0 < attempts }
     ensures whole { OnOk result (W.taken sink.new ≡ then_taken (W.taken sink.old) text.now) }
-    ensures part { OnErr result ((n : ℕ) × (n < length text.now) × (W.taken sink.new ≡ then_taken (W.taken sink.old) (take n text.now))) }
+    ensures part { OnErr result ((n : ℕ) × (n < length text.now)
+        × (W.taken sink.new ≡ then_taken (W.taken sink.old) (take n text.now))) }
     ensures failed { OnErr result (attempts ≤ rise (W.faults sink.old) (W.faults sink.new)) }
     ensures counts { W.faults sink.old ≤ W.faults sink.new }
 {

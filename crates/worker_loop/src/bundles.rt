@@ -1,5 +1,6 @@
 //! The work on one job, between the turns of its pass.
-ghost use Rattle.std.specs.Prelude.{◌≡◌, ◌≤◌, ◌<◌, ◌≤ℤ◌, ℕ, Option as OptionOf, [], None, Some, true, length, map, All, IsSome, OnOk, IfOk, IfErr};
+ghost use Rattle.std.specs.Prelude.{◌≡◌, ◌≤◌, ◌<◌, ◌≤ℤ◌, ℕ, Option as OptionOf, [], None, Some};
+ghost use Rattle.std.specs.Prelude.{true, length, map, All, IsSome, OnOk, IfOk, IfErr};
 ghost use Rattle.beam_values.specs.Times.{greatest_time};
 ghost use Rattle.beam_values.specs.declared.piece.Piece.{Piece as PieceData};
 ghost use Rattle.beam_model.specs.Chains.{Arrives};
@@ -13,7 +14,8 @@ ghost use Rattle.chain_exec.specs.Positions.{IsTimely};
 ghost use Rattle.chain_exec.specs.Sources.{source_at};
 ghost use Rattle.worker_table.specs.Calls.{CanCommitAs, IsJobOfPlan};
 ghost use Rattle.worker_table.specs.Passes.{IsOf, job_known, note_of_pass, setting_of, slot_of};
-ghost use Rattle.worker_loop.specs.Bundles.{CanRead, HasClaimed, IsFit, IsJobRefused, IsPieceRefused, IsPieceWorked, OnlyClaims};
+ghost use Rattle.worker_loop.specs.Bundles.{CanRead, HasClaimed, IsFit, IsJobRefused};
+ghost use Rattle.worker_loop.specs.Bundles.{IsPieceRefused, IsPieceWorked, OnlyClaims};
 ghost use Rattle.worker_loop.specs.Outside.{IsKitKept};
 ghost use Rattle.worker_loop.specs.Reading.{AreReaders};
 
@@ -65,15 +67,20 @@ pub fn work_job<R: Wait, F: Shelf, S: Store, G: Gate>(
     requires taken { job_known pass.old ≡ Some (record { job = job.now; attempted = None }) }
     requires of_plan { IsJobOfPlan (setting_of shop.now.table.now).plan job.now }
     requires plan { shop.now.graph.now ≡ (setting_of shop.now.table.now).plan }
-    requires strict { (setting_of shop.now.table.now).known.strict ≡ true → F.strict shelf.old ≡ true }
-    requires readers { AreReaders (setting_of shop.now.table.now).known.told (S.opened store.old) shop.now.graph.now bench.old.readers.items }
+    requires strict { (setting_of shop.now.table.now).known.strict ≡ true
+        → F.strict shelf.old ≡ true }
+    requires readers { AreReaders (setting_of shop.now.table.now).known.told
+        (S.opened store.old) shop.now.graph.now bench.old.readers.items }
     ensures table { IsOf shop.now.table.now pass.new }
     ensures claims { OnlyClaims (note_of_pass pass.old) (note_of_pass pass.new) }
     ensures given { IfOk result (CanCommitAs (setting_of shop.now.table.now) (job_known pass.new)) }
-    ensures refused { IfErr result (IsJobRefused (setting_of shop.now.table.now) (observed_shelf F.strict F.faults shelf.old shelf.new)
+    ensures refused { IfErr result (IsJobRefused (setting_of shop.now.table.now)
+        (observed_shelf F.strict F.faults shelf.old shelf.new)
         (observed_store S.files S.faults store.old store.new) (job_known pass.new)) }
-    ensures readers { AreReaders (setting_of shop.now.table.now).known.told (S.opened store.new) shop.now.graph.now bench.new.readers.items }
-    ensures kept { IsKitKept F.faults F.strict S.faults S.files S.opened shelf.old shelf.new store.old store.new }
+    ensures readers { AreReaders (setting_of shop.now.table.now).known.told
+        (S.opened store.new) shop.now.graph.now bench.new.readers.items }
+    ensures kept { IsKitKept F.faults F.strict S.faults S.files
+        S.opened shelf.old shelf.new store.old store.new }
 {
     shelf.start_bundle();
     let worked = work_in_bundle(rt, shop, slot, pass, job, shelf, store, bench);
@@ -97,15 +104,20 @@ fn work_in_bundle<R: Wait, F: Shelf, S: Store, G: Gate>(
     requires taken { job_known pass.old ≡ Some (record { job = job.now; attempted = None }) }
     requires of_plan { IsJobOfPlan (setting_of shop.now.table.now).plan job.now }
     requires plan { shop.now.graph.now ≡ (setting_of shop.now.table.now).plan }
-    requires strict { (setting_of shop.now.table.now).known.strict ≡ true → F.strict shelf.old ≡ true }
-    requires readers { AreReaders (setting_of shop.now.table.now).known.told (S.opened store.old) shop.now.graph.now bench.old.readers.items }
+    requires strict { (setting_of shop.now.table.now).known.strict ≡ true
+        → F.strict shelf.old ≡ true }
+    requires readers { AreReaders (setting_of shop.now.table.now).known.told
+        (S.opened store.old) shop.now.graph.now bench.old.readers.items }
     ensures table { IsOf shop.now.table.now pass.new }
     ensures claims { OnlyClaims (note_of_pass pass.old) (note_of_pass pass.new) }
     ensures given { IfOk result (CanCommitAs (setting_of shop.now.table.now) (job_known pass.new)) }
-    ensures refused { IfErr result (IsJobRefused (setting_of shop.now.table.now) (observed_shelf F.strict F.faults shelf.old shelf.new)
+    ensures refused { IfErr result (IsJobRefused (setting_of shop.now.table.now)
+        (observed_shelf F.strict F.faults shelf.old shelf.new)
         (observed_store S.files S.faults store.old store.new) (job_known pass.new)) }
-    ensures readers { AreReaders (setting_of shop.now.table.now).known.told (S.opened store.new) shop.now.graph.now bench.new.readers.items }
-    ensures kept { IsKitKept F.faults F.strict S.faults S.files S.opened shelf.old shelf.new store.old store.new }
+    ensures readers { AreReaders (setting_of shop.now.table.now).known.told
+        (S.opened store.new) shop.now.graph.now bench.new.readers.items }
+    ensures kept { IsKitKept F.faults F.strict S.faults S.files
+        S.opened shelf.old shelf.new store.old store.new }
 {
     match job {
         Job::Span { piece } => work_span(rt, shop, slot, pass, piece, shelf, store, bench),
@@ -131,8 +143,12 @@ fn work_batch<F: Shelf>(
     buffers: &mut Buffers,
 ) -> Result<Receipt, ExecRefusal>
     requires { node < length graph.now.nodes }
-    ensures given { IfOk result (λ receipt. (map Arrives receipt.arrivals ≡ batch_outputs graph.now node panes.now) × (receipt.logged ≡ None)) }
-    ensures refused { IfErr result (IsCallRefused (observed_shelf F.strict F.faults shelf.old shelf.new) (batch_outputs graph.now node panes.now)) }
+    ensures given { IfOk result
+        (λ receipt. (map Arrives receipt.arrivals ≡ batch_outputs graph.now node panes.now)
+        × (receipt.logged ≡ None)) }
+    ensures refused { IfErr result
+        (IsCallRefused (observed_shelf F.strict F.faults shelf.old shelf.new)
+        (batch_outputs graph.now node panes.now)) }
     ensures counts { F.faults shelf.old ≤ F.faults shelf.new }
     ensures strict { F.strict shelf.new ≡ F.strict shelf.old }
 {
@@ -154,17 +170,23 @@ fn work_span<R: Wait, F: Shelf, S: Store, G: Gate>(
 ) -> Result<Receipt, ExecRefusal>
     requires table { IsOf shop.now.table.now pass.old }
     requires slot { IsSome (slot_of pass.old) }
-    requires taken { job_known pass.old ≡ Some (record { job = jobs.Span piece.now; attempted = None }) }
+    requires taken { job_known pass.old
+        ≡ Some (record { job = jobs.Span piece.now; attempted = None }) }
     requires plan { shop.now.graph.now ≡ (setting_of shop.now.table.now).plan }
-    requires strict { (setting_of shop.now.table.now).known.strict ≡ true → F.strict shelf.old ≡ true }
-    requires readers { AreReaders (setting_of shop.now.table.now).known.told (S.opened store.old) shop.now.graph.now bench.old.readers.items }
+    requires strict { (setting_of shop.now.table.now).known.strict ≡ true
+        → F.strict shelf.old ≡ true }
+    requires readers { AreReaders (setting_of shop.now.table.now).known.told
+        (S.opened store.old) shop.now.graph.now bench.old.readers.items }
     ensures table { IsOf shop.now.table.now pass.new }
     ensures claims { OnlyClaims (note_of_pass pass.old) (note_of_pass pass.new) }
     ensures given { IfOk result (CanCommitAs (setting_of shop.now.table.now) (job_known pass.new)) }
-    ensures refused { IfErr result (IsJobRefused (setting_of shop.now.table.now) (observed_shelf F.strict F.faults shelf.old shelf.new)
+    ensures refused { IfErr result (IsJobRefused (setting_of shop.now.table.now)
+        (observed_shelf F.strict F.faults shelf.old shelf.new)
         (observed_store S.files S.faults store.old store.new) (job_known pass.new)) }
-    ensures readers { AreReaders (setting_of shop.now.table.now).known.told (S.opened store.new) shop.now.graph.now bench.new.readers.items }
-    ensures kept { IsKitKept F.faults F.strict S.faults S.files S.opened shelf.old shelf.new store.old store.new }
+    ensures readers { AreReaders (setting_of shop.now.table.now).known.told
+        (S.opened store.new) shop.now.graph.now bench.new.readers.items }
+    ensures kept { IsKitKept F.faults F.strict S.faults S.files
+        S.opened shelf.old shelf.new store.old store.new }
 {
     let mut staging = Staging::new(shop.alloc, piece.seen);
     let Some(place) = place_of(bench.readers.as_slice(), bench.last, piece) else {
@@ -220,20 +242,28 @@ fn work_positions<R: Wait, F: Shelf, S: Store, G: Gate>(
 ) -> Result<(), ExecRefusal>
     requires table { IsOf shop.now.table.now pass.old }
     requires slot { IsSome (slot_of pass.old) }
-    requires taken { job_known pass.old ≡ Some (record { job = jobs.Span piece.now; attempted = None }) }
-    requires nothing { staging.old ≡ record { arrivals = []; seen = piece.now.seen; logged = None } }
-    requires able { CanRead shop.now.graph.now piece.now.node (S.opened store.old pager.old.file) pager.old }
+    requires taken { job_known pass.old
+        ≡ Some (record { job = jobs.Span piece.now; attempted = None }) }
+    requires nothing { staging.old
+        ≡ record { arrivals = []; seen = piece.now.seen; logged = None } }
+    requires able { CanRead shop.now.graph.now piece.now.node
+        (S.opened store.old pager.old.file) pager.old }
     requires reaches { piece.now.range.to ≤ pager.old.len }
     ensures table { IsOf shop.now.table.now pass.new }
     ensures claims { OnlyClaims (note_of_pass pass.old) (note_of_pass pass.new) }
-    ensures claimed { (now : PieceData) × (attempted : OptionOf ℕ) × HasClaimed piece.now now attempted (job_known pass.new)
-        × OnOk result (IsPieceWorked shop.now.graph.now (S.opened store.old pager.old.file) pager.old.len now attempted staging.new)
-        × IfErr result (IsPieceRefused (observed_shelf F.strict F.faults shelf.old shelf.new) (record { before = S.faults store.old; after = S.faults store.new })
+    ensures claimed { (now : PieceData) × (attempted : OptionOf ℕ)
+        × HasClaimed piece.now now attempted (job_known pass.new)
+        × OnOk result (IsPieceWorked shop.now.graph.now
+        (S.opened store.old pager.old.file) pager.old.len now attempted staging.new)
+        × IfErr result (IsPieceRefused (observed_shelf F.strict F.faults shelf.old shelf.new)
+        (record { before = S.faults store.old; after = S.faults store.new })
         shop.now.graph.now (S.opened store.old pager.old.file) pager.old.len now attempted) }
-    ensures able { CanRead shop.now.graph.now piece.now.node (S.opened store.new pager.new.file) pager.new }
+    ensures able { CanRead shop.now.graph.now piece.now.node
+        (S.opened store.new pager.new.file) pager.new }
     ensures file { pager.new.file ≡ pager.old.file }
     ensures len { pager.new.len ≡ pager.old.len }
-    ensures kept { IsKitKept F.faults F.strict S.faults S.files S.opened shelf.old shelf.new store.old store.new }
+    ensures kept { IsKitKept F.faults F.strict S.faults S.files
+        S.opened shelf.old shelf.new store.old store.new }
 {
     outputs_are_fit(shop.graph);
     let mut p = piece.range.from();
@@ -268,7 +298,8 @@ fn work_positions<R: Wait, F: Shelf, S: Store, G: Gate>(
 
 // A law: where the outputs of a source can get, and in which windows.
 fn outputs_are_fit(graph: &Graph)
-    ensures { (source : ℕ) → IsSome (source_at graph.now source) → (emitted : Emission) → IsTimely emitted
+    ensures { (source : ℕ) → IsSome (source_at graph.now source)
+        → (emitted : Emission) → IsTimely emitted
         → All (IsFit graph.now source) (emission_outputs graph.now source emitted) }
 {
     nodes_take_elements_of_their_strategy();

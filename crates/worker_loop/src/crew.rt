@@ -1,11 +1,13 @@
 //! One worker for each kit, beside each other.
-ghost use Rattle.std.specs.Prelude.{◌≡◌, ◌≤◌, ◌+◌, ◌++◌, map, length, vec_len, vec_capacity, IfOk, IsErr};
+ghost use Rattle.std.specs.Prelude.{◌≡◌, ◌≤◌, ◌+◌, ◌++◌, map, length, vec_len, vec_capacity, IfOk};
+ghost use Rattle.std.specs.Prelude.{IsErr};
 ghost use Rattle.std.specs.List.{AllByRecursion, sum_by};
 ghost use Rattle.turn_desk.specs.Notes.{size_of};
 ghost use Rattle.worker_table.specs.Passes.{IsOf, entry_of, note_of_pass, setting_of};
 ghost use Rattle.worker_loop.specs.Kits.{EachBecomes, IsKitFor, observed_shelves, observed_stores};
 ghost use Rattle.worker_loop.specs.Outside.{IsKitKept};
-ghost use Rattle.worker_loop.specs.Workers.{HasSat, HaveWorked, IsKitDone, IsReady, no_faults, share_with};
+ghost use Rattle.worker_loop.specs.Workers.{HasSat, HaveWorked, IsKitDone, IsReady, no_faults};
+ghost use Rattle.worker_loop.specs.Workers.{share_with};
 
 use crate::kit::Kit;
 use crate::pairs::each_pair;
@@ -50,22 +52,29 @@ pub fn work_all<R: Threads + Wait + Sync, F: Shelf, S: Store, G: Gate>(
     requires table { IsOf table.now pass.old }
     requires free { length kits.old ≤ (note_of_pass pass.old).free }
     requires plan { graph.now ≡ (setting_of table.now).plan }
-    requires kits { AllByRecursion (IsKitFor F.strict S.files S.opened (setting_of table.now)) kits.old }
+    requires kits { AllByRecursion
+        (IsKitFor F.strict S.files S.opened (setting_of table.now)) kits.old }
     ensures table { IsOf table.now pass.new }
-    ensures worked { IfOk result (HaveWorked (setting_of table.now) (note_of_pass pass.old) (note_of_pass pass.new)
-        (observed_shelves F.strict F.faults kits.old kits.new) (observed_stores S.files S.faults kits.old kits.new)) }
+    ensures worked { IfOk result
+        (HaveWorked (setting_of table.now) (note_of_pass pass.old) (note_of_pass pass.new)
+        (observed_shelves F.strict F.faults kits.old kits.new)
+        (observed_stores S.files S.faults kits.old kits.new)) }
     ensures count { IfOk result (λ end. length end.ends ≡ length kits.old) }
     ensures kept { EachBecomes kits.old kits.new (λ old new. (new.files ≡ old.files)
-        × IsKitKept F.faults F.strict S.faults S.files S.opened old.shelf new.shelf old.store new.store) }
-    ensures refused { IsErr result → (note_of_pass pass.new ≡ note_of_pass pass.old) × (kits.new ≡ kits.old) }
+        × IsKitKept F.faults F.strict S.faults S.files
+        S.opened old.shelf new.shelf old.store new.store) }
+    ensures refused { IsErr result
+        → (note_of_pass pass.new ≡ note_of_pass pass.old) × (kits.new ≡ kits.old) }
 {
     let count = kits.len();
     let mut ends = Vec::with_capacity(alloc, count)?;
     let mut seats = Vec::with_capacity(alloc, count)?;
     seat_all(table, pass, count, &mut seats);
     let sit = |seat: &mut Seat, kit: &mut Kit<F, S>|
-        requires { IsReady table.now seat.now × (graph.now ≡ (setting_of table.now).plan) × IsKitFor F.strict S.files S.opened (setting_of table.now) kit.now }
-        ensures { HasSat table.entry.now seat.exit.now × IsKitDone F.strict F.faults S.files S.faults S.opened kit.entry.now kit.exit.now (entry_of seat.exit.now.pass) }
+        requires { IsReady table.now seat.now × (graph.now ≡ (setting_of table.now).plan)
+            × IsKitFor F.strict S.files S.opened (setting_of table.now) kit.now }
+        ensures { HasSat table.entry.now seat.exit.now × IsKitDone F.strict F.faults S.files
+            S.faults S.opened kit.entry.now kit.exit.now (entry_of seat.exit.now.pass) }
     {
         let (pass, share) = (&mut seat.pass, &mut seat.share);
         seat.end = work(rt, alloc, table, pass, graph, kit, options, share, gate);
@@ -108,10 +117,14 @@ fn gather(
     requires sat { AllByRecursion (HasSat table.now) seats.items }
     requires room { (vec_len ends.old ≡ 0) × (length seats.items ≤ vec_capacity ends.old) }
     ensures table { IsOf table.now pass.new }
-    ensures about { (note_of_pass pass.new).about ≡ (note_of_pass pass.old).about ++ map (λ seat. entry_of seat.pass) seats.items }
-    ensures size { size_of (note_of_pass pass.new) ≡ size_of (note_of_pass pass.old) + length seats.items }
+    ensures about { (note_of_pass pass.new).about
+        ≡ (note_of_pass pass.old).about ++ map (λ seat. entry_of seat.pass) seats.items }
+    ensures size { size_of (note_of_pass pass.new)
+        ≡ size_of (note_of_pass pass.old) + length seats.items }
     ensures ends { ends.new.items ≡ map (λ seat. seat.end) seats.items }
-    ensures share { result ≡ share_with no_faults (sum_by (λ seat. (entry_of seat.pass).calls) seats.items) (sum_by (λ seat. (entry_of seat.pass).reads) seats.items) }
+    ensures share { result
+        ≡ share_with no_faults (sum_by (λ seat. (entry_of seat.pass).calls) seats.items)
+        (sum_by (λ seat. (entry_of seat.pass).reads) seats.items) }
 {
     let mut share = FaultShare::new();
     for seat in seats {

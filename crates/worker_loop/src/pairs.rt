@@ -56,19 +56,28 @@ fn beside<R: Threads + Sync, K: Send, T: Send, J: Fn(&mut T, &mut K) + Sync>(
     other_kits: &mut [K],
 )
     requires some { (0 < length kits.old) × (0 < length other_kits.old) }
-    requires lengths { (length seats.old ≡ length kits.old) × (length other_seats.old ≡ length other_kits.old) }
+    requires lengths { (length seats.old ≡ length kits.old)
+        × (length other_seats.old ≡ length other_kits.old) }
     requires accepts { AreBoth (AcceptsPair J.Fn job.now) kits.old seats.old }
     requires other_accepts { AreBoth (AcceptsPair J.Fn job.now) other_kits.old other_seats.old }
-    ensures here { EachPairBecomes (ChangesPair J.Fn job.now) kits.old kits.new seats.old seats.new }
-    ensures there { EachPairBecomes (ChangesPair J.Fn job.now) other_kits.old other_kits.new other_seats.old other_seats.new }
+    ensures here { EachPairBecomes
+        (ChangesPair J.Fn job.now) kits.old kits.new seats.old seats.new }
+    ensures there { EachPairBecomes
+        (ChangesPair J.Fn job.now) other_kits.old other_kits.new other_seats.old other_seats.new }
 {
     let mut here = ||
-        requires { IsSync R.row × IsSync J.row × IsSend K.row × IsSend T.row × (length seats.now ≡ length kits.now) × AreBoth (AcceptsPair J.Fn job.now) kits.now seats.now }
-        ensures { EachPairBecomes (ChangesPair J.Fn job.entry.now) kits.entry.now kits.exit.now seats.entry.now seats.exit.now }
+        requires { IsSync R.row × IsSync J.row × IsSend K.row
+            × IsSend T.row × (length seats.now ≡ length kits.now)
+            × AreBoth (AcceptsPair J.Fn job.now) kits.now seats.now }
+        ensures { EachPairBecomes (ChangesPair J.Fn job.entry.now)
+            kits.entry.now kits.exit.now seats.entry.now seats.exit.now }
     { each_pair(rt, job, seats, kits) };
     let mut there = ||
-        requires { IsSync R.row × IsSync J.row × IsSend K.row × IsSend T.row × (length other_seats.now ≡ length other_kits.now) × AreBoth (AcceptsPair J.Fn job.now) other_kits.now other_seats.now }
-        ensures { EachPairBecomes (ChangesPair J.Fn job.entry.now) other_kits.entry.now other_kits.exit.now other_seats.entry.now other_seats.exit.now }
+        requires { IsSync R.row × IsSync J.row × IsSend K.row × IsSend T.row
+            × (length other_seats.now ≡ length other_kits.now)
+            × AreBoth (AcceptsPair J.Fn job.now) other_kits.now other_seats.now }
+        ensures { EachPairBecomes (ChangesPair J.Fn job.entry.now) other_kits.entry.now
+            other_kits.exit.now other_seats.entry.now other_seats.exit.now }
     { each_pair(rt, job, other_seats, other_kits) };
     join_mut(rt, &mut here, &mut there);
 }

@@ -1,9 +1,11 @@
-ghost use Rattle.std.specs.Prelude.{◌≡◌, ◌≤◌, ◌<◌, ◌++◌, length, map, take, true, false, slice_get, Some, IfOk, OnOk, MatchOption};
+ghost use Rattle.std.specs.Prelude.{◌≡◌, ◌≤◌, ◌<◌, ◌++◌, length, map, take, true, false, slice_get};
+ghost use Rattle.std.specs.Prelude.{Some, IfOk, OnOk, MatchOption};
 ghost use Rattle.std.specs.List.{list_any};
 ghost use Rattle.beam_values.specs.Checked.{file_count};
 ghost use Rattle.beam_model.specs.Functions.{first_arg};
 ghost use Rattle.worker_loop.specs.Openings.{names_in};
-ghost use Rattle.worker_loop.specs.Reading.{file_readers, is_reader_for, length_in, readers_from, readers_of_kind};
+ghost use Rattle.worker_loop.specs.Reading.{file_readers, is_reader_for, length_in, readers_from};
+ghost use Rattle.worker_loop.specs.Reading.{readers_of_kind};
 ghost use Rattle.worker_loop.specs.declared.reading.Reader.{Reader};
 
 use beam_ports::Opened;
@@ -53,7 +55,8 @@ fn add_readers(
     readers: &mut Vec<Reader>,
 ) -> Result<(), NoMemory>
     requires { length (names_in kind.now) ≤ 256 }
-    ensures { OnOk result (readers.new.items ≡ readers.old.items ++ readers_of_kind node kind.now opened.now) }
+    ensures { OnOk result
+        (readers.new.items ≡ readers.old.items ++ readers_of_kind node kind.now opened.now) }
 {
     let NodeKind::Source {
         work,
@@ -127,7 +130,8 @@ pub fn lengths_of(alloc: Global, readers: &[Reader]) -> Result<List<FileLen>, No
 /// looked at first.
 pub fn place_of(readers: &[Reader], last: usize, piece: &Piece) -> Option<usize>
     ensures { MatchOption result (list_any (is_reader_for piece.now) readers.now ≡ false)
-        (λ at. (reader : Reader) × (slice_get readers.now at ≡ Some reader) × (is_reader_for piece.now reader ≡ true)) }
+        (λ at. (reader : Reader) × (slice_get readers.now at ≡ Some reader)
+        × (is_reader_for piece.now reader ≡ true)) }
 {
     match readers.get(last) {
         Some(reader) if is_for(reader, piece) => Some(last),
@@ -137,7 +141,8 @@ pub fn place_of(readers: &[Reader], last: usize, piece: &Piece) -> Option<usize>
 
 fn find_reader(readers: &[Reader], piece: &Piece) -> Option<usize>
     ensures { MatchOption result (list_any (is_reader_for piece.now) readers.now ≡ false)
-        (λ at. (reader : Reader) × (slice_get readers.now at ≡ Some reader) × (is_reader_for piece.now reader ≡ true)) }
+        (λ at. (reader : Reader) × (slice_get readers.now at ≡ Some reader)
+        × (is_reader_for piece.now reader ≡ true)) }
 {
     for at in 0..readers.len() {
         if is_for(&readers[at], piece) {

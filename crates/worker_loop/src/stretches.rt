@@ -1,5 +1,6 @@
 //! Stretches of positions, which are worked first and then claimed by one claim of the last of them.
-ghost use Rattle.std.specs.Prelude.{◌≡◌, ◌≤◌, ◌<◌, take, nat_lt, All, IsSome, IsTrue, IfOk, IfErr, OnErr};
+ghost use Rattle.std.specs.Prelude.{◌≡◌, ◌≤◌, ◌<◌, take, nat_lt, All, IsSome, IsTrue, IfOk, IfErr};
+ghost use Rattle.std.specs.Prelude.{OnErr};
 ghost use Rattle.beam_model.specs.Positions.{Emission};
 ghost use Rattle.beam_model.specs.Spread.{emission_outputs};
 ghost use Rattle.chain_exec.specs.Causes.{observed_shelf};
@@ -8,7 +9,8 @@ ghost use Rattle.worker_table.specs.Calls.{AfterClaim, CanClaimAs, EndsAt};
 ghost use Rattle.worker_table.specs.Passes.{IsOf, job_known, note_of_pass, slot_of};
 ghost use Rattle.worker_loop.specs.Bundles.{CanRead, HasWorked, IsFit, IsRefusedAt, OnlyClaims};
 ghost use Rattle.worker_loop.specs.Outside.{IsKitKept};
-ghost use Rattle.worker_loop.specs.Stretches.{CanClaimFrom, IsAnswerAt, IsPutBack, IsStretchDone, IsStretchRefused, end_of};
+ghost use Rattle.worker_loop.specs.Stretches.{CanClaimFrom, IsAnswerAt, IsPutBack, IsStretchDone};
+ghost use Rattle.worker_loop.specs.Stretches.{IsStretchRefused, end_of};
 
 use crate::shop::Shop;
 use beam_ports::{Gate, GatePoint, Store};
@@ -62,20 +64,30 @@ pub fn work_stretch<R: Wait, F: Shelf, S: Store, G: Gate>(
     requires table { IsOf shop.now.table.now pass.old }
     requires slot { IsSome (slot_of pass.old) }
     requires may { CanClaimFrom piece.now (job_known pass.old) p }
-    requires able { CanRead shop.now.graph.now piece.now.node (S.opened store.old pager.old.file) pager.old }
+    requires able { CanRead shop.now.graph.now piece.now.node
+        (S.opened store.old pager.old.file) pager.old }
     requires reaches { end ≤ pager.old.len }
     requires inside { p < end }
     requires room { 0 < room }
-    requires fits { (emitted : Emission) → IsTimely emitted → All (IsFit shop.now.graph.now piece.now.node) (emission_outputs shop.now.graph.now piece.now.node emitted) }
+    requires fits { (emitted : Emission) → IsTimely emitted
+        → All (IsFit shop.now.graph.now piece.now.node)
+        (emission_outputs shop.now.graph.now piece.now.node emitted) }
     ensures table { IsOf shop.now.table.now pass.new }
     ensures claims { OnlyClaims (note_of_pass pass.old) (note_of_pass pass.new) }
-    ensures done { IfOk result (IsStretchDone shop.now.graph.now (S.opened store.old pager.old.file) pager.old.len piece.now p (job_known pass.old) (job_known pass.new) staging.old staging.new) }
-    ensures refused { IfErr result (IsStretchRefused (observed_shelf F.strict F.faults shelf.old shelf.new) (record { before = S.faults store.old; after = S.faults store.new })
-        shop.now.graph.now (S.opened store.old pager.old.file) pager.old.len piece.now (job_known pass.new)) }
-    ensures able { CanRead shop.now.graph.now piece.now.node (S.opened store.new pager.new.file) pager.new }
+    ensures done { IfOk result (IsStretchDone shop.now.graph.now
+        (S.opened store.old pager.old.file) pager.old.len piece.now p
+        (job_known pass.old) (job_known pass.new) staging.old staging.new) }
+    ensures refused { IfErr result
+        (IsStretchRefused (observed_shelf F.strict F.faults shelf.old shelf.new)
+        (record { before = S.faults store.old; after = S.faults store.new })
+        shop.now.graph.now (S.opened store.old pager.old.file) pager.old.len piece.now
+        (job_known pass.new)) }
+    ensures able { CanRead shop.now.graph.now piece.now.node
+        (S.opened store.new pager.new.file) pager.new }
     ensures file { pager.new.file ≡ pager.old.file }
     ensures len { pager.new.len ≡ pager.old.len }
-    ensures kept { IsKitKept F.faults F.strict S.faults S.files S.opened shelf.old shelf.new store.old store.new }
+    ensures kept { IsKitKept F.faults F.strict S.faults S.files
+        S.opened shelf.old shelf.new store.old store.new }
 {
     let (count, seen) = (staging.len(), staging.seen());
     let worked = work_position(
@@ -128,7 +140,9 @@ fn goes_on(more: u32, room: u32, next: u64, end: u64) -> bool
 
 // Drops what was staged from a position on, if the range doesn't reach it.
 fn put_back(stretch: &Stretch, p: u64, count: usize, seen: Time, staging: &mut Staging)
-    ensures { IsPutBack p (record staging.old { arrivals = take count staging.old.arrivals; seen = seen }) staging.old staging.new stretch.now }
+    ensures { IsPutBack p
+        (record staging.old { arrivals = take count staging.old.arrivals; seen = seen })
+        staging.old staging.new stretch.now }
 {
     match stretch {
         Stretch::Cut { end } if *end <= p => staging.back_to(count, seen),
@@ -151,7 +165,8 @@ fn claim_stretch<R: Wait, G: Gate>(
     requires may { CanClaimAs (job_known pass.old) p }
     ensures answer { IsAnswerAt p next result }
     ensures table { IsOf shop.now.table.now pass.new }
-    ensures told { AfterClaim (job_known pass.old) p (nat_lt p (end_of result)) (job_known pass.new) }
+    ensures told { AfterClaim (job_known pass.old) p
+        (nat_lt p (end_of result)) (job_known pass.new) }
     ensures end { EndsAt (job_known pass.new) (end_of result) }
     ensures claims { OnlyClaims (note_of_pass pass.old) (note_of_pass pass.new) }
 {
@@ -197,15 +212,19 @@ fn work_position<F: Shelf, S: Store>(
 ) -> Result<Step, ExecRefusal>
     requires able { CanRead graph.now node (S.opened store.old pager.old.file) pager.old }
     requires inside { p < pager.old.len }
-    ensures worked { IfOk result (HasWorked graph.now node (S.opened store.old pager.old.file) pager.old.len p staging.old staging.new) }
+    ensures worked { IfOk result (HasWorked graph.now node
+        (S.opened store.old pager.old.file) pager.old.len p staging.old staging.new) }
     ensures next { IfOk result (λ step. IsNextOf p pager.old.len step.next) }
     ensures undone { OnErr result (staging.new ≡ staging.old) }
-    ensures refused { IfErr result (IsRefusedAt (observed_shelf F.strict F.faults shelf.old shelf.new)
-        (record { before = S.faults store.old; after = S.faults store.new }) graph.now node (S.opened store.old pager.old.file) pager.old.len p) }
+    ensures refused { IfErr result
+        (IsRefusedAt (observed_shelf F.strict F.faults shelf.old shelf.new)
+        (record { before = S.faults store.old; after = S.faults store.new }) graph.now node
+        (S.opened store.old pager.old.file) pager.old.len p) }
     ensures able { CanRead graph.now node (S.opened store.new pager.new.file) pager.new }
     ensures file { pager.new.file ≡ pager.old.file }
     ensures len { pager.new.len ≡ pager.old.len }
-    ensures kept { IsKitKept F.faults F.strict S.faults S.files S.opened shelf.old shelf.new store.old store.new }
+    ensures kept { IsKitKept F.faults F.strict S.faults S.files
+        S.opened shelf.old shelf.new store.old store.new }
 {
     run_position(alloc, graph, node, shelf, store, pager, p, buffers, staging)
 }

@@ -1,5 +1,6 @@
 //! One worker, with a kit of its own.
-ghost use Rattle.std.specs.Prelude.{◌≡◌, ◌≤◌, ℕ, List as ListOf, Option as OptionOf, None, Some, IfOk, IsSome, true, false};
+ghost use Rattle.std.specs.Prelude.{◌≡◌, ◌≤◌, ℕ, List as ListOf, Option as OptionOf, None, Some};
+ghost use Rattle.std.specs.Prelude.{IfOk, IsSome, true, false};
 ghost use Rattle.beam_ports.specs.Counts.{greatest_count};
 ghost use Rattle.beam_ports.specs.Files.{Opening};
 ghost use Rattle.beam_ports.specs.Observed.{observed_store};
@@ -9,13 +10,15 @@ ghost use Rattle.chain_exec.specs.Causes.{observed_shelf};
 ghost use Rattle.retry_core.specs.Shares.{share_after};
 ghost use Rattle.worker_table.specs.Calls.{CanCommitAs, CanFailAs, IsJobOfPlan, KeepsSlot};
 ghost use Rattle.worker_table.specs.Moves.{calls_after, reads_after};
-ghost use Rattle.worker_table.specs.Passes.{IsOf, entry_of, job_known, note_of_pass, setting_of, slot_of};
+ghost use Rattle.worker_table.specs.Passes.{IsOf, entry_of, job_known, note_of_pass, setting_of};
+ghost use Rattle.worker_table.specs.Passes.{slot_of};
 ghost use Rattle.worker_table.specs.Turns.{KeepsOthers};
 ghost use Rattle.worker_loop.specs.Kits.{IsKitFor};
 ghost use Rattle.worker_loop.specs.Openings.{AreOpened, file_names};
 ghost use Rattle.worker_loop.specs.Outside.{IsKitKept};
 ghost use Rattle.worker_loop.specs.Reading.{AreReaders};
-ghost use Rattle.worker_loop.specs.Workers.{AreFailsCounted, CountsOn, EndsAs, FailsOnce, GoesOnOrEnds, share_with};
+ghost use Rattle.worker_loop.specs.Workers.{AreFailsCounted, CountsOn, EndsAs, FailsOnce};
+ghost use Rattle.worker_loop.specs.Workers.{GoesOnOrEnds, share_with};
 
 use crate::bundles::{Workbench, work_job};
 use crate::kit::Kit;
@@ -70,10 +73,12 @@ pub fn work<R: Wait, F: Shelf, S: Store, G: Gate>(
     ensures table { IsOf table.now pass.new }
     ensures ended { EndsAs (setting_of table.now) result (entry_of pass.new) }
     ensures others { KeepsOthers (note_of_pass pass.old) (note_of_pass pass.new) }
-    ensures share { share.new ≡ share_with share.old (entry_of pass.new).calls (entry_of pass.new).reads }
+    ensures share { share.new
+        ≡ share_with share.old (entry_of pass.new).calls (entry_of pass.new).reads }
     ensures counted { AreFailsCounted (observed_shelf F.strict F.faults kit.old.shelf kit.new.shelf)
         (observed_store S.files S.faults kit.old.store kit.new.store) (entry_of pass.new) }
-    ensures kept { IsKitKept F.faults F.strict S.faults S.files S.opened kit.old.shelf kit.new.shelf kit.old.store kit.new.store }
+    ensures kept { IsKitKept F.faults F.strict S.faults S.files S.opened
+        kit.old.shelf kit.new.shelf kit.old.store kit.new.store }
     ensures files { kit.new.files ≡ kit.old.files }
 {
     let shop = Shop {
@@ -103,10 +108,13 @@ impl<'a, G: Gate> Shop<'a, G> {
         ensures table { IsOf self.now.table.now pass.new }
         ensures ended { EndsAs (setting_of self.now.table.now) result (entry_of pass.new) }
         ensures others { KeepsOthers (note_of_pass pass.old) (note_of_pass pass.new) }
-        ensures share { share.new ≡ share_with share.old (entry_of pass.new).calls (entry_of pass.new).reads }
-        ensures counted { AreFailsCounted (observed_shelf F.strict F.faults kit.old.shelf kit.new.shelf)
+        ensures share { share.new
+            ≡ share_with share.old (entry_of pass.new).calls (entry_of pass.new).reads }
+        ensures counted { AreFailsCounted
+            (observed_shelf F.strict F.faults kit.old.shelf kit.new.shelf)
             (observed_store S.files S.faults kit.old.store kit.new.store) (entry_of pass.new) }
-        ensures kept { IsKitKept F.faults F.strict S.faults S.files S.opened kit.old.shelf kit.new.shelf kit.old.store kit.new.store }
+        ensures kept { IsKitKept F.faults F.strict S.faults S.files S.opened
+            kit.old.shelf kit.new.shelf kit.old.store kit.new.store }
         ensures files { kit.new.files ≡ kit.old.files }
     {
         counts_have_64_bits(share);
@@ -149,17 +157,22 @@ impl<'a, G: Gate> Shop<'a, G> {
         requires free { job_known pass.old ≡ None }
         requires owes { (entry_of pass.old).owes_split ≡ false }
         requires plan { self.now.graph.now ≡ (setting_of self.now.table.now).plan }
-        requires strict { (setting_of self.now.table.now).known.strict ≡ true → F.strict shelf.old ≡ true }
-        requires readers { AreReaders (setting_of self.now.table.now).known.told (S.opened store.old) self.now.graph.now bench.old.readers.items }
+        requires strict { (setting_of self.now.table.now).known.strict ≡ true
+            → F.strict shelf.old ≡ true }
+        requires readers { AreReaders (setting_of self.now.table.now).known.told
+            (S.opened store.old) self.now.graph.now bench.old.readers.items }
         ensures table { IsOf self.now.table.now pass.new }
         ensures end { GoesOnOrEnds (setting_of self.now.table.now) result (entry_of pass.new) }
         ensures others { KeepsOthers (note_of_pass pass.old) (note_of_pass pass.new) }
         ensures slot { slot_of pass.new ≡ slot_of pass.old }
-        ensures fails { FailsOnce (observed_shelf F.strict F.faults shelf.old shelf.new) (observed_store S.files S.faults store.old store.new)
+        ensures fails { FailsOnce (observed_shelf F.strict F.faults shelf.old shelf.new)
+            (observed_store S.files S.faults store.old store.new)
             (entry_of pass.old) (entry_of pass.new) }
         ensures share { CountsOn share.old share.new (entry_of pass.old) (entry_of pass.new) }
-        ensures readers { AreReaders (setting_of self.now.table.now).known.told (S.opened store.new) self.now.graph.now bench.new.readers.items }
-        ensures kept { IsKitKept F.faults F.strict S.faults S.files S.opened shelf.old shelf.new store.old store.new }
+        ensures readers { AreReaders (setting_of self.now.table.now).known.told
+            (S.opened store.new) self.now.graph.now bench.new.readers.items }
+        ensures kept { IsKitKept F.faults F.strict S.faults S.files
+            S.opened shelf.old shelf.new store.old store.new }
     {
         self.gate.pass(slot, GatePoint::Job);
         match self.table.take_job(rt, pass) {
@@ -189,17 +202,22 @@ impl<'a, G: Gate> Shop<'a, G> {
         requires of_plan { IsJobOfPlan (setting_of self.now.table.now).plan job.now }
         requires owes { (entry_of pass.old).owes_split ≡ false }
         requires plan { self.now.graph.now ≡ (setting_of self.now.table.now).plan }
-        requires strict { (setting_of self.now.table.now).known.strict ≡ true → F.strict shelf.old ≡ true }
-        requires readers { AreReaders (setting_of self.now.table.now).known.told (S.opened store.old) self.now.graph.now bench.old.readers.items }
+        requires strict { (setting_of self.now.table.now).known.strict ≡ true
+            → F.strict shelf.old ≡ true }
+        requires readers { AreReaders (setting_of self.now.table.now).known.told
+            (S.opened store.old) self.now.graph.now bench.old.readers.items }
         ensures table { IsOf self.now.table.now pass.new }
         ensures end { GoesOnOrEnds (setting_of self.now.table.now) result (entry_of pass.new) }
         ensures others { KeepsOthers (note_of_pass pass.old) (note_of_pass pass.new) }
         ensures slot { slot_of pass.new ≡ slot_of pass.old }
-        ensures fails { FailsOnce (observed_shelf F.strict F.faults shelf.old shelf.new) (observed_store S.files S.faults store.old store.new)
+        ensures fails { FailsOnce (observed_shelf F.strict F.faults shelf.old shelf.new)
+            (observed_store S.files S.faults store.old store.new)
             (entry_of pass.old) (entry_of pass.new) }
         ensures share { CountsOn share.old share.new (entry_of pass.old) (entry_of pass.new) }
-        ensures readers { AreReaders (setting_of self.now.table.now).known.told (S.opened store.new) self.now.graph.now bench.new.readers.items }
-        ensures kept { IsKitKept F.faults F.strict S.faults S.files S.opened shelf.old shelf.new store.old store.new }
+        ensures readers { AreReaders (setting_of self.now.table.now).known.told
+            (S.opened store.new) self.now.graph.now bench.new.readers.items }
+        ensures kept { IsKitKept F.faults F.strict S.faults S.files
+            S.opened shelf.old shelf.new store.old store.new }
     {
         match work_job(rt, self, slot, pass, job, shelf, store, bench) {
             Ok(receipt) => self.commit(rt, pass, receipt),
@@ -241,8 +259,10 @@ impl<'a, G: Gate> Shop<'a, G> {
         ensures end { GoesOnOrEnds (setting_of self.now.table.now) result (entry_of pass.new) }
         ensures others { KeepsOthers (note_of_pass pass.old) (note_of_pass pass.new) }
         ensures slot { slot_of pass.new ≡ slot_of pass.old }
-        ensures calls { (entry_of pass.new).calls ≡ calls_after (Fail at cause) (entry_of pass.old).calls }
-        ensures reads { (entry_of pass.new).reads ≡ reads_after (Fail at cause) (entry_of pass.old).reads }
+        ensures calls { (entry_of pass.new).calls
+            ≡ calls_after (Fail at cause) (entry_of pass.old).calls }
+        ensures reads { (entry_of pass.new).reads
+            ≡ reads_after (Fail at cause) (entry_of pass.old).reads }
         ensures share { share.new ≡ share_after share.old cause 1 }
     {
         share.rise(cause, 1);
@@ -287,7 +307,8 @@ impl<'a, G: Gate> Shop<'a, G> {
 
 // A reader for each item of the plan, before anything is read.
 fn workbench(alloc: Global, graph: &Graph, files: &[Opened]) -> Result<Workbench, NoMemory>
-    ensures { IfOk result (λ bench. (told : OptionOf (ListOf FileText)) (opened : ℕ → OptionOf Opening) → AreOpened told opened (file_names graph.now) files.now
+    ensures { IfOk result (λ bench. (told : OptionOf (ListOf FileText))
+        (opened : ℕ → OptionOf Opening) → AreOpened told opened (file_names graph.now) files.now
         → AreReaders told opened graph.now bench.readers.items) }
 {
     plans_are_small_and_write_something();

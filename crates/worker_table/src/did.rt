@@ -33,7 +33,8 @@ pub struct Did {
 impl Change<Shared> for Did {
     ghost use Rattle.worker_table.specs.Moves.{note_after};
 
-    ghost new_note = { λ by lent note present. note_after by.deed.value lent.book.value note present.book.value };
+    ghost new_note = { λ by lent note present.
+        note_after by.deed.value lent.book.value note present.book.value };
 }
 
 /// What a pass did, which the proof of the call picks from these values.

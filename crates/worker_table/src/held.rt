@@ -66,13 +66,15 @@ impl Held for Shared {
 
     ghost use Rattle.std.specs.Prelude.{[], ◌∷◌, ◌++◌};
     ghost use Rattle.worker_table.specs.Fits.{Fits};
-    ghost use Rattle.worker_table.specs.Laws.{mover_fits, others_fit, parts_fit as split_fits, join_fits as joined_fits};
+    ghost use Rattle.worker_table.specs.Laws.{mover_fits, others_fit, parts_fit as split_fits};
+    ghost use Rattle.worker_table.specs.Laws.{join_fits as joined_fits};
     ghost use Rattle.worker_table.specs.Moves.{Moves};
     ghost use Rattle.worker_table.specs.Notes.{fresh};
 
     ghost fits = { λ x c n. Fits c x.book.value x.owners.value n };
 
-    ghost moves = { λ c x m y n. Moves c.known x.book.value x.owners.value m y.book.value y.owners.value n };
+    ghost moves = { λ c x m y n.
+        Moves c.known x.book.value x.owners.value m y.book.value y.owners.value n };
 
     ghost opening = { fresh ∷ [] };
 
@@ -82,9 +84,11 @@ impl Held for Shared {
 
     ghost joined = { λ m n. m.about ++ n.about };
 
-    ghost keeps_own = { λ c x y m n. mover_fits c x.book.value y.book.value x.owners.value y.owners.value m n };
+    ghost keeps_own = { λ c x y m n.
+        mover_fits c x.book.value y.book.value x.owners.value y.owners.value m n };
 
-    ghost keeps_others = { λ c x y m n other. others_fit c x.book.value y.book.value x.owners.value y.owners.value m n other };
+    ghost keeps_others = { λ c x y m n other.
+        others_fit c x.book.value y.book.value x.owners.value y.owners.value m n other };
 
     ghost parts_fit = { λ c x m. split_fits c x.book.value x.owners.value m };
 

@@ -3,8 +3,12 @@ ghost use Rattle.std.specs.Prelude.{◌≡◌, None, Some, IfErr, nat_lt};
 ghost use Rattle.turn_desk.specs.Seen.{constant_of, note_of, IsPassOf};
 ghost use Rattle.book_core.specs.Calls.{failure_of};
 ghost use Rattle.book_core.specs.Steps.{Claim, Claimed, Commit, Fail, Take};
-ghost use Rattle.worker_table.specs.Calls.{AfterClaim, AfterCommit, AfterEnroll, AfterFail, AfterHelp, AfterStop, AfterTake, CanClaimAs, CanCommitAs, CanFailAs, EndsAt, GoesOnAs, IsHelpAnswer, KeepsSlot, commit_answer, take_answer};
-ghost use Rattle.worker_table.specs.Turns.{HasEnrolled, HasHelped, HasStepped, HasStopped, KeepsOthers, first_entry};
+ghost use Rattle.worker_table.specs.Calls.{AfterClaim, AfterCommit, AfterEnroll, AfterFail};
+ghost use Rattle.worker_table.specs.Calls.{AfterHelp, AfterStop, AfterTake, CanClaimAs};
+ghost use Rattle.worker_table.specs.Calls.{CanCommitAs, CanFailAs, EndsAt, GoesOnAs, IsHelpAnswer};
+ghost use Rattle.worker_table.specs.Calls.{KeepsSlot, commit_answer, take_answer};
+ghost use Rattle.worker_table.specs.Turns.{HasEnrolled, HasHelped, HasStepped, HasStopped};
+ghost use Rattle.worker_table.specs.Turns.{KeepsOthers, first_entry};
 
 use crate::did::{owned_by, seen_as};
 use crate::held::Shared;
@@ -24,7 +28,8 @@ pub fn enroll<R: Wait>(
     requires slot { (first_entry (note_of own)).slot ≡ None }
     ensures table { IsPassOf desk.now result.1 }
     ensures turn { HasEnrolled (constant_of desk.now) (note_of own) (note_of result.1) result.0 }
-    ensures told { AfterEnroll result.0 (first_entry (note_of own)) (first_entry (note_of result.1)) }
+    ensures told { AfterEnroll result.0 (first_entry (note_of own))
+        (first_entry (note_of result.1)) }
     ensures others { KeepsOthers (note_of own) (note_of result.1) }
 {
     let mut turn = desk.take(rt, own);
@@ -44,8 +49,10 @@ pub fn take_job<R: Wait>(
     requires slot { (first_entry (note_of own)).slot ≡ Some slot }
     requires free { (first_entry (note_of own)).job ≡ None }
     ensures table { IsPassOf desk.now result.1 }
-    ensures turn { HasStepped (constant_of desk.now) (note_of own) (note_of result.1) slot Take (take_answer result.0) }
-    ensures told { AfterTake (constant_of desk.now) result.0 (first_entry (note_of own)) (first_entry (note_of result.1)) }
+    ensures turn { HasStepped (constant_of desk.now) (note_of own)
+        (note_of result.1) slot Take (take_answer result.0) }
+    ensures told { AfterTake (constant_of desk.now) result.0
+        (first_entry (note_of own)) (first_entry (note_of result.1)) }
     ensures stays { KeepsSlot (first_entry (note_of own)) (first_entry (note_of result.1)) }
     ensures others { KeepsOthers (note_of own) (note_of result.1) }
 {
@@ -66,8 +73,10 @@ pub fn claim<R: Wait>(
     requires slot { (first_entry (note_of own)).slot ≡ Some slot }
     requires may { CanClaimAs (first_entry (note_of own)).job p }
     ensures table { IsPassOf desk.now result.1 }
-    ensures turn { HasStepped (constant_of desk.now) (note_of own) (note_of result.1) slot (Claim p) (Claimed (nat_lt p result.0)) }
-    ensures told { AfterClaim (first_entry (note_of own)).job p (nat_lt p result.0) (first_entry (note_of result.1)).job }
+    ensures turn { HasStepped (constant_of desk.now) (note_of own)
+        (note_of result.1) slot (Claim p) (Claimed (nat_lt p result.0)) }
+    ensures told { AfterClaim (first_entry (note_of own)).job p
+        (nat_lt p result.0) (first_entry (note_of result.1)).job }
     ensures end { EndsAt (first_entry (note_of result.1)).job result.0 }
     ensures stays { GoesOnAs (first_entry (note_of own)) (first_entry (note_of result.1)) }
     ensures others { KeepsOthers (note_of own) (note_of result.1) }
@@ -118,7 +127,8 @@ pub fn commit<R: Wait>(
     requires slot { (first_entry (note_of own)).slot ≡ Some slot }
     requires given { CanCommitAs (constant_of desk.now) (first_entry (note_of own)).job receipt }
     ensures table { IsPassOf desk.now result.1 }
-    ensures turn { HasStepped (constant_of desk.now) (note_of own) (note_of result.1) slot Commit (commit_answer result.0) }
+    ensures turn { HasStepped (constant_of desk.now) (note_of own)
+        (note_of result.1) slot Commit (commit_answer result.0) }
     ensures told { AfterCommit result.0 (first_entry (note_of result.1)) }
     ensures stays { GoesOnAs (first_entry (note_of own)) (first_entry (note_of result.1)) }
     ensures others { KeepsOthers (note_of own) (note_of result.1) }
@@ -142,8 +152,10 @@ pub fn fail<R: Wait>(
     requires slot { (first_entry (note_of own)).slot ≡ Some slot }
     requires honest { CanFailAs (constant_of desk.now) (first_entry (note_of own)).job at cause }
     ensures table { IsPassOf desk.now result.1 }
-    ensures turn { HasStepped (constant_of desk.now) (note_of own) (note_of result.1) slot (Fail at cause) (failure_of result.0) }
-    ensures told { AfterFail at cause result.0 (first_entry (note_of own)) (first_entry (note_of result.1)) }
+    ensures turn { HasStepped (constant_of desk.now) (note_of own)
+        (note_of result.1) slot (Fail at cause) (failure_of result.0) }
+    ensures told { AfterFail at cause result.0
+        (first_entry (note_of own)) (first_entry (note_of result.1)) }
     ensures others { KeepsOthers (note_of own) (note_of result.1) }
 {
     let mut turn = desk.take(rt, own);

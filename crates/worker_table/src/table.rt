@@ -47,7 +47,8 @@ impl Table {
         requires table { IsOf self.now pass.old }
         requires free { 0 < (note_of_pass pass.old).free }
         ensures table { IsOf self.now pass.new }
-        ensures kept { note_of_pass pass.new ≡ kept_part (note_of_pass pass.old).about (note_of_pass pass.old) }
+        ensures kept { note_of_pass pass.new
+            ≡ kept_part (note_of_pass pass.old).about (note_of_pass pass.old) }
         ensures split { IsOf self.now result }
         ensures given { note_of_pass result ≡ given_part (fresh ∷ []) (note_of_pass pass.old) }
     {
@@ -68,7 +69,8 @@ impl Table {
         requires other { IsOf self.now other }
         ensures table { IsOf self.now pass.new }
         ensures note { note_of_pass pass.new
-            ≡ joined_note ((note_of_pass pass.old).about ++ (note_of_pass other).about) (note_of_pass pass.old) (note_of_pass other) }
+            ≡ joined_note ((note_of_pass pass.old).about ++ (note_of_pass other).about)
+            (note_of_pass pass.old) (note_of_pass other) }
         ensures slot { slot_of pass.new ≡ slot_of pass.old }
     {
         let WorkerPass {
@@ -87,7 +89,8 @@ impl Table {
         requires table { IsOf self pass }
         requires all { size_of (note_of_pass pass) ≡ 4294967296 }
         ensures book { IsBookOf (setting_of self) result }
-        ensures ended { AllByRecursion (λ entry. IsEnded result entry.ending) (note_of_pass pass).about }
+        ensures ended { AllByRecursion (λ entry. IsEnded result entry.ending)
+            (note_of_pass pass).about }
         ensures calls { result.calls ≤ sum_by (λ entry. entry.calls) (note_of_pass pass).about }
         ensures reads { result.reads ≤ sum_by (λ entry. entry.reads) (note_of_pass pass).about }
     {

@@ -19,7 +19,8 @@ use std::test::Fail;
 
 // A file whose lines are written.
 fn lines(alloc: Global) -> Result<Plan, NoMemory>
-    ensures { IfOk result (λ plan. AreLengthsOf (items [] plan) (record { node = 0; item = 0; len = 10 } ∷ [])) }
+    ensures { IfOk result
+        (λ plan. AreLengthsOf (items [] plan) (record { node = 0; item = 0; len = 10 } ∷ [])) }
 {
     let mut nodes = List::new(alloc);
     let mut files = List::new(alloc);

@@ -2,9 +2,14 @@
 ghost use Rattle.std.specs.Prelude.{◌≡◌, None, IsSome, IsSomeAnd, IfErr, false, nat_lt};
 ghost use Rattle.book_core.specs.Calls.{failure_of};
 ghost use Rattle.book_core.specs.Steps.{Claim, Claimed, Commit, Fail, Take};
-ghost use Rattle.worker_table.specs.Calls.{AfterClaim, AfterCommit, AfterEnroll, AfterFail, AfterHelp, AfterStop, AfterTake, CanClaimAs, CanCommitAs, CanFailAs, EndsAt, GoesOnAs, KeepsSlot, commit_answer, take_answer};
-ghost use Rattle.worker_table.specs.Passes.{IsOf, entry_of, job_known, note_of_pass, setting_of, slot_of};
-ghost use Rattle.worker_table.specs.Turns.{HasEnrolled, HasHelped, HasStepped, HasStopped, KeepsOthers};
+ghost use Rattle.worker_table.specs.Calls.{AfterClaim, AfterCommit, AfterEnroll, AfterFail};
+ghost use Rattle.worker_table.specs.Calls.{AfterHelp, AfterStop, AfterTake, CanClaimAs};
+ghost use Rattle.worker_table.specs.Calls.{CanCommitAs, CanFailAs, EndsAt, GoesOnAs, KeepsSlot};
+ghost use Rattle.worker_table.specs.Calls.{commit_answer, take_answer};
+ghost use Rattle.worker_table.specs.Passes.{IsOf, entry_of, job_known, note_of_pass, setting_of};
+ghost use Rattle.worker_table.specs.Passes.{slot_of};
+ghost use Rattle.worker_table.specs.Turns.{HasEnrolled, HasHelped, HasStepped, HasStopped};
+ghost use Rattle.worker_table.specs.Turns.{KeepsOthers};
 
 use crate::in_turn;
 use crate::pass::{Table, WorkerPass};
@@ -19,7 +24,8 @@ impl Table {
         requires table { IsOf self.now pass.old }
         requires slot { slot_of pass.old ≡ None }
         ensures table { IsOf self.now pass.new }
-        ensures turn { HasEnrolled (setting_of self.now) (note_of_pass pass.old) (note_of_pass pass.new) result }
+        ensures turn { HasEnrolled (setting_of self.now)
+            (note_of_pass pass.old) (note_of_pass pass.new) result }
         ensures told { AfterEnroll result (entry_of pass.old) (entry_of pass.new) }
         ensures others { KeepsOthers (note_of_pass pass.old) (note_of_pass pass.new) }
     {
@@ -41,8 +47,10 @@ impl Table {
         requires free { job_known pass.old ≡ None }
         requires owes { (entry_of pass.old).owes_split ≡ false }
         ensures table { IsOf self.now pass.new }
-        ensures turn { IsSomeAnd (slot_of pass.old) (λ i. HasStepped (setting_of self.now) (note_of_pass pass.old) (note_of_pass pass.new) i Take (take_answer result)) }
-        ensures told { AfterTake (setting_of self.now) result (entry_of pass.old) (entry_of pass.new) }
+        ensures turn { IsSomeAnd (slot_of pass.old) (λ i. HasStepped (setting_of self.now)
+            (note_of_pass pass.old) (note_of_pass pass.new) i Take (take_answer result)) }
+        ensures told { AfterTake (setting_of self.now) result
+            (entry_of pass.old) (entry_of pass.new) }
         ensures stays { KeepsSlot (entry_of pass.old) (entry_of pass.new) }
         ensures others { KeepsOthers (note_of_pass pass.old) (note_of_pass pass.new) }
     {
@@ -60,7 +68,8 @@ impl Table {
         requires slot { IsSome (slot_of pass.old) }
         requires may { CanClaimAs (job_known pass.old) p }
         ensures table { IsOf self.now pass.new }
-        ensures turn { IsSomeAnd (slot_of pass.old) (λ i. HasStepped (setting_of self.now) (note_of_pass pass.old) (note_of_pass pass.new) i (Claim p) (Claimed result)) }
+        ensures turn { IsSomeAnd (slot_of pass.old) (λ i. HasStepped (setting_of self.now)
+            (note_of_pass pass.old) (note_of_pass pass.new) i (Claim p) (Claimed result)) }
         ensures told { AfterClaim (job_known pass.old) p result (job_known pass.new) }
         ensures stays { GoesOnAs (entry_of pass.old) (entry_of pass.new) }
         ensures others { KeepsOthers (note_of_pass pass.old) (note_of_pass pass.new) }
@@ -74,7 +83,9 @@ impl Table {
         requires slot { IsSome (slot_of pass.old) }
         requires may { CanClaimAs (job_known pass.old) p }
         ensures table { IsOf self.now pass.new }
-        ensures turn { IsSomeAnd (slot_of pass.old) (λ i. HasStepped (setting_of self.now) (note_of_pass pass.old) (note_of_pass pass.new) i (Claim p) (Claimed (nat_lt p result))) }
+        ensures turn { IsSomeAnd (slot_of pass.old)
+            (λ i. HasStepped (setting_of self.now) (note_of_pass pass.old)
+            (note_of_pass pass.new) i (Claim p) (Claimed (nat_lt p result))) }
         ensures told { AfterClaim (job_known pass.old) p (nat_lt p result) (job_known pass.new) }
         ensures end { EndsAt (job_known pass.new) result }
         ensures stays { GoesOnAs (entry_of pass.old) (entry_of pass.new) }
@@ -98,7 +109,8 @@ impl Table {
         requires table { IsOf self.now pass.old }
         requires slot { IsSome (slot_of pass.old) }
         ensures table { IsOf self.now pass.new }
-        ensures turn { IsSomeAnd (slot_of pass.old) (λ i. HasHelped (setting_of self.now) (note_of_pass pass.old) (note_of_pass pass.new) i result) }
+        ensures turn { IsSomeAnd (slot_of pass.old) (λ i. HasHelped (setting_of self.now)
+            (note_of_pass pass.old) (note_of_pass pass.new) i result) }
         ensures told { AfterHelp (entry_of pass.old) (entry_of pass.new) }
         ensures others { KeepsOthers (note_of_pass pass.old) (note_of_pass pass.new) }
     {
@@ -121,7 +133,8 @@ impl Table {
         requires slot { IsSome (slot_of pass.old) }
         requires given { CanCommitAs (setting_of self.now) (job_known pass.old) receipt }
         ensures table { IsOf self.now pass.new }
-        ensures turn { IsSomeAnd (slot_of pass.old) (λ i. HasStepped (setting_of self.now) (note_of_pass pass.old) (note_of_pass pass.new) i Commit (commit_answer result)) }
+        ensures turn { IsSomeAnd (slot_of pass.old) (λ i. HasStepped (setting_of self.now)
+            (note_of_pass pass.old) (note_of_pass pass.new) i Commit (commit_answer result)) }
         ensures told { AfterCommit result (entry_of pass.new) }
         ensures back { IfErr result (λ unplaced. unplaced.receipt ≡ receipt) }
         ensures stays { GoesOnAs (entry_of pass.old) (entry_of pass.new) }
@@ -141,7 +154,8 @@ impl Table {
         requires slot { IsSome (slot_of pass.old) }
         requires honest { CanFailAs (setting_of self.now) (job_known pass.old) at cause }
         ensures table { IsOf self.now pass.new }
-        ensures turn { IsSomeAnd (slot_of pass.old) (λ i. HasStepped (setting_of self.now) (note_of_pass pass.old) (note_of_pass pass.new) i (Fail at cause) (failure_of result)) }
+        ensures turn { IsSomeAnd (slot_of pass.old) (λ i. HasStepped (setting_of self.now)
+            (note_of_pass pass.old) (note_of_pass pass.new) i (Fail at cause) (failure_of result)) }
         ensures told { AfterFail at cause result (entry_of pass.old) (entry_of pass.new) }
         ensures others { KeepsOthers (note_of_pass pass.old) (note_of_pass pass.new) }
     {
@@ -157,7 +171,8 @@ impl Table {
     pub fn stop<R: Wait>(&self, rt: &R, pass: &mut WorkerPass)
         requires table { IsOf self.now pass.old }
         ensures table { IsOf self.now pass.new }
-        ensures turn { HasStopped (setting_of self.now) (note_of_pass pass.old) (note_of_pass pass.new) }
+        ensures turn { HasStopped (setting_of self.now)
+            (note_of_pass pass.old) (note_of_pass pass.new) }
         ensures told { AfterStop (entry_of pass.old) (entry_of pass.new) }
         ensures others { KeepsOthers (note_of_pass pass.old) (note_of_pass pass.new) }
     {

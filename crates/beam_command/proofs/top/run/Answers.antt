@@ -77,7 +77,7 @@ returns-in-Ok-Panes-clause-first_plan g c =
     let is : command_of (words_of c.args.words.now) ≡ Some (Panes asks.file.now asks.size asks.options) = sym asks.ensures.exact ∙ ap (λ (k : Command). Some (shown_command k)) asks.field-0-is in
     let same : to_z w64 (of_z w64 asks.size) ≡ asks.size = omega (arith, ints) in
     if_some _ _ (λ o of.
-        subst (λ (a : Option Asked). IsPlanAsked (first_files g.S.Store.files c.args.kits.now) a o.plan) (sym is) (of ∙ ap (λ (size : ℤ). panes_plan asks.file.now size) same))
+    subst (λ (a : Option Asked). IsPlanAsked (first_files g.S.Store.files c.args.kits.now) a o.plan) (sym is) (of ∙ ap (λ (size : ℤ). panes_plan asks.file.now size) same))
     c.run_panes.result.outcome c.run_panes.ensures.first_plan
 
 pub returns-in-Ok-Panes-clause-opened : goal.returns-in-Ok-Panes-clause-opened
@@ -116,8 +116,8 @@ returns-in-Ok-Run-clause-first_plan g c =
     let allowed : IsAllowed (Run asks.plan.now asks.options) = subst (λ (k : Command). IsAllowed (shown_command k)) asks.field-0-is asks.ensures.bounds in
     let some : 0 < length front = omega (arith, split, c.requires, allowed.some_workers) in
     if_some _ _ (λ o of.
-        subst (λ (a : Option Asked). IsPlanAsked (first_files g.S.Store.files c.args.kits.now) a o.plan) (sym is)
-        (subst (λ (told : Option (List FileText)). IsPlanOf told (Run asks.plan.now asks.options) o.plan) (first_front g.S.Store.files c.args.kits.now front back halves.ensures.value some) of)) c.run_file.result.outcome c.run_file.ensures.first_plan
+    subst (λ (a : Option Asked). IsPlanAsked (first_files g.S.Store.files c.args.kits.now) a o.plan) (sym is)
+    (subst (λ (told : Option (List FileText)). IsPlanOf told (Run asks.plan.now asks.options) o.plan) (first_front g.S.Store.files c.args.kits.now front back halves.ensures.value some) of)) c.run_file.result.outcome c.run_file.ensures.first_plan
 
 pub returns-in-Ok-Run-clause-opened : goal.returns-in-Ok-Run-clause-opened
 returns-in-Ok-Run-clause-opened g c =
