@@ -79,13 +79,6 @@ pub fn beam_main<R: Threads + Wait + Sync, F: Shelf, S: Store, W: Sink, N: Sink,
         (λ o. WhereTold (kit_files S.files (asked_by words.now) kits.old.items)
         (λ told. o.files ≡ map item_len (items told o.plan))) }
 
-    // Over any stores, whatever they tell: the plan is the one of the first kit's file, every kit in use has
-    // opened each file of the plan, and the items are as long as the first kit's files were opened.
-    ensures first_plan { IfSome result.outcome
-        (λ o. IsPlanAsked (first_files S.files kits.old.items) (asked_by words.now) o.plan) }
-    ensures opened { IfSome result.outcome
-        (IsOutcomeOfOpened S.files S.opened (in_use (asked_by words.now) kits.new.items)) }
-
     // The committed ranges partition each item.
     ensures cover { IsRun result IsCovered }
 
@@ -104,6 +97,14 @@ pub fn beam_main<R: Threads + Wait + Sync, F: Shelf, S: Store, W: Sink, N: Sink,
         (λ told. ArePlainlyWrittenWhere (items told o.plan) o)) }
     ensures panes_plain { ArePanesPlain (kit_files S.files (asked_by words.now) kits.old.items)
         (asked_by words.now) result }
+
+    // Of an outcome, at WorkFault too: its plan is the one of the first kit's file, where that store tells its
+    // files; every kit in use has a file open for each one of the plan, and the items are as long as those of
+    // the first kit, whatever the stores tell.
+    ensures first_plan { IfSome result.outcome
+        (λ o. IsPlanAsked (first_files S.files kits.old.items) (asked_by words.now) o.plan) }
+    ensures opened { IfSome result.outcome
+        (IsOutcomeOfOpened S.files S.opened (in_use (asked_by words.now) kits.new.items)) }
 
     // Where no store in use fails and all tell the same files, the file decides how `panes` ends: it isn't
     // there; or a line is poison, over shelves that fail on poison alone.

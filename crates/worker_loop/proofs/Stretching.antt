@@ -18,13 +18,15 @@ use Rattle.book_core.specs.Changes.{cut_to}
 use Rattle.book_core.specs.Work.{IsPlausible, IsWorkOn, worked_to}
 use Rattle.bundle_commit.specs.declared.job.Job.TheVariants as job
 use Rattle.bundle_commit.specs.declared.job.Receipt.{Receipt}
-use Rattle.chain_exec.specs.Positions.{IsTimely}
+use Rattle.chain_exec.specs.Causes.{ObservedShelf}
+use Rattle.chain_exec.specs.Positions.{IsTimely, StoreCounts}
 use Rattle.chain_exec.specs.Sources.{IsText, SourceWork, source_at}
 use Rattle.chain_exec.specs.declared.position.Step.{Step}
+use Rattle.chain_exec.specs.declared.refusal.ExecRefusal.{ExecRefusal}
 use Rattle.worker_table.specs.Calls.{AfterClaim, EndsAt}
 use Rattle.worker_table.specs.Notes.{KnownJob}
-use Rattle.worker_loop.specs.Bundles.{HasClaimed, HasWorked, IsFit, IsPieceWorked, item_of}
-use Rattle.worker_loop.specs.Stretches.{CanClaimFrom, Grows, IsAllClaimed, IsAnswerAt, IsCutAt, IsPutBack, IsStretchDone, IsWorkedOver, IsWorkedTo, attempted_of, end_of, first_open}
+use Rattle.worker_loop.specs.Bundles.{HasClaimed, HasWorked, IsFit, IsPieceWorked, IsRefusedAt, item_of}
+use Rattle.worker_loop.specs.Stretches.{CanClaimFrom, Grows, IsAllClaimed, IsAnswerAt, IsCutAt, IsPutBack, IsStretchDone, IsStretchRefused, IsWorkedOver, IsWorkedTo, attempted_of, end_of, first_open}
 use Rattle.worker_loop.specs.declared.stretches.Stretch.{Stretch}
 use Rattle.worker_loop.specs.declared.stretches.Stretch.TheVariants.{Claimed, Cut}
 use Rattle.worker_loop.proofs.Claims.{IsClaimOf, claim_made}
@@ -128,6 +130,45 @@ module _ (plan : Plan) (piece : Piece) where
       | inl inside ↦ (done.some inside).worked.grows
       | inr past ↦ subst (λ (r : Receipt). Grows old r) (sym (done.none past)) (grows_none old)
     ]
+
+    -- a position is claimed, and then worked
+    module _ (p end : ℕ) (before known : Option KnownJob) (can : CanClaimFrom piece before p) (made : AfterClaim before p (nat_lt p end) known) (ends : EndsAt known end) where
+      abbrev first_claim : IsClaimOf piece can.now before p end known
+      first_claim = claim_made piece before p (nat_lt p end) end known can made ends
+
+      pub first_cut : (old : Receipt) → end ≤ p → IsCutAt plan opening len piece p before known end old old
+      first_cut old past = record {
+        now = first_claim.now;
+        last = p;
+        claimed = first_claim.claimed;
+        ends = first_claim.ends;
+        past = past;
+        behind = first_claim.behind;
+        none = λ past. refl;
+        some = λ inside. absurd (omega arith);
+      }
+
+      pub first_claimed : (next : ℕ) (old new : Receipt) → p < end → IsWorkedOver plan opening len piece p (p + 1) next old new → IsAllClaimed plan opening len piece p known next end old new
+      first_claimed next old new inside over =
+          record { now = first_claim.now; last = p; claimed = first_claim.claimed; ends = first_claim.ends; first = omega arith; inside = inside; worked = over }
+
+      pub first_refused : (shelf : ObservedShelf) (store : StoreCounts) (refusal : ExecRefusal) → p < end → IsRefusedAt shelf store plan piece.node opening len p refusal
+          → IsStretchRefused shelf store plan opening len piece known refusal
+      first_refused shelf store refusal inside refused =
+          let node : first_claim.now.node ≡ piece.node = ap (λ (x : Piece). x.node) first_claim.claimed.same in
+          let from : first_claim.now.range.from ≡ piece.range.from = ap (λ (x : Piece). x.range.from) first_claim.claimed.same in
+          record {
+            now = first_claim.now;
+            attempted = Some p;
+            claimed = first_claim.claimed;
+            refused = record {
+              p = p;
+              last = refl;
+              from_start = omega (arith, from, can.start);
+              inside = omega (arith, inside, first_claim.ends);
+              refused = subst (λ (n : ℕ). IsRefusedAt shelf store plan n opening len p refusal) (sym node) refused;
+            };
+          }
 
     -- its only position is claimed, or another's
     pub stretch_one : (p next : ℕ) (before known : Option KnownJob) (old mid new back : Receipt) (stretch : Stretch) → CanClaimFrom piece before p → IsWorkedOver plan opening len piece p (p + 1) next old mid

@@ -105,7 +105,7 @@ pub record IsWorkedTo (plan : Plan) (opening : Option Opening) (len : ℕ) (piec
   pub past : end ≤ next
   pub worked : IsWorkedOver plan opening len piece p upto next old new
 
--- The range ends at the last position of the stretch, which was claimed, or before it, and what lies past its end isn't staged.
+-- The range ends at the last position of the stretch, which was attempted, or before it, and what lies past its end isn't staged.
 pub record IsCutAt (plan : Plan) (opening : Option Opening) (len : ℕ) (piece : Piece) (p : ℕ) (before known : Option KnownJob) (end : ℕ) (old new : Receipt) : Type 0 where
   pub now : Piece
   pub last : ℕ

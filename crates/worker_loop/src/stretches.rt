@@ -25,7 +25,7 @@ use std::sync::Wait;
 use worker_table::WorkerPass;
 
 // How many positions are worked after the first of a stretch, at most.
-const MOST: u32 = 31;
+const MOST: u32 = 63;
 
 /// How a stretch of positions ended.
 #[derive(Clone, Copy)]
@@ -36,16 +36,137 @@ pub enum Stretch {
     Cut { end: u64 },
 }
 
-/// Each stretch of a worker is twice as long as the one before, until one is cut: a range that others split has so
-/// lost little, and a long one takes few turns.
-pub fn longer(more: u32) -> u32 {
+/// Each stretch of a worker is twice as long as the one before, until one is cut: a long range takes few turns, and
+/// where ranges are split often, little is worked that another one takes over.
+pub fn longer(more: u32) -> u32
+    ensures { result ≤ 63 }
+{
     (more.min(MOST) * 2 + 1).min(MOST)
 }
 
-/// Works a position and at most `more` after it, until `room` of them emitted a value or the end of the range is
-/// reached, and claims the last one. What is worked of another's range in this way is dropped again. A refusal
-/// ends the stretch, and is answered only where the position that was refused is granted.
+/// Works and claims the next stretch of a piece, which has at most `more` positions after its first one, and of which
+/// `room` may emit a value. The first position of a piece is claimed before it is worked, and alone: a range of which
+/// nothing is attempted can be split before its start, so others could take it again and again. A refusal is answered
+/// where its position is granted.
 pub fn work_stretch<R: Wait, F: Shelf, S: Store, G: Gate>(
+    rt: &R,
+    shop: &Shop<'_, G>,
+    slot: u32,
+    pass: &mut WorkerPass,
+    piece: &Piece,
+    end: u64,
+    p: u64,
+    more: u32,
+    room: u32,
+    shelf: &mut F,
+    store: &mut S,
+    pager: &mut Pager,
+    buffers: &mut Buffers,
+    staging: &mut Staging,
+) -> Result<Stretch, ExecRefusal>
+    requires table { IsOf shop.now.table.now pass.old }
+    requires slot { IsSome (slot_of pass.old) }
+    requires may { CanClaimFrom piece.now (job_known pass.old) p }
+    requires able { CanRead shop.now.graph.now piece.now.node
+        (S.opened store.old pager.old.file) pager.old }
+    requires reaches { end ≤ pager.old.len }
+    requires inside { p < end }
+    requires room { 0 < room }
+    requires fits { (emitted : Emission) → IsTimely emitted
+        → All (IsFit shop.now.graph.now piece.now.node)
+        (emission_outputs shop.now.graph.now piece.now.node emitted) }
+    ensures table { IsOf shop.now.table.now pass.new }
+    ensures claims { OnlyClaims (note_of_pass pass.old) (note_of_pass pass.new) }
+    ensures done { IfOk result (IsStretchDone shop.now.graph.now
+        (S.opened store.old pager.old.file) pager.old.len piece.now p
+        (job_known pass.old) (job_known pass.new) staging.old staging.new) }
+    ensures refused { IfErr result
+        (IsStretchRefused (observed_shelf F.strict F.faults shelf.old shelf.new)
+        (record { before = S.faults store.old; after = S.faults store.new })
+        shop.now.graph.now (S.opened store.old pager.old.file) pager.old.len piece.now
+        (job_known pass.new)) }
+    ensures able { CanRead shop.now.graph.now piece.now.node
+        (S.opened store.new pager.new.file) pager.new }
+    ensures file { pager.new.file ≡ pager.old.file }
+    ensures len { pager.new.len ≡ pager.old.len }
+    ensures kept { IsKitKept F.faults F.strict S.faults S.files
+        S.opened shelf.old shelf.new store.old store.new }
+{
+    if p == piece.range.from() {
+        claim_first(
+            rt, shop, slot, pass, piece, p, room, shelf, store, pager, buffers, staging,
+        )
+    } else {
+        work_ahead(
+            rt, shop, slot, pass, piece, end, p, more, room, shelf, store, pager, buffers, staging,
+        )
+    }
+}
+
+// Claims a position and works it.
+fn claim_first<R: Wait, F: Shelf, S: Store, G: Gate>(
+    rt: &R,
+    shop: &Shop<'_, G>,
+    slot: u32,
+    pass: &mut WorkerPass,
+    piece: &Piece,
+    p: u64,
+    room: u32,
+    shelf: &mut F,
+    store: &mut S,
+    pager: &mut Pager,
+    buffers: &mut Buffers,
+    staging: &mut Staging,
+) -> Result<Stretch, ExecRefusal>
+    requires table { IsOf shop.now.table.now pass.old }
+    requires slot { IsSome (slot_of pass.old) }
+    requires may { CanClaimFrom piece.now (job_known pass.old) p }
+    requires able { CanRead shop.now.graph.now piece.now.node
+        (S.opened store.old pager.old.file) pager.old }
+    requires inside { p < pager.old.len }
+    requires room { 0 < room }
+    requires fits { (emitted : Emission) → IsTimely emitted
+        → All (IsFit shop.now.graph.now piece.now.node)
+        (emission_outputs shop.now.graph.now piece.now.node emitted) }
+    ensures table { IsOf shop.now.table.now pass.new }
+    ensures claims { OnlyClaims (note_of_pass pass.old) (note_of_pass pass.new) }
+    ensures done { IfOk result (IsStretchDone shop.now.graph.now
+        (S.opened store.old pager.old.file) pager.old.len piece.now p
+        (job_known pass.old) (job_known pass.new) staging.old staging.new) }
+    ensures refused { IfErr result
+        (IsStretchRefused (observed_shelf F.strict F.faults shelf.old shelf.new)
+        (record { before = S.faults store.old; after = S.faults store.new })
+        shop.now.graph.now (S.opened store.old pager.old.file) pager.old.len piece.now
+        (job_known pass.new)) }
+    ensures able { CanRead shop.now.graph.now piece.now.node
+        (S.opened store.new pager.new.file) pager.new }
+    ensures file { pager.new.file ≡ pager.old.file }
+    ensures len { pager.new.len ≡ pager.old.len }
+    ensures kept { IsKitKept F.faults F.strict S.faults S.files
+        S.opened shelf.old shelf.new store.old store.new }
+{
+    match claim_stretch(rt, shop, slot, pass, p, p, room) {
+        Stretch::Cut { end } => Ok(Stretch::Cut { end }),
+        Stretch::Claimed { end, .. } => {
+            let worked = work_position(
+                shop.alloc, shop.graph, piece.node, shelf, store, pager, p, buffers, staging,
+            );
+            match worked {
+                Ok(step) => Ok(Stretch::Claimed {
+                    next: step.next,
+                    room: room - u32::from(step.emitted),
+                    end,
+                }),
+                Err(refusal) => Err(refusal),
+            }
+        }
+    }
+}
+
+// Works a position and at most `more` after it, until `room` of them emitted a value or the end of the range is
+// reached, and then claims the last one. What is worked of another's range in this way is dropped again. A refusal
+// ends the stretch: its position is claimed, and where that isn't granted, the refusal is another's.
+fn work_ahead<R: Wait, F: Shelf, S: Store, G: Gate>(
     rt: &R,
     shop: &Shop<'_, G>,
     slot: u32,
@@ -97,7 +218,7 @@ pub fn work_stretch<R: Wait, F: Shelf, S: Store, G: Gate>(
         Ok(step) => {
             let room = room - u32::from(step.emitted);
             if goes_on(more, room, step.next, end) {
-                let stretch = work_stretch(
+                let stretch = work_ahead(
                     rt,
                     shop,
                     slot,

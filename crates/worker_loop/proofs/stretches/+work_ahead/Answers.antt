@@ -10,24 +10,24 @@ use Rattle.chain_exec.proofs.Looks.{text_later}
 use Rattle.worker_loop.proofs.Answered.{kit_onward}
 use Rattle.worker_loop.proofs.Claims.{stretch_refused_first}
 use Rattle.worker_loop.proofs.Stretching.{done_first, done_grows, grows_then, over_one, put_back_is, stretch_more, stretch_one}
-use Rattle.worker_loop.proofs.stretches.+work_stretch.Goals as goal
+use Rattle.worker_loop.proofs.stretches.+work_ahead.Goals as goal
 
 pub returns-in_err-stretch-in-Ok-clause-refused : goal.returns-in_err-stretch-in-Ok-clause-refused
 returns-in_err-stretch-in-Ok-clause-refused g t c =
     let p = err_from_is_err_and c.from_residual.result c.from_residual.ensures.1 in
     let is : c.from_residual.result ≡ Err c.in_err-stretch-in-Ok.field-0.0 = p.1 ∙ ap Err p.2 in
-    subst (λ (r : Result Stretch ExecRefusal). IfErr r (IsStretchRefused (observed_shelf g.F.Shelf.strict g.F.Shelf.faults c.args.shelf.now c.work_stretch.new.shelf)
-    (record { before = g.S.Store.faults c.args.store.now; after = g.S.Store.faults c.work_stretch.new.store }) c.args.shop.now.graph.now (g.S.Store.opened c.args.store.now c.args.pager.now.file) c.args.pager.now.len
-    c.args.piece.now (job_known c.work_stretch.new.pass))) (sym is)
-    (stretch_refused_first g.F.Shelf.faults g.F.Shelf.strict g.S.Store.faults g.S.Store.files g.S.Store.opened c.args.shelf.now c.work_position-worked.new.shelf c.work_stretch.new.shelf c.args.store.now
-    c.work_position-worked.new.store c.work_stretch.new.store c.work_position-worked.ensures.kept c.args.shop.now.graph.now c.args.pager.now.file c.work_position-worked.new.pager.file c.args.pager.now.len
-    c.work_position-worked.new.pager.len c.work_position-worked.ensures.file c.work_position-worked.ensures.len c.args.piece.now (job_known c.work_stretch.new.pass) c.in_err-stretch-in-Ok.field-0.0
+    subst (λ (r : Result Stretch ExecRefusal). IfErr r (IsStretchRefused (observed_shelf g.F.Shelf.strict g.F.Shelf.faults c.args.shelf.now c.work_ahead.new.shelf)
+    (record { before = g.S.Store.faults c.args.store.now; after = g.S.Store.faults c.work_ahead.new.store }) c.args.shop.now.graph.now (g.S.Store.opened c.args.store.now c.args.pager.now.file) c.args.pager.now.len
+    c.args.piece.now (job_known c.work_ahead.new.pass))) (sym is)
+    (stretch_refused_first g.F.Shelf.faults g.F.Shelf.strict g.S.Store.faults g.S.Store.files g.S.Store.opened c.args.shelf.now c.work_position-worked.new.shelf c.work_ahead.new.shelf c.args.store.now
+    c.work_position-worked.new.store c.work_ahead.new.store c.work_position-worked.ensures.kept c.args.shop.now.graph.now c.args.pager.now.file c.work_position-worked.new.pager.file c.args.pager.now.len
+    c.work_position-worked.new.pager.len c.work_position-worked.ensures.file c.work_position-worked.ensures.len c.args.piece.now (job_known c.work_ahead.new.pass) c.in_err-stretch-in-Ok.field-0.0
     c.in_err-stretch-in-Ok.ensures.refused)
 
 pub returns-in_err-stretch-in-Ok-clause-kept : goal.returns-in_err-stretch-in-Ok-clause-kept
 returns-in_err-stretch-in-Ok-clause-kept g t c =
-    kit_onward g.F.Shelf.faults g.F.Shelf.strict g.S.Store.faults g.S.Store.files g.S.Store.opened c.args.shelf.now c.work_position-worked.new.shelf c.work_stretch.new.shelf c.args.store.now
-    c.work_position-worked.new.store c.work_stretch.new.store c.work_position-worked.ensures.kept c.work_stretch.ensures.kept
+    kit_onward g.F.Shelf.faults g.F.Shelf.strict g.S.Store.faults g.S.Store.files g.S.Store.opened c.args.shelf.now c.work_position-worked.new.shelf c.work_ahead.new.shelf c.args.store.now
+    c.work_position-worked.new.store c.work_ahead.new.store c.work_position-worked.ensures.kept c.work_ahead.ensures.kept
 
 pub returns-in_ok-stretch-in-Ok-clause-done : goal.returns-in_ok-stretch-in-Ok-clause-done
 returns-in_ok-stretch-in-Ok-clause-done g t c =
@@ -39,11 +39,11 @@ returns-in_ok-stretch-in-Ok-clause-done g t c =
     let p = c.args.p in
     let next = c.in-Ok.step.next in
     let before = job_known c.args.pass.now in
-    let known = job_known c.work_stretch.new.pass in
+    let known = job_known c.work_ahead.new.pass in
     let old = c.args.staging.now in
     let worked = c.work_position-worked in
     let mid = worked.new.staging in
-    let later = c.work_stretch.new.staging in
+    let later = c.work_ahead.new.staging in
     let stretch = c.in_ok-stretch-in-Ok.stretch in
     let onward = g.S.Store.opened worked.new.store in
     let pager = worked.new.pager in
