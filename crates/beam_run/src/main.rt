@@ -3,12 +3,9 @@
 //! `beam_run panes FILE SIZE` groups a file of timed lines by the field after the time in fixed
 //! windows of SIZE milliseconds, and prints the panes; `beam_run run PLAN` runs the pipeline of a plan
 //! document, with several workers. The whole program over any stores and sinks is `beam_command::beam_main`,
-//! whose contract is the promise of the program; `main` runs it over the system's files and streams, the
-//! adapters in `fs_store.rt` and `sinks.rt`, with a kit for each worker that can be asked for.
+//! whose contract is the promise of the program; `main` runs it over the system's files and streams, those
+//! of `system_ports`, with a kit for each worker that can be asked for.
 #![tactic(auto)]
-
-mod fs_store;
-mod sinks;
 
 use beam_command::beam_main;
 use beam_ports::{Gate, OpenGate, Sink, Store};
@@ -18,16 +15,15 @@ use dofn_library::{
     RunningSum, Shift, SumSeq, Swap, Unseq, Values, Words,
 };
 use dofn_traits::{BoxShelf, DoFn, ShelfRefusal, SplittableFn, StatefulFn};
-use fs_store::FsStore;
 use run_engine::{Kit, RunEnd, Status, put};
 use sdf_library::{Count, Lines, Made, TimedLines};
-use sinks::{ErrSink, OutSink};
 use std::alloc::{AllocError, Global};
 use std::mem::ManuallyDrop;
 use std::process::ExitCode;
 use std::sync::Wait;
 use std::thread::Threads;
 use std::{env, io};
+use system_ports::{ErrSink, FsStore, OutSink};
 
 /// The exit status where the words of the command line can't be got.
 const NO_WORDS: u8 = 2;

@@ -1,6 +1,5 @@
 //! The command over sinks with places of their own, so that each allocation is the command's, and its workers
 //! in an order that a gate forces.
-use crate::sinks::{ErrSink, OutSink};
 use crate::{Parts, command, run_over};
 use beam_ports::{FileText, Gate, GatePoint, MemorySink, MemoryStore, OpenGate};
 use beam_values::{Args, Bytes, Element, FnKind, List, NoMemory};
@@ -17,6 +16,7 @@ use std::sync::atomic::{AtomicBool, AtomicU64, Ordering};
 use std::test::Fail;
 use std::thread;
 use std::thread::Threads;
+use system_ports::{ErrSink, OutSink};
 
 const FOUR_LINES: &[u8] = b"1000\ta\tx\n61000\ta\ty\n2000\tb\tz\n2000\ta\tx\n";
 

@@ -1,6 +1,6 @@
 use Rattle.std.proofs.Common.{◌≡◌, ℕ, true, false, List, [], ◌∷◌, map, IsSome, refl}
-use Rattle.beam_run.specs.Lengths.{untold_opening}
-use Rattle.beam_run.proofs.fs_store.tests.reread.Goals as goal
+use Rattle.system_ports.specs.Lengths.{untold_opening}
+use Rattle.system_ports.proofs.fs_store.tests.reread.Goals as goal
 
 first_opened : {X : Type 0} (len_of : X → ℕ) (places : List X) → (places ≡ [] → ⊥) → IsSome (untold_opening (map len_of places) 0)
 first_opened len_of [] full = absurd (full refl)

@@ -1,7 +1,7 @@
 ghost use Rattle.std.specs.Prelude.{◌≡◌, ◌↔◌, ◌-◌, ◌<◌, ◌≤◌, [], ◌∷◌, ◌++◌, length, map, min, drop, slice_index, None, IfOk, OnOk, OnErr};
 ghost use Rattle.std.specs.IoError.{error_kind};
 ghost use Rattle.beam_ports.specs.Counts.{Rose};
-ghost use Rattle.beam_run.specs.Lengths.{untold_opening};
+ghost use Rattle.system_ports.specs.Lengths.{untold_opening};
 
 use beam_ports::{Failed, List, NoMemory, OpenRefusal, Opened, Store};
 use std::fs::File;
@@ -45,7 +45,7 @@ pub struct FsStore<R> {
 
 impl<R> Model for FsStore<R> {
     ghost use Rattle.std.specs.Prelude.{map};
-    ghost use Rattle.beam_run.specs.Lengths.{Lengths};
+    ghost use Rattle.system_ports.specs.Lengths.{Lengths};
 
     ghost Value = { Lengths };
 
