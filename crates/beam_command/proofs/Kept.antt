@@ -222,10 +222,13 @@ module _ {F S : Type 0} (strict : F → Bool) (calls : F → ℕ) (files : S →
       by : (o : Option Outcome) → IfSome o (λ o. o.plan ≡ plan) → IfSome o (λ o. o.files ≡ lengths_of_first plan mids)
           → IfSome o (λ o. (o.plan ≡ plan) × IsOutcomeOfOpened files opened news o)
       by None of long = tt
-      by (Some o) of long = (of, record {
-        opens = subst (λ (p : Plan). AreOpenedByAll files opened p news) (sym of) (record { each = all_opened plan mids news each are.each; lengths = agree_still mids news each are.lengths });
-        lengths = long ∙ lengths_still plan mids news each ∙ ap (λ (p : Plan). lengths_of_first p news) (sym of);
-      })
+      by (Some o) of long = (
+        of,
+        record {
+          opens = subst (λ (p : Plan). AreOpenedByAll files opened p news) (sym of) (record { each = all_opened plan mids news each are.each; lengths = agree_still mids news each are.lengths });
+          lengths = long ∙ lengths_still plan mids news each ∙ ap (λ (p : Plan). lengths_of_first p news) (sym of);
+        },
+      )
 
 -- ---- the first kit
 

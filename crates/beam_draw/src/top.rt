@@ -27,7 +27,8 @@ pub fn draw_plan<S: Store, W: Sink, N: Sink>(
     out: &mut W,
     notes: &mut N,
 ) -> Status
-    ensures ends { IsDrawEnd (file_asked (words_of words.now)) (observed_store S.files S.faults store.old store.new)
+    ensures ends { IsDrawEnd (file_asked (words_of words.now))
+        (observed_store S.files S.faults store.old store.new)
         (observed_sink W.faults W.taken out.old out.new) result }
     ensures noted { IsDrawNoted result (observed_sink N.faults N.taken notes.old notes.new) }
 {
@@ -43,7 +44,8 @@ pub fn draw_plan<S: Store, W: Sink, N: Sink>(
 
 // The end before its note is written.
 fn drawn<S: Store, W: Sink>(alloc: Global, words: &[String], store: &mut S, out: &mut W) -> Status
-    ensures { IsDrawEnd (file_asked (words_of words.now)) (observed_store S.files S.faults store.old store.new)
+    ensures { IsDrawEnd (file_asked (words_of words.now))
+        (observed_store S.files S.faults store.old store.new)
         (observed_sink W.faults W.taken out.old out.new) result }
 {
     let [_program, file] = words else {
@@ -58,7 +60,8 @@ fn drawn<S: Store, W: Sink>(alloc: Global, words: &[String], store: &mut S, out:
 // Writes the drawing of a plan that was read.
 fn draw_read<W: Sink>(alloc: Global, read: &PlanRead, out: &mut W) -> Status
     requires { length read.now.names ≡ length read.now.graph.nodes }
-    ensures { IsTextWritten (observed_sink W.faults W.taken out.old out.new) (drawing_of read.now.names read.now.graph) result }
+    ensures { IsTextWritten (observed_sink W.faults W.taken out.old out.new)
+        (drawing_of read.now.names read.now.graph) result }
 {
     match draw(alloc, read.names.as_slice(), read.graph.plan()) {
         Ok(text) => written(out, text.as_slice(), ATTEMPTS),

@@ -1,4 +1,5 @@
-ghost use Rattle.std.specs.Prelude.{◌≡◌, ◌↔◌, ◌-◌, ◌<◌, ◌≤◌, [], ◌∷◌, ◌++◌, length, map, min, drop, slice_index, None, IfOk, OnOk, OnErr};
+ghost use Rattle.std.specs.Prelude.{◌≡◌, ◌↔◌, ◌-◌, ◌<◌, ◌≤◌, [], ◌∷◌, ◌++◌, length, map, min, drop};
+ghost use Rattle.std.specs.Prelude.{slice_index, None, IfOk, OnOk, OnErr};
 ghost use Rattle.std.specs.IoError.{error_kind};
 ghost use Rattle.beam_ports.specs.Counts.{Rose};
 ghost use Rattle.system_ports.specs.Lengths.{untold_opening};
@@ -49,7 +50,10 @@ impl<R> Model for FsStore<R> {
 
     ghost Value = { Lengths };
 
-    ghost view = { λ store. record { lengths = map (λ place. place.len) store.places; faults = store.faults } };
+    ghost view = { λ store. record {
+      lengths = map (λ place. place.len) store.places;
+      faults = store.faults;
+    } };
 }
 
 // Opens a file to be read by position. The kind is asked first, since to open a pipe would wait for
@@ -88,7 +92,8 @@ impl<R: Files<File = File> + AllocGlobal + Drop> FsStore<R> {
 
     fn open_named(&mut self, name: &[u8]) -> Result<Opened, OpenRefusal>
         ensures faults { self.new.faults ≡ self.old.faults }
-        ensures ok { IfOk result (λ o. (self.new.lengths ≡ self.old.lengths ++ o.len ∷ []) × (o.file ≡ length self.old.lengths)) }
+        ensures ok { IfOk result (λ o. (self.new.lengths ≡ self.old.lengths ++ o.len ∷ [])
+            × (o.file ≡ length self.old.lengths)) }
         ensures err { OnErr result (self.new.lengths ≡ self.old.lengths) }
     {
         let Ok(name) = str::from_utf8(name) else {
@@ -142,7 +147,8 @@ impl<R: Files<File = File> + AllocGlobal + Drop> FsStore<R> {
     fn read_place(&mut self, number: usize, at: u64, buf: &mut [u8]) -> io::Result<usize>
         requires { number < length self.old.lengths }
         ensures same { self.new ≡ self.old }
-        ensures count { IfOk result (λ n. n ≡ min (length buf.old) (slice_index self.old.lengths number - at)) }
+        ensures count { IfOk result
+            (λ n. n ≡ min (length buf.old) (slice_index self.old.lengths number - at)) }
         ensures rest { IfOk result (λ n. drop n buf.new ≡ drop n buf.old) }
     {
         let left = self.places.as_slice()[number].len.saturating_sub(at);
