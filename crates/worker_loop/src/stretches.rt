@@ -36,8 +36,8 @@ pub enum Stretch {
     Cut { end: u64 },
 }
 
-/// Each stretch of a worker is twice as long as the one before, until one is cut: a long range takes few turns, and
-/// where ranges are split often, little is worked that another one takes over.
+/// How many positions a stretch may have doubles from one to the next of a worker, until one is cut: a long range takes
+/// few turns, and where ranges are split often, little is worked that another one takes over.
 pub fn longer(more: u32) -> u32
     ensures { result ≤ 63 }
 {
