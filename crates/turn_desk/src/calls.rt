@@ -103,10 +103,12 @@ impl<V: Held> Desk<V> {
     {
         let mut spins = 0;
         for _ in rt.forever() {
-            if self.table.shared.load::<Serve<V>>(seat, SERVING) == ticket {
+            let serving = self.table.shared.load::<Serve<V>>(seat, SERVING);
+            if serving == ticket {
                 break;
             }
-            if spins < SPINS {
+            // Whose turn is the next one looks again at once; others let those run who come before.
+            if spins < SPINS && ticket.wrapping_sub(serving) == 1 {
                 spins += 1;
                 hint::spin_loop();
             } else {
