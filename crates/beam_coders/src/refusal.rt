@@ -23,6 +23,7 @@ pub enum CoderRefusal {
 }
 
 impl CoderRefusal {
+    /// Its place in the order above, from 1. Worked cases name a refusal by it.
     pub fn number(&self) -> u8
         ensures { result ≡ refusal_number self.now }
     {

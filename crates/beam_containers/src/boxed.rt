@@ -22,6 +22,7 @@ impl<T> Model for Boxed<T> {
 }
 
 impl<T> Boxed<T> {
+    /// The value, which all shares have in common.
     pub fn get(&self) -> &T
         ensures { result.now ≡ self.now }
     {
@@ -39,6 +40,7 @@ impl<T> Boxed<T> {
 }
 
 impl<T: Drop> Boxed<T> {
+    /// Moves the value to a place of its own in memory.
     pub fn new(alloc: Global, value: T) -> Result<Boxed<T>, NoMemory>
         ensures { IfOk result (λ b. b ≡ value) }
     {

@@ -45,6 +45,7 @@ impl Bytes {
         }
     }
 
+    /// A copy of the bytes. Up to 22 of them take no memory.
     pub fn from_slice(alloc: Global, bytes: &[u8]) -> Result<Bytes, NoMemory>
         ensures { IfOk result (λ b. b ≡ bytes.now) }
     {
@@ -72,6 +73,7 @@ impl Bytes {
         Ok(Bytes { store })
     }
 
+    /// The bytes where they lie, in the string itself or in memory.
     pub fn as_slice(&self) -> &[u8]
         ensures { result.now ≡ self.now }
     {
@@ -81,18 +83,21 @@ impl Bytes {
         }
     }
 
+    /// How many bytes there are, wherever they lie.
     pub fn len(&self) -> usize
         ensures { result ≡ length self.now }
     {
         self.as_slice().len()
     }
 
+    /// Whether there is no byte.
     pub fn is_empty(&self) -> bool
         ensures { IsTrue result ↔ (self.now ≡ []) }
     {
         self.as_slice().is_empty()
     }
 
+    /// Adds a byte at the end. A copy that shares the memory of the string stays as it is.
     pub fn push(&mut self, byte: u8) -> Result<(), NoMemory>
         ensures ok { OnOk result (self.new ≡ self.old ++ byte ∷ []) }
         ensures err { OnErr result (self.new ≡ self.old) }
@@ -105,6 +110,7 @@ impl Bytes {
         Ok(())
     }
 
+    /// Adds the bytes at the end. A string that gets longer than 22 bytes by that moves into memory.
     pub fn extend_from_slice(&mut self, more: &[u8]) -> Result<(), NoMemory>
         ensures ok { OnOk result (self.new ≡ self.old ++ more.now) }
         ensures err { OnErr result (self.new ≡ self.old) }

@@ -34,12 +34,14 @@ impl<T> List<T> {
         }
     }
 
+    /// Takes no memory: the items stay where they lie.
     pub fn from_vec(items: Vec<T>) -> List<T>
         ensures { result ≡ items.items }
     {
         List { items }
     }
 
+    /// Takes no memory: the items stay where they lie.
     pub fn into_vec(self) -> Vec<T>
         ensures { result.items ≡ self }
     {
@@ -47,24 +49,28 @@ impl<T> List<T> {
         items
     }
 
+    /// The items, the first one first.
     pub fn as_slice(&self) -> &[T]
         ensures { result.now ≡ self.now }
     {
         self.items.as_slice()
     }
 
+    /// How many items there are; places that are kept don't count.
     pub fn len(&self) -> usize
         ensures { result ≡ length self.now }
     {
         self.items.len()
     }
 
+    /// Whether there is no item.
     pub fn is_empty(&self) -> bool
         ensures { IsTrue result ↔ (self.now ≡ []) }
     {
         self.items.is_empty()
     }
 
+    /// The item at a place, counted from 0; `None` past the last.
     pub fn get(&self, at: usize) -> Option<&T>
         ensures value { option_copied result ≡ slice_get self.now at }
         ensures within { OnSome result (at < length self.now) }
@@ -82,6 +88,7 @@ impl<T> List<T> {
         Ok(())
     }
 
+    /// Takes the last item out. Its place is kept, but contracts don't see it.
     pub fn pop(&mut self) -> Option<T>
         ensures { MatchOption result ((self.old ≡ []) × (self.new ≡ []))
             (λ last. self.old ≡ self.new ++ last ∷ []) }
@@ -91,6 +98,7 @@ impl<T> List<T> {
 }
 
 impl<T: Drop> List<T> {
+    /// Adds the item at the end. A list that is full grows by half of its length and two places.
     pub fn push(&mut self, item: T) -> Result<(), NoMemory>
         ensures ok { OnOk result (self.new ≡ self.old ++ item ∷ []) }
         ensures err { OnErr result (self.new ≡ self.old) }
@@ -112,6 +120,7 @@ impl<T: Drop> List<T> {
         Ok(())
     }
 
+    /// Puts the item at a place, counted from 0. Those from there on move up by one.
     pub fn insert(&mut self, at: usize, item: T) -> Result<(), NoMemory>
         requires { at ≤ length self.old }
         ensures ok { OnOk result (self.new ≡ insert self.old at item) }
@@ -121,6 +130,7 @@ impl<T: Drop> List<T> {
         Ok(())
     }
 
+    /// Takes the item at a place out. Those after it move down by one.
     pub fn remove(&mut self, at: usize) -> T
         requires { at < length self.old }
         ensures item { slice_get self.old at ≡ Some result }
@@ -129,6 +139,7 @@ impl<T: Drop> List<T> {
         self.items.remove(at)
     }
 
+    /// Puts the item in the place of another, which is dropped. Takes no memory.
     pub fn set(&mut self, at: usize, item: T)
         requires { at < length self.old }
         ensures { self.new ≡ slice_set self.old at item }
@@ -157,6 +168,7 @@ fn grow<T>(items: &mut Vec<T>) -> Result<(), NoMemory>
 }
 
 impl<T: Copy> List<T> {
+    /// Copies of the items, in their order.
     pub fn from_slice(alloc: Global, items: &[T]) -> Result<List<T>, NoMemory>
         ensures { IfOk result (λ it. it ≡ items.now) }
     {

@@ -28,6 +28,7 @@ impl Model for Long {
 }
 
 impl Long {
+    /// The bytes stay where they lie. Memory is taken for the place that copies share.
     pub fn from_vec(alloc: Global, bytes: Vec<u8>) -> Result<Long, NoMemory>
         ensures { IfOk result (λ long. long ≡ bytes.items) }
     {
@@ -37,12 +38,14 @@ impl Long {
         })
     }
 
+    /// The bytes that are its own; what it shares may go on after them.
     pub fn as_slice(&self) -> &[u8]
         ensures { result.now ≡ self.now }
     {
         &self.bytes[..self.len]
     }
 
+    /// Takes no memory. It is refused only where there are 2^63 - 1 shares.
     pub fn share(&self) -> Result<Long, NoMemory>
         ensures { IfOk result (λ long. long ≡ self.now) }
     {
@@ -52,12 +55,14 @@ impl Long {
         })
     }
 
+    /// Keeps the first `count` bytes, or all where there are fewer. Copies stay as they are.
     pub fn truncate(&mut self, count: usize)
         ensures { self.new ≡ take count self.old }
     {
         self.len = self.len.min(count);
     }
 
+    /// Where copies share the place of the bytes, this one gets a place of its own first.
     pub fn push(&mut self, byte: u8) -> Result<(), NoMemory>
         ensures ok { OnOk result (self.new ≡ self.old ++ byte ∷ []) }
         ensures err { OnErr result (self.new ≡ self.old) }

@@ -53,18 +53,21 @@ impl<T> RoomyList<T> {
         List::from_vec(items)
     }
 
+    /// The items, without the places that are kept.
     pub fn as_slice(&self) -> &[T]
         ensures { result.now ≡ self.now.items }
     {
         self.items.as_slice()
     }
 
+    /// How many items there are; places that are kept don't count.
     pub fn len(&self) -> usize
         ensures { result ≡ length self.now.items }
     {
         self.items.len()
     }
 
+    /// Whether there is no item, whatever places are kept.
     pub fn is_empty(&self) -> bool
         ensures { IsTrue result ↔ (self.now.items ≡ []) }
     {

@@ -32,6 +32,7 @@ impl Model for Short {
 }
 
 impl Short {
+    /// Takes no memory. `alloc` is where its bytes go once they are moved out.
     pub fn new(alloc: Global) -> Short
         ensures { result ≡ [] }
     {
@@ -42,6 +43,7 @@ impl Short {
         }
     }
 
+    /// The bytes, which lie in the string itself.
     pub fn as_slice(&self) -> &[u8]
         ensures bytes { result.now ≡ self.now }
         ensures within { length self.now ≤ ROOM }
@@ -56,6 +58,7 @@ impl Short {
         ROOM - self.len as usize
     }
 
+    /// Adds the bytes at the end. There has to be room for them, so it takes no memory.
     pub fn append(&mut self, more: &[u8])
         requires { length self.old + length more.now ≤ ROOM }
         ensures { self.new ≡ self.old ++ more.now }
@@ -75,6 +78,7 @@ impl Short {
         }
     }
 
+    /// Takes no memory: the bytes are copied with the string.
     pub fn copy(&self) -> Short
         ensures { result ≡ self.now }
     {

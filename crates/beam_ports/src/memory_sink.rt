@@ -54,6 +54,7 @@ impl MemorySink {
         }
     }
 
+    /// The bytes that all calls took, one after the other.
     pub fn taken(&self) -> &[u8]
         ensures { result.now ≡ self.now.taken }
     {

@@ -13,6 +13,7 @@ pub struct Pane {
 }
 
 impl Pane {
+    /// Its element is copied as [`Value::copy`] copies.
     pub fn copy(&self, alloc: Global) -> Result<Pane, NoMemory>
         ensures { IfOk result (λ pane. pane ≡ self.now) }
     {

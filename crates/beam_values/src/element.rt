@@ -45,6 +45,7 @@ pub struct Element {
 }
 
 impl Element {
+    /// Its value is copied as [`Value::copy`] copies; the rest lies in the element itself.
     pub fn copy(&self, alloc: Global) -> Result<Element, NoMemory>
         ensures { IfOk result (λ e. e ≡ self.now) }
     {

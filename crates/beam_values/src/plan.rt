@@ -129,6 +129,7 @@ pub enum NodeKind {
 }
 
 impl NodeKind {
+    /// Whether the node is a Write, whose elements are printed.
     pub fn is_write(&self) -> bool
         ensures { result ≡ is_write_kind self.now }
     {
@@ -152,6 +153,7 @@ pub struct Plan {
 }
 
 impl Plan {
+    /// All nodes, with the same numbers.
     pub fn copy(&self, alloc: Global) -> Result<Plan, NoMemory>
         ensures { IfOk result (λ plan. plan ≡ self.now) }
     {

@@ -43,6 +43,7 @@ impl Range {
         Range { from, to }
     }
 
+    /// The offset at which it starts; it belongs to the restriction, unless that is empty.
     pub fn from(&self) -> u64
         ensures value { result ≡ self.now.from }
         ensures ordered { self.now.from ≤ self.now.to }
@@ -50,6 +51,7 @@ impl Range {
         self.from
     }
 
+    /// The offset at which it ends; it doesn't belong to the restriction.
     pub fn to(&self) -> u64
         ensures value { result ≡ self.now.to }
         ensures ordered { self.now.from ≤ self.now.to }

@@ -43,6 +43,7 @@ impl Span {
         Span { start, end }
     }
 
+    /// The start, in milliseconds; it belongs to the window.
     pub fn start(&self) -> i64
         ensures value { result ≡ self.now.start }
         ensures ordered { self.now.start <ℤ self.now.end }
@@ -50,6 +51,7 @@ impl Span {
         self.start
     }
 
+    /// The end, in milliseconds; it doesn't belong to the window.
     pub fn end(&self) -> i64
         ensures value { result ≡ self.now.end }
         ensures ordered { self.now.start <ℤ self.now.end }

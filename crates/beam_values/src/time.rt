@@ -27,12 +27,16 @@ impl Model for Time {
 }
 
 impl Time {
+    /// The least time, in milliseconds. As microseconds it just fits into 64 bits.
     pub const LEAST_MS: i64 = -9_223_372_036_854_775;
 
+    /// The greatest time, in milliseconds: as far above 0 as the least is below.
     pub const GREATEST_MS: i64 = 9_223_372_036_854_775;
 
+    /// The earliest time. It stands for what was seen before anything was read.
     pub const LEAST: Time = Time { ms: Time::LEAST_MS };
 
+    /// The latest time. `Mark::FINAL` is above it.
     pub const GREATEST: Time = Time {
         ms: Time::GREATEST_MS,
     };
@@ -48,6 +52,7 @@ impl Time {
         }
     }
 
+    /// Its milliseconds, which may be below 0.
     pub fn ms(&self) -> i64
         ensures value { result ≡ self.now }
         ensures within { IsTime self.now }
@@ -79,20 +84,24 @@ impl Model for Mark {
 }
 
 impl Mark {
+    /// The mark of a node to which nothing more comes. It is above each time.
     pub const FINAL: Mark = Mark { ms: i64::MAX };
 
+    /// Whether it is `FINAL`: nothing more comes.
     pub fn is_final(&self) -> bool
         ensures { IsTrue result ↔ (self.now ≡ final_mark) }
     {
         self.ms == Mark::FINAL.ms
     }
 
+    /// The mark at a time, which is never `FINAL`.
     pub fn at(time: Time) -> Mark
         ensures { result ≡ time }
     {
         Mark { ms: time.ms() }
     }
 
+    /// Its milliseconds; those of `FINAL` are 2^63 - 1.
     pub fn ms(&self) -> i64
         ensures value { result ≡ self.now }
         ensures within { IsMark self.now }

@@ -14,6 +14,7 @@ pub enum Value {
 }
 
 impl Value {
+    /// Pairs and long byte strings are shared, and take no memory. The items of a sequence are copied.
     #[cycle(copies)]
     pub fn copy(&self, alloc: Global) -> Result<Value, NoMemory>
         ensures { IfOk result (λ v. v ≡ self.now) }

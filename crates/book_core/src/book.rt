@@ -121,6 +121,7 @@ impl Book {
         &self.graph
     }
 
+    /// The options of the run, which no step changes.
     pub fn options(&self) -> Options
         ensures { result ≡ self.now.options }
     {

@@ -119,6 +119,7 @@ pub fn stopped_after(kept: Option<StopCause>, spent: bool, note: FaultNote) -> O
     }
 }
 
+/// What comes of a job that failed, where `spent` says whether that was as often as it may.
 pub fn failure_where(spent: bool, note: FaultNote) -> Failure
     ensures { result ≡ (if spent then Failure.Spent note else Failure.Retry) }
 {

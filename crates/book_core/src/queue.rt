@@ -32,6 +32,7 @@ impl Queue {
         }
     }
 
+    /// Whether no pane waits.
     pub fn is_empty(&self) -> bool
         ensures { IsTrue result ↔ (self.now.panes ≡ []) }
     {

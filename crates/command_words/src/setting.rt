@@ -14,6 +14,7 @@ pub enum Setting {
 }
 
 impl Setting {
+    /// The option that a word names, which begins with its two dashes.
     pub fn named(name: &str) -> Option<Setting>
         ensures { result ≡ setting_named name.now }
     {
@@ -30,6 +31,7 @@ impl Setting {
         }
     }
 
+    /// The greatest number that it may be set to. The least is 1.
     pub fn greatest(self) -> u64
         ensures { result ≡ greatest_of self }
     {
@@ -41,6 +43,7 @@ impl Setting {
         }
     }
 
+    /// The number that it has where a command doesn't set it.
     pub fn default(self) -> u64
         ensures { result ≡ default_of self }
     {

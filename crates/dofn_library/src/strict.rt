@@ -22,6 +22,7 @@ impl<W> Model for Strict<W> {
 }
 
 impl<W> Strict<W> {
+    /// Takes no memory. What its calls need they take from `alloc`.
     pub fn new(alloc: Global) -> Strict<W>
         ensures { result ≡ 0 }
     {

@@ -119,12 +119,14 @@ impl PlainGroups {
         Ok(fired)
     }
 
+    /// The cells of all Groups, in the order in which they were made, with those that were merged away.
     pub fn cells(&self) -> &[Cell]
         ensures { result.now ≡ self.now.cells }
     {
         self.cells.as_slice()
     }
 
+    /// The elements that came too late, in the order of their commits.
     pub fn dropped(&self) -> &[Dropped]
         ensures { result.now ≡ self.now.dropped }
     {

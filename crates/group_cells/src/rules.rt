@@ -57,7 +57,7 @@ fn is_sessions(strategy: Strategy) -> bool
     matches!(strategy, Strategy::Sessions { .. })
 }
 
-// A node that isn't a Group counts as one with the default trigger.
+/// The trigger of a Group. Another node counts as one with the default trigger.
 pub fn trigger_of(plan: &Plan, node: u32) -> Trigger
     ensures { result ≡ trigger_of plan.now node }
 {

@@ -138,6 +138,7 @@ fn count_ended(listed: &[Span], own: Span) -> usize
     listed.partition_point(|window| window.end() <= start)
 }
 
+/// Adds the window, if there is one.
 pub fn push_if(windows: &mut List<Span>, window: Option<Span>) -> Result<(), NoMemory>
     ensures { OnOk result (windows.new ≡ windows.old ++ option_to_list window) }
 {

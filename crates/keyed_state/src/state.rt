@@ -86,6 +86,7 @@ impl KeyState {
         self.cells[name as usize] = StateCell::Number(n);
     }
 
+    /// The cell may have had another form. Up to 22 bytes take no memory.
     pub fn set_bytes(&mut self, name: u8, bytes: &[u8]) -> Result<(), NoMemory>
         requires { name < 8 }
         ensures ok { OnOk result (self.new ≡ slice_set self.old name (Text bytes.now)) }
@@ -121,6 +122,7 @@ impl KeyState {
         Ok(())
     }
 
+    /// All eight cells, set or not.
     pub fn copy(&self) -> Result<KeyState, NoMemory>
         ensures { IfOk result (λ s. s ≡ self.now) }
     {

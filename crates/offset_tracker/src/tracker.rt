@@ -30,6 +30,7 @@ impl Model for Tracker {
 }
 
 impl Tracker {
+    /// No position of the restriction was attempted yet.
     pub fn new(range: Range) -> Tracker
         ensures { result ≡ record { range = range; attempted = None } }
     {

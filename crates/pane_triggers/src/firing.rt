@@ -34,6 +34,7 @@ pub fn is_dropped(t: &Trigger, end: i64, before: Mark) -> bool
     expiry(t, end) <= i128::from(before.ms())
 }
 
+/// Whether as many entries are unseen as `count` asks for. Without a count it never is enough.
 pub fn is_enough(count: Option<u32>, unseen: u64) -> bool
     ensures { result ≡ is_enough count unseen }
 {

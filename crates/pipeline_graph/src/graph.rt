@@ -50,6 +50,7 @@ impl Graph {
         })
     }
 
+    /// The plan that was checked.
     pub fn plan(&self) -> &Plan
         ensures value { result.now ≡ self.now }
         ensures checked { IsChecked self.now }
@@ -57,6 +58,7 @@ impl Graph {
         &self.plan
     }
 
+    /// Gives the plan away. Takes no memory.
     pub fn into_plan(self) -> Plan
         ensures value { result ≡ self }
         ensures checked { IsChecked self }
@@ -83,6 +85,7 @@ impl Graph {
         &facts.strategy
     }
 
+    /// Copies the plan and what is known of it, and checks nothing anew.
     pub fn copy(&self, alloc: Global) -> Result<Graph, NoMemory>
         ensures { IfOk result (λ graph. graph ≡ self.now) }
     {

@@ -104,6 +104,7 @@ pub enum PlanRefusal {
 }
 
 impl PlanRefusal {
+    /// Its place in the order above, from 1.
     pub fn number(&self) -> u8
         ensures { result ≡ refusal_number self.now }
     {

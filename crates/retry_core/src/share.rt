@@ -12,6 +12,7 @@ pub struct FaultShare {
 impl FaultShare {
     ghost use Rattle.retry_core.specs.Shares.{share_after};
 
+    /// No fault was counted yet.
     pub fn new() -> FaultShare
         ensures { result ≡ record { calls = 0; reads = 0 } }
     {

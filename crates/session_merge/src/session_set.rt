@@ -44,6 +44,7 @@ impl SessionSet {
         }
     }
 
+    /// The sessions, ascending. The end of one may be the start of the next.
     pub fn spans(&self) -> &[Span]
         ensures value { result.now ≡ self.now }
         ensures apart { AreApart self.now }

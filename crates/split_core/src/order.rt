@@ -18,6 +18,7 @@ pub fn cmp_pieces(a: &Piece, b: &Piece) -> Ordering
     by_node.then(by_item.then(by_from.then(by_to.then(by_seen.then(by_attempts)))))
 }
 
+/// Whether the first piece is taken before the second.
 pub fn is_lower(a: &Piece, b: &Piece) -> bool
     ensures { result ≡ is_lower a.now b.now }
 {

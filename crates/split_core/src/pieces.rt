@@ -155,12 +155,14 @@ impl Pieces {
         self.items.as_slice()
     }
 
+    /// How many pieces are pending; places that are kept don't count.
     pub fn len(&self) -> usize
         ensures { result ≡ length self.now.pending }
     {
         self.items.len()
     }
 
+    /// Whether no piece is pending.
     pub fn is_empty(&self) -> bool
         ensures { IsTrue result ↔ (self.now.pending ≡ []) }
     {

@@ -53,6 +53,7 @@ fn write_once<W: io::Write>(writer: &mut W, faults: &mut u64, bytes: &[u8]) -> R
 }
 
 impl<W: io::Write + Drop> OutSink<W> {
+    /// No fault was counted yet. It writes nothing.
     pub fn new(writer: W) -> OutSink<W>
         ensures { result ≡ 0 }
     {
@@ -61,6 +62,7 @@ impl<W: io::Write + Drop> OutSink<W> {
 }
 
 impl<W: io::Write + Drop> ErrSink<W> {
+    /// No fault was counted yet. It writes nothing.
     pub fn new(writer: W) -> ErrSink<W>
         ensures { result ≡ 0 }
     {

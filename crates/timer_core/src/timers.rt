@@ -31,6 +31,7 @@ impl Model for Timers {
 }
 
 impl Timers {
+    /// No timer is set.
     pub fn new() -> Timers
         ensures { result ≡ replicate 8 None }
     {
@@ -45,6 +46,7 @@ impl Timers {
         self.times[name as usize] = Some(time);
     }
 
+    /// A timer that isn't set stays so.
     pub fn clear(&mut self, name: u8)
         requires { name < 8 }
         ensures { self.new ≡ slice_set self.old name None }
@@ -52,6 +54,7 @@ impl Timers {
         self.times[name as usize] = None;
     }
 
+    /// The event time to which the timer is set; `None` where it isn't.
     pub fn time(&self, name: u8) -> Option<Time>
         requires { name < 8 }
         ensures { result ≡ timer_of self.now name }

@@ -11,6 +11,7 @@ use crate::view::{Slot, View};
 use atomic_table::{Join, Play, Split, TableRule};
 use std::marker::PhantomData;
 
+/// The rule of the table under a desk. It has no bytes.
 pub struct Order<V> {
     of: PhantomData<V>,
 }

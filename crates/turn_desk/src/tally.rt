@@ -12,6 +12,7 @@ use std::sync::Wait;
 use std::thread;
 use std::thread::Threads;
 
+/// A count for each pass that was split off. Each pass raises its own alone.
 #[derive(Drop)]
 pub struct Tally {
     pub counts: Vec<u64>,

@@ -16,6 +16,7 @@ impl<T> Model for Unseen<T> {
 }
 
 impl<T> Unseen<T> {
+    /// The proof at the call picks `shown`.
     pub fn of() -> Unseen<T>
         ghost shown: { T }
         ensures { result.value ≡ shown }

@@ -4,7 +4,7 @@ ghost use Rattle.std.specs.Prelude.{◌≡◌, IsSome};
 use crate::held::Note;
 use crate::unseen::Unseen;
 
-// Where a pass stands. The tickets count from 0 and don't wrap.
+/// Where a pass stands. The tickets count from 0 and don't wrap.
 pub enum Stage<V> {
     // Its note went into another pass.
     Spent,
@@ -15,7 +15,7 @@ pub enum Stage<V> {
     InTurn(u64, V),
 }
 
-// What a seat knows. No value of it is made.
+/// What a seat knows. No value of it is made.
 pub struct View<V, A, C> {
     pub note: Note<A>,
     // None where the pass is spent.
@@ -23,7 +23,7 @@ pub struct View<V, A, C> {
     pub stage: Stage<V>,
 }
 
-// The slot. While a pass has it out it holds no value, and as it comes back it names the pass's new note.
+/// The slot. While a pass has it out it holds no value, and as it comes back it names the pass's new note.
 #[derive(Drop)]
 pub struct Slot<V, A> {
     pub value: Option<V>,
@@ -31,6 +31,7 @@ pub struct Slot<V, A> {
 }
 
 impl<V, A> Slot<V, A> {
+    /// The value, which no pass has out.
     pub fn into_value(self) -> V
         requires { IsSome self.value }
         ensures { self.value ≡ Some result }
@@ -39,7 +40,7 @@ impl<V, A> Slot<V, A> {
         value.unwrap()
     }
 
-    // A slot with no value may go.
+    /// A slot with no value may go.
     pub fn end_vacant(self)
         requires { self.value ≡ None }
     {

@@ -21,6 +21,7 @@ pub struct Case<'a> {
 
 /// The input. Every reading passes the spaces before it.
 impl<'a> Case<'a> {
+    /// There is no input yet, and nothing is expected. Takes no memory.
     pub fn new(alloc: Global) -> Case<'a> {
         Case {
             rest: b"",
@@ -32,6 +33,7 @@ impl<'a> Case<'a> {
         }
     }
 
+    /// Where memory for the case is taken.
     pub fn alloc(&self) -> Global {
         self.alloc
     }
@@ -64,6 +66,7 @@ impl<'a> Case<'a> {
         }
     }
 
+    /// Reads the mark, which has to come next.
     pub fn mark(&mut self, mark: u8) {
         if !self.takes(mark) {
             self.fail("a mark is missing");
@@ -75,6 +78,7 @@ impl<'a> Case<'a> {
         self.shows(b';') || self.rest.is_empty()
     }
 
+    /// Nothing but spaces may be left.
     pub fn end(&mut self) {
         if !self.rest.trim_ascii_start().is_empty() {
             self.fail("the input goes on");
@@ -108,6 +112,7 @@ impl<'a> Case<'a> {
         from_utf8(word).unwrap_or("")
     }
 
+    /// A word that is a number of this type. After a fault it is 0.
     pub fn number<N: FromStr + Default>(&mut self) -> N
     where
         N::Err: Drop,
@@ -133,6 +138,7 @@ impl<'a> Case<'a> {
         0
     }
 
+    /// Milliseconds within the bounds of a time.
     pub fn time(&mut self) -> Time {
         let ms = self.number::<i64>();
         if ms < Time::LEAST_MS || ms > Time::GREATEST_MS {
@@ -264,12 +270,14 @@ impl<'a> Case<'a> {
 
 /// The answer. Its parts have a space between them.
 impl<'a> Case<'a> {
+    /// Adds to what is expected.
     pub fn expect(&mut self, expected: &[u8]) {
         if self.expected.extend_from_slice(expected).is_err() {
             self.fail(NO_MEMORY);
         }
     }
 
+    /// What the answer has to be, byte for byte.
     pub fn expected(&self) -> &[u8] {
         self.expected.as_slice()
     }
@@ -282,6 +290,7 @@ impl<'a> Case<'a> {
         }
     }
 
+    /// Whether the answer is the expected one and nothing went wrong.
     pub fn passes(&self) -> bool {
         self.fault.is_none() && self.expected.as_slice() == self.answer.as_slice()
     }
@@ -293,10 +302,12 @@ impl<'a> Case<'a> {
         }
     }
 
+    /// The word is the next part.
     pub fn say(&mut self, word: &str) {
         self.say_bytes(word.as_bytes());
     }
 
+    /// The bytes are the next part, as they are.
     pub fn say_bytes(&mut self, part: &[u8]) {
         self.push_answer(self.separator);
         self.push_answer(part);
@@ -309,10 +320,12 @@ impl<'a> Case<'a> {
         }
     }
 
+    /// `true` or `false`.
     pub fn say_bool(&mut self, yes: bool) {
         self.say(if yes { "true" } else { "false" });
     }
 
+    /// Decimal digits, with a `-` before a number below 0.
     pub fn say_number<N: Into<i128>>(&mut self, number: N) {
         self.say_bytes(Buffer::new().format(number.into()).as_bytes());
     }
@@ -325,10 +338,12 @@ impl<'a> Case<'a> {
         }
     }
 
+    /// Offsets `[FROM,TO)`.
     pub fn say_range(&mut self, range: Range) {
         self.say_ends(range.from(), range.to());
     }
 
+    /// A window `[START,END)`, in milliseconds.
     pub fn say_span(&mut self, span: Span) {
         self.say_ends(span.start(), span.end());
     }
@@ -351,6 +366,7 @@ impl<'a> Case<'a> {
         }
     }
 
+    /// The value as it is printed.
     pub fn say_value(&mut self, value: &Value) {
         self.say("");
         if push_value(value, &mut self.answer).is_err() {
@@ -358,6 +374,7 @@ impl<'a> Case<'a> {
         }
     }
 
+    /// Two hexadecimal digits for each byte, in lower case and with nothing between them.
     pub fn say_hex(&mut self, bytes: &[u8]) {
         self.say("");
         for byte in bytes {
@@ -377,6 +394,7 @@ impl<'a> Case<'a> {
         }
     }
 
+    /// There was no memory for a call or for the case, which is a fault.
     pub fn no_memory(&mut self, _refused: NoMemory) {
         self.fail(NO_MEMORY);
     }

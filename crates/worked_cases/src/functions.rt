@@ -83,6 +83,7 @@ pub fn say_outputs(answer: Result<(), CallRefusal>, out: &[Element], case: &mut 
     }
 }
 
+/// How often the object failed: a next answer `faults COUNT`.
 pub fn say_faults(faults: u64, case: &mut Case<'_>) {
     case.next_answer();
     case.say("faults");

@@ -100,6 +100,7 @@ fn read_source(case: &mut Case<'_>) -> SourceKind {
     }
 }
 
+/// A function of single elements, by its name.
 pub fn read_function(case: &mut Case<'_>) -> FnKind {
     match case.word() {
         "KeyField" => FnKind::KeyField,
@@ -121,6 +122,7 @@ pub fn read_function(case: &mut Case<'_>) -> FnKind {
     }
 }
 
+/// A function with state and timers, by its name.
 pub fn read_state(case: &mut Case<'_>) -> StateKind {
     match case.word() {
         "Dedupe" => StateKind::Dedupe,

@@ -15,11 +15,13 @@ pub struct Tally {
 }
 
 impl Tally {
+    /// No case was run.
     pub const NONE: Tally = Tally {
         cases: 0,
         failed: 0,
     };
 
+    /// The sums of both. A sum stays at 2^64 - 1 once it is there.
     pub fn and(self, more: Tally) -> Tally {
         Tally {
             cases: self.cases.saturating_add(more.cases),
@@ -43,6 +45,7 @@ pub struct Script<'a> {
 }
 
 impl<'a> Script<'a> {
+    /// The next of the lines; `None` at the end of the file.
     pub fn next_line(&mut self) -> Option<&'a str> {
         for _ in 0..u64::MAX {
             let line = self.lines.next()?;

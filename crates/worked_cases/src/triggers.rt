@@ -119,6 +119,7 @@ pub fn read_marks(case: &mut Case<'_>) -> List<Mark> {
     marks
 }
 
+/// Its milliseconds, or `final`.
 pub fn say_mark(mark: Mark, case: &mut Case<'_>) {
     if mark.is_final() {
         return case.say("final");

@@ -19,6 +19,7 @@ use bundle_commit::Receipt;
 use std::sync::Wait;
 use turn_desk::{Desk, Pass};
 
+/// The pass gets a slot. Where there is no memory for it, it has none.
 pub fn enroll<R: Wait>(
     desk: &Desk<Shared>,
     rt: &R,
@@ -39,6 +40,7 @@ pub fn enroll<R: Wait>(
     (answer, desk.give(turn, &did))
 }
 
+/// The pass's slot gets the next job.
 pub fn take_job<R: Wait>(
     desk: &Desk<Shared>,
     rt: &R,
@@ -62,6 +64,8 @@ pub fn take_job<R: Wait>(
     (answer, desk.give(turn, &did))
 }
 
+/// The pass's range attempts a position. Answers the end of the range as others have left it: a
+/// position below it is granted.
 pub fn claim<R: Wait>(
     desk: &Desk<Shared>,
     rt: &R,
@@ -87,6 +91,8 @@ pub fn claim<R: Wait>(
     (end, desk.give(turn, &did))
 }
 
+/// The pass helps the slot whose range has the most left: it is split at a half. Answers where, or none
+/// where no other slot works a range that can be split.
 pub fn split_other<R: Wait>(
     desk: &Desk<Shared>,
     rt: &R,
@@ -116,6 +122,7 @@ fn cut_at(help: Help) -> Result<Option<u64>, NoMemory>
     }
 }
 
+/// Places the receipt of the pass's job. Where there is no memory nothing is changed, and the receipt is handed back.
 pub fn commit<R: Wait>(
     desk: &Desk<Shared>,
     rt: &R,
@@ -140,6 +147,7 @@ pub fn commit<R: Wait>(
     (answer, desk.give(turn, &did))
 }
 
+/// The pass's job failed at the node `at`: it is given back, or at the limit the book is stopped.
 pub fn fail<R: Wait>(
     desk: &Desk<Shared>,
     rt: &R,
@@ -164,6 +172,7 @@ pub fn fail<R: Wait>(
     (failure, desk.give(turn, &did))
 }
 
+/// No job is given out any more. The pass needs no slot.
 pub fn stop<R: Wait>(desk: &Desk<Shared>, rt: &R, own: Pass<Shared>) -> Pass<Shared>
     requires table { IsPassOf desk.now own }
     ensures table { IsPassOf desk.now result }

@@ -120,6 +120,7 @@ impl CellIndex {
         }
     }
 
+    /// The place of the cell among all cells, counted from 0, if there is one.
     pub fn find(&self, key: &CellKey) -> Option<u32>
         ensures { (cells : ListOf CellOf) → IsIndexOf self.now cells
             → result ≡ place_of key.now.node key.now.key key.now.span cells }

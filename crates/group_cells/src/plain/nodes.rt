@@ -102,7 +102,7 @@ fn fire_if_group(
     fire_group(alloc, &rules, n, commit, mark, cells)
 }
 
-// The lesser of a hold and those of some panes.
+/// The lesser of a hold and those of some panes.
 pub fn least_with(before: &[StageMarks], hold: Mark, fired: &[Pane]) -> Mark
     ensures { result
         ≡ int_min hold (least_mark (map (λ pane. (pane_hold before.now pane).mark) fired.now)) }
@@ -196,6 +196,7 @@ fn fire_at(
     }
 }
 
+/// Adds the pane, if there is one.
 pub fn push_if(panes: &mut Vec<Pane>, pane: Option<Pane>) -> Result<(), NoMemory>
     ensures { OnOk result (panes.new.items ≡ panes.old.items ++ option_to_list pane) }
 {
@@ -205,7 +206,7 @@ pub fn push_if(panes: &mut Vec<Pane>, pane: Option<Pane>) -> Result<(), NoMemory
     Ok(())
 }
 
-// By commit, node, key and window.
+/// By commit, node, key and window.
 pub fn cmp_panes(a: &Pane, b: &Pane) -> Ordering
     ensures { result ≡ pane_cmp a.now b.now }
 {

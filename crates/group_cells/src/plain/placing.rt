@@ -47,6 +47,7 @@ pub fn place_key(
     put_all(rules, node, key, commit, own, cells)
 }
 
+/// The windows of the elements, one for each, in their order.
 pub fn own_spans(alloc: Global, own: &[Element]) -> Result<List<Span>, NoMemory>
     ensures { IfOk result (λ spans. spans ≡ map (λ e. e.span) own.now) }
 {
@@ -104,6 +105,7 @@ fn open(
     Ok(())
 }
 
+/// Whether a cell of the node and key has this window and wasn't merged into another.
 pub fn has_standing(node: u32, key: &Value, span: Span, cells: &[Cell]) -> bool
     ensures { result ≡ list_any (stands_at node key.now span) cells.now }
 {
@@ -163,6 +165,8 @@ fn hand_over(
     Ok(())
 }
 
+/// Whether a cell's entries go to a new session: windows merge, and the cell's, which wasn't merged yet
+/// and still takes elements at the mark before the commit, is a smaller one within the session.
 pub fn gives_way(rules: &Rules, before: Mark, session: Span, cell: &Cell) -> bool
     ensures { result ≡ gives_way rules.now before session cell.now }
 {
@@ -222,7 +226,7 @@ fn put(
     }
 }
 
-// Where the first cell stands that takes an entry.
+/// Where the first cell stands that takes an entry.
 pub fn taker(rules: &Rules, node: u32, key: &Value, entry: &Entry, cells: &[Cell]) -> Option<usize>
     ensures { MatchOption result (put_at rules.now node key.now entry.now cells.now ≡ cells.now)
         (λ at. (at < length cells.now)
@@ -261,6 +265,7 @@ fn belongs(rules: &Rules, span: Span, own: Span) -> bool
     }
 }
 
+/// Whether two windows have the same ends.
 pub fn is_same_span(a: Span, b: Span) -> bool
     ensures { result ≡ same_span a b }
 {
