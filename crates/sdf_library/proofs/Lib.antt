@@ -1,4 +1,5 @@
 pub mod Filling
+pub mod Pages
 pub mod Strictness
 pub mod Telling
 pub mod Views

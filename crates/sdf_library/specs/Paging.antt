@@ -1,5 +1,5 @@
 -- What is held of a file whose positions are worked, and what it serves for.
-use Rattle.std.specs.Prelude.{◌≡◌, ◌⊎◌, ℕ, ◌+◌, ◌<◌, Bool, true, false, List, length, take, drop, Option, Some}
+use Rattle.std.specs.Prelude.{◌≡◌, ◌⊎◌, ℕ, ◌+◌, ◌-◌, ◌<◌, ◌≤◌, Bool, true, false, nat_le, List, [], length, take, drop, Option, Some, if◌then◌else◌}
 use Rattle.beam_ports.specs.Files.{Opening}
 use Rattle.beam_values.specs.Checked.{reads_file}
 use Rattle.beam_values.specs.declared.plan.Args.{Args}
@@ -43,6 +43,32 @@ ReachesOn more old new = more ≡ true → (length old.bytes < length new.bytes)
 -- what is held can be the answer as it is: it serves, and no more was asked for or no more is there
 abbrev pub IsEnough : Bool → Paged → ℕ → Type 0
 IsEnough more held p = Serves held p × ((more ≡ false) ⊎ ReachesEnd held)
+
+-- A block, which is read at once, in bytes.
+abbrev pub block : ℕ
+block = 65536
+
+-- A look leaves what is held as it is: it serves, and it is no more than a block, or where more was asked for all up to the end of the file.
+abbrev pub Suffices : Bool → Paged → ℕ → Type 0
+Suffices more held p = Serves held p × ((more ≡ true → ReachesEnd held) × (more ≡ false → length held.bytes ≤ block))
+
+-- what is left where all that stands before this byte of the file is given up; nothing where the byte stands before what is held
+abbrev pub held_from : ℕ → Paged → Paged
+held_from first held =
+    record held { base = first; bytes = if nat_le held.base first then drop (first - held.base) held.bytes else [] }
+
+-- a block of what is held, from the byte before the position on: of a longer stretch, which a long line asked for, the rest is given up
+abbrev pub block_at : ℕ → Paged → Paged
+block_at p held = record (held_from (p - 1) held) { bytes = take block (held_from (p - 1) held).bytes }
+
+-- What a look leaves where what is held is enough. By hand: 70000 bytes from 0 on are for position 66001 the 4000 from 66000 on.
+abbrev pub after_enough : Bool → ℕ → Paged → Paged
+after_enough more p held = if more then held else if nat_le (length held.bytes) block then held else block_at p held
+
+-- after a look without more, no more than a block is held; with more, no more than `step` bytes more than before
+abbrev pub IsBounded : Bool → ℕ → Paged → Paged → Type 0
+IsBounded more step old new =
+    (more ≡ false → length new.bytes ≤ block) × (more ≡ true → length new.bytes ≤ length old.bytes + step)
 
 -- after a call the same file is held, and where its text is told the bytes are its bytes
 pub record KeepsPage (opening : Option Opening) (old new : Paged) : Type 0 where

@@ -1,8 +1,9 @@
 //! Each source on what it takes, those of files by way of a pager, and a read that fails. The expected
 //! values are counted by hand.
-ghost use Rattle.std.specs.Prelude.{◌≡◌, [], true};
+ghost use Rattle.std.specs.Prelude.{◌≡◌, ◌<◌, [], true, IsSomeAnd};
 ghost use Rattle.beam_values.specs.Checked.{is_source_argument, reads_file};
 ghost use Rattle.dofn_traits.specs.Calls.{IsView};
+ghost use Rattle.sdf_library.specs.Paging.{HoldsFile};
 
 use crate::{Count, Lines, Made, PageRefusal, Pager, TimedLines};
 use beam_ports::{MemoryStore, Store};
@@ -101,6 +102,24 @@ fn is_text(item: &Timed, text: &[u8], ms: i64) -> bool {
     }
 }
 
+// Where what is held begins after a look, and how many bytes that is.
+fn held_after<S: Store>(store: &mut S, pager: &mut Pager, p: u64, more: bool) -> Option<(u64, u64)>
+    requires inside { p < pager.old.len }
+    requires open { IsSomeAnd (S.opened store.old pager.old.file)
+        (λ opening. opening.len ≡ pager.old.len) }
+    requires held { HoldsFile (S.opened store.old pager.old.file) pager.old }
+    ensures file { pager.new.file ≡ pager.old.file }
+    ensures len { pager.new.len ≡ pager.old.len }
+    ensures open { IsSomeAnd (S.opened store.new pager.new.file)
+        (λ opening. opening.len ≡ pager.new.len) }
+    ensures held { HoldsFile (S.opened store.new pager.new.file) pager.new }
+{
+    match pager.look(store, p, more) {
+        Ok(look) => Some((look.base, look.bytes.len() as u64)),
+        Err(_) => None,
+    }
+}
+
 #[test]
 fn lines_of_a_file(rt: HostRuntime) -> Result<(), Fail> {
     let alloc = rt.alloc();
@@ -154,5 +173,43 @@ fn a_failed_read_is_told(rt: HostRuntime) -> Result<(), Fail> {
     assert_eq!(rt; pager.bytes().bytes.len(), 0);
     assert_eq!(rt; pager.ensure_held(&mut store, 1, true), Ok(()));
     assert_eq!(rt; pager.bytes().bytes, b"ab".as_slice());
+    Ok(())
+}
+
+// Whether looks at a file, one after another, leave this: of each row the position, whether more is asked
+// for, where what is held begins then, and how many bytes that is.
+fn has_held<S: Store>(alloc: Global, store: &mut S, rows: &[(u64, bool, u64, u64)]) -> bool {
+    let Ok(opened) = store.open_file(b"f") else {
+        return false;
+    };
+    let mut pager = Pager::new(alloc, opened.file, opened.len);
+    for (p, more, base, held) in rows {
+        if *p >= opened.len {
+            return false;
+        }
+        if held_after(store, &mut pager, *p, *more) != Some((*base, *held)) {
+            return false;
+        }
+    }
+    true
+}
+
+#[test]
+fn a_long_line_is_held_block_by_block(rt: HostRuntime) -> Result<(), Fail> {
+    let alloc = rt.alloc();
+    let line = vec![in alloc; b'x'; 200000]?;
+    // The file is opened and read four times; a fifth read would fail.
+    let mut store = store_of(alloc, line.as_slice(), &[5])?;
+    let rows = [
+        (0, false, 0, 65536),
+        (0, true, 0, 131072),
+        (0, true, 0, 196608),
+        (0, true, 0, 200000),
+        (0, true, 0, 200000),
+        (120001, false, 120000, 65536),
+        (120002, false, 120000, 65536),
+    ];
+    assert!(rt; has_held(alloc, &mut store, &rows));
+    assert_eq!(rt; store.faults(), 0);
     Ok(())
 }

@@ -12,6 +12,6 @@ loop-done-preserved g c =
       within = omega (arith, length-append c.split_at_mut.result.0.now c.read_at.new.buf, read.fits, halves.front_len, halves.back_len, c.read_at.auto.buf);
       told = read.told ∙ before.told;
       counts = omega (arith, read.counts, before.counts);
-      bytes = λ text is size. filled_more c.split_at_mut.result.0.now c.read_at.new.buf text c.loop-done.done c.in_ok-done.field-0
-          halves.front_len (halves.front ∙ before.bytes text is size) ((read.read _ (before.kept _ _ is)).bytes text refl);
+      bytes = λ text is. filled_more c.split_at_mut.result.0.now c.read_at.new.buf text c.args.at c.loop-done.done c.in_ok-done.field-0
+          halves.front_len (halves.front ∙ before.bytes text is) ((read.read _ (before.kept _ _ is)).bytes text refl);
     }
