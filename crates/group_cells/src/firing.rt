@@ -225,7 +225,7 @@ fn copy_parts(alloc: Global, mode: Mode, entries: &[Entry]) -> Result<Vec<Value>
     ensures { IfOk result (λ parts. parts.items
         ≡ map (λ entry. part_of entry.element) (entries_held mode entries.now)) }
 {
-    let mut parts = Vec::new(alloc);
+    let mut parts = Vec::with_capacity(alloc, entries.len())?;
     for entry in entries {
         if is_held(mode, entry) {
             parts.push(part_of(&entry.element).copy(alloc)?)?;
