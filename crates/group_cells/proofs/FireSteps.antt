@@ -1,7 +1,6 @@
 -- One cell after another fires where it lies.
-use Rattle.std.proofs.Common.{◌≡◌, ℕ, ◌+◌, ◌<◌, ℤ, List, [], ◌∷◌, ◌++◌, length, get_or, take, drop, map, Option, Some, None, refl, sym, ap, ◌∙◌, arith, subst, length-append, length-take, length-drop}
+use Rattle.std.proofs.Common.{◌≡◌, ℕ, ◌+◌, ◌<◌, ℤ, List, [], ◌∷◌, ◌++◌, length, get_or, take, map, Option, Some, None, refl, sym, ap, ◌∙◌, subst}
 use Rattle.std.proofs.Math.ListN.{set}
-use Rattle.std.proofs.lemmas.List.{length-map}
 use Rattle.std.specs.Prelude.{option_to_list, slice_get, slice_set}
 use Rattle.std.proofs.lemmas.Option.{get_or_from_slice_get}
 use Rattle.beam_values.specs.declared.cell.Cell.{Cell}
@@ -50,7 +49,3 @@ fired_step rules node c mark xs items new i panes after pane within inv fired ma
           (subst (λ (l : List Pane). AreFired rules node c mark (take i xs ++ cell ∷ []) l) (sym pushed)
           (fired_more rules node c mark (take i xs) panes cell (option_to_list pane) fired (fires cell found))),
     ))
-
-pub still_within : (f : Cell → Cell) (xs items : List Cell) (i : ℕ) → i < length xs → items ≡ written f xs i → i < length items
-still_within f xs items i within is =
-    omega (arith, ap length is, length-append (map f (take i xs)) (drop i xs), length-map (take i xs) f, length-take i xs, length-drop i xs)

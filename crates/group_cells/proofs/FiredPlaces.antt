@@ -28,8 +28,8 @@ use Rattle.group_cells.specs.Placing.{is_standing}
 use Rattle.group_cells.specs.Plain.{AreFired, FiresAs, after_node, firing_at}
 use Rattle.group_cells.specs.declared.groups.due.DueCells.{DueCells}
 use Rattle.group_cells.specs.declared.groups.due.DueKey.{DueKey}
-use Rattle.group_cells.proofs.FireSteps.{fired_step, still_within, unfired_cells}
-use Rattle.group_cells.proofs.Writes.{written_item, written_length}
+use Rattle.group_cells.proofs.FireSteps.{fired_step, unfired_cells}
+use Rattle.group_cells.proofs.Writes.{still_within, written_item, written_length}
 
 module _ (rules : GroupRules) (node c : ℕ) (mark : ℤ) (xs : List Cell) where
   pub fired_next : (i : ℕ) (items new : List Cell) (panes after : List Pane) (pane : Option Pane) → i < length xs → AreFiredUpTo rules node c mark xs i items panes

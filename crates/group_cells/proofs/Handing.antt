@@ -1,5 +1,5 @@
 -- One cell hands its entries over to a session, or doesn't.
-use Rattle.std.proofs.Common.{◌≡◌, ℕ, ◌+◌, ◌<◌, ◌≤◌, ℤ, Bool, true, false, cond, List, [], ◌∷◌, ◌++◌, length, get_or, take, drop, Option, Some, None, refl, sym, ap, ◌∙◌, append_assoc}
+use Rattle.std.proofs.Common.{◌≡◌, ℕ, ◌+◌, ◌<◌, ◌≤◌, ℤ, Bool, true, false, cond, List, [], ◌∷◌, ◌++◌, length, get_or, take, drop, Option, Some, None, refl, sym, ap, ◌∙◌}
 use Rattle.std.specs.Prelude.{slice_get, slice_set, unwrap_or}
 use Rattle.std.specs.List.{find}
 use Rattle.std.specs.Option.{option_map, option_or}
@@ -11,10 +11,9 @@ use Rattle.beam_values.specs.declared.cell.Cell.{Cell}
 use Rattle.beam_values.specs.declared.cell.Entry.{Entry}
 use Rattle.beam_values.specs.declared.value.Value.{Value}
 use Rattle.beam_model.specs.Panes.{GroupRules}
-use Rattle.group_cells.specs.AtPlaces.{at_place, changed_at, given_all}
+use Rattle.group_cells.specs.AtPlaces.{at_place, changed_at}
 use Rattle.group_cells.specs.Placing.{gives_way, handed_over, once_opened, with_entry}
 use Rattle.group_cells.specs.Plain.{put_at}
-use Rattle.group_cells.proofs.LoopSteps.{split_at}
 use Rattle.group_cells.proofs.Taking.{with_cell}
 use Rattle.group_cells.proofs.Undoing.{set_back}
 

@@ -52,6 +52,7 @@ mod LoopSteps
 mod Projecting
 mod Taking
 mod Undoing
+mod ShownFirst
 mod Unfiring
 mod Unmerged
 mod Writes

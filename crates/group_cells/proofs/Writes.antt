@@ -13,6 +13,10 @@ pub written_length : {X : Type 0} (f : X → X) (xs items : List X) (i : ℕ) �
 written_length f xs items i within is =
     omega (arith, ap length is, length-append (map f (take i xs)) (drop i xs), length-map (take i xs) f, length-take i xs, length-drop i xs)
 
+pub still_within : {X : Type 0} (f : X → X) (xs items : List X) (i : ℕ) → i < length xs → items ≡ written f xs i → i < length items
+still_within f xs items i within is =
+    omega (arith, ap length is, length-append (map f (take i xs)) (drop i xs), length-map (take i xs) f, length-take i xs, length-drop i xs)
+
 pub written_item : {X : Type 0} (f : X → X) (xs items : List X) (i : ℕ) (x : X) → i < length items → items ≡ written f xs i → x ≡ get_or items i x → x ≡ get_or xs i x
 written_item f xs items i x within is at =
     let sizes : length items ≡ length xs = written_length f xs items i (omega arith) is in

@@ -1,5 +1,5 @@
 -- What the cells of one Group and key fire after a commit (The Dataflow Model, triggers; Beam Programming Guide, Window accumulation modes).
-use Rattle.std.specs.Prelude.{◌≡◌, ℕ, ◌+◌, ℤ, Bool, true, not, ◌&&◌, ◌||◌, if◌then◌else◌, List, map, count_by, Option, Some, None}
+use Rattle.std.specs.Prelude.{◌≡◌, ℕ, ◌+◌, ◌≤◌, ℤ, Bool, true, not, ◌&&◌, ◌||◌, if◌then◌else◌, List, length, map, take, count_by, Option, Some, None}
 use Rattle.std.specs.List.{All, filter, list_any}
 use Rattle.std.specs.Option.{is_some}
 use Rattle.beam_values.specs.Firing.{firing}
@@ -15,6 +15,11 @@ use Rattle.group_cells.specs.Placing.{is_standing}
 
 abbrev pub unseen_in : List Entry → ℕ
 unseen_in entries = count_by (λ entry. not entry.shown) entries
+
+-- a pane has shown each entry before a place
+pub record AreShownTo (end : ℕ) (entries : List Entry) : Type 0 where
+  pub within : end ≤ length entries
+  pub shown : All (λ entry. entry.shown ≡ true) (take end entries)
 
 -- the timing of the pane that a cell fires at a mark, if it fires one
 abbrev pub firing_of : GroupRules → ℤ → Cell → Option Timing

@@ -4,7 +4,7 @@ use Rattle.beam_values.specs.declared.cell.Cell.{Cell}
 use Rattle.beam_values.specs.declared.cell.Pane.{Pane}
 use Rattle.beam_values.specs.declared.element.Timing.{Timing}
 use Rattle.beam_model.specs.Panes.{GroupRules}
-use Rattle.group_cells.specs.Cells.{once_fired}
+use Rattle.group_cells.specs.Cells.{once_fired, AreShownTo}
 use Rattle.group_cells.specs.Plain.{after_node, AreFired, firing_at}
 
 -- all cells of a node fired that are due, and answered these panes, one cell after another
@@ -19,6 +19,10 @@ HasFiredAt place timing cells new = (cell : Cell) → slice_get cells place ≡ 
 -- after one pane more, the number of the next one still has 32 bits
 abbrev pub CanFireAt : ℕ → List Cell → Type 0
 CanFireAt place cells = (cell : Cell) → slice_get cells place ≡ Some cell → cell.next_index + 1 < 2 ^ 32
+
+-- a pane has shown each entry of the cell at a place before `from_`
+abbrev pub IsShownAt : ℕ → ℕ → List Cell → Type 0
+IsShownAt from_ place cells = (cell : Cell) → slice_get cells place ≡ Some cell → AreShownTo from_ cell.entries
 
 pub record AreFiredUpTo (rules : GroupRules) (node c : ℕ) (mark : ℤ) (cells : List Cell) (done : ℕ) (new : List Cell) (fired : List Pane) : Type 0 where
   pub within : done ≤ length cells

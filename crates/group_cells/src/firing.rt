@@ -9,7 +9,7 @@ ghost use Rattle.beam_values.specs.Grouping.{part_of, pane_as};
 ghost use Rattle.beam_values.specs.Orders.{value_cmp};
 ghost use Rattle.beam_model.specs.Panes.{is_on_time, taken_entry, IsFiredAs, IsPaneOf};
 ghost use Rattle.group_cells.specs.Cells.{after_firing, entries_held, firing_of, once_fired, shown};
-ghost use Rattle.group_cells.specs.Cells.{unseen_in};
+ghost use Rattle.group_cells.specs.Cells.{unseen_in, AreShownTo};
 ghost use Rattle.group_cells.specs.Firings.{is_held};
 ghost use Rattle.pane_triggers.specs.Fires.{timing_of};
 
@@ -35,19 +35,38 @@ pub fn unseen(entries: &[Entry]) -> u64
     count
 }
 
+/// Up to where a pane has shown all entries, where `count` are unseen. New ones come last, except where
+/// sessions merged: so the walk from the back mostly passes no other.
+pub fn first_unseen(entries: &[Entry], count: u64) -> usize
+    requires { count ≡ unseen_in entries.now }
+    ensures { AreShownTo result entries.now }
+{
+    let mut left = count;
+    let mut at = entries.len();
+    while 0 < left {
+        at -= 1;
+        if !entries[at].shown {
+            left -= 1;
+        }
+    }
+    at
+}
+
 /// The timing of the pane that a cell fires at a mark, if it fires one. Takes no memory.
 pub fn firing_of(rules: &Rules, mark: Mark, cell: &Cell) -> Option<Timing>
     ensures { result ≡ firing_of rules.now mark cell.now }
 {
+    firing_with(rules, mark, unseen(cell.entries.as_slice()), cell)
+}
+
+/// The same, where so many of its entries are unseen. Looks at none of them.
+pub fn firing_with(rules: &Rules, mark: Mark, count: u64, cell: &Cell) -> Option<Timing>
+    requires { count ≡ unseen_in cell.now.entries }
+    ensures { result ≡ firing_of rules.now mark cell.now }
+{
     match cell.merged_into {
         Some(_) => None,
-        None => timing_of(fire(
-            &rules.trigger,
-            cell.span.end(),
-            mark,
-            cell.on_time,
-            unseen(cell.entries.as_slice()),
-        )),
+        None => timing_of(fire(&rules.trigger, cell.span.end(), mark, cell.on_time, count)),
     }
 }
 
@@ -80,7 +99,7 @@ pub fn pane_of(
 {
     match firing_of(rules, mark, cell) {
         None => Ok(None),
-        Some(timing) => Ok(Some(pane_with(alloc, rules.trigger.mode, commit, timing, cell)?)),
+        Some(timing) => Ok(Some(pane_with(alloc, rules.trigger.mode, commit, timing, 0, cell)?)),
     }
 }
 
@@ -90,16 +109,17 @@ pub fn set_fired(alloc: Global, rules: &Rules, mark: Mark, cell: &mut Cell)
     ensures { cell.new ≡ after_firing rules.now mark cell.old }
 {
     if let Some(timing) = firing_of(rules, mark, cell) {
-        set_timed(alloc, timing, cell);
+        set_timed(alloc, timing, 0, cell);
     }
 }
 
-/// The same of a pane of this timing. Takes no memory.
-pub fn set_timed(alloc: Global, timing: Timing, cell: &mut Cell)
-    requires { cell.old.next_index + 1 < 2 ^ 32 }
+/// The same of a pane of this timing, where `from` first entries were shown before. Takes no memory.
+pub fn set_timed(alloc: Global, timing: Timing, from: usize, cell: &mut Cell)
+    requires counted { cell.old.next_index + 1 < 2 ^ 32 }
+    requires from { AreShownTo from cell.old.entries }
     ensures { cell.new ≡ once_fired (Some timing) cell.old }
 {
-    show_all(alloc, &mut cell.entries);
+    show_all(alloc, from, &mut cell.entries);
     cell.next_index += 1;
     cell.on_time = cell.on_time || is_on_time(timing);
 }
@@ -124,14 +144,16 @@ pub fn fire_cell(
     Ok(pane)
 }
 
-/// The next pane of a cell. The cell isn't changed.
+/// The next pane of a cell, where `from` first entries were shown before. The cell isn't changed.
 pub fn pane_with(
     alloc: Global,
     mode: Mode,
     commit: u32,
     timing: Timing,
+    from: usize,
     cell: &Cell,
 ) -> Result<Pane, NoMemory>
+    requires { AreShownTo from cell.now.entries }
     ensures pane { IfOk result
         (λ pane. IsPaneOf cell.now.node cell.now.key commit cell.now.span timing cell.now.next_index
         (map (taken_entry cell.now.node) (entries_held mode cell.now.entries)) pane) }
@@ -140,7 +162,7 @@ pub fn pane_with(
     if cell.next_index == u32::MAX {
         return Err(NoMemory);
     }
-    let parts = parts_of(alloc, mode, cell.entries.as_slice())?;
+    let parts = parts_of(alloc, mode, from, cell.entries.as_slice())?;
     let tag = PaneTag {
         timing,
         index: cell.next_index,
@@ -172,21 +194,38 @@ fn pane_as(
 }
 
 // The parts of the entries that a pane holds, ascending by their spellings.
-fn parts_of(alloc: Global, mode: Mode, entries: &[Entry]) -> Result<List<Value>, NoMemory>
+fn parts_of(
+    alloc: Global,
+    mode: Mode,
+    from: usize,
+    entries: &[Entry],
+) -> Result<List<Value>, NoMemory>
+    requires { AreShownTo from entries.now }
     ensures ascending { IfOk result (IsSorted value_cmp) }
     ensures those { IfOk result (λ parts. IsSameBag parts
         (map (λ entry. part_of entry.element) (entries_held mode entries.now))) }
 {
-    let mut parts = copy_parts(alloc, mode, entries)?;
+    let mut parts = copy_parts(alloc, mode, those_from(mode, from, entries))?;
     parts.sort_by(|a, b| cmp_values(a, b))?;
     Ok(List::from_vec(parts))
+}
+
+// The entries that a pane may hold: one of this mode needn't look at those that were shown.
+fn those_from(mode: Mode, from: usize, entries: &[Entry]) -> &[Entry]
+    requires { AreShownTo from entries.now }
+    ensures { entries_held mode result.now ≡ entries_held mode entries.now }
+{
+    match mode {
+        Mode::Discarding => entries.split_at(from).1,
+        Mode::Accumulating => entries,
+    }
 }
 
 fn copy_parts(alloc: Global, mode: Mode, entries: &[Entry]) -> Result<Vec<Value>, NoMemory>
     ensures { IfOk result (λ parts. parts.items
         ≡ map (λ entry. part_of entry.element) (entries_held mode entries.now)) }
 {
-    let mut parts = Vec::new(alloc);
+    let mut parts = Vec::with_capacity(alloc, entries.len())?;
     for entry in entries {
         if is_held(mode, entry) {
             parts.push(part_of(&entry.element).copy(alloc)?)?;
@@ -214,12 +253,13 @@ fn is_on_time(timing: Timing) -> bool
 }
 
 // The entries are marked where they lie: a list gives its own place away and takes it back.
-fn show_all(alloc: Global, entries: &mut List<Entry>)
+fn show_all(alloc: Global, from: usize, entries: &mut List<Entry>)
+    requires { AreShownTo from entries.old }
     ensures { entries.new ≡ map shown entries.old }
 {
     let mut items = mem::replace(entries, List::new(alloc)).into_vec();
-    for entry in items.iter_mut() {
-        entry.shown = true;
+    for at in from..items.len() {
+        items[at].shown = true;
     }
     *entries = List::from_vec(items);
 }

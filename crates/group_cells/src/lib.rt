@@ -7,10 +7,11 @@
 //! key that stand, and at no other. Firing finds the cells that are due in an ordered set. So a commit costs
 //! its arrivals, what these look at and the cells that fire, each times a logarithm. A commit that finds no
 //! memory undoes what it did, and leaves the indexes to be made anew. A cell fires where it lies, and a
-//! commit that is undone puts back which of its entries were shown. A commit fires at most a pane for each
-//! cell and makes at most a cell for each arrival. [`PlainGroups`] keeps the cells in a plain list, searched
-//! from the front and copied at each commit: only comparisons use it. The layer above may rely on these
-//! contracts alone.
+//! commit that is undone puts back which of its entries were shown. A cell that fires walks back from its
+//! last entry to the first one that no pane has shown, and no further; one that accumulates copies the
+//! parts of all. A commit fires at most a pane for each cell and makes at most a cell for each arrival.
+//! [`PlainGroups`] keeps the cells in a plain list, searched from the front and copied at each commit: only
+//! comparisons use it. The layer above may rely on these contracts alone.
 //!
 //! Two things spare comparisons, and no contract speaks of them: a guess at the place of an arrival's
 //! cell, which is compared with that cell before the index is asked (`groups/guesses.rt`), and ranks of

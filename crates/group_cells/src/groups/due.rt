@@ -156,6 +156,16 @@ impl DueCells {
         self.enter(cell.node, place, moment)
     }
 
+    /// How many entries of the cell at a place no pane has shown.
+    pub fn count_at(&self, place: usize) -> u64
+        requires { place < length self.now.unseen.items }
+        ensures { (plan : PlanOf) (cells : ListOf CellOf) (cell : CellOf)
+            → IsDueOf plan self.now cells → slice_get cells place ≡ Some cell
+            → result ≡ unseen_in cell.entries }
+    {
+        self.unseen[place]
+    }
+
     /// The moment of the cell at a place.
     pub fn moment_at(&self, plan: &Plan, place: u32, cell: &Cell) -> Option<i64>
         requires { place < length self.now.unseen.items }

@@ -1,8 +1,8 @@
 //! A cell fires where it lies, and keeps by what it is undone where memory is refused later.
 
-ghost use Rattle.std.specs.Prelude.{◌≡◌, ◌+◌, ◌<◌, ◌^◌, Some, length, map, IfOk, IfSome, OnErr};
+ghost use Rattle.std.specs.Prelude.{◌≡◌, ◌+◌, ◌<◌, ◌^◌, Some, length, map, true, IfOk, OnErr};
 ghost use Rattle.std.specs.Prelude.{OnOk};
-ghost use Rattle.group_cells.specs.Cells.{once_fired};
+ghost use Rattle.group_cells.specs.Cells.{once_fired, AreShownTo};
 ghost use Rattle.group_cells.specs.Unfiring.{shown_as, unfired, was_first, was_shown, AreShownAs};
 
 use crate::firing::set_timed;
@@ -29,12 +29,14 @@ pub enum Shown {
 
 impl Shown {
     /// Takes memory only where one that was shown lies behind one that wasn't, as in a merged session.
-    fn of(alloc: Global, entries: &[Entry]) -> Result<Shown, NoMemory>
+    fn of(alloc: Global, from: usize, entries: &[Entry]) -> Result<Shown, NoMemory>
+        requires { AreShownTo from entries.now }
         ensures { IfOk result (λ shown. AreShownAs (was_shown shown) entries.now) }
     {
-        match shown_first(entries) {
-            Some(count) => Ok(Shown::First(count)),
-            None => Ok(Shown::Each(flags_of(alloc, entries)?)),
+        if is_none_shown(from, entries) {
+            Ok(Shown::First(from))
+        } else {
+            Ok(Shown::Each(flags_of(alloc, entries)?))
         }
     }
 
@@ -64,20 +66,12 @@ impl Shown {
     }
 }
 
-/// How many entries were shown, where they lie before all others.
-fn shown_first(entries: &[Entry]) -> Option<usize>
-    ensures { IfSome result (λ count. AreShownAs (was_first count) entries.now) }
+/// Whether the first `from` entries are the only ones that were shown.
+fn is_none_shown(from: usize, entries: &[Entry]) -> bool
+    requires { AreShownTo from entries.now }
+    ensures { result ≡ true → AreShownAs (was_first from) entries.now }
 {
-    let mut count = 0;
-    for (at, entry) in entries.iter().enumerate() {
-        if entry.shown {
-            if count < at {
-                return None;
-            }
-            count = at + 1;
-        }
-    }
-    Some(count)
+    !entries.split_at(from).1.iter().any(|entry| entry.shown)
 }
 
 fn flags_of(alloc: Global, entries: &[Entry]) -> Result<Vec<bool>, NoMemory>
@@ -90,9 +84,16 @@ fn flags_of(alloc: Global, entries: &[Entry]) -> Result<Vec<bool>, NoMemory>
     Ok(flags)
 }
 
-/// A cell keeps that it fired a pane of this timing. Answers what it was before.
-pub fn set_fired(alloc: Global, timing: Timing, cell: &mut Cell) -> Result<Unfired, NoMemory>
-    requires { cell.old.next_index + 1 < 2 ^ 32 }
+/// A cell keeps that it fired a pane of this timing, where `from` first entries were shown before.
+/// Answers what it was before.
+pub fn set_fired(
+    alloc: Global,
+    timing: Timing,
+    from: usize,
+    cell: &mut Cell,
+) -> Result<Unfired, NoMemory>
+    requires counted { cell.old.next_index + 1 < 2 ^ 32 }
+    requires from { AreShownTo from cell.old.entries }
     ensures cell { OnOk result (cell.new ≡ once_fired (Some timing) cell.old) }
     ensures before { IfOk result (λ before. unfired before cell.new ≡ cell.old) }
     ensures err { OnErr result (cell.new ≡ cell.old) }
@@ -100,9 +101,9 @@ pub fn set_fired(alloc: Global, timing: Timing, cell: &mut Cell) -> Result<Unfir
     let before = Unfired {
         next_index: cell.next_index,
         on_time: cell.on_time,
-        shown: Shown::of(alloc, cell.entries.as_slice())?,
+        shown: Shown::of(alloc, from, cell.entries.as_slice())?,
     };
-    set_timed(alloc, timing, cell);
+    set_timed(alloc, timing, from, cell);
     Ok(before)
 }
 

@@ -6,17 +6,17 @@ ghost use Rattle.beam_values.specs.Checked.{IsChecked};
 ghost use Rattle.beam_values.specs.Nodes.{facts_of, is_group};
 ghost use Rattle.beam_values.specs.declared.cell.Cell.{Cell as CellOf};
 ghost use Rattle.beam_model.specs.Panes.{rules_of, trigger_of};
-ghost use Rattle.group_cells.specs.Cells.{once_fired};
+ghost use Rattle.group_cells.specs.Cells.{once_fired, unseen_in};
 ghost use Rattle.group_cells.specs.Plain.{after_node, AreGroupFired, AreNodesFired, FiresAs};
 ghost use Rattle.group_cells.specs.Plain.{firing_at, IsNodeDone};
 ghost use Rattle.group_cells.specs.Due.{IsDueOf};
 ghost use Rattle.group_cells.specs.FiredUpTo.{AreAllDue, AreCellsFired, AreFiredUpTo, CanFireAt};
-ghost use Rattle.group_cells.specs.FiredUpTo.{HasFiredAt, IsFiredPast, IsNoneDue};
+ghost use Rattle.group_cells.specs.FiredUpTo.{HasFiredAt, IsFiredPast, IsNoneDue, IsShownAt};
 ghost use Rattle.group_cells.specs.Undoing.{undone_all};
 ghost use Rattle.group_cells.specs.Unfiring.{unfired};
 ghost use Rattle.watermarks.specs.Holds.{hold_at};
 
-use crate::firing::{firing_of, pane_with};
+use crate::firing::{firing_with, first_unseen, pane_with};
 use crate::groups::draft::{Change, Draft};
 use crate::groups::fired::{Unfired, set_fired};
 use crate::groups::ranks::sort_by_ranks;
@@ -272,12 +272,14 @@ impl Draft {
         ensures undo { undone_all self.new.changes.items self.new.cells.items
             ≡ undone_all self.old.changes.items self.old.cells.items }
     {
-        match timing_at(rules, node, mark, &self.cells[place]) {
+        let count = self.due.count_at(place);
+        match timing_at(rules, node, mark, count, &self.cells[place]) {
             None => Ok(None),
             Some(timing) => {
                 let cell = &self.cells[place];
-                let pane = pane_with(alloc, rules.trigger.mode, commit, timing, cell)?;
-                self.set_fired_due(alloc, plan, timing, place)?;
+                let from = first_unseen(cell.entries.as_slice(), count);
+                let pane = pane_with(alloc, rules.trigger.mode, commit, timing, from, cell)?;
+                self.set_fired_due(alloc, plan, timing, from, place)?;
                 Ok(Some(pane))
             }
         }
@@ -289,11 +291,13 @@ impl Draft {
         alloc: Global,
         plan: &Plan,
         timing: Timing,
+        from: usize,
         place: usize,
     ) -> Result<(), NoMemory>
         requires within { place < length self.old.cells.items }
         requires due { IsDueOf plan.now self.old.due self.old.cells.items }
         requires counted { CanFireAt place self.old.cells.items }
+        requires from { IsShownAt from place self.old.cells.items }
         ensures ok { OnOk result
             (HasFiredAt place timing self.old.cells.items self.new.cells.items) }
         ensures due { OnOk result (IsDueOf plan.now self.new.due self.new.cells.items) }
@@ -303,7 +307,7 @@ impl Draft {
     {
         let at = u32::try_from(place).map_err(|_| NoMemory)?;
         let was = self.due.moment_at(plan, at, &self.cells[place]);
-        self.set_fired(alloc, timing, place, at)?;
+        self.set_fired(alloc, timing, from, place, at)?;
         self.due.change(plan, at, was, &self.cells[place], 0)
     }
 
@@ -311,12 +315,14 @@ impl Draft {
         &mut self,
         alloc: Global,
         timing: Timing,
+        from: usize,
         place: usize,
         at: u32,
     ) -> Result<(), NoMemory>
         requires within { place < length self.old.cells.items }
         requires at { at ≡ place }
         requires counted { CanFireAt place self.old.cells.items }
+        requires from { IsShownAt from place self.old.cells.items }
         ensures ok { OnOk result
             (HasFiredAt place timing self.old.cells.items self.new.cells.items) }
         ensures others { (self.new.index ≡ self.old.index)
@@ -325,17 +331,18 @@ impl Draft {
             ≡ undone_all self.old.changes.items self.old.cells.items }
     {
         self.changes.reserve(1)?;
-        let before = set_fired_at(alloc, timing, &mut self.cells, place)?;
+        let before = set_fired_at(alloc, timing, from, &mut self.cells, place)?;
         self.changes.push_reserved(Change::Fired(at, before));
         Ok(())
     }
 }
 
-fn timing_at(rules: &Rules, node: u32, mark: Mark, cell: &Cell) -> Option<Timing>
+fn timing_at(rules: &Rules, node: u32, mark: Mark, count: u64, cell: &Cell) -> Option<Timing>
+    requires { count ≡ unseen_in cell.now.entries }
     ensures { result ≡ firing_at rules.now node mark cell.now }
 {
     if cell.node == node {
-        firing_of(rules, mark, cell)
+        firing_with(rules, mark, count, cell)
     } else {
         None
     }
@@ -344,17 +351,19 @@ fn timing_at(rules: &Rules, node: u32, mark: Mark, cell: &Cell) -> Option<Timing
 fn set_fired_at(
     alloc: Global,
     timing: Timing,
+    from: usize,
     cells: &mut Vec<Cell>,
     place: usize,
 ) -> Result<Unfired, NoMemory>
     requires within { place < length cells.old.items }
     requires counted { CanFireAt place cells.old.items }
+    requires from { IsShownAt from place cells.old.items }
     ensures cell { OnOk result (HasFiredAt place timing cells.old.items cells.new.items) }
     ensures before { IfOk result
         (λ before. (cell : CellOf) → slice_get cells.old.items place ≡ Some cell
         → unfired before (once_fired (Some timing) cell) ≡ cell) }
     ensures err { OnErr result (cells.new.items ≡ cells.old.items) }
 {
-    let before = set_fired(alloc, timing, &mut cells[place])?;
+    let before = set_fired(alloc, timing, from, &mut cells[place])?;
     Ok(before)
 }

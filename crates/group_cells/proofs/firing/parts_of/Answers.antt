@@ -1,4 +1,4 @@
-use Rattle.std.proofs.Common.{List, map, rules, sym, subst}
+use Rattle.std.proofs.Common.{◌∙◌, List, ap, map, rules, sym, subst}
 use Rattle.std.specs.List.Sorted.{IsSorted}
 use Rattle.beam_values.specs.Bags.{IsSameBag}
 use Rattle.beam_values.specs.Grouping.{part_of}
@@ -21,4 +21,4 @@ returns-clause-those c =
     subst (λ (l : List Value). IsSameBag l wanted) (sym c.from_vec.ensures)
     (bag_trans c.sort_by.new.self.items c.in_ok-parts.parts.items wanted
     (bag_sym c.in_ok-parts.parts.items c.sort_by.new.self.items (bag_from_permutation c.in_ok-parts.parts.items c.sort_by.new.self.items c.in_ok-sort_by.ensures.permutation))
-    (bag_from_same c.in_ok-parts.parts.items wanted c.in_ok-parts.ensures))
+    (bag_from_same c.in_ok-parts.parts.items wanted (c.in_ok-parts.ensures ∙ ap (map (λ entry. part_of entry.element)) c.those_from.ensures)))

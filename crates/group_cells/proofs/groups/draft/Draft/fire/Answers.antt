@@ -1,11 +1,35 @@
-use Rattle.std.proofs.Common.{◌≡◌, Option, ap, sym, ◌∙◌}
+use Rattle.std.proofs.Common.{◌≡◌, ◌+◌, ◌<◌, ◌^◌, List, Option, ap, length, refl, subst, sym, ◌∙◌}
 use Rattle.std.specs.Prelude.{slice_set}
+use Rattle.std.proofs.lemmas.Option.{slice_get_read}
+use Rattle.beam_values.specs.declared.cell.Cell.{Cell}
+use Rattle.beam_values.specs.declared.cell.Entry.{Entry}
 use Rattle.beam_values.specs.declared.element.Timing.{Timing}
 use Rattle.beam_model.specs.Panes.{GroupRules}
-use Rattle.group_cells.specs.Cells.{once_fired}
+use Rattle.group_cells.specs.Cells.{once_fired, unseen_in, AreShownTo}
 use Rattle.group_cells.specs.Plain.{after_node, firing_at}
 use Rattle.group_cells.proofs.FireSteps.{fires_none, fires_so, read_is, unfired_cells}
 use Rattle.group_cells.proofs.groups.draft.Draft.fire.Goals as goal
+
+pub timing_at-requires : goal.timing_at-requires
+timing_at-requires c =
+    let cells = c.args.self.now.cells.items in
+    c.count_at-count.ensures c.args.plan.now cells c.index.result.now c.requires.due (slice_get_read cells (length cells) c.args.place c.index.result.now refl c.requires.within c.index.ensures)
+
+pub first_unseen-from-requires : goal.first_unseen-from-requires
+first_unseen-from-requires c =
+    let cells = c.args.self.now.cells.items in
+    let cell = c.index-cell.result.now in
+    c.count_at-count.ensures c.args.plan.now cells cell c.requires.due (slice_get_read cells (length cells) c.args.place cell refl c.requires.within c.index-cell.ensures)
+    ∙ sym (ap unseen_in c.as_slice.ensures)
+
+pub set_fired_due-requires-clause-counted : goal.set_fired_due-requires-clause-counted
+set_fired_due-requires-clause-counted c = λ cell found.
+    subst (λ (x : Cell). x.next_index + 1 < 2 ^ 32) (read_is c.args.self.now.cells.items c.args.place c.index-cell.result.now cell c.index-cell.ensures found) c.in_ok-pane-in-Some.ensures.counted
+
+pub set_fired_due-requires-clause-from : goal.set_fired_due-requires-clause-from
+set_fired_due-requires-clause-from c = λ cell found.
+    let here : c.index-cell.result.now ≡ cell = read_is c.args.self.now.cells.items c.args.place c.index-cell.result.now cell c.index-cell.ensures found in
+    subst (λ (l : List Entry). AreShownTo c.first_unseen-from.result l) (c.as_slice.ensures ∙ ap (λ (x : Cell). x.entries) here) c.first_unseen-from.ensures
 
 pub returns-in-None-clause-cells : goal.returns-in-None-clause-cells
 returns-in-None-clause-cells c = λ cell found.

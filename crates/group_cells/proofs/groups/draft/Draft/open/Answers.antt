@@ -1,4 +1,4 @@
-use Rattle.std.proofs.Common.{◌≡◌, ◌∷◌, [], ◌++◌, length, rules, subst, sym}
+use Rattle.std.proofs.Common.{◌≡◌, length, rules, subst, sym}
 use Rattle.std.proofs.lemmas.Result.{on_ok_weaker}
 use Rattle.group_cells.specs.Indexes.{IsIndexOf}
 use Rattle.group_cells.specs.declared.groups.index.CellIndex.{CellIndex}
