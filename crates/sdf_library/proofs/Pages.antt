@@ -4,11 +4,11 @@ use Rattle.std.proofs.Math.ListN.{drop_of_length-le}
 use Rattle.std.proofs.Math.Seq.{take-add}
 use Rattle.std.proofs.lemmas.Bool.{cases_lt, false≢true}
 use Rattle.std.proofs.lemmas.Bool.Decides.{nat_tests}
-use Rattle.std.proofs.lemmas.List.{drop-drop, drop-take, length-drop, length-take-le, take-append-drop, take-take, take_all}
+use Rattle.std.proofs.lemmas.List.{drop-drop, drop-take, length-drop, length-take, length-take-le, take-append-drop, take-take, take_all}
 use Rattle.beam_values.specs.declared.plan.Args.TheVariants.{Nothing}
 use Rattle.beam_values.specs.declared.plan.SourceKind.TheVariants.{Lines}
 use Rattle.beam_ports.specs.Files.{Opening}
-use Rattle.sdf_library.specs.Paging.{Paged, HoldsFile, IsEnough, Serves, Suffices, held_from}
+use Rattle.sdf_library.specs.Paging.{Paged, HoldsFile, Serves, block, block_at, cut_where, held_from}
 
 -- more was read behind what was held
 pub held_more : (old new text : List ℕ) (base k n : ℕ) → take k new ≡ old → length new ≡ k + n → drop k new ≡ take n (drop (base + k) text)
@@ -95,12 +95,50 @@ pub served_from : (held : Paged) (p : ℕ) → Serves held p → held.base ≤ p
 served_from held zero serves = (serves.view Lines Nothing refl).from_base refl
 served_from held (suc q) serves = omega (arith, (serves.view Lines Nothing refl).from_before refl (omega arith))
 
-pub held_served : (held : Paged) (p : ℕ) → Serves held p → p < p - 1 + length (held_from (p - 1) held).bytes
-held_served held p serves = by_test (nat_le held.base (p - 1)) (grind (arith, nat_tests, served_from held p serves))
+-- where a position is served, what is left ends where all did
+pub held_end : (held : Paged) (p : ℕ) → Serves held p → p - 1 + length (held_from (p - 1) held).bytes ≡ held.base + length held.bytes
+held_end held p serves = by_test (nat_le held.base (p - 1)) (grind (arith, nat_tests, served_from held p serves))
   where
-    by_test : (within : Bool) → (within ≡ true) → p < p - 1 + length (if within then drop (p - 1 - held.base) held.bytes else [])
+    by_test : (within : Bool) → (within ≡ true) → p - 1 + length (if within then drop (p - 1 - held.base) held.bytes else []) ≡ held.base + length held.bytes
     by_test true from = omega (arith, length-drop (p - 1 - held.base) held.bytes, serves.reached, served_from held p serves)
     by_test false from = absurd (false≢true from)
+
+-- a block of it serves, too
+pub serves_block : (held : Paged) (p : ℕ) → Serves held p → Serves (block_at p held) p
+serves_block held p serves =
+    let end = held_end held p serves in
+    let cut = length-take block (held_from (p - 1) held).bytes in
+    let whole : held.base + length held.bytes ≤ held.len = (serves.view Lines Nothing refl).within in
+    serves_here (block_at p held) p (omega arith) (omega (arith, end, cut, serves.reached)) (omega (arith, end, cut, whole, served_from held p serves))
+
+pub holds_block : (opening : Option Opening) (held : Paged) (p : ℕ) → HoldsFile opening held → HoldsFile opening (block_at p held)
+holds_block opening held p holds text is whole =
+    held_front (held_from (p - 1) held).bytes text (p - 1) block (holds_from opening held (p - 1) holds text is whole)
+
+-- what a cut leaves
+pub serves_cut : (more : Bool) (held : Paged) (p : ℕ) → Serves held p → Serves (cut_where more p held) p
+serves_cut true held p serves = serves
+serves_cut false held p serves = by_test (nat_le (length held.bytes) block)
+  where
+    by_test : (small : Bool) → Serves (if small then held else block_at p held) p
+    by_test true = serves
+    by_test false = serves_block held p serves
+
+pub holds_cut : (more : Bool) (opening : Option Opening) (held : Paged) (p : ℕ) → HoldsFile opening held → HoldsFile opening (cut_where more p held)
+holds_cut true opening held p holds = holds
+holds_cut false opening held p holds = by_test (nat_le (length held.bytes) block)
+  where
+    by_test : (small : Bool) → HoldsFile opening (if small then held else block_at p held)
+    by_test true = holds
+    by_test false = holds_block opening held p holds
+
+pub cut_less : (more : Bool) (held : Paged) (p : ℕ) → length (cut_where more p held).bytes ≤ length held.bytes
+cut_less true held p = omega arith
+cut_less false held p = by_test (nat_le (length held.bytes) block)
+  where
+    by_test : (small : Bool) → length (if small then held else block_at p held).bytes ≤ length held.bytes
+    by_test true = omega arith
+    by_test false = omega (arith, length-take block (held_from (p - 1) held).bytes, held_less held (p - 1))
 
 -- what is told of a file after a call was told of it before
 pub told_before : (old new : Option Opening) (len : ℕ) (text : List ℕ) → IsSomeAnd old (λ opening. opening.len ≡ len)
@@ -112,11 +150,3 @@ told_before (Some opening) new len text opened kept is = sym (kept opening refl)
 pub on_err : {T E P : Type 0} (r : Result T E) → P → OnErr r P
 on_err (Ok value) p = tt
 on_err (Err refusal) p = p
-
--- where more is asked for, what is enough is left as it is
-pub not_enough : (more : Bool) (held : Paged) (p : ℕ) → more ≡ true → (Suffices more held p → ⊥) → IsEnough more held p → ⊥
-not_enough more held p wants not_left enough =
-    elim enough.1 [
-      | inl none ↦ false≢true (sym none ∙ wants)
-      | inr end ↦ not_left (enough.0, ((λ _. end), (λ none. absurd (false≢true (sym none ∙ wants)))))
-    ]

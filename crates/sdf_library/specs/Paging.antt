@@ -44,13 +44,9 @@ ReachesOn more old new = more ≡ true → (length old.bytes < length new.bytes)
 abbrev pub IsEnough : Bool → Paged → ℕ → Type 0
 IsEnough more held p = Serves held p × ((more ≡ false) ⊎ ReachesEnd held)
 
--- A block, which is read at once, in bytes.
+-- a block, in bytes
 abbrev pub block : ℕ
 block = 65536
-
--- A look leaves what is held as it is: it serves, and it is no more than a block, or where more was asked for all up to the end of the file.
-abbrev pub Suffices : Bool → Paged → ℕ → Type 0
-Suffices more held p = Serves held p × ((more ≡ true → ReachesEnd held) × (more ≡ false → length held.bytes ≤ block))
 
 -- what is left where all that stands before this byte of the file is given up; nothing where the byte stands before what is held
 abbrev pub held_from : ℕ → Paged → Paged
@@ -61,14 +57,19 @@ held_from first held =
 abbrev pub block_at : ℕ → Paged → Paged
 block_at p held = record (held_from (p - 1) held) { bytes = take block (held_from (p - 1) held).bytes }
 
--- What a look leaves where what is held is enough. By hand: 70000 bytes from 0 on are for position 66001 the 4000 from 66000 on.
-abbrev pub after_enough : Bool → ℕ → Paged → Paged
-after_enough more p held = if more then held else if nat_le (length held.bytes) block then held else block_at p held
+-- Where more isn't asked for, a look cuts what is held to a block. By hand: of 70000 bytes from 0 on it leaves for position 66001 the 4000 from 66000 on.
+abbrev pub cut_where : Bool → ℕ → Paged → Paged
+cut_where more p held = if more then held else if nat_le (length held.bytes) block then held else block_at p held
 
--- after a look without more, no more than a block is held; with more, no more than `step` bytes more than before
-abbrev pub IsBounded : Bool → ℕ → Paged → Paged → Type 0
-IsBounded more step old new =
-    (more ≡ false → length new.bytes ≤ block) × (more ≡ true → length new.bytes ≤ length old.bytes + step)
+-- with more, where the position was served, what is held reaches further than before
+abbrev pub ReachesFurther : Bool → ℕ → Paged → Paged → Type 0
+ReachesFurther more p old new =
+    more ≡ true → Serves old p → (old.base + length old.bytes < new.base + length new.bytes) ⊎ ReachesEnd new
+
+-- without more at most `most` bytes are held then, and with more at most `step` bytes more than before
+abbrev pub IsBounded : ℕ → ℕ → Bool → Paged → Paged → Type 0
+IsBounded most step more old new =
+    (more ≡ false → length new.bytes ≤ most) × (more ≡ true → length new.bytes ≤ length old.bytes + step)
 
 -- after a call the same file is held, and where its text is told the bytes are its bytes
 pub record KeepsPage (opening : Option Opening) (old new : Paged) : Type 0 where

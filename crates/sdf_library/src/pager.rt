@@ -1,9 +1,9 @@
 ghost use Rattle.std.specs.Prelude.{◌≡◌, ◌↔◌, ℕ, ◌+◌, ◌-◌, ◌<◌, ◌≤◌, ◌^◌, List, [], Some, length};
-ghost use Rattle.std.specs.Prelude.{take, drop, max, min, IsTrue, IsSomeAnd, IsErrOf, IsOk, IsOkAnd, OnOk, OnErr, IfOk};
+ghost use Rattle.std.specs.Prelude.{take, drop, max, min, Option, true, false, IsTrue, IsSomeAnd, IsErrOf, IsOk, IsOkAnd, OnOk, OnErr, IfOk};
 ghost use Rattle.std.specs.Borrow.{sem};
 ghost use Rattle.std.specs.Io.BufRead.{Rests};
 ghost use Rattle.beam_ports.specs.Counts.{Rose};
-ghost use Rattle.beam_ports.specs.Files.{KeepsOpenings};
+ghost use Rattle.beam_ports.specs.Files.{KeepsOpenings, Opening};
 
 use crate::reading::fill;
 use beam_ports::{Failed, NoMemory, Store};
@@ -48,11 +48,11 @@ impl From<NoMemory> for PageRefusal {
     }
 }
 
-/// How many bytes are read at once, at most.
+/// How many bytes are read for a position.
 const BLOCK: u64 = 65536;
 
-/// What is held of an opened file whose positions are worked: the bytes of a stretch of it, which moves on
-/// with the positions.
+/// What is held of an opened file whose positions are worked: some bytes of it, which move on with
+/// the positions.
 ///
 /// Contracts see the file's number and length, and the bytes that are held with their offset.
 #[derive(Drop)]
@@ -80,8 +80,9 @@ impl Model for Pager {
 }
 
 impl Pager {
-    ghost use Rattle.sdf_library.specs.Paging.{HoldsFile, Serves, ShowsText, ReachesOn, Suffices};
-    ghost use Rattle.sdf_library.specs.Paging.{IsBounded, IsEnough, KeepsPage, after_enough, block};
+    ghost use Rattle.sdf_library.specs.Paging.{HoldsFile, Serves, ShowsText, ReachesOn};
+    ghost use Rattle.sdf_library.specs.Paging.{ReachesFurther, cut_where};
+    ghost use Rattle.sdf_library.specs.Paging.{IsBounded, IsEnough, KeepsPage, block};
     ghost use Rattle.sdf_library.specs.Paging.{held_from, shown_by};
     ghost use Rattle.sdf_library.specs.contracts.pager.Pager.{the_row};
 
@@ -118,9 +119,9 @@ impl Pager {
         self.bytes.len() as u64
     }
 
-    /// Holds what the position `p` needs, and with `more` more than before: at least a block more, and as
-    /// much again as was held, so that a long line is looked at a few times only. Where that is held
-    /// already, nothing is read.
+    /// Holds what the position `p` needs, and with `more` more than before: as much again as was held, and
+    /// at least a block, so that a long line is looked at a few times only. Where that is held already,
+    /// nothing changes.
     pub fn ensure_held<S: Store>(
         &mut self,
         store: &mut S,
@@ -133,10 +134,11 @@ impl Pager {
         requires held { HoldsFile (S.opened store.old self.old.file) self.old }
         ensures serves { OnOk result (Serves self.new p) }
         ensures more { OnOk result (ReachesOn more self.old self.new) }
-        ensures bounded { OnOk result
-            (IsBounded more (max block (length self.old.bytes)) self.old self.new) }
+        ensures further { OnOk result (ReachesFurther more p self.old self.new) }
+        ensures bounded { OnOk result (IsBounded (max block (length self.old.bytes))
+            (max block (length self.old.bytes)) more self.old self.new) }
         ensures enough { IsEnough more self.old p
-            → IsOk result × (self.new ≡ after_enough more p self.old) × (store.new ≡ store.old) }
+            → IsOk result × (self.new ≡ self.old) × (store.new ≡ store.old) }
         ensures failed { IsErrOf result PageRefusal.Failed
             → Rose (S.faults store.old) (S.faults store.new) }
         ensures given_up { OnErr result (length self.new.bytes ≤ length self.old.bytes) }
@@ -151,11 +153,11 @@ impl Pager {
         ensures kept { KeepsOpenings (S.opened store.old) (S.opened store.new) }
         ensures counts { S.faults store.old ≤ S.faults store.new }
     {
-        self.turn_to(store, p, more, BLOCK.max(self.held()))
+        self.hold_for(store, p, more, BLOCK.max(self.held()))
     }
 
-    /// Holds what the position `p` needs, and with `more` a block more than before, and then shows what is
-    /// held.
+    /// Holds what the position `p` needs, at most a block, and with `more` more than before, at most a
+    /// block more. Then shows what is held.
     pub fn look<S: Store>(
         &mut self,
         store: &mut S,
@@ -169,12 +171,14 @@ impl Pager {
         ensures len { IfOk result (λ look. look.len ≡ self.old.len) }
         ensures serves { IfOk result (λ look. Serves (shown_by self.old.file look) p) }
         ensures more { IfOk result (λ look. ReachesOn more self.old (shown_by self.old.file look)) }
+        ensures further { IfOk result
+            (λ look. ReachesFurther more p self.old (shown_by self.old.file look)) }
         ensures bounded { IfOk result
-            (λ look. IsBounded more block self.old (shown_by self.old.file look)) }
+            (λ look. IsBounded block block more self.old (shown_by self.old.file look)) }
         ensures shown { IfOk result
             (λ look. ShowsText (S.opened store.new self.old.file) (shown_by self.old.file look)) }
         ensures enough { IsEnough more self.old p
-            → IsOkAnd result (λ look. shown_by self.old.file look ≡ after_enough more p self.old)
+            → IsOkAnd result (λ look. shown_by self.old.file look ≡ cut_where more p self.old)
             × (store.new ≡ store.old) }
         ensures failed { IsErrOf result PageRefusal.Failed
             → Rose (S.faults store.old) (S.faults store.new) }
@@ -189,12 +193,39 @@ impl Pager {
         ensures kept { KeepsOpenings (S.opened store.old) (S.opened store.new) }
         ensures counts { S.faults store.old ≤ S.faults store.new }
     {
-        self.turn_to(store, p, more, BLOCK)?;
+        self.hold_block(store, p, more)?;
         Ok(self.bytes())
     }
 
+    // Holds what `look` shows.
+    fn hold_block<S: Store>(&mut self, store: &mut S, p: u64, more: bool) -> Result<(), PageRefusal>
+        requires inside { p < self.old.len }
+        requires open { IsSomeAnd (S.opened store.old self.old.file)
+            (λ opening. opening.len ≡ self.old.len) }
+        requires held { HoldsFile (S.opened store.old self.old.file) self.old }
+        ensures serves { OnOk result (Serves self.new p) }
+        ensures more { OnOk result (ReachesOn more self.old self.new) }
+        ensures further { OnOk result (ReachesFurther more p self.old self.new) }
+        ensures bounded { OnOk result (IsBounded block block more self.old self.new) }
+        ensures enough { IsEnough more self.old p
+            → IsOk result × (self.new ≡ cut_where more p self.old) × (store.new ≡ store.old) }
+        ensures failed { IsErrOf result PageRefusal.Failed
+            → Rose (S.faults store.old) (S.faults store.new) }
+        ensures given_up { OnErr result (length self.new.bytes ≤ length self.old.bytes) }
+        ensures file { self.new.file ≡ self.old.file }
+        ensures len { self.new.len ≡ self.old.len }
+        ensures held { HoldsFile (S.opened store.new self.new.file) self.new }
+        ensures told { S.files store.new ≡ S.files store.old }
+        ensures kept { KeepsOpenings (S.opened store.old) (S.opened store.new) }
+        ensures counts { S.faults store.old ≤ S.faults store.new }
+    {
+        self.hold_for(store, p, more, BLOCK)?;
+        self.cut(more, p);
+        Ok(())
+    }
+
     // Holds what the position needs, and with `more` more than before, but no more than `step` bytes more.
-    fn turn_to<S: Store>(
+    fn hold_for<S: Store>(
         &mut self,
         store: &mut S,
         p: u64,
@@ -208,9 +239,11 @@ impl Pager {
         requires step { block ≤ step }
         ensures serves { OnOk result (Serves self.new p) }
         ensures more { OnOk result (ReachesOn more self.old self.new) }
-        ensures bounded { OnOk result (IsBounded more step self.old self.new) }
+        ensures further { OnOk result (ReachesFurther more p self.old self.new) }
+        ensures bounded { OnOk result
+            (IsBounded (max block (length self.old.bytes)) step more self.old self.new) }
         ensures enough { IsEnough more self.old p
-            → IsOk result × (self.new ≡ after_enough more p self.old) × (store.new ≡ store.old) }
+            → IsOk result × (self.new ≡ self.old) × (store.new ≡ store.old) }
         ensures failed { IsErrOf result PageRefusal.Failed
             → Rose (S.faults store.old) (S.faults store.new) }
         ensures given_up { OnErr result (length self.new.bytes ≤ length self.old.bytes) }
@@ -221,33 +254,45 @@ impl Pager {
         ensures kept { KeepsOpenings (S.opened store.old) (S.opened store.new) }
         ensures counts { S.faults store.old ≤ S.faults store.new }
     {
-        if self.suffices(p, more) {
+        if self.is_enough(more, p) {
             return Ok(());
         }
-        let (serves, held) = (self.serves(p), self.held());
+        let before = self.held();
         self.give_up_before(p);
-        let kept = self.held();
+        let held = self.held();
         if more {
-            // One byte more than before at least, also where the position is another one.
-            self.read_on(store, step.max((held - kept).saturating_add(1)))?;
-        } else if serves {
-            self.bytes.truncate(BLOCK as usize);
+            // What was given up counts too, so that more is held than before.
+            self.read_on(store, step.max((before - held).saturating_add(1)))?;
         } else {
-            self.read_on(store, BLOCK - kept)?;
+            self.read_on(store, BLOCK - held)?;
         }
         Ok(())
     }
 
-    // Whether what is held is left as it is.
-    fn suffices(&self, p: u64, more: bool) -> bool
-        ensures { IsTrue result ↔ Suffices more self.now p }
+    // Gives up all but a block, from the byte before the position on, unless more was asked for.
+    fn cut(&mut self, more: bool, p: u64)
+        requires { p < self.old.len }
+        ensures cut { self.new ≡ cut_where more p self.old }
+        ensures all { more ≡ true → self.new ≡ self.old }
+        ensures bounded { more ≡ false → length self.new.bytes ≤ block }
+        ensures less { length self.new.bytes ≤ length self.old.bytes }
+        ensures serves { Serves self.old p → Serves self.new p }
+        ensures held { (opening : Option Opening)
+            → HoldsFile opening self.old → HoldsFile opening self.new }
+        ensures same { (self.new.file ≡ self.old.file) × (self.new.len ≡ self.old.len) }
     {
-        self.serves(p)
-            && if more {
-                self.end() == self.len
-            } else {
-                self.held() <= BLOCK
-            }
+        if !more && self.held() > BLOCK {
+            self.give_up_before(p);
+            self.bytes.truncate(BLOCK as usize);
+        }
+    }
+
+    fn is_enough(&self, more: bool, p: u64) -> bool
+        ensures enough { IsTrue result ↔ IsEnough more self.now p }
+        ensures serves { IsTrue result → Serves self.now p }
+        ensures within { self.now.base + length self.now.bytes ≤ self.now.len }
+    {
+        self.serves(p) && (!more || self.end() == self.len)
     }
 
     // Whether the byte at the position is held, and the one before it.
@@ -268,7 +313,9 @@ impl Pager {
     // Gives up what stands before the byte before the position, so what is held begins there.
     fn give_up_before(&mut self, p: u64)
         requires { p < self.old.len }
-        ensures { self.new ≡ held_from (p - 1) self.old }
+        ensures left { self.new ≡ held_from (p - 1) self.old }
+        ensures within { self.new.base + length self.new.bytes ≤ self.new.len }
+        ensures small { self.new.len < 2 ^ 64 }
     {
         let first = p.saturating_sub(1);
         if first < self.base {
