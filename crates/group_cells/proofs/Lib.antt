@@ -41,6 +41,8 @@ mod FiredPlaces
 mod Advancing
 mod StandingPlaces
 mod OpenedPlaces
+mod NearPlaces
+mod OpenedNear
 mod KeyMaps
 mod Handing
 mod GivenWay

@@ -90,7 +90,7 @@ module _ (rules : GroupRules) (before : ℤ) (node : ℕ) (key : Value) (w : Int
         ∙ given_from (stands_here node key) (once_opened rules before w) (handed_over rules before w) old [] 0 refl
         ∙ sym (ap (λ (f : Cell → List Entry). flat_map f old) (λ i cell. over_is cell i))
 
-    whole : placed ≡ map (once_opened_at rules before node (opening_of key w)) old ++ fresh_cell node key w given ∷ []
+    pub whole : placed ≡ map (once_opened_at rules before node (opening_of key w)) old ++ fresh_cell node key w given ∷ []
     whole = placed_is ∙ ap (λ l. l ++ fresh_cell node key w given ∷ []) all_once
 
     pub opened_is : list_any (at_place (stands_as w) false old) places ≡ false → placed ≡ opened_at rules before node old (opening_of key w)

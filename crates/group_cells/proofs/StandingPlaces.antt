@@ -17,7 +17,7 @@ use Rattle.group_cells.specs.Plain.{put_at, takes_at}
 
 -- ---- the item behind a front
 
-got : {X : Type 0} (pre : List X) (x : X) (rest : List X) (k : ℕ) → k ≡ length pre → slice_get (pre ++ x ∷ rest) k ≡ Some x
+pub got : {X : Type 0} (pre : List X) (x : X) (rest : List X) (k : ℕ) → k ≡ length pre → slice_get (pre ++ x ∷ rest) k ≡ Some x
 got {X} pre x rest k e = ap (slice_get (pre ++ x ∷ rest)) e ∙ at pre
   where
     at : (pre : List X) → slice_get (pre ++ x ∷ rest) (length pre) ≡ Some x
@@ -38,10 +38,10 @@ pub changed_here : {X : Type 0} (f : X → X) (pre : List X) (x : X) (rest : Lis
 changed_here f pre x rest k e =
     ap (λ o. unwrap_or (option_map (λ y. slice_set (pre ++ x ∷ rest) k (f y)) o) (pre ++ x ∷ rest)) (got pre x rest k e) ∙ written pre x (f x) rest k e
 
-longer : {X : Type 0} (pre : List X) (y : X) (k : ℕ) → k ≡ length pre → suc k ≡ length (pre ++ y ∷ [])
+pub longer : {X : Type 0} (pre : List X) (y : X) (k : ℕ) → k ≡ length pre → suc k ≡ length (pre ++ y ∷ [])
 longer pre y k e = omega (arith, length-append pre (y ∷ []))
 
-moved : {X : Type 0} (pre : List X) (x : X) (rest : List X) → pre ++ x ∷ rest ≡ (pre ++ x ∷ []) ++ rest
+pub moved : {X : Type 0} (pre : List X) (x : X) (rest : List X) → pre ++ x ∷ rest ≡ (pre ++ x ∷ []) ++ rest
 moved pre x rest = sym (append_assoc pre (x ∷ []) rest)
 
 -- ---- all items that pass

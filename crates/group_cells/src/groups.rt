@@ -21,6 +21,7 @@ mod placing;
 mod ranks;
 mod room;
 mod sessions;
+mod standing;
 
 use crate::groups::advance::Next;
 use crate::groups::draft::Draft;
@@ -28,6 +29,7 @@ use crate::groups::due::DueCells;
 use crate::groups::index::{CellIndex, CellKey};
 use crate::groups::keyed::GroupKey;
 use crate::groups::looking::{next_due, place_among};
+use crate::groups::standing::Standing;
 use beam_values::{
     Arrival, Cell, Dropped, List, Mark, NoMemory, Pane, Plan, Span, StageMarks, Value,
 };
@@ -41,7 +43,7 @@ pub struct Groups {
     plan: Plan,
     draft: Draft,
     /// Where the cells stand that are at Groups of sessions.
-    standing: BTreeMap<GroupKey, List<u32>>,
+    standing: BTreeMap<GroupKey, List<Standing>>,
     /// Whether the indexes are whole: a commit that is refused leaves them for the next one to make anew.
     indexed: bool,
     alloc: Global,

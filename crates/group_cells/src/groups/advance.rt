@@ -17,6 +17,7 @@ use crate::groups::due::DueCells;
 use crate::groups::index::CellIndex;
 use crate::groups::keyed::{GroupKey, standing_of};
 use crate::groups::placing::Commit;
+use crate::groups::standing::Standing;
 use crate::plain::arrivals::{is_taken, others_of};
 use crate::rules::rules_of;
 use beam_values::{Arrival, Duplicate, List, Mark, NoMemory, Pane, Plan, StageMarks};
@@ -44,7 +45,7 @@ impl Draft {
         before: &[StageMarks],
         commit: u32,
         indexed: bool,
-        standing: &mut BTreeMap<GroupKey, List<u32>>,
+        standing: &mut BTreeMap<GroupKey, List<Standing>>,
     ) -> Result<Next, NoMemory>
         requires checked { IsChecked plan.now }
         requires holds { length holds.now ≡ length plan.now.nodes }
@@ -96,7 +97,7 @@ impl Draft {
         before: &[StageMarks],
         commit: u32,
         indexed: bool,
-        standing: &mut BTreeMap<GroupKey, List<u32>>,
+        standing: &mut BTreeMap<GroupKey, List<Standing>>,
     ) -> Result<Next, NoMemory>
         requires checked { IsChecked plan.now }
         requires holds { length holds.now ≡ length plan.now.nodes }
@@ -156,7 +157,7 @@ impl Draft {
         plan: &Plan,
         facts: &[NodeFacts],
         indexed: bool,
-        standing: &mut BTreeMap<GroupKey, List<u32>>,
+        standing: &mut BTreeMap<GroupKey, List<Standing>>,
     ) -> Result<(), NoMemory>
         requires facts { facts.now ≡ facts_of plan.now.nodes }
         requires indexed { indexed ≡ true → IsIndexOf self.old.index self.old.cells.items }

@@ -15,6 +15,7 @@ ghost use Rattle.group_cells.specs.Commits.{elements_keyed};
 ghost use Rattle.group_cells.specs.KeyLists.{all_listed, group_key_cmp, listed, AreStanding};
 ghost use Rattle.group_cells.specs.declared.groups.keyed.GroupKey.{GroupKey as GroupKeyOf};
 
+use crate::groups::standing::{Standing, push_standing};
 use crate::rules::rules_of;
 use beam_values::{Arrival, Cell, Element, List, NoMemory, Plan, Value, cmp_values, copy_key};
 use std::alloc::Global;
@@ -160,7 +161,7 @@ pub fn standing_of(
     plan: &Plan,
     facts: &[NodeFacts],
     cells: &[Cell],
-) -> Result<BTreeMap<GroupKey, List<u32>>, NoMemory>
+) -> Result<BTreeMap<GroupKey, List<Standing>>, NoMemory>
     requires { facts.now ≡ facts_of plan.now.nodes }
     ensures { IfOk result (λ standing. AreStanding plan.now standing cells.now) }
 {
@@ -177,7 +178,7 @@ fn push_cell(
     facts: &[NodeFacts],
     cell: &Cell,
     place: usize,
-    standing: &mut BTreeMap<GroupKey, List<u32>>,
+    standing: &mut BTreeMap<GroupKey, List<Standing>>,
 ) -> Result<(), NoMemory>
     requires { facts.now ≡ facts_of plan.now.nodes }
     ensures { OnOk result
@@ -192,7 +193,9 @@ fn push_cell(
     }
     let place = u32::try_from(place).map_err(|_| NoMemory)?;
     let key = key_of_cell(alloc, cell)?;
-    push(alloc, standing, key, place)
+    let mut listed = take(alloc, standing, &key);
+    push_standing(&mut listed, place, cell.span)?;
+    put(standing, key, listed)
 }
 
 fn merges_at(plan: &Plan, facts: &[NodeFacts], node: u32) -> bool

@@ -1,5 +1,6 @@
-//! Arrivals at Groups of sessions, one key after another: only the cells of the key that stand are looked
-//! at. A cell that gives way to a session is replaced, and the session's stands behind the others.
+//! Arrivals at Groups of sessions, one key after another: only cells of the key that stand are looked at, and
+//! of them only those that are near. A cell that gives way to a session is replaced, and the session's stands
+//! behind the others.
 
 ghost use Rattle.std.specs.Prelude.{◌≡◌, ◌+◌, ◌∷◌, [], ◌++◌, ◌<◌, ◌≤◌, ℕ, List as ListOf, None};
 ghost use Rattle.std.specs.Prelude.{Some, false, true, fold, length, map, All, option_to_list};
@@ -14,7 +15,8 @@ ghost use Rattle.group_cells.specs.AtPlaces.{at_place, changed_at, given_all};
 ghost use Rattle.group_cells.specs.Due.{IsDueOf};
 ghost use Rattle.group_cells.specs.Handing.{with_entries, HasGivenWay};
 ghost use Rattle.group_cells.specs.Indexes.{IsIndexOf};
-ghost use Rattle.group_cells.specs.KeyLists.{open_span, standing_places, stands, AreStanding};
+ghost use Rattle.group_cells.specs.KeyLists.{open_span, stands, ArePlaces, AreStanding};
+ghost use Rattle.group_cells.specs.KeyLists.{IsFrom, StartsFrom};
 ghost use Rattle.group_cells.specs.Placing.{fresh_cell, handed_over, once_opened, stands_as, takes};
 ghost use Rattle.group_cells.specs.Plain.{opened_all_at, opened_at, opening_of, put_all_at, put_at};
 ghost use Rattle.group_cells.specs.Plain.{AreAllPlaced, ArePlacedAt};
@@ -26,6 +28,7 @@ use crate::groups::handing::give_way;
 use crate::groups::index::CellKey;
 use crate::groups::keyed::{GroupKey, by_key, put, take};
 use crate::groups::placing::Commit;
+use crate::groups::standing::{Places, Standing, listed_again, places_for};
 use crate::plain::arrivals::mark_into;
 use crate::plain::placing::{gives_way, is_same_span, own_spans, takes};
 use crate::rules::{Rules, rules_of};
@@ -41,7 +44,7 @@ impl Draft {
         alloc: Global,
         commit: Commit,
         taken: List<Arrival>,
-        standing: &mut BTreeMap<GroupKey, List<u32>>,
+        standing: &mut BTreeMap<GroupKey, List<Standing>>,
     ) -> Result<(), NoMemory>
         requires facts { commit.facts.now ≡ facts_of commit.plan.now.nodes }
         requires groups { All (λ arrival. is_group commit.plan.now arrival.node ≡ true) taken }
@@ -80,7 +83,7 @@ impl Draft {
         commit: Commit,
         key: GroupKey,
         own: List<Element>,
-        standing: &mut BTreeMap<GroupKey, List<u32>>,
+        standing: &mut BTreeMap<GroupKey, List<Standing>>,
     ) -> Result<(), NoMemory>
         requires facts { commit.facts.now ≡ facts_of commit.plan.now.nodes }
         requires group { is_group commit.plan.now key.node ≡ true }
@@ -104,8 +107,9 @@ impl Draft {
     {
         let rules = rules_of(commit.plan, commit.facts, key.node);
         let mark = mark_into(commit.before, key.node);
-        let places = take(alloc, standing, &key);
-        let windows = self.sessions_for(alloc, &rules, mark, own.as_slice(), places.as_slice())?;
+        let listed = take(alloc, standing, &key);
+        let places = places_for(alloc, self.cells.as_slice(), own.as_slice(), listed)?;
+        let windows = self.sessions_for(alloc, &rules, mark, own.as_slice(), &places)?;
         let places = self.open_all(
             alloc,
             commit.plan,
@@ -115,15 +119,9 @@ impl Draft {
             windows.as_slice(),
             places,
         )?;
-        self.put_all(
-            commit.plan,
-            &rules,
-            &key,
-            commit.number,
-            own,
-            places.as_slice(),
-        )?;
-        put(standing, key, places)?;
+        self.put_all(commit.plan, &rules, &key, commit.number, own, &places)?;
+        let listed = listed_again(self.cells.as_slice(), places)?;
+        put(standing, key, listed)?;
         Ok(())
     }
 
@@ -134,16 +132,20 @@ impl Draft {
         rules: &Rules,
         before: Mark,
         own: &[Element],
-        places: &[u32],
+        places: &Places,
     ) -> Result<List<Span>, NoMemory>
+        requires own { All (λ e. IsFrom places.now.low e.span) own.now }
+        requires near { All (StartsFrom places.now.low self.now.cells.items) places.now.near }
         ensures windows { IfOk result (λ windows. (node : ℕ) (key : ValueOf)
-            → places.now ≡ standing_places node key self.now.cells.items
+            → ArePlaces node key self.now.cells.items places.now
             → AreSessionsOver (map (λ e. e.span) own.now) (open_windows rules.now before
             (filter (is_cell_at_key node key) self.now.cells.items)) windows) }
+        ensures from { IfOk result (All (IsFrom places.now.low)) }
         ensures few { IfOk result (λ windows. length windows ≤ length own.now) }
     {
         let spans = own_spans(alloc, own)?;
-        let open = open_spans(alloc, rules, before, self.cells.as_slice(), places)?;
+        let near = places.near.as_slice();
+        let open = open_spans(alloc, rules, before, self.cells.as_slice(), near)?;
         let windows = sessions_over(alloc, spans.as_slice(), open.as_slice())?;
         Ok(windows)
     }
@@ -157,15 +159,18 @@ impl Draft {
         before: Mark,
         key: &GroupKey,
         windows: &[Span],
-        places: List<u32>,
-    ) -> Result<List<u32>, NoMemory>
-        requires places { places ≡ standing_places key.now.node key.now.key self.old.cells.items }
+        places: Places,
+    ) -> Result<Places, NoMemory>
+        requires places { ArePlaces key.now.node key.now.key self.old.cells.items places }
+        requires from { All (IsFrom places.low) windows.now }
         requires indexed { IsIndexOf self.old.index self.old.cells.items }
         requires due { IsDueOf plan.now self.old.due self.old.cells.items }
         ensures ok { OnOk result (self.new.cells.items ≡ opened_all_at rules.now before key.now.node
             (map (opening_of key.now.key) windows.now) self.old.cells.items) }
         ensures places { IfOk result
-            (λ after. after ≡ standing_places key.now.node key.now.key self.new.cells.items) }
+            (ArePlaces key.now.node key.now.key self.new.cells.items) }
+        ensures far { IfOk result
+            (λ after. (after.far ≡ places.far) × (after.low ≡ places.low)) }
         ensures indexed { OnOk result (IsIndexOf self.new.index self.new.cells.items) }
         ensures due { OnOk result (IsDueOf plan.now self.new.due self.new.cells.items) }
         ensures dropped { self.new.dropped ≡ self.old.dropped }
@@ -188,30 +193,41 @@ impl Draft {
         before: Mark,
         key: &GroupKey,
         span: Span,
-        places: List<u32>,
-    ) -> Result<List<u32>, NoMemory>
-        requires places { places ≡ standing_places key.now.node key.now.key self.old.cells.items }
+        places: Places,
+    ) -> Result<Places, NoMemory>
+        requires places { ArePlaces key.now.node key.now.key self.old.cells.items places }
+        requires from { IsFrom places.low span }
         requires indexed { IsIndexOf self.old.index self.old.cells.items }
         requires due { IsDueOf plan.now self.old.due self.old.cells.items }
         ensures ok { OnOk result (self.new.cells.items ≡ opened_at rules.now before
             key.now.node self.old.cells.items (opening_of key.now.key span)) }
         ensures places { IfOk result
-            (λ after. after ≡ standing_places key.now.node key.now.key self.new.cells.items) }
+            (ArePlaces key.now.node key.now.key self.new.cells.items) }
+        ensures far { IfOk result
+            (λ after. (after.far ≡ places.far) × (after.low ≡ places.low)) }
         ensures indexed { OnOk result (IsIndexOf self.new.index self.new.cells.items) }
         ensures due { OnOk result (IsDueOf plan.now self.new.due self.new.cells.items) }
         ensures dropped { self.new.dropped ≡ self.old.dropped }
         ensures undo { undone_all self.new.changes.items self.new.cells.items
             ≡ undone_all self.old.changes.items self.old.cells.items }
     {
-        if any_stands_as(self.cells.as_slice(), span, places.as_slice()) {
+        if any_stands_as(self.cells.as_slice(), span, places.near.as_slice()) {
             return Ok(places);
         }
         let place = u32::try_from(self.cells.len()).map_err(|_| NoMemory)?;
-        self.open_over(alloc, plan, rules, before, key, span, places.as_slice())?;
-        let mut all = places;
-        all.push(place)?;
-        let standing = those_that_stand(alloc, self.cells.as_slice(), all.as_slice())?;
-        Ok(standing)
+        self.open_over(
+            alloc,
+            plan,
+            rules,
+            before,
+            key,
+            span,
+            places.near.as_slice(),
+        )?;
+        let mut places = places;
+        places.near.push(place)?;
+        places.near = those_that_stand(alloc, self.cells.as_slice(), places.near.as_slice())?;
+        Ok(places)
     }
 
     /// Puts the cell of a session behind the others. Of the cells at these places, those that give way to
@@ -371,16 +387,16 @@ impl Draft {
         key: &GroupKey,
         commit: u32,
         own: List<Element>,
-        places: &[u32],
+        places: &Places,
     ) -> Result<(), NoMemory>
-        requires places { places.now
-            ≡ standing_places key.now.node key.now.key self.old.cells.items }
+        requires places { ArePlaces key.now.node key.now.key self.old.cells.items places.now }
+        requires from { All (λ e. IsFrom places.now.low e.span) own }
         requires indexed { IsIndexOf self.old.index self.old.cells.items }
         requires due { IsDueOf plan.now self.old.due self.old.cells.items }
         ensures ok { OnOk result (self.new.cells.items ≡ put_all_at rules.now
             key.now.node key.now.key (map (entry_of commit) own) self.old.cells.items) }
         ensures places { OnOk result
-            (places.now ≡ standing_places key.now.node key.now.key self.new.cells.items) }
+            (ArePlaces key.now.node key.now.key self.new.cells.items places.now) }
         ensures indexed { OnOk result (IsIndexOf self.new.index self.new.cells.items) }
         ensures due { OnOk result (IsDueOf plan.now self.new.due self.new.cells.items) }
         ensures dropped { self.new.dropped ≡ self.old.dropped }
@@ -404,24 +420,24 @@ impl Draft {
         rules: &Rules,
         key: &GroupKey,
         entry: Entry,
-        places: &[u32],
+        places: &Places,
     ) -> Result<(), NoMemory>
         requires unseen { entry.shown ≡ false }
-        requires places { places.now
-            ≡ standing_places key.now.node key.now.key self.old.cells.items }
+        requires places { ArePlaces key.now.node key.now.key self.old.cells.items places.now }
+        requires from { IsFrom places.now.low entry.element.span }
         requires indexed { IsIndexOf self.old.index self.old.cells.items }
         requires due { IsDueOf plan.now self.old.due self.old.cells.items }
         ensures ok { OnOk result (self.new.cells.items
             ≡ put_at rules.now key.now.node key.now.key entry self.old.cells.items) }
         ensures places { OnOk result
-            (places.now ≡ standing_places key.now.node key.now.key self.new.cells.items) }
+            (ArePlaces key.now.node key.now.key self.new.cells.items places.now) }
         ensures indexed { OnOk result (IsIndexOf self.new.index self.new.cells.items) }
         ensures due { OnOk result (IsDueOf plan.now self.new.due self.new.cells.items) }
         ensures dropped { self.new.dropped ≡ self.old.dropped }
         ensures undo { undone_all self.new.changes.items self.new.cells.items
             ≡ undone_all self.old.changes.items self.old.cells.items }
     {
-        match taker(rules, &entry, self.cells.as_slice(), places) {
+        match taker(rules, &entry, self.cells.as_slice(), places.near.as_slice()) {
             None => Ok(()),
             Some(place) => self.put_unseen(plan, place, entry),
         }

@@ -7,17 +7,20 @@ use Rattle.group_cells.specs.Arrivals.{UnmergedStand}
 use Rattle.group_cells.specs.Due.{IsDueOf}
 use Rattle.group_cells.specs.Indexes.{IsIndexOf}
 use Rattle.group_cells.specs.Plain.{AreCells}
-use Rattle.group_cells.specs.KeyLists.{group_key_cmp, AreStanding}
+use Rattle.group_cells.specs.KeyLists.{group_key_cmp, listed, places_of, AreReached, AreStanding}
 use Rattle.group_cells.specs.declared.groups.keyed.GroupKey.{GroupKey}
+use Rattle.group_cells.specs.declared.groups.standing.Standing.{Standing}
 use Rattle.std.specs.Map.{lookup}
 use Rattle.std.specs.Ordering.{is_eq}
-use Rattle.std.specs.Prelude.{[], unwrap_or, ℕ}
+use Rattle.std.specs.Prelude.{[], unwrap_or}
 use Rattle.group_cells.proofs.groups.Groups.new.Goals as goal
 
 pub invariant_of-result : goal.invariant_of-result
 invariant_of-result c =
     let plan = c.in_ok-copy.field-0 in
     let none = sym c.new.ensures.items in
+    let unlisted : (q : GroupKey) → listed c.new-6.result q ≡ [] =
+    λ q. ap (λ (es : List (GroupKey × List Standing)). unwrap_or (lookup (λ k. is_eq (group_key_cmp q k)) es) []) c.new-6.ensures.empty in
     record {
       cells = subst (λ (l : List Cell). AreCells plan l) none (record {
         groups = All-nil (λ (cell : Cell). is_group plan cell.node ≡ true);
@@ -27,8 +30,10 @@ invariant_of-result c =
       stand = subst (λ (l : List Cell). UnmergedStand plan l) none (record { each = λ node key group unmerged. tt });
       index = λ _. subst (λ (l : List Cell). IsIndexOf c.new-3.result l) none c.new-3.ensures;
       due = λ _. subst (λ (l : List Cell). IsDueOf plan c.new-4.result l) none (c.new-4.ensures plan);
-      standing_are = λ _. subst (λ (l : List Cell). AreStanding plan c.new-6.result l) none
-          (record { each = λ q at merges. ap (λ (es : List (GroupKey × List ℕ)). unwrap_or (lookup (λ k. is_eq (group_key_cmp q k)) es) []) c.new-6.ensures.empty });
+      standing_are = λ _. subst (λ (l : List Cell). AreStanding plan c.new-6.result l) none (record {
+        each = λ q at merges. ap places_of (unlisted q);
+        reached = λ q at merges. subst (AreReached []) (sym (unlisted q)) (λ i k d upto within. absurd (omega arith));
+      });
       small = omega (arith, ap length c.new.ensures.items);
       changes = c.new-5.ensures.items;
     }
