@@ -10,7 +10,7 @@ use Rattle.beam_values.specs.declared.plan.SourceKind.{SourceKind}
 use Rattle.beam_model.specs.Positions.{positions_in}
 use Rattle.beam_ports.specs.Files.{Opening}
 use Rattle.dofn_traits.specs.Calls.{is_cut_short, IsView, IsViewOf}
-use Rattle.sdf_library.specs.Paging.{Paged, HoldsFile}
+use Rattle.sdf_library.specs.Paging.{Paged, HoldsFile, Serves}
 
 -- what a source reads or makes
 pub record SourceWork : Type 0 where
@@ -61,3 +61,7 @@ IsLookInto text source pager =
 abbrev pub is_look_cut_short : SourceWork → Paged → ℕ → Bool
 is_look_cut_short source pager p =
     is_cut_short source.work (looked_at source.work pager).bytes (looked_at source.work pager).base (looked_at source.work pager).len p
+
+-- what is held of the item is enough for this position: the line there ends within it, or the item has no bytes
+abbrev pub IsEnoughAt : SourceWork → Paged → ℕ → Type 0
+IsEnoughAt source pager p = (reads_file source.work ≡ true → Serves pager p) × (is_look_cut_short source pager p ≡ false)

@@ -11,7 +11,7 @@ ghost use Rattle.dofn_traits.specs.Calls.{timed_value};
 ghost use Rattle.chain_exec.specs.Causes.{observed_shelf};
 ghost use Rattle.chain_exec.specs.Positions.{IsEmissionAt, IsNextOf, IsPositionRefused, IsWorked};
 ghost use Rattle.chain_exec.specs.Positions.{outputs_in};
-ghost use Rattle.chain_exec.specs.Sources.{IsCounted, IsHeldFor, IsText, source_at};
+ghost use Rattle.chain_exec.specs.Sources.{IsCounted, IsEnoughAt, IsHeldFor, IsText, source_at};
 
 use crate::ExecRefusal;
 use crate::buffers::Buffers;
@@ -70,6 +70,9 @@ pub fn run_position<F: Shelf, S: Store>(
         → F.faults shelf.new ≡ F.faults shelf.old) }
     ensures counts { F.faults shelf.old ≤ F.faults shelf.new }
     ensures strict { F.strict shelf.new ≡ F.strict shelf.old }
+    // What is held already isn't read again.
+    ensures enough { ForSome (source_at graph.now node) (λ source. IsEnoughAt source pager.old p
+        → (pager.new ≡ pager.old) × (store.new ≡ store.old)) }
     // After every answer:
     ensures file { pager.new.file ≡ pager.old.file }
     ensures len { pager.new.len ≡ pager.old.len }

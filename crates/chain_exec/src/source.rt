@@ -1,17 +1,17 @@
 ghost use Rattle.std.specs.Prelude.{◌≡◌, ◌≢◌, ◌≤◌, ◌<◌, ℕ, List, [], None, Some, true, length};
-ghost use Rattle.std.specs.Prelude.{IsSome, IfErr, IfOk, OnOk};
+ghost use Rattle.std.specs.Prelude.{false, IsOk, IsSome, IfErr, IfOk, OnOk};
 ghost use Rattle.beam_values.specs.Checked.{is_source_argument, reads_file};
 ghost use Rattle.beam_model.specs.Holds.{estimator_of};
 ghost use Rattle.beam_model.specs.Positions as model;
 ghost use Rattle.beam_ports.specs.Counts.{Rose};
 ghost use Rattle.beam_ports.specs.Files.{KeepsOpenings};
 ghost use Rattle.dofn_traits.specs.Calls.{IsFound, IsNextWithin};
-ghost use Rattle.sdf_library.specs.Paging.{Paged, ReachesOn};
+ghost use Rattle.sdf_library.specs.Paging.{Paged, ReachesOn, Serves};
 ghost use Rattle.chain_exec.specs.Causes.{observed_shelf};
 ghost use Rattle.chain_exec.specs.Positions.{IsEmissionAt, IsNextOf, IsReadRefused, IsSeenRefused};
 ghost use Rattle.chain_exec.specs.Positions.{IsSourceRefused, emission_of};
-ghost use Rattle.chain_exec.specs.Sources.{IsCounted, IsHeldFor, IsLookAt, IsLookInto, IsText};
-ghost use Rattle.chain_exec.specs.Sources.{is_look_cut_short, looked_at, source_at};
+ghost use Rattle.chain_exec.specs.Sources.{IsCounted, IsEnoughAt, IsHeldFor, IsLookAt, IsLookInto};
+ghost use Rattle.chain_exec.specs.Sources.{IsText, is_look_cut_short, looked_at, source_at};
 
 use crate::ExecRefusal;
 use beam_ports::Store;
@@ -97,6 +97,8 @@ pub fn work_source<F: Shelf, S: Store>(
         → F.faults shelf.new ≡ F.faults shelf.old }
     ensures counts { F.faults shelf.old ≤ F.faults shelf.new }
     ensures strict { F.strict shelf.new ≡ F.strict shelf.old }
+    ensures enough { IsEnoughAt (record { work = work; args = args.now }) pager.old p
+        → (pager.new ≡ pager.old) × (store.new ≡ store.old) }
     // After every answer:
     ensures file { pager.new.file ≡ pager.old.file }
     ensures len { pager.new.len ≡ pager.old.len }
@@ -134,6 +136,8 @@ fn hold<S: Store>(
         ((text : List ℕ) → IsText work (S.opened store.new pager.new.file) pager.new.len text
         → IsLookInto text (record { work = work; args = args.now }) pager.new) }
     ensures more { OnOk result (reads_file work ≡ true → ReachesOn more pager.old pager.new) }
+    ensures enough { (reads_file work ≡ true → Serves pager.old p) → more ≡ false
+        → IsOk result × (pager.new ≡ pager.old) × (store.new ≡ store.old) }
     ensures refused { IfErr result (IsReadRefused
         (record { before = S.faults store.old; after = S.faults store.new }) node work) }
     // After every answer:

@@ -1,10 +1,12 @@
-use Rattle.std.proofs.Common.{ℕ, Bool, List, subst, ◌∙◌, arith}
+use Rattle.std.proofs.Common.{ℕ, Bool, List, subst, sym, ap, ◌∙◌, arith}
+use Rattle.std.proofs.lemmas.Bool.{false≢true}
 use Rattle.std.proofs.lemmas.Result.{err_from_is_err_and}
 use Rattle.beam_model.specs.Positions as model
 use Rattle.beam_ports.specs.Files.{KeepsOpenings}
 use Rattle.dofn_traits.specs.Calls.{IsFound}
 use Rattle.chain_exec.specs.Positions.{IsSeenRefused}
-use Rattle.chain_exec.specs.Sources.{IsLookInto, IsText}
+use Rattle.sdf_library.specs.Paging.{Paged, Serves}
+use Rattle.chain_exec.specs.Sources.{IsLookInto, IsText, is_look_cut_short}
 use Rattle.chain_exec.proofs.Looks.{adds_all, seen_refused, text_later}
 use Rattle.chain_exec.proofs.source.work_source.Goals as goal
 
@@ -71,4 +73,27 @@ looks-preserved g c = record {
   quiet = λ strict. c.in_ok-next.ensures.quiet c.in-More.is (c.looks.invariant.strict ∙ strict) ∙ c.looks.invariant.quiet strict;
   empty = c.in_ok-next.ensures.unchanged c.in-More.is ∙ c.looks.invariant.empty;
   cut = λ _. c.in_ok-next.ensures.more c.in-More.is;
+  enough = λ enough.
+      let still = c.looks.invariant.enough enough in
+      let held = c.hold.ensures.enough (λ reads. subst (λ (q : Paged). Serves q c.args.p) (sym still.1) (enough.0 reads)) still.0 in
+      let cut = ap (λ (q : Paged). is_look_cut_short (record { work = c.args.work; args = c.args.args.now }) q c.args.p) (sym (held.1 ∙ still.1)) in
+      absurd (false≢true (sym enough.1 ∙ cut ∙ c.in_ok-next.ensures.more c.in-More.is));
 }
+
+pub returns-in_err-hold-clause-enough : goal.returns-in_err-hold-clause-enough
+returns-in_err-hold-clause-enough g c = λ enough.
+    let still = c.looks.invariant.enough enough in
+    let held = c.hold.ensures.enough (λ reads. subst (λ (q : Paged). Serves q c.args.p) (sym still.1) (enough.0 reads)) still.0 in
+    (held.1 ∙ still.1, held.2 ∙ still.2)
+
+pub returns-in_err-next-clause-enough : goal.returns-in_err-next-clause-enough
+returns-in_err-next-clause-enough g c = λ enough.
+    let still = c.looks.invariant.enough enough in
+    let held = c.hold.ensures.enough (λ reads. subst (λ (q : Paged). Serves q c.args.p) (sym still.1) (enough.0 reads)) still.0 in
+    (held.1 ∙ still.1, held.2 ∙ still.2)
+
+pub returns-in-Here-clause-enough : goal.returns-in-Here-clause-enough
+returns-in-Here-clause-enough g c = λ enough.
+    let still = c.looks.invariant.enough enough in
+    let held = c.hold.ensures.enough (λ reads. subst (λ (q : Paged). Serves q c.args.p) (sym still.1) (enough.0 reads)) still.0 in
+    (held.1 ∙ still.1, held.2 ∙ still.2)

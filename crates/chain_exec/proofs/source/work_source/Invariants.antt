@@ -1,6 +1,6 @@
-use Rattle.std.proofs.Common.{◌≡◌, ◌+◌, ◌-◌, ◌≤◌, true, cond, length}
+use Rattle.std.proofs.Common.{◌≡◌, ◌+◌, ◌-◌, ◌≤◌, true, false, cond, length}
 use Rattle.beam_ports.specs.Files.{KeepsOpenings}
-use Rattle.chain_exec.specs.Sources.{IsHeldFor, is_look_cut_short}
+use Rattle.chain_exec.specs.Sources.{IsEnoughAt, IsHeldFor, is_look_cut_short}
 use Rattle.chain_exec.proofs.source.work_source.Given as goal
 
 abbrev pub invariant-looks : goal.invariant-looks
@@ -15,6 +15,7 @@ invariant-looks g l = record {
   strict : g.F.Shelf.strict l.shelf ≡ g.F.Shelf.strict l.initial.shelf;
   quiet : g.F.Shelf.strict l.initial.shelf ≡ true → g.F.Shelf.faults l.shelf ≡ g.F.Shelf.faults l.initial.shelf;
   empty : l.out ≡ l.initial.out;
+  enough : IsEnoughAt (record { work = l.work; args = l.args }) l.initial.pager l.p → (l.more ≡ false) × (l.pager ≡ l.initial.pager) × (l.store ≡ l.initial.store);
   cut : l.more ≡ true → is_look_cut_short (record { work = l.work; args = l.args }) l.pager l.p ≡ true;
 }
 
