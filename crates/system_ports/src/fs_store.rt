@@ -5,21 +5,36 @@ ghost use Rattle.beam_ports.specs.Counts.{Rose};
 ghost use Rattle.system_ports.specs.Lengths.{untold_opening};
 
 use beam_ports::{Failed, List, NoMemory, OpenRefusal, Opened, Store};
-use std::fs::File;
+use std::fs::{File, Metadata};
 use std::io::ErrorKind;
 use std::marker::Model;
-use std::os::unix::fs::FileExt;
+use std::os::unix::fs::{FileExt, MetadataExt};
 use std::rt::Files;
 use std::{fs, io};
 
 /// How many files can be opened.
 const PLACES: usize = 258;
 
-// The name, by which a file is opened anew, and the length found when it was opened first.
+// The name, by which a file is opened anew, and the length and the identity found when it was opened first.
 #[derive(Drop)]
 struct Place {
     name: String,
     len: u64,
+    identity: Identity,
+}
+
+// Which file it is at the system: another one that took its name has another number.
+#[derive(Clone, Copy, Debug, PartialEq, Eq)]
+struct Identity {
+    device: u64,
+    inode: u64,
+}
+
+fn identity_of(found: &Metadata) -> Identity {
+    Identity {
+        device: found.dev(),
+        inode: found.ino(),
+    }
 }
 
 // The file that is open at the system, and its number.
@@ -34,8 +49,8 @@ struct Current {
 /// At most one file is open at the system; another one is opened anew by its name where a read needs
 /// it. Absent is a file that the system does not find, and one whose name is not UTF-8 or has a NUL in
 /// it. Anything else is a counted fault: a folder or a pipe in place of a file, a file that may not be
-/// read, one more than 258 files, want of memory for a name, and a file that ends before the length
-/// found at opening.
+/// read, one more than 258 files, want of memory for a name, a file that ends before the length found at
+/// opening, and one whose name another file has when it is opened anew.
 #[derive(Drop)]
 pub struct FsStore<R> {
     rt: R,
@@ -108,8 +123,9 @@ impl<R: Files<File = File> + AllocGlobal + Drop> FsStore<R> {
         }
         self.current = None;
         let file = open_regular(&self.rt, name).map_err(refusal_of)?;
-        let len = file.metadata().map_err(refusal_of)?.len();
-        self.keep(name, len)?;
+        let found = file.metadata().map_err(refusal_of)?;
+        let len = found.len();
+        self.keep(name, len, identity_of(&found))?;
         self.current = Some(Current { number, file });
         Ok(Opened {
             file: number as u32,
@@ -117,7 +133,7 @@ impl<R: Files<File = File> + AllocGlobal + Drop> FsStore<R> {
         })
     }
 
-    fn keep(&mut self, name: &str, len: u64) -> Result<(), OpenRefusal>
+    fn keep(&mut self, name: &str, len: u64, identity: Identity) -> Result<(), OpenRefusal>
         ensures faults { self.new.faults ≡ self.old.faults }
         ensures ok { OnOk result (self.new.lengths ≡ self.old.lengths ++ len ∷ []) }
         ensures err { OnErr result (self.new.lengths ≡ self.old.lengths) }
@@ -125,7 +141,11 @@ impl<R: Files<File = File> + AllocGlobal + Drop> FsStore<R> {
         let Ok(name) = String::from_str(self.rt.alloc(), name) else {
             return Err(OpenRefusal::Failed);
         };
-        match self.places.push(Place { name, len }) {
+        match self.places.push(Place {
+            name,
+            len,
+            identity,
+        }) {
             Ok(()) => Ok(()),
             Err(NoMemory) => Err(OpenRefusal::Failed),
         }
@@ -141,7 +161,12 @@ impl<R: Files<File = File> + AllocGlobal + Drop> FsStore<R> {
                 return Ok(current.file);
             }
         }
-        open_regular(&self.rt, self.places.as_slice()[number].name.as_str())
+        let place = &self.places.as_slice()[number];
+        let file = open_regular(&self.rt, place.name.as_str())?;
+        if identity_of(&file.metadata()?) != place.identity {
+            return Err(io::Error::from(ErrorKind::InvalidData));
+        }
+        Ok(file)
     }
 
     fn read_place(&mut self, number: usize, at: u64, buf: &mut [u8]) -> io::Result<usize>

@@ -76,11 +76,18 @@ fn real_files_are_read(rt: HostRuntime) -> Result<(), Fail> {
     assert_eq!(rt; reread(&mut store, &mut buf), Err(Failed));
     assert_eq!(rt; store.faults, 2);
 
+    // Another file has its name.
+    let other = format!(in alloc; "{folder}/other")?;
+    fs::write(&rt, other.as_str(), "two one")?;
+    fs::rename(&rt, other.as_str(), lines.as_str())?;
+    assert_eq!(rt; reread(&mut store, &mut buf), Err(Failed));
+    assert_eq!(rt; store.faults, 3);
+
     for _ in store.places.len()..PLACES {
         assert!(rt; store.open_file(empty.as_bytes()).is_ok());
     }
     assert_eq!(rt; store.open_file(empty.as_bytes()), Err(OpenRefusal::Failed));
-    assert_eq!(rt; store.faults, 3);
+    assert_eq!(rt; store.faults, 4);
     fs::remove_dir_all(&rt, folder.as_str())?;
     Ok(())
 }

@@ -1,5 +1,5 @@
 use Rattle.std.proofs.Common.{refl, ◌∙◌, arith, length-append}
-use Rattle.sdf_library.proofs.Filling.{filled_more}
+use Rattle.sdf_library.proofs.Filling.{filled_on}
 use Rattle.sdf_library.proofs.reading.fill.Goals as goal
 
 pub loop-done-preserved : goal.loop-done-preserved
@@ -12,6 +12,6 @@ loop-done-preserved g c =
       within = omega (arith, length-append c.split_at_mut.result.0.now c.read_at.new.buf, read.fits, halves.front_len, halves.back_len, c.read_at.auto.buf);
       told = read.told ∙ before.told;
       counts = omega (arith, read.counts, before.counts);
-      bytes = λ text is. filled_more c.split_at_mut.result.0.now c.read_at.new.buf text c.args.at c.loop-done.done c.in_ok-done.field-0
+      bytes = λ text is. filled_on c.split_at_mut.result.0.now c.read_at.new.buf text c.args.at c.loop-done.done c.in_ok-done.field-0
           halves.front_len (halves.front ∙ before.bytes text is) ((read.read _ (before.kept _ _ is)).bytes text refl);
     }
