@@ -1,16 +1,25 @@
-# an access log in the common or combined form: milliseconds, path, bytes
+# An access log in the common or combined form: milliseconds, path, bytes. A request of one word, as "-", is its own path.
+# A line of another form is named on standard error, and the status is then 1.
 BEGIN { for (i = 1; i <= 12; i++) month[substr("JanFebMarAprMayJunJulAugSepOctNovDec", 3 * i - 2, 3)] = i }
 # days from 1970-01-01 to a date of the Gregorian calendar
 function days(y, m, d) {
     if (m <= 2) { y--; m += 12 }
     return 365 * y + int(y / 4) - int(y / 100) + int(y / 400) + int((153 * (m - 3) + 2) / 5) + d - 719469
 }
-match($0, /\[[0-9][0-9]\/[A-Z][a-z][a-z]\/[0-9:]+ [-+][0-9][0-9][0-9][0-9]\]/) {
-    split(substr($0, RSTART + 1, RLENGTH - 2), t, /[\/: ]/)
-    zone = (substr(t[7], 2, 2) * 60 + substr(t[7], 4, 2)) * (substr(t[7], 1, 1) == "-" ? -1 : 1)
-    at = ((days(t[3], month[t[2]], t[1]) * 24 + t[4]) * 60 + t[5] - zone) * 60 + t[6]
-    n = split($0, quoted, "\"")
-    split(quoted[2], request, " ")
-    split(quoted[3], answer, " ")
-    printf "%d000\t%s\t%d\n", at, request[2], answer[2] == "-" ? 0 : answer[2]
+{ line = $0; sub(/\r$/, "", line) }
+match(line, /\[[0-9][0-9]\/[A-Z][a-z][a-z]\/[0-9][0-9][0-9][0-9]:[0-9][0-9]:[0-9][0-9]:[0-9][0-9] [-+][0-9][0-9][0-9][0-9]\] "/) {
+    split(substr(line, RSTART + 1, RLENGTH - 4), t, /[\/: ]/)
+    rest = substr(line, RSTART + RLENGTH)
+    # the request ends with the first quote that has no backslash of its own before it
+    match(rest, /^([^"\\]|\\.)*" /)
+    n = split(substr(rest, 1, RLENGTH - 2), request, " ")
+    split(substr(rest, RLENGTH + 1), answer, " ")
+    if (RLENGTH > 0 && (t[2] in month) && answer[1] ~ /^[0-9]+$/ && answer[2] ~ /^([0-9]+|-)$/) {
+        zone = (substr(t[7], 2, 2) * 60 + substr(t[7], 4, 2)) * (substr(t[7], 1, 1) == "-" ? -1 : 1)
+        at = ((days(t[3], month[t[2]], t[1]) * 24 + t[4]) * 60 + t[5] - zone) * 60 + t[6]
+        printf("%.0f\t%s\t%s\n", at * 1000, n > 1 ? request[2] : request[1], answer[2] == "-" ? 0 : answer[2])
+        next
+    }
 }
+{ printf "%s:%d: no line of an access log: %s\n", FILENAME, FNR, line > "/dev/stderr"; status = 1 }
+END { exit status }
