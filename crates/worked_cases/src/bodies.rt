@@ -1,6 +1,6 @@
 //! Both bodies of Groups over one plan, driven alike.
 
-ghost use Rattle.std.specs.Prelude.{◌≡◌, ◌≤ℤ◌, length, All, IsTrue, OnOk};
+ghost use Rattle.std.specs.Prelude.{◌≡◌, ◌≤ℤ◌, length, All, IfOk, IsTrue, OnOk};
 ghost use Rattle.group_cells.specs.Commits.{HasGap, NoneFalls, RisesFrom};
 ghost use Rattle.watermarks.specs.Holds.{hold_at};
 
@@ -10,95 +10,170 @@ use crate::groups::say_groups;
 use beam_values::{Arrival, Duplicate, List, Mark, NoMemory, StageMarks, Strategy, Time};
 use group_cells::{Groups, PlainGroups};
 use pipeline_graph::Graph;
-use std::alloc::Global;
-use std::marker::Model;
+use std::alloc::{AllocError, Global};
 
-/// What comes in a commit, and the least hold of each node.
+/// The number of a commit, what comes in it, and the least hold of each node.
 #[derive(Drop)]
 pub struct Coming {
+    pub number: u32,
     pub arrivals: List<Arrival>,
     pub holds: List<Mark>,
 }
 
-/// The body of the product and the plain one, and the marks after the last commit.
-#[derive(Drop)]
-pub struct Bodies {
-    graph: Graph,
-    indexed: Groups,
-    plain: PlainGroups,
-    marks: Vec<StageMarks>,
+/// Makes the commits by the body of the product and by the plain one, from the same marks: at first no cell
+/// yet, and the least marks that there are.
+// Each body is made by a function of its own, which drops it at one place: a function that owned both would
+// be the dearest of all to prove.
+pub fn commit_all(graph: &Graph, commits: &[Coming], case: &mut Case<'_>) {
+    match Groups::new(case.alloc(), graph.plan()) {
+        Ok(mut indexed) => commit_beside_plain(graph, &mut indexed, commits, case),
+        Err(refused) => case.no_memory(refused),
+    }
 }
 
-impl Model for Bodies {
-    ghost use Rattle.std.specs.Prelude.{◌≡◌, length};
-    ghost use Rattle.beam_values.specs.declared.plan.Plan.{Plan};
-
-    ghost Value = { Plan };
-
-    ghost view = { λ b. b.graph };
-
-    ghost invariant = { λ b. (b.indexed.plan ≡ b.graph) × (b.plain.plan ≡ b.graph)
-        × (length b.marks.items ≡ length b.graph.nodes) };
+fn commit_beside_plain(graph: &Graph, indexed: &mut Groups, commits: &[Coming], case: &mut Case<'_>)
+    requires { indexed.old.plan ≡ graph.now }
+{
+    match PlainGroups::new(case.alloc(), graph.plan()) {
+        Ok(mut plain) => commit_each(graph, indexed, &mut plain, commits, case),
+        Err(refused) => case.no_memory(refused),
+    }
 }
 
-impl Bodies {
-    /// No cell yet, and the least marks that there are.
-    pub fn new(alloc: Global, graph: Graph) -> Result<Bodies, NoMemory> {
-        let holds = vec![in alloc; Mark::at(Time::LEAST); graph.plan().nodes.len()]?;
-        Ok(Bodies {
-            indexed: Groups::new(alloc, graph.plan())?,
-            plain: PlainGroups::new(alloc, graph.plan())?,
-            marks: marks_of(alloc, &graph, holds.as_slice())?,
+fn commit_each(
+    graph: &Graph,
+    indexed: &mut Groups,
+    plain: &mut PlainGroups,
+    commits: &[Coming],
+    case: &mut Case<'_>,
+)
+    requires indexed { indexed.old.plan ≡ graph.now }
+    requires plain { plain.old.plan ≡ graph.now }
+{
+    let mut marks = match first_marks(case.alloc(), graph) {
+        Ok(marks) => marks,
+        Err(_) => return case.no_memory(NoMemory),
+    };
+    for coming in commits {
+        commit(graph, indexed, plain, marks.as_mut_slice(), coming, case);
+    }
+}
+
+fn first_marks(alloc: Global, graph: &Graph) -> Result<Vec<StageMarks>, AllocError>
+    ensures { IfOk result (λ marks. length marks.items ≡ length graph.now.nodes) }
+{
+    let holds = vec![in alloc; Mark::at(Time::LEAST); graph.plan().nodes.len()]?;
+    marks_of(alloc, graph, holds.as_slice())
+}
+
+// One commit by both bodies, where what comes is what a commit takes.
+fn commit(
+    graph: &Graph,
+    indexed: &mut Groups,
+    plain: &mut PlainGroups,
+    marks: &mut [StageMarks],
+    coming: &Coming,
+    case: &mut Case<'_>,
+)
+    requires indexed { indexed.old.plan ≡ graph.now }
+    requires plain { plain.old.plan ≡ graph.now }
+    requires marks { length marks.old ≡ length graph.now.nodes }
+    ensures indexed { indexed.new.plan ≡ graph.now }
+    ensures plain { plain.new.plan ≡ graph.now }
+{
+    if let Err(fault) = check(case.alloc(), graph, marks, coming) {
+        return case.fail(fault);
+    }
+    match Vec::from_slice(case.alloc(), marks) {
+        Ok(mut copy) => commit_both(
             graph,
-        })
+            indexed,
+            plain,
+            marks,
+            copy.as_mut_slice(),
+            coming,
+            case,
+        ),
+        Err(_) => case.no_memory(NoMemory),
     }
+}
 
-    /// One commit by both bodies, from the same marks. The case fails where they leave other marks, and
-    /// where what comes isn't what a commit takes.
-    pub fn commit(
-        &mut self,
-        coming: &Coming,
-        number: u32,
-        case: &mut Case<'_>,
-    ) -> Result<(), NoMemory> {
-        let alloc = case.alloc();
-        if let Err(fault) = check(alloc, &self.graph, self.marks.as_slice(), coming) {
-            case.fail(fault);
-            return Ok(());
-        }
-        let plan = self.graph.plan();
-        let holds = coming.holds.as_slice();
-        let mut left = coming.arrivals.duplicate(alloc)?;
-        let mut plain_left = coming.arrivals.duplicate(alloc)?;
-        let mut plain_marks = Vec::from_slice(alloc, self.marks.as_slice())?;
-        let marks = self.marks.as_mut_slice();
-        let fired = self.indexed.commit(plan, &mut left, holds, marks, number)?;
-        let marks = plain_marks.as_mut_slice();
-        let plain_fired = self
-            .plain
-            .commit(plan, &mut plain_left, holds, marks, number)?;
-        if self.marks.as_slice() != plain_marks.as_slice() {
-            case.fail("the bodies leave other marks");
-        }
-        let mut indexed = Case::new(alloc);
-        say_groups(
-            &fired,
-            self.indexed.cells(),
-            self.indexed.dropped(),
-            &left,
-            &mut indexed,
-        );
-        let mut plain = Case::new(alloc);
-        say_groups(
-            &plain_fired,
-            self.plain.cells(),
-            self.plain.dropped(),
-            &plain_left,
-            &mut plain,
-        );
-        say_both(number, &indexed, &plain, case);
-        Ok(())
+// The commit by each of the bodies, from the same marks. The case fails where they leave other ones.
+fn commit_both(
+    graph: &Graph,
+    indexed: &mut Groups,
+    plain: &mut PlainGroups,
+    marks: &mut [StageMarks],
+    plain_marks: &mut [StageMarks],
+    coming: &Coming,
+    case: &mut Case<'_>,
+)
+    requires indexed { indexed.old.plan ≡ graph.now }
+    requires plain { plain.old.plan ≡ graph.now }
+    requires same { plain_marks.old ≡ marks.old }
+    requires marks { length marks.old ≡ length graph.now.nodes }
+    requires holds { length coming.now.holds ≡ length graph.now.nodes }
+    requires gaps { All (HasGap graph.now) coming.now.arrivals }
+    requires rises { RisesFrom graph.now (hold_at coming.now.holds) marks.old }
+    ensures indexed { indexed.new.plan ≡ graph.now }
+    ensures plain { plain.new.plan ≡ graph.now }
+{
+    let mut told = Case::new(case.alloc());
+    if let Err(refused) = commit_indexed(indexed, graph, marks, coming, &mut told) {
+        case.no_memory(refused);
     }
+    let mut plain_told = Case::new(case.alloc());
+    if let Err(refused) = commit_plain(plain, graph, plain_marks, coming, &mut plain_told) {
+        case.no_memory(refused);
+    }
+    if *marks != *plain_marks {
+        case.fail("the bodies leave other marks");
+    }
+    say_both(coming.number, &told, &plain_told, case);
+}
+
+// The commit by the body of the product, and what there is after it.
+fn commit_indexed(
+    groups: &mut Groups,
+    graph: &Graph,
+    marks: &mut [StageMarks],
+    coming: &Coming,
+    told: &mut Case<'_>,
+) -> Result<(), NoMemory>
+    requires plan { groups.old.plan ≡ graph.now }
+    requires marks { length marks.old ≡ length graph.now.nodes }
+    requires holds { length coming.now.holds ≡ length graph.now.nodes }
+    requires gaps { All (HasGap graph.now) coming.now.arrivals }
+    requires rises { RisesFrom graph.now (hold_at coming.now.holds) marks.old }
+    ensures { groups.new.plan ≡ graph.now }
+{
+    let mut left = coming.arrivals.duplicate(told.alloc())?;
+    let holds = coming.holds.as_slice();
+    let fired = groups.commit(graph.plan(), &mut left, holds, marks, coming.number)?;
+    say_groups(&fired, groups.cells(), groups.dropped(), &left, told);
+    Ok(())
+}
+
+// The same by the plain one.
+fn commit_plain(
+    groups: &mut PlainGroups,
+    graph: &Graph,
+    marks: &mut [StageMarks],
+    coming: &Coming,
+    told: &mut Case<'_>,
+) -> Result<(), NoMemory>
+    requires plan { groups.old.plan ≡ graph.now }
+    requires marks { length marks.old ≡ length graph.now.nodes }
+    requires holds { length coming.now.holds ≡ length graph.now.nodes }
+    requires gaps { All (HasGap graph.now) coming.now.arrivals }
+    requires rises { RisesFrom graph.now (hold_at coming.now.holds) marks.old }
+    ensures { groups.new.plan ≡ graph.now }
+{
+    let mut left = coming.arrivals.duplicate(told.alloc())?;
+    let holds = coming.holds.as_slice();
+    let fired = groups.commit(graph.plan(), &mut left, holds, marks, coming.number)?;
+    say_groups(&fired, groups.cells(), groups.dropped(), &left, told);
+    Ok(())
 }
 
 // Whether a commit takes what comes.

@@ -399,6 +399,13 @@ impl<'a> Case<'a> {
         self.fail(NO_MEMORY);
     }
 
+    /// What was made is whole, or there was no memory for it.
+    pub fn all_kept(&mut self, made: Result<(), NoMemory>) {
+        if let Err(refused) = made {
+            self.no_memory(refused);
+        }
+    }
+
     /// Adds the item to the list.
     pub fn keep<T: Drop>(&mut self, items: &mut List<T>, item: T) {
         if items.push(item).is_err() {

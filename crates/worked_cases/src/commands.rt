@@ -7,7 +7,7 @@ use dofn_library::{
     BatchUntil, CountSeq, Dedupe, Field, FieldInt, KeepPrefix, KeyField, LatestThenEmit, MaxSeq,
     RunningSum, Shift, SumSeq, Swap, Unseq, Values, Words,
 };
-use dofn_traits::{BoxShelf, DoFn, SplittableFn, StatefulFn};
+use dofn_traits::{BoxShelf, DoFn, Shelf, SplittableFn, StatefulFn};
 use itoa::Buffer;
 use run_engine::Kit;
 use sdf_library::{Count, Lines, Made, TimedLines};
@@ -82,7 +82,7 @@ pub fn answer_command<'a, R: Threads + Wait + Sync>(
     read_lines(script, case, &mut setting, &mut wanted);
     next_kit(case, &mut setting);
     expect(case, &wanted);
-    run(rt, case, setting);
+    run(rt, setting, case);
 }
 
 // The words after the name of the program.
@@ -190,36 +190,26 @@ macro_rules! add_boxes {
     }};
 }
 
-fn run<R: Threads + Wait + Sync>(rt: &R, case: &mut Case<'_>, setting: Setting) {
+fn run<R: Threads + Wait + Sync>(rt: &R, setting: Setting, case: &mut Case<'_>) {
     let alloc = case.alloc();
-    let stores = match all_stores(alloc, setting.kits.as_slice()) {
-        Ok(stores) => stores,
-        Err(refused) => return case.no_memory(refused),
-    };
-    let mut parts = Vec::new(alloc);
-    for store in stores {
-        let mut fns: List<Box<dyn DoFn>> = List::new(alloc);
-        let mut splits: List<Box<dyn SplittableFn>> = List::new(alloc);
-        let mut states: List<Box<dyn StatefulFn>> = List::new(alloc);
-        let added = add_boxes!(alloc, fns; KeyField, Words, Field, KeepPrefix).is_ok()
-            && add_boxes!(alloc, fns; FieldInt, Swap, Shift, SumSeq).is_ok()
-            && add_boxes!(alloc, fns; CountSeq, MaxSeq, Unseq, Values).is_ok()
-            && add_boxes!(alloc, splits; Lines, TimedLines, Count, Made).is_ok()
-            && add_boxes!(alloc, states; Dedupe, RunningSum, BatchUntil, LatestThenEmit).is_ok();
-        if !added {
-            return case.fail("memory for the functions");
-        }
-        let own = Parts {
-            fns,
-            splits,
-            states,
-            store,
-        };
-        if parts.push(own).is_err() {
-            return case.fail("memory for the kits");
-        }
-    }
-    run_with(rt, case, setting, parts)
+    let Setting {
+        words,
+        kits,
+        kit: _last,
+        failing_writes,
+        failing_notes,
+        most_taken,
+    } = setting;
+    let mut out = MemorySink::new(alloc, most_taken.max(1), failing_writes);
+    let mut notes = MemorySink::new(alloc, USUAL_WRITE, failing_notes);
+    run_all(
+        rt,
+        words.as_slice(),
+        kits.as_slice(),
+        &mut out,
+        &mut notes,
+        case,
+    );
 }
 
 // What a kit is made of.
@@ -231,15 +221,58 @@ struct Parts<D, P, T> {
     store: MemoryStore,
 }
 
-// A store for each kit, in their order.
-fn all_stores(alloc: Global, kits: &[KitSetting]) -> Result<Vec<MemoryStore>, NoMemory> {
-    let mut stores = Vec::new(alloc);
-    for kit in kits {
-        for _ in 0..kit.count {
-            stores.push(store_of(alloc, kit)?)?;
+// Runs the command with a kit of boxes for each that is set. It leaves at one place alone: a way out in the
+// middle would drop all the boxes there, and each such place is dear to prove.
+fn run_all<R: Threads + Wait + Sync>(
+    rt: &R,
+    words: &[String],
+    settings: &[KitSetting],
+    out: &mut MemorySink,
+    notes: &mut MemorySink,
+    case: &mut Case<'_>,
+) {
+    let alloc = case.alloc();
+    let mut parts = Vec::new(alloc);
+    for setting in settings {
+        for _ in 0..setting.count {
+            let mut fns: List<Box<dyn DoFn>> = List::new(alloc);
+            let mut splits: List<Box<dyn SplittableFn>> = List::new(alloc);
+            let mut states: List<Box<dyn StatefulFn>> = List::new(alloc);
+            case.all_kept(add_boxes!(alloc, fns; KeyField, Words, Field, KeepPrefix));
+            case.all_kept(add_boxes!(alloc, fns; FieldInt, Swap, Shift, SumSeq));
+            case.all_kept(add_boxes!(alloc, fns; CountSeq, MaxSeq, Unseq, Values));
+            case.all_kept(add_boxes!(alloc, splits; Lines, TimedLines, Count, Made));
+            case.all_kept(
+                add_boxes!(alloc, states; Dedupe, RunningSum, BatchUntil, LatestThenEmit),
+            );
+            add_parts(setting, fns, splits, states, &mut parts, case);
         }
     }
-    Ok(stores)
+    run_with(rt, words, parts, out, notes, case);
+}
+
+// The parts of one more kit, with a store of its own.
+fn add_parts<D: Drop, P: Drop, T: Drop>(
+    setting: &KitSetting,
+    fns: List<D>,
+    splits: List<P>,
+    states: List<T>,
+    parts: &mut Vec<Parts<D, P, T>>,
+    case: &mut Case<'_>,
+) {
+    let store = match store_of(case.alloc(), setting) {
+        Ok(store) => store,
+        Err(refused) => return case.no_memory(refused),
+    };
+    let own = Parts {
+        fns,
+        splits,
+        states,
+        store,
+    };
+    if parts.push(own).is_err() {
+        case.no_memory(NoMemory);
+    }
 }
 
 fn store_of(alloc: Global, kit: &KitSetting) -> Result<MemoryStore, NoMemory> {
@@ -256,34 +289,58 @@ fn store_of(alloc: Global, kit: &KitSetting) -> Result<MemoryStore, NoMemory> {
 // Runs the command with a kit of each of these parts.
 fn run_with<R: Threads + Wait + Sync, D: DoFn, P: SplittableFn, T: StatefulFn>(
     rt: &R,
-    case: &mut Case<'_>,
-    setting: Setting,
+    words: &[String],
     parts: Vec<Parts<D, P, T>>,
+    out: &mut MemorySink,
+    notes: &mut MemorySink,
+    case: &mut Case<'_>,
 ) {
-    let alloc = case.alloc();
-    let mut kits = Vec::new(alloc);
+    let mut kits = Vec::new(case.alloc());
     for part in parts {
-        let Parts {
-            fns,
-            splits,
-            states,
-            store,
-        } = part;
-        let Ok(shelf) = BoxShelf::new(fns, splits, states) else {
-            return case.fail("a function of each kind");
-        };
-        if kits.push(Kit::new(alloc, shelf, store)).is_err() {
-            return case.fail("memory for the kits");
-        }
+        add_kit(part, &mut kits, case);
     }
+    run_kits(rt, words, &mut kits, out, notes, case);
+}
+
+fn add_kit<D: DoFn, P: SplittableFn, T: StatefulFn>(
+    part: Parts<D, P, T>,
+    kits: &mut Vec<Kit<BoxShelf<D, P, T>, MemoryStore>>,
+    case: &mut Case<'_>,
+) {
+    let Parts {
+        fns,
+        splits,
+        states,
+        store,
+    } = part;
+    match BoxShelf::new(fns, splits, states) {
+        Ok(shelf) => keep_kit(Kit::new(case.alloc(), shelf, store), kits, case),
+        Err(_) => case.fail("a function of each kind"),
+    }
+}
+
+fn keep_kit<F: Shelf + Drop>(
+    kit: Kit<F, MemoryStore>,
+    kits: &mut Vec<Kit<F, MemoryStore>>,
+    case: &mut Case<'_>,
+) {
+    if kits.push(kit).is_err() {
+        case.no_memory(NoMemory);
+    }
+}
+
+fn run_kits<R: Threads + Wait + Sync, F: Shelf>(
+    rt: &R,
+    words: &[String],
+    kits: &mut Vec<Kit<F, MemoryStore>>,
+    out: &mut MemorySink,
+    notes: &mut MemorySink,
+    case: &mut Case<'_>,
+) {
     if kits.is_empty() {
         return case.fail("a command has a kit");
     }
-    let most_taken = setting.most_taken.max(1);
-    let mut out = MemorySink::new(alloc, most_taken, setting.failing_writes);
-    let mut notes = MemorySink::new(alloc, USUAL_WRITE, setting.failing_notes);
-    let words = setting.words.as_slice();
-    let end = beam_main(rt, alloc, words, &mut kits, &mut out, &mut notes, &OpenGate);
+    let end = beam_main(rt, case.alloc(), words, kits, out, notes, &OpenGate);
     case.say_number(end.status.number());
     case.say_bytes(out.taken());
     case.say_bytes(notes.taken());

@@ -36,10 +36,18 @@ pub fn answer_graph<'a>(script: &mut Script<'a>, case: &mut Case<'a>) {
     }
     let Drawn { nodes, holds } = drawn;
     match Graph::check(alloc, Plan { version: 1, nodes }) {
-        Ok(graph) if holds.is_empty() => say_nodes(&graph, case),
-        Ok(graph) => say_marks(&graph, holds.as_slice(), case),
+        Ok(graph) => say_graph(&graph, holds.as_slice(), case),
         Err(CheckRefusal::Bad(refusal)) => say_refusal(refusal, case),
         Err(CheckRefusal::NoMemory) => case.no_memory(NoMemory),
+    }
+}
+
+// The marks of the nodes where holds are given.
+fn say_graph(graph: &Graph, holds: &[Mark], case: &mut Case<'_>) {
+    if holds.is_empty() {
+        say_nodes(graph, case);
+    } else {
+        say_marks(graph, holds, case);
     }
 }
 

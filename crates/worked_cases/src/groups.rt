@@ -1,4 +1,4 @@
-use crate::bodies::{Bodies, Coming};
+use crate::bodies::{Coming, commit_all};
 use crate::case::Case;
 use crate::elements::{read_element, say_element};
 use crate::nodes::read_node;
@@ -17,6 +17,8 @@ struct Told {
     nodes: List<Node>,
     arrivals: List<Arrival>,
     commits: List<Coming>,
+    // How many commits there were.
+    number: u32,
 }
 
 /// What both bodies of Groups fire, keep and drop commit by commit, from the plan, the arrivals and the
@@ -27,6 +29,7 @@ pub fn answer_groups<'a>(script: &mut Script<'a>, case: &mut Case<'a>) {
         nodes: List::new(alloc),
         arrivals: List::new(alloc),
         commits: List::new(alloc),
+        number: 0,
     };
     for _ in 0..u64::MAX {
         if !script.next_of_block(case) {
@@ -39,12 +42,13 @@ pub fn answer_groups<'a>(script: &mut Script<'a>, case: &mut Case<'a>) {
         nodes,
         arrivals,
         commits,
+        number: _,
     } = told;
     if !arrivals.is_empty() {
-        return case.fail("arrivals come in a commit");
+        case.fail("arrivals come in a commit");
     }
     match Graph::check(alloc, Plan { version: 1, nodes }) {
-        Ok(graph) => commit_all(graph, commits.as_slice(), case),
+        Ok(graph) => commit_all(&graph, commits.as_slice(), case),
         Err(_) => case.fail("the plan breaks a rule"),
     }
 }
@@ -63,7 +67,9 @@ fn add_line(case: &mut Case<'_>, told: &mut Told) {
             case.keep(&mut told.arrivals, arrival);
         }
         "commit" => {
+            told.number = told.number.saturating_add(1);
             let coming = Coming {
+                number: told.number,
                 arrivals: mem::replace(&mut told.arrivals, List::new(case.alloc())),
                 holds: read_marks(case),
             };
@@ -81,20 +87,6 @@ fn expect_part(case: &mut Case<'_>) {
     }
     let part = case.line_rest();
     case.expect(part.as_slice());
-}
-
-fn commit_all(graph: Graph, commits: &[Coming], case: &mut Case<'_>) {
-    let mut bodies = match Bodies::new(case.alloc(), graph) {
-        Ok(bodies) => bodies,
-        Err(refused) => return case.no_memory(refused),
-    };
-    let mut number: u32 = 0;
-    for coming in commits {
-        number = number.saturating_add(1);
-        if let Err(refused) = bodies.commit(coming, number, case) {
-            return case.no_memory(refused);
-        }
-    }
 }
 
 /// The panes that fired, the cells by node, key and window, what was dropped so far, and the arrivals
