@@ -1,7 +1,9 @@
+ghost use Rattle.std.specs.Prelude.{◌<◌, length};
+
 use crate::case::Case;
 use crate::running::Script;
 use beam_command::beam_main;
-use beam_ports::{MemorySink, MemoryStore, OpenGate};
+use beam_ports::{Gate, MemorySink, MemoryStore, OpenGate, Sink, Store};
 use beam_values::{Bytes, Duplicate, FileText, List, NoMemory};
 use dofn_library::{
     BatchUntil, CountSeq, Dedupe, Field, FieldInt, KeepPrefix, KeyField, LatestThenEmit, MaxSeq,
@@ -340,8 +342,25 @@ fn run_kits<R: Threads + Wait + Sync, F: Shelf>(
     if kits.is_empty() {
         return case.fail("a command has a kit");
     }
-    let end = beam_main(rt, case.alloc(), words, kits, out, notes, &OpenGate);
-    case.say_number(end.status.number());
+    let alloc = case.alloc();
+    case.say_number(status_of(rt, alloc, words, kits, out, notes, &OpenGate));
     case.say_bytes(out.taken());
     case.say_bytes(notes.taken());
+}
+
+// The status of the command. Its contract says much of all that it is given, and is unfolded at the types of a
+// call: so it is called over any types, and nothing of it is passed on.
+fn status_of<R: Threads + Wait + Sync, F: Shelf, S: Store, W: Sink, N: Sink, G: Gate>(
+    rt: &R,
+    alloc: Global,
+    words: &[String],
+    kits: &mut Vec<Kit<F, S>>,
+    out: &mut W,
+    notes: &mut N,
+    gate: &G,
+) -> u8
+    requires { 0 < length kits.old.items }
+{
+    let end = beam_main(rt, alloc, words, kits, out, notes, gate);
+    end.status.number()
 }
