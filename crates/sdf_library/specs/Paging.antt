@@ -53,7 +53,7 @@ abbrev pub held_from : ℕ → Paged → Paged
 held_from first held =
     record held { base = first; bytes = if nat_le held.base first then drop (first - held.base) held.bytes else [] }
 
--- a block of what is held, from the byte before the position on: of a longer stretch, which a long line asked for, the rest is given up
+-- a block of what is held, from the byte before the position on: of more, as a long line asks for, the rest is given up
 abbrev pub block_at : ℕ → Paged → Paged
 block_at p held = record (held_from (p - 1) held) { bytes = take block (held_from (p - 1) held).bytes }
 

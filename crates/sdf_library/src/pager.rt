@@ -1,5 +1,6 @@
 ghost use Rattle.std.specs.Prelude.{◌≡◌, ◌↔◌, ℕ, ◌+◌, ◌-◌, ◌<◌, ◌≤◌, ◌^◌, List, [], Some, length};
-ghost use Rattle.std.specs.Prelude.{take, drop, max, min, Option, true, false, IsTrue, IsSomeAnd, IsErrOf, IsOk, IsOkAnd, OnOk, OnErr, IfOk};
+ghost use Rattle.std.specs.Prelude.{take, drop, max, min, Option, true, false, IsTrue, IsSomeAnd};
+ghost use Rattle.std.specs.Prelude.{IsErrOf, IsOk, IsOkAnd, OnOk, OnErr, IfOk};
 ghost use Rattle.std.specs.Borrow.{sem};
 ghost use Rattle.std.specs.Io.BufRead.{Rests};
 ghost use Rattle.beam_ports.specs.Counts.{Rose};
@@ -287,6 +288,7 @@ impl Pager {
         }
     }
 
+    // Whether the position can be worked with what is held, and no more is asked for or no more is there.
     fn is_enough(&self, more: bool, p: u64) -> bool
         ensures enough { IsTrue result ↔ IsEnough more self.now p }
         ensures serves { IsTrue result → Serves self.now p }
