@@ -18,6 +18,7 @@ mod element_order;
 mod fault;
 mod file_text;
 mod graph_refusal;
+mod key_rank;
 mod keys;
 mod laws;
 mod log;
@@ -42,6 +43,7 @@ pub use element::{Element, PaneTag, Timing};
 pub use fault::{Cause, FaultNote};
 pub use file_text::FileText;
 pub use graph_refusal::GraphRefusal;
+pub use key_rank::KeyRank;
 pub use keys::{copy_key, key_or, last_time, part_of};
 pub use laws::{
     element_has_one_spelling, no_spelling_begins_another, value_has_one_spelling,
