@@ -1,9 +1,9 @@
 ghost use Rattle.std.specs.Prelude.{◌≡◌, [], ◌∷◌, ◌++◌, ◌<◌, ◌^◌, All, length, take, ◌↔◌, IsTrue};
 ghost use Rattle.std.specs.Prelude.{IfOk, OnOk, OnErr};
 
-use crate::NoMemory;
 use crate::long::Long;
 use crate::short::{ROOM, Short};
+use crate::{List, NoMemory};
 use std::alloc::Global;
 use std::marker::Model;
 
@@ -60,6 +60,19 @@ impl Bytes {
         Ok(Bytes {
             store: Store::Outside(long),
         })
+    }
+
+    /// More than 22 bytes stay where they lie; fewer move into the string.
+    pub fn from_list(alloc: Global, bytes: List<u8>) -> Result<Bytes, NoMemory>
+        ensures { IfOk result (λ b. b ≡ bytes) }
+    {
+        if bytes.len() > ROOM {
+            let long = Long::from_vec(alloc, bytes.into_vec())?;
+            return Ok(Bytes {
+                store: Store::Outside(long),
+            });
+        }
+        Bytes::from_slice(alloc, bytes.as_slice())
     }
 
     /// An equal string, which takes no memory.

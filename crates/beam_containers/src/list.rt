@@ -175,4 +175,13 @@ impl<T: Copy> List<T> {
         let items = Vec::from_slice(alloc, items)?;
         Ok(List { items })
     }
+
+    /// Adds copies of the items at the end.
+    pub fn extend_from_slice(&mut self, more: &[T]) -> Result<(), NoMemory>
+        ensures ok { OnOk result (self.new ≡ self.old ++ more.now) }
+        ensures err { OnErr result (self.new ≡ self.old) }
+    {
+        self.items.extend_from_slice(more)?;
+        Ok(())
+    }
 }
