@@ -2,7 +2,7 @@ ghost use Rattle.std.specs.Prelude.{IfOk};
 ghost use Rattle.std.specs.List.Sorted.{IsPermutation, IsSorted};
 ghost use Rattle.beam_values.specs.Cells.{cell_cmp};
 
-use beam_values::{Cell, List, NoMemory, cmp_cells};
+use beam_values::{Cell, KeyRank, List, NoMemory, cmp_cells};
 
 /// Puts cells into the order of an outcome.
 pub fn in_order(cells: List<Cell>) -> Result<List<Cell>, NoMemory>
@@ -10,6 +10,31 @@ pub fn in_order(cells: List<Cell>) -> Result<List<Cell>, NoMemory>
     ensures same { IfOk result (IsPermutation cells) }
 {
     let mut cells = cells.into_vec();
+    sort_by_ranks(&mut cells);
     cells.sort_by(|a, b| cmp_cells(a, b))?;
     Ok(List::from_vec(cells))
+}
+
+/// What mostly compares as cells do.
+#[derive(Clone, Copy, Debug, PartialEq, Eq, PartialOrd, Ord)]
+struct Rank {
+    node: u32,
+    key: KeyRank,
+    start: i64,
+}
+
+/// Sorts cells by their ranks, which lie side by side where the keys lie scattered. A sort by whole keys
+/// then finds most cells in order. Where there is no memory for the ranks, the cells stay as they are.
+fn sort_by_ranks(cells: &mut Vec<Cell>)
+    ensures { IsPermutation cells.old.items cells.new.items }
+{
+    let _ = cells.sort_by_cached_key(|cell| rank_of(cell));
+}
+
+fn rank_of(cell: &Cell) -> Rank {
+    Rank {
+        node: cell.node,
+        key: KeyRank::of(&cell.key),
+        start: cell.span.start(),
+    }
 }
