@@ -115,10 +115,11 @@ fn plain_len(bytes: &[u8]) -> usize
     bytes.len()
 }
 
+// Asked of each byte of a text, so it takes no branch.
 fn is_escaped(byte: u8) -> bool
     ensures { result ≡ is_escaped byte }
 {
-    byte == b'"' || byte == b'\\' || byte < b' ' || byte > b'~'
+    (byte == b'"') | (byte == b'\\') | (byte < b' ') | (byte > b'~')
 }
 
 /// Appends a byte that isn't printed as it is: a quote or a backslash, or one outside of the printable ASCII
