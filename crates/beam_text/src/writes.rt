@@ -8,6 +8,7 @@ ghost use Rattle.beam_text.specs.Parts.{AppendsText, IsByNode, IsNodeText, conte
 
 use crate::element::push_element;
 use crate::push_blob;
+use crate::ranks::sort_by_ranks;
 use beam_values::{Arrival, Element, List, NoMemory, Node, NodeKind, Plan};
 use std::alloc::Global;
 
@@ -123,6 +124,7 @@ fn push_title(labelled: bool, label: &[u8], out: &mut List<u8>) -> Result<(), No
 fn push_lines(elements: &mut Vec<&Element>, out: &mut List<u8>) -> Result<(), NoMemory>
     ensures { OnOk result (AppendsText (IsLines (elements_in elements.old.items)) out.old out.new) }
 {
+    sort_by_ranks(elements);
     elements.sort()?;
     push_sorted(elements.as_slice(), out)
 }
