@@ -8,7 +8,7 @@ ghost use Rattle.beam_command.specs.Ends.{IsLongNoted, IsNoted, IsNotedUpTo, Sta
 
 use beam_ports::Sink;
 use beam_text::push_blob;
-use beam_values::{Bytes, Cause, FaultNote, NoMemory};
+use beam_values::{Bytes, Cause, FaultNote, List, NoMemory};
 use itoa::Buffer;
 use plan_reader::refusal_text;
 use run_engine::{Status, put};
@@ -32,7 +32,7 @@ pub fn fixed_line(status: &Status) -> Option<&'static [u8]>
 pub fn note_line(alloc: Global, status: &Status) -> Result<Bytes, NoMemory>
     ensures { IfOk result (λ line. line ≡ note_line status.now) }
 {
-    let mut line = Bytes::new(alloc);
+    let mut line = List::new(alloc);
     match status {
         Status::Ok => {}
         Status::Help => {}
@@ -54,7 +54,7 @@ pub fn note_line(alloc: Global, status: &Status) -> Result<Bytes, NoMemory>
         }
     }
     line.push(b'\n')?;
-    Ok(line)
+    Bytes::from_list(alloc, line)
 }
 
 /// Writes the note of an end. A fault of the notes ends the line and changes nothing else.
@@ -89,7 +89,7 @@ pub fn write_note<N: Sink>(notes: &mut N, line: &[u8])
     let _ = put(notes, line, 1);
 }
 
-fn push_changed(name: &Bytes, first: u64, other: u64, line: &mut Bytes) -> Result<(), NoMemory>
+fn push_changed(name: &Bytes, first: u64, other: u64, line: &mut List<u8>) -> Result<(), NoMemory>
     ensures { OnOk result (line.new ≡ line.old ++ changed_text name.now first other) }
 {
     line.extend_from_slice(b"file changed: ")?;
@@ -98,14 +98,14 @@ fn push_changed(name: &Bytes, first: u64, other: u64, line: &mut Bytes) -> Resul
     push_number(b" ", other, line)
 }
 
-fn push_work(note: &FaultNote, line: &mut Bytes) -> Result<(), NoMemory>
+fn push_work(note: &FaultNote, line: &mut List<u8>) -> Result<(), NoMemory>
     ensures { OnOk result (line.new ≡ line.old ++ work_text note.now) }
 {
     push_place(note, line)?;
     push_attempt(note, line)
 }
 
-fn push_place(note: &FaultNote, line: &mut Bytes) -> Result<(), NoMemory>
+fn push_place(note: &FaultNote, line: &mut List<u8>) -> Result<(), NoMemory>
     ensures { OnOk result (line.new ≡ line.old ++ place_text note.now) }
 {
     push_number(b"work fault: node ", note.node.into(), line)?;
@@ -113,7 +113,7 @@ fn push_place(note: &FaultNote, line: &mut Bytes) -> Result<(), NoMemory>
     Ok(())
 }
 
-fn push_attempt(note: &FaultNote, line: &mut Bytes) -> Result<(), NoMemory>
+fn push_attempt(note: &FaultNote, line: &mut List<u8>) -> Result<(), NoMemory>
     ensures { OnOk result (line.new ≡ line.old ++ attempt_text note.now) }
 {
     push_number(b" at ", note.at.into(), line)?;
@@ -131,7 +131,7 @@ fn cause_text(cause: Cause) -> &'static [u8]
     }
 }
 
-fn push_number(name: &[u8], number: u64, line: &mut Bytes) -> Result<(), NoMemory>
+fn push_number(name: &[u8], number: u64, line: &mut List<u8>) -> Result<(), NoMemory>
     ensures { OnOk result (line.new ≡ line.old ++ (name.now ++ decimal number)) }
 {
     line.extend_from_slice(name)?;

@@ -1,6 +1,6 @@
 -- Text that is only added to begins as it did.
 use Rattle.std.proofs.Common.{◌≡◌, ℕ, ◌≤◌, List, ◌++◌, length, take, Result, Ok, Err, OnErr, refl, sym, ap, ◌∙◌, arith}
-use Rattle.std.proofs.lemmas.List.{length-take, length-append, take_at, take-take}
+use Rattle.std.proofs.lemmas.List.{length-take, take_at, take-take}
 
 -- the front stays where more is put at the end
 pub front_of_more : (old more new : List ℕ) → new ≡ old ++ more → take (length old) new ≡ old

@@ -2,11 +2,11 @@ ghost use Rattle.std.specs.Prelude.{◌≡◌, ◌++◌, ◌∷◌, [], OnOk};
 ghost use Rattle.beam_values.specs.Texts.{element_line, timing_text};
 
 use crate::push_value;
-use beam_values::{Bytes, Element, NoMemory, Timing};
+use beam_values::{Element, List, NoMemory, Timing};
 use itoa::Buffer;
 
 /// Appends the line of a written element: its window, the timing and index of its pane, and its value.
-pub fn push_element(element: &Element, out: &mut Bytes) -> Result<(), NoMemory>
+pub fn push_element(element: &Element, out: &mut List<u8>) -> Result<(), NoMemory>
     ensures { OnOk result (out.new ≡ out.old ++ element_line element.now) }
 {
     let mut digits = Buffer::new();
@@ -19,7 +19,7 @@ pub fn push_element(element: &Element, out: &mut Bytes) -> Result<(), NoMemory>
 }
 
 // A field and the TAB after it.
-pub(crate) fn push_field(text: &[u8], out: &mut Bytes) -> Result<(), NoMemory>
+pub(crate) fn push_field(text: &[u8], out: &mut List<u8>) -> Result<(), NoMemory>
     ensures { OnOk result (out.new ≡ out.old ++ (text.now ++ 9 ∷ [])) }
 {
     out.extend_from_slice(text)?;

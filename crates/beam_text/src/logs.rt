@@ -8,7 +8,7 @@ ghost use Rattle.beam_text.specs.Parts.{AppendsText, call_place, logs_in};
 
 use crate::element::push_field;
 use crate::push_value;
-use beam_values::{Bytes, KeyLog, LogEntry, LogInput, NoMemory, NodeKind, Plan, cmp_values};
+use beam_values::{KeyLog, List, LogEntry, LogInput, NoMemory, NodeKind, Plan, cmp_values};
 use itoa::Buffer;
 use std::alloc::Global;
 use std::cmp::Ordering;
@@ -18,7 +18,7 @@ pub(crate) fn push_logs(
     alloc: Global,
     plan: &Plan,
     logs: &[KeyLog],
-    out: &mut Bytes,
+    out: &mut List<u8>,
 ) -> Result<(), NoMemory>
     ensures { OnOk result (AppendsText (IsLogged plan.now logs.now) out.old out.new) }
 {
@@ -94,7 +94,7 @@ fn cmp_keys(a: &KeyLog, b: &KeyLog) -> Ordering
     }
 }
 
-fn push_sorted_logs(logs: &[&KeyLog], out: &mut Bytes) -> Result<(), NoMemory>
+fn push_sorted_logs(logs: &[&KeyLog], out: &mut List<u8>) -> Result<(), NoMemory>
     ensures { OnOk result (out.new ≡ out.old ++ flat_map log_lines (logs_in logs.now)) }
 {
     for log in logs {
@@ -103,7 +103,7 @@ fn push_sorted_logs(logs: &[&KeyLog], out: &mut Bytes) -> Result<(), NoMemory>
     Ok(())
 }
 
-fn push_log(log: &KeyLog, out: &mut Bytes) -> Result<(), NoMemory>
+fn push_log(log: &KeyLog, out: &mut List<u8>) -> Result<(), NoMemory>
     ensures { OnOk result (out.new ≡ out.old ++ log_lines log.now) }
 {
     for entry in log.entries.as_slice() {
@@ -112,7 +112,7 @@ fn push_log(log: &KeyLog, out: &mut Bytes) -> Result<(), NoMemory>
     Ok(())
 }
 
-fn push_log_entry(log: &KeyLog, entry: &LogEntry, out: &mut Bytes) -> Result<(), NoMemory>
+fn push_log_entry(log: &KeyLog, entry: &LogEntry, out: &mut List<u8>) -> Result<(), NoMemory>
     ensures { OnOk result (out.new ≡ out.old ++ log_line log.now entry.now) }
 {
     push_call_place(log, out)?;
@@ -123,7 +123,7 @@ fn push_log_entry(log: &KeyLog, entry: &LogEntry, out: &mut Bytes) -> Result<(),
 }
 
 // The node and the window of a call, with a TAB after each.
-fn push_call_place(log: &KeyLog, out: &mut Bytes) -> Result<(), NoMemory>
+fn push_call_place(log: &KeyLog, out: &mut List<u8>) -> Result<(), NoMemory>
     ensures { OnOk result (out.new ≡ out.old ++ call_place log.now) }
 {
     let mut digits = Buffer::new();
@@ -133,7 +133,7 @@ fn push_call_place(log: &KeyLog, out: &mut Bytes) -> Result<(), NoMemory>
     push_field(digits.format(log.span.end()).as_bytes(), out)
 }
 
-fn push_input(input: &LogInput, out: &mut Bytes) -> Result<(), NoMemory>
+fn push_input(input: &LogInput, out: &mut List<u8>) -> Result<(), NoMemory>
     ensures { OnOk result (out.new ≡ out.old ++ input_text input.now) }
 {
     let mut digits = Buffer::new();

@@ -3,7 +3,7 @@ ghost use Rattle.beam_model.specs.Rendering.{IsRendering};
 
 use crate::logs::push_logs;
 use crate::writes::push_writes;
-use beam_values::{Bytes, NoMemory, Outcome};
+use beam_values::{Bytes, List, NoMemory, Outcome};
 use std::alloc::Global;
 
 /// About how long a line is, in bytes. Longer ones only make the text grow while it is written.
@@ -16,9 +16,9 @@ pub fn render(alloc: Global, outcome: &Outcome) -> Result<Bytes, NoMemory>
     ensures { IfOk result (IsRendering outcome.now) }
 {
     let written = outcome.written.as_slice();
-    let mut out = Bytes::new(alloc);
+    let mut out = List::new(alloc);
     out.reserve(written.len().saturating_mul(USUAL_LINE_LEN))?;
     push_writes(alloc, &outcome.plan, written, &mut out)?;
     push_logs(alloc, &outcome.plan, outcome.logs.as_slice(), &mut out)?;
-    Ok(out)
+    Bytes::from_list(alloc, out)
 }

@@ -6,7 +6,7 @@ ghost use Rattle.beam_model.specs.Values.{as_seq};
 ghost use Rattle.beam_model.specs.Rendering.{items_written, number_or_zero, summary, summary_line};
 ghost use Rattle.beam_text.specs.Parts.{items_in};
 
-use beam_values::{Arrival, Bytes, Element, FileLen, NoMemory, Outcome, Value};
+use beam_values::{Arrival, Bytes, Element, FileLen, List, NoMemory, Outcome, Value};
 use itoa::Buffer;
 use std::alloc::Global;
 
@@ -18,7 +18,7 @@ pub fn summary(alloc: Global, outcome: &Outcome) -> Result<Bytes, NoMemory>
 {
     let written = outcome.written.as_slice();
     let mut digits = Buffer::new();
-    let mut out = Bytes::new(alloc);
+    let mut out = List::new(alloc);
     let lines = position_count(outcome.files.as_slice());
     push_total(b"lines", digits.format(lines).as_bytes(), &mut out)?;
     push_total(b"panes", digits.format(written.len()).as_bytes(), &mut out)?;
@@ -26,10 +26,10 @@ pub fn summary(alloc: Global, outcome: &Outcome) -> Result<Bytes, NoMemory>
     push_total(b"values", digits.format(values).as_bytes(), &mut out)?;
     let sum = sum_of_items(written)?;
     push_total(b"sum", digits.format(sum).as_bytes(), &mut out)?;
-    Ok(out)
+    Bytes::from_list(alloc, out)
 }
 
-fn push_total(name: &[u8], number: &[u8], out: &mut Bytes) -> Result<(), NoMemory>
+fn push_total(name: &[u8], number: &[u8], out: &mut List<u8>) -> Result<(), NoMemory>
     ensures { OnOk result (out.new ≡ out.old ++ summary_line name.now number.now) }
 {
     out.extend_from_slice(name)?;

@@ -4,11 +4,11 @@ ghost use Rattle.std.specs.List.{flat_map};
 ghost use Rattle.beam_values.specs.Texts.{value_text, joined, is_escaped, blob_text, byte_text};
 ghost use Rattle.beam_values.specs.Texts.{hex_digit};
 
-use beam_values::{Bytes, NoMemory, Value};
+use beam_values::{List, NoMemory, Value};
 use itoa::Buffer;
 
 /// Appends the text of a value.
-pub fn push_value(value: &Value, out: &mut Bytes) -> Result<(), NoMemory>
+pub fn push_value(value: &Value, out: &mut List<u8>) -> Result<(), NoMemory>
     ensures ok { OnOk result (out.new ≡ out.old ++ value_text value.now) }
     ensures err { OnErr result (out.new ≡ out.old) }
 {
@@ -21,7 +21,7 @@ pub fn push_value(value: &Value, out: &mut Bytes) -> Result<(), NoMemory>
 }
 
 /// Appends the text of a byte string, quotes included.
-pub fn push_blob(bytes: &[u8], out: &mut Bytes) -> Result<(), NoMemory>
+pub fn push_blob(bytes: &[u8], out: &mut List<u8>) -> Result<(), NoMemory>
     ensures ok { OnOk result (out.new ≡ out.old ++ blob_text bytes.now) }
     ensures err { OnErr result (out.new ≡ out.old) }
 {
@@ -35,7 +35,7 @@ pub fn push_blob(bytes: &[u8], out: &mut Bytes) -> Result<(), NoMemory>
 
 // After a refusal a part of the text may stand at the end, here and in all that is called from here.
 #[cycle(texts)]
-fn append_value(value: &Value, out: &mut Bytes) -> Result<(), NoMemory>
+fn append_value(value: &Value, out: &mut List<u8>) -> Result<(), NoMemory>
     ensures ok { OnOk result (out.new ≡ out.old ++ value_text value.now) }
     ensures err { OnErr result (take (length out.old) out.new ≡ out.old) }
 {
@@ -59,7 +59,7 @@ fn append_value(value: &Value, out: &mut Bytes) -> Result<(), NoMemory>
 }
 
 #[cycle(texts)]
-fn append_items(items: &[Value], out: &mut Bytes) -> Result<(), NoMemory>
+fn append_items(items: &[Value], out: &mut List<u8>) -> Result<(), NoMemory>
     ensures ok { OnOk result (out.new ≡ out.old ++ joined (map value_text items.now)) }
     ensures err { OnErr result (take (length out.old) out.new ≡ out.old) }
 {
@@ -75,7 +75,7 @@ fn append_items(items: &[Value], out: &mut Bytes) -> Result<(), NoMemory>
 }
 
 // Runs of plain bytes are appended whole.
-fn append_blob(bytes: &[u8], out: &mut Bytes) -> Result<(), NoMemory>
+fn append_blob(bytes: &[u8], out: &mut List<u8>) -> Result<(), NoMemory>
     ensures ok { OnOk result (out.new ≡ out.old ++ blob_text bytes.now) }
     ensures err { OnErr result (take (length out.old) out.new ≡ out.old) }
 {
@@ -84,7 +84,7 @@ fn append_blob(bytes: &[u8], out: &mut Bytes) -> Result<(), NoMemory>
     out.push(b'"')
 }
 
-fn append_bytes(bytes: &[u8], out: &mut Bytes) -> Result<(), NoMemory>
+fn append_bytes(bytes: &[u8], out: &mut List<u8>) -> Result<(), NoMemory>
     ensures ok { OnOk result (out.new ≡ out.old ++ flat_map byte_text bytes.now) }
     ensures err { OnErr result (take (length out.old) out.new ≡ out.old) }
 {
@@ -115,15 +115,16 @@ fn plain_len(bytes: &[u8]) -> usize
     bytes.len()
 }
 
+// Asked of each byte of a text, so it takes no branch.
 fn is_escaped(byte: u8) -> bool
     ensures { result ≡ is_escaped byte }
 {
-    byte == b'"' || byte == b'\\' || byte < b' ' || byte > b'~'
+    (byte == b'"') | (byte == b'\\') | (byte < b' ') | (byte > b'~')
 }
 
 /// Appends a byte that isn't printed as it is: a quote or a backslash, or one outside of the printable ASCII
 /// bytes, as LF by `\n` and the byte 7 by `\x07`.
-pub fn push_escaped(byte: u8, out: &mut Bytes) -> Result<(), NoMemory>
+pub fn push_escaped(byte: u8, out: &mut List<u8>) -> Result<(), NoMemory>
     requires { is_escaped byte ≡ true }
     ensures ok { OnOk result (out.new ≡ out.old ++ byte_text byte) }
     ensures err { OnErr result (out.new ≡ out.old) }

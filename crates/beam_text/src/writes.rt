@@ -8,7 +8,8 @@ ghost use Rattle.beam_text.specs.Parts.{AppendsText, IsByNode, IsNodeText, conte
 
 use crate::element::push_element;
 use crate::push_blob;
-use beam_values::{Arrival, Bytes, Element, NoMemory, Node, NodeKind, Plan};
+use crate::ranks::sort_by_ranks;
+use beam_values::{Arrival, Element, List, NoMemory, Node, NodeKind, Plan};
 use std::alloc::Global;
 
 /// Appends what the Writes of a plan took, in number order.
@@ -16,7 +17,7 @@ pub(crate) fn push_writes(
     alloc: Global,
     plan: &Plan,
     written: &[Arrival],
-    out: &mut Bytes,
+    out: &mut List<u8>,
 ) -> Result<(), NoMemory>
     ensures { OnOk result
         (AppendsText (IsWritten (nat_lt 1 (length (writes plan.now))) written.now (writes plan.now))
@@ -96,7 +97,7 @@ fn push_node(
     labelled: bool,
     kind: &NodeKind,
     elements: &mut Vec<&Element>,
-    out: &mut Bytes,
+    out: &mut List<u8>,
 ) -> Result<(), NoMemory>
     ensures { OnOk result (AppendsText
         (IsNodeText labelled kind.now (elements_in elements.old.items)) out.old out.new) }
@@ -108,7 +109,7 @@ fn push_node(
     Ok(())
 }
 
-fn push_title(labelled: bool, label: &[u8], out: &mut Bytes) -> Result<(), NoMemory>
+fn push_title(labelled: bool, label: &[u8], out: &mut List<u8>) -> Result<(), NoMemory>
     ensures { OnOk result (out.new ≡ out.old ++ title labelled label.now) }
 {
     if labelled {
@@ -120,14 +121,15 @@ fn push_title(labelled: bool, label: &[u8], out: &mut Bytes) -> Result<(), NoMem
 }
 
 /// Appends the lines of elements in ascending order.
-fn push_lines(elements: &mut Vec<&Element>, out: &mut Bytes) -> Result<(), NoMemory>
+fn push_lines(elements: &mut Vec<&Element>, out: &mut List<u8>) -> Result<(), NoMemory>
     ensures { OnOk result (AppendsText (IsLines (elements_in elements.old.items)) out.old out.new) }
 {
+    sort_by_ranks(elements);
     elements.sort()?;
     push_sorted(elements.as_slice(), out)
 }
 
-fn push_sorted(elements: &[&Element], out: &mut Bytes) -> Result<(), NoMemory>
+fn push_sorted(elements: &[&Element], out: &mut List<u8>) -> Result<(), NoMemory>
     ensures { OnOk result (out.new ≡ out.old ++ flat_map element_line (elements_in elements.now)) }
 {
     for element in elements {

@@ -3,7 +3,7 @@ ghost use Rattle.plan_drawing.specs.Drawing.{box_of, boxes, drawing_of, edge_of,
 ghost use Rattle.plan_drawing.specs.Drawing.{id_of, line_of, shape_of};
 
 use crate::lines::push_label;
-use beam_values::{Bytes, NoMemory, Node, NodeKind, Plan};
+use beam_values::{Bytes, List, NoMemory, Node, NodeKind, Plan};
 use itoa::Buffer;
 use std::alloc::Global;
 
@@ -14,23 +14,23 @@ pub fn draw(alloc: Global, names: &[Bytes], plan: &Plan) -> Result<Bytes, NoMemo
     ensures { IfOk result (λ text. text ≡ drawing_of names.now plan.now) }
 {
     let nodes = plan.nodes.as_slice();
-    let mut text = Bytes::new(alloc);
+    let mut text = List::new(alloc);
     push_ended(b"digraph plan {", &mut text)?;
     push_boxes(names, nodes, &mut text)?;
     push_edges(nodes, &mut text)?;
     push_ended(b"}", &mut text)?;
-    Ok(text)
+    Bytes::from_list(alloc, text)
 }
 
 // Appends words and the end of a line.
-fn push_ended(words: &[u8], out: &mut Bytes) -> Result<(), NoMemory>
+fn push_ended(words: &[u8], out: &mut List<u8>) -> Result<(), NoMemory>
     ensures { OnOk result (out.new ≡ out.old ++ line_of words.now) }
 {
     out.extend_from_slice(words)?;
     out.push(b'\n')
 }
 
-fn push_id(number: usize, out: &mut Bytes) -> Result<(), NoMemory>
+fn push_id(number: usize, out: &mut List<u8>) -> Result<(), NoMemory>
     ensures { OnOk result (out.new ≡ out.old ++ id_of number) }
 {
     out.push(b'n')?;
@@ -38,7 +38,7 @@ fn push_id(number: usize, out: &mut Bytes) -> Result<(), NoMemory>
 }
 
 #[tactic(auto, using(crate::proofs::Rest::next_box))]
-fn push_boxes(names: &[Bytes], nodes: &[Node], out: &mut Bytes) -> Result<(), NoMemory>
+fn push_boxes(names: &[Bytes], nodes: &[Node], out: &mut List<u8>) -> Result<(), NoMemory>
     requires { length names.now ≡ length nodes.now }
     ensures { OnOk result (out.new ≡ out.old ++ boxes names.now nodes.now) }
 {
@@ -48,7 +48,7 @@ fn push_boxes(names: &[Bytes], nodes: &[Node], out: &mut Bytes) -> Result<(), No
     Ok(())
 }
 
-fn push_box(number: usize, name: &[u8], node: &Node, out: &mut Bytes) -> Result<(), NoMemory>
+fn push_box(number: usize, name: &[u8], node: &Node, out: &mut List<u8>) -> Result<(), NoMemory>
     ensures { OnOk result (out.new ≡ out.old ++ box_of number name.now node.now) }
 {
     out.extend_from_slice(b"  ")?;
@@ -71,7 +71,7 @@ fn shape_of(kind: &NodeKind) -> &'static [u8]
 }
 
 #[tactic(auto, using(crate::proofs::Rest::next_edges))]
-fn push_edges(nodes: &[Node], out: &mut Bytes) -> Result<(), NoMemory>
+fn push_edges(nodes: &[Node], out: &mut List<u8>) -> Result<(), NoMemory>
     ensures { OnOk result (out.new ≡ out.old ++ edges nodes.now) }
 {
     for (i, node) in nodes.iter().enumerate() {
@@ -80,7 +80,7 @@ fn push_edges(nodes: &[Node], out: &mut Bytes) -> Result<(), NoMemory>
     Ok(())
 }
 
-fn push_edges_into(number: usize, node: &Node, out: &mut Bytes) -> Result<(), NoMemory>
+fn push_edges_into(number: usize, node: &Node, out: &mut List<u8>) -> Result<(), NoMemory>
     ensures { OnOk result (out.new ≡ out.old ++ edges_of number node.now) }
 {
     let inputs = node.inputs.as_slice();
@@ -90,7 +90,7 @@ fn push_edges_into(number: usize, node: &Node, out: &mut Bytes) -> Result<(), No
     Ok(())
 }
 
-fn push_edge(number: usize, input: usize, out: &mut Bytes) -> Result<(), NoMemory>
+fn push_edge(number: usize, input: usize, out: &mut List<u8>) -> Result<(), NoMemory>
     ensures { OnOk result (out.new ≡ out.old ++ edge_of number input) }
 {
     out.extend_from_slice(b"  ")?;

@@ -5,11 +5,11 @@ ghost use Rattle.std.specs.Fmt.{signed_decimal};
 ghost use Rattle.plan_drawing.specs.Labels.{label_byte, label_text, line_break, milliseconds};
 
 use beam_text::push_escaped;
-use beam_values::{Bytes, NoMemory};
+use beam_values::{List, NoMemory};
 use itoa::Buffer;
 
 /// Appends a text as a label has it.
-pub(crate) fn push_text(text: &[u8], out: &mut Bytes) -> Result<(), NoMemory>
+pub(crate) fn push_text(text: &[u8], out: &mut List<u8>) -> Result<(), NoMemory>
     ensures { OnOk result (out.new ≡ out.old ++ label_text text.now) }
 {
     for byte in text {
@@ -18,7 +18,7 @@ pub(crate) fn push_text(text: &[u8], out: &mut Bytes) -> Result<(), NoMemory>
     Ok(())
 }
 
-fn push_byte(byte: u8, out: &mut Bytes) -> Result<(), NoMemory>
+fn push_byte(byte: u8, out: &mut List<u8>) -> Result<(), NoMemory>
     ensures { OnOk result (out.new ≡ out.old ++ label_byte byte) }
 {
     if byte == b'&' {
@@ -34,7 +34,7 @@ fn push_byte(byte: u8, out: &mut Bytes) -> Result<(), NoMemory>
 }
 
 /// Appends a line of words.
-pub(crate) fn push_line(words: &[u8], out: &mut Bytes) -> Result<(), NoMemory>
+pub(crate) fn push_line(words: &[u8], out: &mut List<u8>) -> Result<(), NoMemory>
     ensures { OnOk result (out.new ≡ out.old ++ (line_break ++ words.now)) }
 {
     out.extend_from_slice(b"\\n")?;
@@ -42,7 +42,7 @@ pub(crate) fn push_line(words: &[u8], out: &mut Bytes) -> Result<(), NoMemory>
 }
 
 /// Appends a line of words and a word.
-pub(crate) fn push_word_line(words: &[u8], word: &[u8], out: &mut Bytes) -> Result<(), NoMemory>
+pub(crate) fn push_word_line(words: &[u8], word: &[u8], out: &mut List<u8>) -> Result<(), NoMemory>
     ensures { OnOk result (out.new ≡ out.old ++ (line_break ++ (words.now ++ word.now))) }
 {
     push_line(words, out)?;
@@ -50,7 +50,7 @@ pub(crate) fn push_word_line(words: &[u8], word: &[u8], out: &mut Bytes) -> Resu
 }
 
 /// Appends a line of words and a text.
-pub(crate) fn push_text_line(words: &[u8], text: &[u8], out: &mut Bytes) -> Result<(), NoMemory>
+pub(crate) fn push_text_line(words: &[u8], text: &[u8], out: &mut List<u8>) -> Result<(), NoMemory>
     ensures { OnOk result
         (out.new ≡ out.old ++ (line_break ++ (words.now ++ label_text text.now))) }
 {
@@ -59,14 +59,18 @@ pub(crate) fn push_text_line(words: &[u8], text: &[u8], out: &mut Bytes) -> Resu
 }
 
 /// Appends a line of words and a count.
-pub(crate) fn push_count_line(words: &[u8], count: u64, out: &mut Bytes) -> Result<(), NoMemory>
+pub(crate) fn push_count_line(words: &[u8], count: u64, out: &mut List<u8>) -> Result<(), NoMemory>
     ensures { OnOk result (out.new ≡ out.old ++ (line_break ++ (words.now ++ decimal count))) }
 {
     push_word_line(words, Buffer::new().format(count).as_bytes(), out)
 }
 
 /// Appends a line of words and a number.
-pub(crate) fn push_number_line(words: &[u8], number: i64, out: &mut Bytes) -> Result<(), NoMemory>
+pub(crate) fn push_number_line(
+    words: &[u8],
+    number: i64,
+    out: &mut List<u8>,
+) -> Result<(), NoMemory>
     ensures { OnOk result
         (out.new ≡ out.old ++ (line_break ++ (words.now ++ signed_decimal number))) }
 {
@@ -74,7 +78,7 @@ pub(crate) fn push_number_line(words: &[u8], number: i64, out: &mut Bytes) -> Re
 }
 
 /// Appends words and a length of time.
-pub(crate) fn push_span(words: &[u8], span: i64, out: &mut Bytes) -> Result<(), NoMemory>
+pub(crate) fn push_span(words: &[u8], span: i64, out: &mut List<u8>) -> Result<(), NoMemory>
     ensures { OnOk result (out.new ≡ out.old ++ (words.now ++ milliseconds span)) }
 {
     out.extend_from_slice(words)?;
@@ -83,7 +87,7 @@ pub(crate) fn push_span(words: &[u8], span: i64, out: &mut Bytes) -> Result<(), 
 }
 
 /// Appends a line of words and a length of time.
-pub(crate) fn push_span_line(words: &[u8], span: i64, out: &mut Bytes) -> Result<(), NoMemory>
+pub(crate) fn push_span_line(words: &[u8], span: i64, out: &mut List<u8>) -> Result<(), NoMemory>
     ensures { OnOk result (out.new ≡ out.old ++ (line_break ++ (words.now ++ milliseconds span))) }
 {
     out.extend_from_slice(b"\\n")?;

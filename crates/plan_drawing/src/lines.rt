@@ -11,10 +11,10 @@ use crate::label::{
     push_text_line, push_word_line,
 };
 use crate::words::{function_word, mode_word, source_word, state_word};
-use beam_values::{Args, Bytes, Estimator, NoMemory, NodeKind, Strategy, Trigger};
+use beam_values::{Args, Bytes, Estimator, List, NoMemory, NodeKind, Strategy, Trigger};
 
 /// Appends the label of a node: its name, and what its document says of it.
-pub(crate) fn push_label(name: &[u8], kind: &NodeKind, out: &mut Bytes) -> Result<(), NoMemory>
+pub(crate) fn push_label(name: &[u8], kind: &NodeKind, out: &mut List<u8>) -> Result<(), NoMemory>
     ensures { OnOk result (out.new ≡ out.old ++ label_of name.now kind.now) }
 {
     push_text(name, out)?;
@@ -22,7 +22,7 @@ pub(crate) fn push_label(name: &[u8], kind: &NodeKind, out: &mut Bytes) -> Resul
 }
 
 #[tactic(auto, using(crate::proofs::Joined::lines_append))]
-fn push_kind(kind: &NodeKind, out: &mut Bytes) -> Result<(), NoMemory>
+fn push_kind(kind: &NodeKind, out: &mut List<u8>) -> Result<(), NoMemory>
     ensures { OnOk result
         (out.new ≡ out.old ++ flat_map (λ line. line_break ++ line) (kind_lines kind.now)) }
 {
@@ -63,7 +63,7 @@ fn push_kind(kind: &NodeKind, out: &mut Bytes) -> Result<(), NoMemory>
     }
 }
 
-fn push_args(args: &Args, out: &mut Bytes) -> Result<(), NoMemory>
+fn push_args(args: &Args, out: &mut List<u8>) -> Result<(), NoMemory>
     ensures { OnOk result
         (out.new ≡ out.old ++ flat_map (λ line. line_break ++ line) (args_lines args.now)) }
 {
@@ -78,7 +78,7 @@ fn push_args(args: &Args, out: &mut Bytes) -> Result<(), NoMemory>
     }
 }
 
-fn push_files(files: &[Bytes], out: &mut Bytes) -> Result<(), NoMemory>
+fn push_files(files: &[Bytes], out: &mut List<u8>) -> Result<(), NoMemory>
     ensures { OnOk result
         (out.new ≡ out.old ++ flat_map (λ line. line_break ++ line) (map file_line files.now)) }
 {
@@ -88,7 +88,7 @@ fn push_files(files: &[Bytes], out: &mut Bytes) -> Result<(), NoMemory>
     Ok(())
 }
 
-fn push_estimator(estimator: Estimator, out: &mut Bytes) -> Result<(), NoMemory>
+fn push_estimator(estimator: Estimator, out: &mut List<u8>) -> Result<(), NoMemory>
     ensures { OnOk result (out.new ≡ out.old ++ (line_break ++ estimator_line estimator)) }
 {
     match estimator {
@@ -99,7 +99,7 @@ fn push_estimator(estimator: Estimator, out: &mut Bytes) -> Result<(), NoMemory>
     }
 }
 
-fn push_strategy(strategy: &Strategy, out: &mut Bytes) -> Result<(), NoMemory>
+fn push_strategy(strategy: &Strategy, out: &mut List<u8>) -> Result<(), NoMemory>
     ensures { OnOk result (out.new ≡ out.old ++ (line_break ++ strategy_line strategy.now)) }
 {
     match strategy {
@@ -115,7 +115,7 @@ fn push_strategy(strategy: &Strategy, out: &mut Bytes) -> Result<(), NoMemory>
 }
 
 #[tactic(auto, using(crate::proofs::Joined::lines_append))]
-fn push_trigger(trigger: &Trigger, out: &mut Bytes) -> Result<(), NoMemory>
+fn push_trigger(trigger: &Trigger, out: &mut List<u8>) -> Result<(), NoMemory>
     ensures { OnOk result
         (out.new ≡ out.old ++ flat_map (λ line. line_break ++ line) (trigger_lines trigger.now)) }
 {
@@ -125,7 +125,7 @@ fn push_trigger(trigger: &Trigger, out: &mut Bytes) -> Result<(), NoMemory>
     push_line(mode_word(trigger.mode), out)
 }
 
-fn push_early(early: Option<u32>, out: &mut Bytes) -> Result<(), NoMemory>
+fn push_early(early: Option<u32>, out: &mut List<u8>) -> Result<(), NoMemory>
     ensures { OnOk result
         (out.new ≡ out.old ++ flat_map (λ line. line_break ++ line) (early_lines early)) }
 {
@@ -135,7 +135,7 @@ fn push_early(early: Option<u32>, out: &mut Bytes) -> Result<(), NoMemory>
     }
 }
 
-fn push_log(log: bool, out: &mut Bytes) -> Result<(), NoMemory>
+fn push_log(log: bool, out: &mut List<u8>) -> Result<(), NoMemory>
     ensures { OnOk result
         (out.new ≡ out.old ++ flat_map (λ line. line_break ++ line) (log_lines log)) }
 {

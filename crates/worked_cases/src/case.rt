@@ -12,7 +12,7 @@ use std::str::{FromStr, from_utf8};
 pub struct Case<'a> {
     rest: &'a [u8],
     expected: Bytes,
-    answer: Bytes,
+    answer: List<u8>,
     // What stands before the next part of the answer.
     separator: &'static [u8],
     fault: Option<&'static str>,
@@ -26,7 +26,7 @@ impl<'a> Case<'a> {
         Case {
             rest: b"",
             expected: Bytes::new(alloc),
-            answer: Bytes::new(alloc),
+            answer: List::new(alloc),
             separator: b"",
             fault: None,
             alloc,

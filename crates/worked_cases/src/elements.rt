@@ -1,7 +1,7 @@
 use crate::case::Case;
 use crate::values::read_value;
 use beam_text::push_element;
-use beam_values::{Bytes, Element, PaneTag, Timing};
+use beam_values::{Element, List, PaneTag, Timing};
 
 /// An element as its time, its window, the timing and the index of its pane, and its value.
 pub fn read_element(case: &mut Case<'_>) -> Element {
@@ -46,7 +46,7 @@ pub fn say_element(element: &Element, case: &mut Case<'_>) {
 /// The line of an element.
 pub fn answer_row(case: &mut Case<'_>) {
     let element = read_element(case);
-    let mut row = Bytes::new(case.alloc());
+    let mut row = List::new(case.alloc());
     match push_element(&element, &mut row) {
         Ok(()) => case.say_text(row.as_slice()),
         Err(refused) => case.no_memory(refused),
