@@ -23,6 +23,11 @@ const FOUR_LINES: &[u8] = b"1000\ta\tx\n61000\ta\ty\n2000\tb\tz\n2000\ta\tx\n";
 const THREE_PANES: &[u8] =
     b"0\t60000\tON_TIME\t0\t(\"a\",[\"x\",\"x\"])\n0\t60000\tON_TIME\t0\t(\"b\",[\"z\"])\n60000\t120000\tON_TIME\t0\t(\"a\",[\"y\"])\n";
 
+const THREE_LINES: &[u8] = b"1000\ta\tx\n2000\ta\ty\n3000\tb\tz\n";
+
+const TWO_PANES: &[u8] =
+    b"0\t60000\tON_TIME\t0\t(\"a\",[\"x\",\"y\"])\n0\t60000\tON_TIME\t0\t(\"b\",[\"z\"])\n";
+
 // A function that has memory only between the start of a bundle and its finish.
 #[derive(Drop)]
 struct Bundled<D: DoFn> {
@@ -249,9 +254,9 @@ fn panes_of_two_workers<R: Threads + Wait + Abort + Sync, G: Gate>(
 #[test]
 fn a_worker_takes_over_half_of_a_piece_that_is_worked(rt: HostRuntime) -> Result<(), Fail> {
     let gate = HoldingGate::new(1, 2);
-    let out = panes_of_two_workers(&rt, rt.alloc(), FOUR_LINES, &gate)?;
+    let out = panes_of_two_workers(&rt, rt.alloc(), THREE_LINES, &gate)?;
     assert!(rt; gate.has_forced_its_order());
-    assert_eq!(rt; out.taken(), THREE_PANES);
+    assert_eq!(rt; out.taken(), TWO_PANES);
     Ok(())
 }
 
@@ -263,7 +268,7 @@ fn two_workers_claim_in_two_pieces_beside_each_other(rt: HostRuntime) -> Result<
     let alloc = rt.alloc();
     let mut text = Bytes::new(alloc);
     for _ in 0..8000 {
-        text.extend_from_slice(b"1000\ta\tp\n")?;
+        text.extend_from_slice(b"1000\ta\tx\n")?;
     }
     let gate = HoldingGate::new(0, 1);
     let out = panes_of_two_workers(&rt, alloc, text.as_slice(), &gate)?;
