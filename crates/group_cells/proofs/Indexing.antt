@@ -168,13 +168,26 @@ index_again index cells cell key place keyed there h = record {
 
 -- ---- guesses
 
--- a place that is noted for a key that was found there keeps to the map
-pub index_noted : (old : CellIndex) (new : Guesses) (key : CellKey) (hash place : ℕ) → KeepsTo old.guesses new (record { hash = hash; place = place })
-    → (cells : List Cell) → Some place ≡ place_of key.node key.key key.span cells → IsIndexOf old cells → IsIndexOf (record { places = old.places; guesses = new }) cells
-index_noted old new key hash place keeps cells found h = record {
-  finds = h.finds;
-  guesses = keeps old.places h.guesses (λ hashed. (key, h.finds key ∙ sym found));
+-- a place that was written over is put back, and noted for the key that was found there
+pub index_put_back : (old new : CellIndex) (over : BTreeMap CellKey ℕ) (key : CellKey) (hash place next : ℕ) → Some place ≡ tree.get cell_key_cmp old.places key
+    → tree.Updates cell_key_cmp old.places over key (Some next) → tree.Updates cell_key_cmp over new.places key (Some place)
+    → KeepsTo old.guesses new.guesses (record { hash = hash; place = place })
+    → (cells : List Cell) → IsIndexOf old cells → IsIndexOf new cells
+index_put_back old new over key hash place next known written back keeps cells index = record {
+  finds = λ q. same q (is_eq (cell_key_cmp key q)) refl ∙ index.finds q;
+  guesses = keeps new.places
+      (All-weaker (IsOfKey old.places) (IsOfKey new.places) (λ guess h hashed. let f = h hashed in (f.0, same f.0 (is_eq (cell_key_cmp key f.0)) refl ∙ f.1)) old.guesses.slots.items index.guesses)
+      (λ hashed. (key, back.1));
 }
+  where
+    -- the map has what it had
+    same : (q : CellKey) (t : Bool) → is_eq (cell_key_cmp key q) ≡ t → tree.get cell_key_cmp new.places q ≡ tree.get cell_key_cmp old.places q
+    same q true e =
+        back.0 q ∙ ap (λ b. cond {A = Option ℕ} b (Some place) (tree.get cell_key_cmp over q)) e
+        ∙ known ∙ index.finds key ∙ found_alike key q cells e ∙ sym (index.finds q)
+    same q false e =
+        back.0 q ∙ ap (λ b. cond {A = Option ℕ} b (Some place) (tree.get cell_key_cmp over q)) e
+        ∙ written.0 q ∙ ap (λ b. cond {A = Option ℕ} b (Some next) (tree.get cell_key_cmp old.places q)) e
 
 -- an empty slot has no place
 pub no_key : (places : BTreeMap CellKey ℕ) → IsOfKey places (record { hash = 0; place = 0 })

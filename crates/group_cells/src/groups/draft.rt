@@ -224,11 +224,13 @@ impl Draft {
             ≡ undone_all self.old.changes.items self.old.cells.items }
     {
         let key = cell_key(alloc, node, &entry)?;
-        match self.index.find_again(&key) {
+        let next = u32::try_from(self.cells.len()).map_err(|_| NoMemory)?;
+        let found = self.index.find_or_add(alloc, &key, next)?;
+        match found {
             Some(place) => self.put_unseen(plan, place, entry),
             None => {
                 let cell = first_cell(alloc, &key, entry)?;
-                self.open(plan, key, cell)
+                self.push(plan, cell)
             }
         }
     }

@@ -1,7 +1,7 @@
 //! Guesses at the places of cells, by a hash of what a cell is found by. A guess is read and then
 //! compared with the cell at its place, so that one that is wrong or lost costs a look-up and no more.
 
-ghost use Rattle.std.specs.Prelude.{◌≡◌, ◌<◌, ℕ, [], All, Contains, IfSome};
+ghost use Rattle.std.specs.Prelude.{◌≡◌, ◌<◌, ◌^◌, ℕ, [], All, Contains, IfSome};
 ghost use Rattle.std.specs.BTreeMap.{BTreeMap as TreeMap};
 ghost use Rattle.group_cells.specs.Indexes.{IsOfKey};
 ghost use Rattle.group_cells.specs.declared.groups.index.CellKey.{CellKey as CellKeyOf};
@@ -21,7 +21,11 @@ const NO_GUESS: Guess = Guess { hash: 0, place: 0 };
 /// How many slots there are once there is a cell.
 const FEWEST: usize = 64;
 
-/// The last guess of each slot. Their number is 0 or a power of two.
+/// A guess may stand in any slot of a set of so many side by side: with one slot each, cells that share
+/// it push each other out at every arrival. Divides the number of slots.
+const WAYS: usize = 4;
+
+/// The last guesses of each set of slots. The number of slots is 0 or a power of two.
 #[derive(Debug, Drop)]
 pub struct Guesses {
     pub slots: Vec<Guess>,
@@ -42,12 +46,14 @@ impl Guesses {
         ensures { IfSome result
             (λ place. Contains self.now.slots.items (record { hash = hash; place = place })) }
     {
-        let guess = self.guess_at(slot_of(hash, self.slots.len()))?;
-        if guess.hash == hash {
-            Some(guess.place)
-        } else {
-            None
+        let first = first_slot(hash, self.slots.len());
+        for at in first..first + WAYS {
+            let guess = self.guess_at(at)?;
+            if guess.hash == hash {
+                return Some(guess.place);
+            }
         }
+        None
     }
 
     fn guess_at(&self, slot: usize) -> Option<Guess>
@@ -57,12 +63,25 @@ impl Guesses {
         Some(*guess)
     }
 
-    /// Notes a guess in its slot, in the place of the one there.
+    /// The first slot of the set that is empty or has this hash. Where all are taken, the one that gives
+    /// way goes by bits of the hash that don't choose the set, so that all do so alike.
+    fn slot_for(&self, hash: u32) -> usize {
+        let first = first_slot(hash, self.slots.len());
+        for at in first..first + WAYS {
+            match self.guess_at(at) {
+                Some(guess) if guess.hash != hash && guess.hash != NO_GUESS.hash => {}
+                _ => return at,
+            }
+        }
+        first + hash as usize % WAYS
+    }
+
+    /// Notes a guess in a slot of its set, in the place of what is there.
     pub fn note(&mut self, guess: Guess)
         ensures { (places : TreeMap CellKeyOf ℕ) → All (IsOfKey places) self.old.slots.items
             → IsOfKey places guess → All (IsOfKey places) self.new.slots.items }
     {
-        let at = slot_of(guess.hash, self.slots.len());
+        let at = self.slot_for(guess.hash);
         if at < self.slots.len() {
             self.slots[at] = guess;
         }
@@ -83,23 +102,40 @@ impl Guesses {
         }
     }
 
-    /// Notes the guesses of the first slots anew, of which half have their slots among those added.
+    /// Notes the guesses of the first slots anew, of which half have their sets among the slots added. Each
+    /// is taken out before, so that none stays where it is not looked for.
     fn spread(&mut self, count: usize)
         ensures { (places : TreeMap CellKeyOf ℕ) → All (IsOfKey places) self.old.slots.items
             → All (IsOfKey places) self.new.slots.items }
     {
         for at in 0..count {
-            let Some(guess) = self.guess_at(at) else {
-                return;
-            };
-            self.note(guess);
+            if let Some(guess) = self.take_out(at) {
+                self.note(guess);
+            }
         }
+    }
+
+    /// The guess of a slot, which is empty then.
+    fn take_out(&mut self, slot: usize) -> Option<Guess>
+        ensures taken { (places : TreeMap CellKeyOf ℕ) → All (IsOfKey places) self.old.slots.items
+            → IfSome result (IsOfKey places) }
+        ensures left { (places : TreeMap CellKeyOf ℕ) → All (IsOfKey places) self.old.slots.items
+            → All (IsOfKey places) self.new.slots.items }
+    {
+        let guess = self.guess_at(slot)?;
+        if guess.hash == NO_GUESS.hash || slot >= self.slots.len() {
+            return None;
+        }
+        self.slots[slot] = NO_GUESS;
+        Some(guess)
     }
 }
 
-/// The slot of a hash, where their number is a power of two.
-fn slot_of(hash: u32, count: usize) -> usize {
-    hash as usize & count.saturating_sub(1)
+/// The first slot of the set of a hash, where the number of slots is a power of two.
+fn first_slot(hash: u32, count: usize) -> usize
+    ensures { result < 2 ^ 32 }
+{
+    hash as usize & count.saturating_sub(1) & !(WAYS - 1)
 }
 
 /// A hash of the node, the key and the start of the window of a cell, never 0. Keys that are neither

@@ -1,5 +1,6 @@
-ghost use Rattle.std.specs.Prelude.{◌≡◌, List as ListOf, [], ◌∷◌, ◌++◌, length, None, IfOk, IfSome};
-ghost use Rattle.std.specs.Prelude.{OnOk};
+ghost use Rattle.std.specs.Prelude.{◌≡◌, List as ListOf, [], ◌∷◌, ◌++◌, length, None, Some, IfOk, IfSome};
+ghost use Rattle.std.specs.Prelude.{IsNone, IsSome, OnOk};
+ghost use Rattle.std.specs.BTreeMap as tree;
 ghost use Rattle.std.specs.Ordering.{as_partial_cmp, eq_by_cmp, on, then_cmp};
 ghost use Rattle.std.specs.Cmp.{partial_order_from_own_ties};
 ghost use Rattle.std.specs.Cmp.Rules.{comparing};
@@ -128,17 +129,39 @@ impl CellIndex {
         self.places.get(key).copied()
     }
 
-    /// The same, with a guess for the next time.
-    pub fn find_again(&mut self, key: &CellKey) -> Option<u32>
-        ensures found { (cells : ListOf CellOf) → IsIndexOf self.old cells
-            → result ≡ place_of key.now.node key.now.key key.now.span cells }
-        ensures indexed { (cells : ListOf CellOf)
-            → IsIndexOf self.old cells → IsIndexOf self.new cells }
+    /// The same, with a guess for the next time. Where there is no such cell, its place is `next` now,
+    /// behind the others: a new cell costs one walk down the map and not two. After a refusal nothing is
+    /// promised of the index.
+    pub fn find_or_add(
+        &mut self,
+        alloc: Global,
+        key: &CellKey,
+        next: u32,
+    ) -> Result<Option<u32>, NoMemory>
+        ensures found { IfOk result (λ place. (cells : ListOf CellOf) → IsIndexOf self.old cells
+            → place ≡ place_of key.now.node key.now.key key.now.span cells) }
+        ensures kept { IfOk result (λ place. IsSome place → (cells : ListOf CellOf)
+            → IsIndexOf self.old cells → IsIndexOf self.new cells) }
+        ensures added { IfOk result (λ place. IsNone place → (cells : ListOf CellOf) (cell : CellOf)
+            → IsIndexOf self.old cells → next ≡ length cells
+            → cell.node ≡ key.now.node → cell.key ≡ key.now.key → cell.span ≡ key.now.span
+            → IsIndexOf self.new (cells ++ cell ∷ [])) }
     {
-        let place = self.find(key)?;
         let hash = hash_of(key.node, &key.key, key.span);
-        self.guesses.note(Guess { hash, place });
-        Some(place)
+        let own = copy_of(alloc, key)?;
+        let known = self.places.insert(own, next)?;
+        match known {
+            Some(place) => {
+                put_back(&mut self.places, key, place);
+                self.guesses.note(Guess { hash, place });
+                Ok(Some(place))
+            }
+            None => {
+                self.guesses.make_room(self.places.len());
+                self.guesses.note(Guess { hash, place: next });
+                Ok(None)
+            }
+        }
     }
 
     /// A place that may be that of the cell of a node, key and window: that of some cell.
@@ -163,6 +186,26 @@ impl CellIndex {
         self.guesses.note(Guess { hash, place });
         Ok(())
     }
+}
+
+/// A key that the map has gets its place again.
+fn put_back(places: &mut BTreeMap<CellKey, u32>, key: &CellKey, place: u32)
+    ensures { IsSome (tree.get cell_key_cmp places.old key.now)
+        → tree.Updates cell_key_cmp places.old places.new key.now (Some place) }
+{
+    if let Some(at) = places.get_mut(key) {
+        *at = place;
+    }
+}
+
+fn copy_of(alloc: Global, key: &CellKey) -> Result<CellKey, NoMemory>
+    ensures { IfOk result (λ own. own ≡ key.now) }
+{
+    Ok(CellKey {
+        node: key.node,
+        span: key.span,
+        key: key.key.copy(alloc)?,
+    })
 }
 
 fn key_of_cell(alloc: Global, cell: &Cell) -> Result<CellKey, NoMemory>

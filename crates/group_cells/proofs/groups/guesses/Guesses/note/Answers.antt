@@ -3,4 +3,4 @@ use Rattle.group_cells.specs.Indexes.{IsOfKey}
 use Rattle.group_cells.proofs.groups.guesses.Guesses.note.Goals as goal
 
 pub returns-then-at-len : goal.returns-then-at-len
-returns-then-at-len c = λ places all own. All-set (IsOfKey places) c.args.self.now.slots.items c.slot_of-at.result c.args.guess own all
+returns-then-at-len c = λ places all own. All-set (IsOfKey places) c.args.self.now.slots.items c.slot_for-at.result c.args.guess own all
