@@ -135,15 +135,15 @@ module _ (plan : Plan) (old : BTreeMap GroupKey (List Standing)) (cells : List C
   reached_still : (listed : List Standing) → AreReached cells listed → AreReached (cells ++ cell ∷ []) listed
   reached_still listed reached = reached_on cells (cells ++ cell ∷ []) listed longer reached
 
-  pub standing_unmerged : (rules_of plan cell.node).merges ≡ false → AreStanding plan old (cells ++ cell ∷ [])
+  pub standing_unmerged : (is_group plan cell.node && (rules_of plan cell.node).merges) ≡ false → AreStanding plan old (cells ++ cell ∷ [])
   standing_unmerged apart = record {
-    each = λ q at merges. unlisted q at merges (by q merges (cell.node == q.node) refl);
+    each = λ q at merges. unlisted q at merges (by q at merges (cell.node == q.node) refl);
     reached = λ q at merges. reached_still (listed old q) (h.reached q at merges);
   }
     where
-      by : (q : GroupKey) → (rules_of plan q.node).merges ≡ true → (b : Bool) → (cell.node == q.node) ≡ b → stands_here q.node q.key cell ≡ false
-      by q merges true e = absurd (false≢true (sym apart ∙ ap (λ n. (rules_of plan n).merges) (eqb-true cell.node q.node e) ∙ merges))
-      by q merges false e = ap (λ b. (b && bytes_eq (spelling cell.key) (spelling q.key)) && stands cell) e
+      by : (q : GroupKey) → is_group plan q.node ≡ true → (rules_of plan q.node).merges ≡ true → (b : Bool) → (cell.node == q.node) ≡ b → stands_here q.node q.key cell ≡ false
+      by q at merges true e = absurd (false≢true (sym apart ∙ ap (λ n. is_group plan n && (rules_of plan n).merges) (eqb-true cell.node q.node e) ∙ (λ i. at i && merges i)))
+      by q at merges false e = ap (λ b. (b && bytes_eq (spelling cell.key) (spelling q.key)) && stands cell) e
 
   pub standing_merged : stands cell ≡ false → AreStanding plan old (cells ++ cell ∷ [])
   standing_merged off = record {

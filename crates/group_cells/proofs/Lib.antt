@@ -20,6 +20,7 @@ pub mod PositiveGaps
 pub mod AllKeys
 pub mod KeptGaps
 pub mod FirstCommit
+mod GroupPlans
 mod PlacedKeys
 mod PlacedCells
 mod PlacedInTurn

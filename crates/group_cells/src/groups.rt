@@ -12,6 +12,7 @@ mod draft;
 mod due;
 mod fired;
 mod firing;
+mod group_plan;
 mod guesses;
 mod handing;
 mod index;
@@ -26,6 +27,7 @@ mod standing;
 use crate::groups::advance::Next;
 use crate::groups::draft::Draft;
 use crate::groups::due::DueCells;
+use crate::groups::group_plan::GroupPlan;
 use crate::groups::index::{CellIndex, CellKey};
 use crate::groups::keyed::GroupKey;
 use crate::groups::looking::{next_due, place_among};
@@ -40,7 +42,7 @@ use std::marker::Model;
 /// The cells of all Groups of a plan, and the elements that they dropped.
 #[derive(Debug, Drop)]
 pub struct Groups {
-    plan: Plan,
+    plan: GroupPlan,
     draft: Draft,
     /// Where the cells stand that are at Groups of sessions.
     standing: BTreeMap<GroupKey, List<Standing>>,
@@ -76,7 +78,7 @@ impl Groups {
             (λ groups. groups ≡ record { plan = plan.now; cells = []; dropped = [] }) }
     {
         Ok(Groups {
-            plan: plan.copy(alloc)?,
+            plan: GroupPlan::new(alloc, plan)?,
             draft: Draft {
                 cells: Vec::new(alloc),
                 dropped: Vec::new(alloc),
@@ -126,7 +128,7 @@ impl Groups {
         self.indexed = false;
         let next = self.draft.commit(
             self.alloc,
-            plan,
+            &self.plan,
             arrivals.as_slice(),
             holds,
             marks,
@@ -178,7 +180,7 @@ impl Groups {
         if self.indexed {
             return self.draft.due.next(node);
         }
-        next_due(&self.plan, node, self.draft.cells.as_slice())
+        next_due(self.plan.plan(), node, self.draft.cells.as_slice())
     }
 
     /// Gives both lists away. Takes no memory.

@@ -3,7 +3,7 @@
 //!
 //! What a commit does to one Group and key is `IsRound` of `specs/Rounds.antt`, and what it promises is
 //! `KeepsLegal` and `IsCommitted` of `specs/Commits.antt`. [`Groups`] keeps the cells in the order of
-//! their making. An arrival finds its cell by an index; at a Group of sessions it looks at the cells of its
+//! their making, and the rules of each Group beside the plan (`groups/group_plan.rt`). An arrival finds its cell by an index; at a Group of sessions it looks at the cells of its
 //! key that stand, from the newest back, until all that are left ended before the windows of what it has
 //! looked at begin. Firing finds the cells that are due in an ordered set. So a commit costs its arrivals,
 //! what these look at and the cells that fire, each times a logarithm. A commit that finds no memory undoes

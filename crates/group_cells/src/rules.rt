@@ -81,7 +81,8 @@ fn trigger_in(kind: &NodeKind) -> Trigger
     }
 }
 
-fn default_trigger() -> Trigger
+/// The trigger of what isn't a Group.
+pub fn default_trigger() -> Trigger
     ensures { result ≡ default_trigger }
 {
     Trigger {

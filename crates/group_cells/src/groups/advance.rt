@@ -2,7 +2,8 @@ ghost use Rattle.std.specs.Prelude.{◌≡◌, [], ◌++◌, ◌+◌, ◌<◌, �
 ghost use Rattle.std.specs.Prelude.{take, IfOk, OnOk, OnErr};
 ghost use Rattle.std.specs.List.{filter};
 ghost use Rattle.beam_values.specs.Checked.{IsChecked};
-ghost use Rattle.beam_values.specs.Nodes.{facts_of};
+ghost use Rattle.beam_values.specs.Firing.{is_expired};
+ghost use Rattle.beam_values.specs.Marks.{marks_at};
 ghost use Rattle.group_cells.specs.Arrivals.{merging, UnmergedStand};
 ghost use Rattle.group_cells.specs.Commits.{dropped_arrival, is_at_group, is_dropped};
 ghost use Rattle.group_cells.specs.Due.{IsDueOf};
@@ -14,16 +15,17 @@ ghost use Rattle.watermarks.specs.Holds.{hold_at};
 
 use crate::groups::draft::Draft;
 use crate::groups::due::DueCells;
+use crate::groups::group_plan::GroupPlan;
 use crate::groups::index::CellIndex;
 use crate::groups::keyed::{GroupKey, standing_of};
 use crate::groups::placing::Commit;
 use crate::groups::standing::Standing;
-use crate::plain::arrivals::{is_taken, others_of};
-use crate::rules::rules_of;
-use beam_values::{Arrival, Duplicate, List, Mark, NoMemory, Pane, Plan, StageMarks};
+use crate::plain::arrivals::{mark_into, others_of};
+use crate::rules::Rules;
+use beam_values::{Arrival, Duplicate, List, Mark, NoMemory, Pane, StageMarks};
+use pane_triggers::is_dropped as is_expired;
 use std::alloc::Global;
 use std::collections::BTreeMap;
-use windowing::{NodeFacts, facts_of};
 
 /// What a commit answers beside the cells.
 #[derive(Debug, Drop)]
@@ -39,7 +41,7 @@ impl Draft {
     pub fn commit(
         &mut self,
         alloc: Global,
-        plan: &Plan,
+        plan: &GroupPlan,
         arrivals: &[Arrival],
         holds: &[Mark],
         before: &[StageMarks],
@@ -91,7 +93,7 @@ impl Draft {
     fn advance(
         &mut self,
         alloc: Global,
-        plan: &Plan,
+        plan: &GroupPlan,
         arrivals: &[Arrival],
         holds: &[Mark],
         before: &[StageMarks],
@@ -125,21 +127,18 @@ impl Draft {
         ensures undo { undone_all self.new.changes.items self.new.cells.items
             ≡ undone_all self.old.changes.items self.old.cells.items }
     {
-        let facts = facts_of(alloc, plan.nodes.as_slice())?;
-        let facts = facts.as_slice();
-        self.prepare(alloc, plan, facts, indexed, standing)?;
-        let others = others_of(alloc, plan, arrivals)?;
-        let later = merging_of(alloc, plan, facts, before, arrivals)?;
+        self.prepare(alloc, plan, indexed, standing)?;
+        let others = others_of(alloc, plan.plan(), arrivals)?;
+        let later = merging_of(alloc, plan, before, arrivals)?;
         let mut marks = Vec::from_slice(alloc, before)?;
         let known = Commit {
             plan,
-            facts,
             before,
             number: commit,
         };
         self.place_all(alloc, known, arrivals)?;
         self.place_later(alloc, known, later, standing)?;
-        let fired = self.fire_all(alloc, plan, facts, before, holds, commit, &mut marks)?;
+        let fired = self.fire_all(alloc, plan, before, holds, commit, &mut marks)?;
         if self.cells.len() > u32::MAX as usize {
             return Err(NoMemory);
         }
@@ -154,12 +153,10 @@ impl Draft {
     fn prepare(
         &mut self,
         alloc: Global,
-        plan: &Plan,
-        facts: &[NodeFacts],
+        plan: &GroupPlan,
         indexed: bool,
         standing: &mut BTreeMap<GroupKey, List<Standing>>,
     ) -> Result<(), NoMemory>
-        requires facts { facts.now ≡ facts_of plan.now.nodes }
         requires indexed { indexed ≡ true → IsIndexOf self.old.index self.old.cells.items }
         requires due { indexed ≡ true → IsDueOf plan.now self.old.due self.old.cells.items }
         requires standing { indexed ≡ true
@@ -173,7 +170,7 @@ impl Draft {
         if !indexed {
             self.index = CellIndex::of(alloc, self.cells.as_slice())?;
             self.due = DueCells::of(alloc, plan, self.cells.as_slice())?;
-            *standing = standing_of(alloc, plan, facts, self.cells.as_slice())?;
+            *standing = standing_of(alloc, plan, self.cells.as_slice())?;
         }
         Ok(())
     }
@@ -182,26 +179,37 @@ impl Draft {
 /// Copies of the arrivals in time at Groups whose windows merge.
 fn merging_of(
     alloc: Global,
-    plan: &Plan,
-    facts: &[NodeFacts],
+    plan: &GroupPlan,
     before: &[StageMarks],
     arrivals: &[Arrival],
 ) -> Result<List<Arrival>, NoMemory>
-    requires { facts.now ≡ facts_of plan.now.nodes }
     ensures { IfOk result (λ later. later ≡ filter (merging plan.now before.now) arrivals.now) }
 {
     let mut later = List::new(alloc);
+    if !plan.merges() {
+        return Ok(later);
+    }
     for arrival in arrivals {
-        if is_merging(plan, facts, before, arrival) {
+        if is_merging(plan, before, arrival) {
             later.push(arrival.duplicate(alloc)?)?;
         }
     }
     Ok(later)
 }
 
-fn is_merging(plan: &Plan, facts: &[NodeFacts], before: &[StageMarks], arrival: &Arrival) -> bool
-    requires { facts.now ≡ facts_of plan.now.nodes }
+fn is_merging(plan: &GroupPlan, before: &[StageMarks], arrival: &Arrival) -> bool
     ensures { result ≡ merging plan.now before.now arrival.now }
 {
-    is_taken(plan, facts, before, arrival) && rules_of(plan, facts, arrival.node).merges
+    match plan.rules(arrival.node) {
+        None => false,
+        Some(rules) => rules.merges && !is_late(rules, before, arrival),
+    }
+}
+
+fn is_late(rules: &Rules, before: &[StageMarks], arrival: &Arrival) -> bool
+    ensures { result ≡ is_expired rules.now.trigger
+        arrival.now.element.span.end (marks_at before.now arrival.now.node).mark_in }
+{
+    let mark = mark_into(before, arrival.node);
+    is_expired(&rules.trigger, arrival.element.span.end(), mark)
 }

@@ -12,10 +12,11 @@ ghost use Rattle.group_cells.specs.Unfiring.{unfired};
 
 use crate::groups::due::DueCells;
 use crate::groups::fired::{Unfired, unfire};
+use crate::groups::group_plan::GroupPlan;
 use crate::groups::handing::{Given, hand_back};
 use crate::groups::index::{CellIndex, CellKey};
 use crate::groups::looking::is_cell_of;
-use beam_values::{Cell, Dropped, Element, Entry, List, NoMemory, Plan, Value, copy_key, key_or};
+use beam_values::{Cell, Dropped, Element, Entry, List, NoMemory, Value, copy_key, key_or};
 use std::alloc::Global;
 
 /// A change of the cells.
@@ -127,7 +128,7 @@ impl Draft {
     }
 
     /// The cell at a place takes an entry that no pane has shown.
-    pub fn put_unseen(&mut self, plan: &Plan, place: u32, entry: Entry) -> Result<(), NoMemory>
+    pub fn put_unseen(&mut self, plan: &GroupPlan, place: u32, entry: Entry) -> Result<(), NoMemory>
         requires within { place < length self.old.cells.items }
         requires unseen { entry.shown ≡ false }
         requires due { IsDueOf plan.now self.old.due self.old.cells.items }
@@ -146,7 +147,7 @@ impl Draft {
     }
 
     /// Puts a cell behind the others, and its key into the index.
-    pub fn open(&mut self, plan: &Plan, key: CellKey, cell: Cell) -> Result<(), NoMemory>
+    pub fn open(&mut self, plan: &GroupPlan, key: CellKey, cell: Cell) -> Result<(), NoMemory>
         requires { (cell.node ≡ key.node) × (cell.key ≡ key.key) × (cell.span ≡ key.span) }
         ensures ok { OnOk result (self.new.cells.items ≡ self.old.cells.items ++ cell ∷ []) }
         ensures indexed { OnOk result (IsIndexOf self.old.index self.old.cells.items
@@ -164,7 +165,7 @@ impl Draft {
     }
 
     /// Puts a cell behind the others.
-    pub fn push(&mut self, plan: &Plan, cell: Cell) -> Result<(), NoMemory>
+    pub fn push(&mut self, plan: &GroupPlan, cell: Cell) -> Result<(), NoMemory>
         ensures ok { OnOk result (self.new.cells.items ≡ self.old.cells.items ++ cell ∷ []) }
         ensures due { OnOk result (IsDueOf plan.now self.old.due self.old.cells.items
             → IsDueOf plan.now self.new.due self.new.cells.items) }
@@ -183,7 +184,7 @@ impl Draft {
     pub fn take(
         &mut self,
         alloc: Global,
-        plan: &Plan,
+        plan: &GroupPlan,
         node: u32,
         entry: Entry,
     ) -> Result<(), NoMemory>
@@ -208,7 +209,7 @@ impl Draft {
     fn take_by_map(
         &mut self,
         alloc: Global,
-        plan: &Plan,
+        plan: &GroupPlan,
         node: u32,
         entry: Entry,
     ) -> Result<(), NoMemory>

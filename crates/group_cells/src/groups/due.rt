@@ -19,8 +19,8 @@ ghost use Rattle.group_cells.specs.Looking.{IsNextDue};
 ghost use Rattle.group_cells.specs.declared.groups.due.DueKey.{DueKey as DueKeyOf};
 
 use crate::firing::unseen;
-use crate::rules::trigger_of;
-use beam_values::{Cell, Mark, NoMemory, Plan, Time};
+use crate::groups::group_plan::GroupPlan;
+use beam_values::{Cell, Mark, NoMemory, Time};
 use pane_triggers::laws::the_next_mark_is_the_least;
 use pane_triggers::next_mark;
 use std::alloc::Global;
@@ -133,7 +133,7 @@ impl DueCells {
     }
 
     /// The moments of all cells there are.
-    pub fn of(alloc: Global, plan: &Plan, cells: &[Cell]) -> Result<DueCells, NoMemory>
+    pub fn of(alloc: Global, plan: &GroupPlan, cells: &[Cell]) -> Result<DueCells, NoMemory>
         ensures { IfOk result (λ due. IsDueOf plan.now due cells.now) }
     {
         let mut due = DueCells::new(alloc);
@@ -144,7 +144,7 @@ impl DueCells {
     }
 
     /// One more cell, behind the others.
-    pub fn add(&mut self, plan: &Plan, place: usize, cell: &Cell) -> Result<(), NoMemory>
+    pub fn add(&mut self, plan: &GroupPlan, place: usize, cell: &Cell) -> Result<(), NoMemory>
         ensures { OnOk result
             ((cells : ListOf CellOf) → place ≡ length cells → IsDueOf plan.now self.old cells
             → IsDueOf plan.now self.new (cells ++ cell.now ∷ [])) }
@@ -167,7 +167,7 @@ impl DueCells {
     }
 
     /// The moment of the cell at a place.
-    pub fn moment_at(&self, plan: &Plan, place: u32, cell: &Cell) -> Option<i64>
+    pub fn moment_at(&self, plan: &GroupPlan, place: u32, cell: &Cell) -> Option<i64>
         requires { place < length self.now.unseen.items }
         ensures { (cells : ListOf CellOf) → IsDueOf plan.now self.now cells
             → slice_get cells place ≡ Some cell.now → result ≡ own_moment plan.now cell.now }
@@ -202,7 +202,7 @@ impl DueCells {
     /// The cell at a place, which was due at this moment, has become another.
     pub fn change(
         &mut self,
-        plan: &Plan,
+        plan: &GroupPlan,
         place: u32,
         was: Option<i64>,
         cell: &Cell,
@@ -320,14 +320,14 @@ fn moment_in(key: Option<DueKey>) -> Option<i64>
     }
 }
 
-fn moment_with(plan: &Plan, cell: &Cell, count: u64) -> Option<i64>
+fn moment_with(plan: &GroupPlan, cell: &Cell, count: u64) -> Option<i64>
     ensures { count ≡ unseen_in cell.now.entries → result ≡ own_moment plan.now cell.now }
 {
     if cell.merged_into.is_some() {
         return None;
     }
     next_mark(
-        &trigger_of(plan, cell.node),
+        plan.trigger(cell.node),
         cell.span.end(),
         cell.on_time,
         count,

@@ -3,7 +3,7 @@ ghost use Rattle.std.specs.Prelude.{length, option_to_list, slice_get, slice_set
 ghost use Rattle.std.specs.Prelude.{OnOk};
 ghost use Rattle.std.specs.List.Sorted.{IsNonDecreasing};
 ghost use Rattle.beam_values.specs.Checked.{IsChecked};
-ghost use Rattle.beam_values.specs.Nodes.{facts_of, is_group};
+ghost use Rattle.beam_values.specs.Nodes.{is_group};
 ghost use Rattle.beam_values.specs.declared.cell.Cell.{Cell as CellOf};
 ghost use Rattle.beam_model.specs.Panes.{rules_of, trigger_of};
 ghost use Rattle.group_cells.specs.Cells.{once_fired, unseen_in};
@@ -19,29 +19,27 @@ ghost use Rattle.watermarks.specs.Holds.{hold_at};
 use crate::firing::{firing_with, first_unseen, pane_with};
 use crate::groups::draft::{Change, Draft};
 use crate::groups::fired::{Unfired, set_fired};
+use crate::groups::group_plan::GroupPlan;
 use crate::groups::ranks::sort_by_ranks;
 use crate::plain::nodes::{cmp_panes, least_with, push_if};
-use crate::rules::{Rules, is_group, rules_of};
-use beam_values::{Cell, List, Mark, NoMemory, Pane, Plan, StageMarks, Timing};
+use crate::rules::Rules;
+use beam_values::{Cell, List, Mark, NoMemory, Pane, StageMarks, Timing};
 use pane_triggers::laws::{cells_are_due_from_their_next_mark_on, the_next_mark_is_the_least};
 use std::alloc::Global;
 use watermarks::marks_of_node;
-use windowing::NodeFacts;
 
 impl Draft {
     /// Writes the marks of all nodes, and fires the cells of each Group at the mark into it.
     pub fn fire_all(
         &mut self,
         alloc: Global,
-        plan: &Plan,
-        facts: &[NodeFacts],
+        plan: &GroupPlan,
         before: &[StageMarks],
         holds: &[Mark],
         commit: u32,
         marks: &mut Vec<StageMarks>,
     ) -> Result<List<Pane>, NoMemory>
         requires checked { IsChecked plan.now }
-        requires facts { facts.now ≡ facts_of plan.now.nodes }
         requires holds { length holds.now ≡ length plan.now.nodes }
         requires marks { length marks.old.items ≡ length plan.now.nodes }
         requires due { IsDueOf plan.now self.old.due self.old.cells.items }
@@ -54,7 +52,7 @@ impl Draft {
     {
         let mut fired = List::new(alloc);
         for (n, hold) in holds.iter().enumerate() {
-            let panes = self.fire_node(alloc, plan, facts, before, commit, n as u32, *hold, marks)?;
+            let panes = self.fire_node(alloc, plan, before, commit, n as u32, *hold, marks)?;
             fired.append(panes)?;
         }
         Ok(fired)
@@ -64,8 +62,7 @@ impl Draft {
     fn fire_node(
         &mut self,
         alloc: Global,
-        plan: &Plan,
-        facts: &[NodeFacts],
+        plan: &GroupPlan,
         before: &[StageMarks],
         commit: u32,
         n: u32,
@@ -73,7 +70,6 @@ impl Draft {
         marks: &mut Vec<StageMarks>,
     ) -> Result<List<Pane>, NoMemory>
         requires checked { IsChecked plan.now }
-        requires facts { facts.now ≡ facts_of plan.now.nodes }
         requires within { n < length plan.now.nodes }
         requires marks { length marks.old.items ≡ length plan.now.nodes }
         requires due { IsDueOf plan.now self.old.due self.old.cells.items }
@@ -84,9 +80,9 @@ impl Draft {
         ensures undo { undone_all self.new.changes.items self.new.cells.items
             ≡ undone_all self.old.changes.items self.old.cells.items }
     {
-        let node = &plan.nodes.as_slice()[n as usize];
+        let node = &plan.plan().nodes.as_slice()[n as usize];
         let mark_in = marks_of_node(node, hold, marks.as_slice()).mark_in;
-        let fired = self.fire_if_group(alloc, plan, facts, n, commit, mark_in)?;
+        let fired = self.fire_if_group(alloc, plan, n, commit, mark_in)?;
         let least = least_with(before, hold, fired.as_slice());
         let stage = marks_of_node(node, least, marks.as_slice());
         marks[n as usize] = stage;
@@ -96,13 +92,11 @@ impl Draft {
     fn fire_if_group(
         &mut self,
         alloc: Global,
-        plan: &Plan,
-        facts: &[NodeFacts],
+        plan: &GroupPlan,
         n: u32,
         commit: u32,
         mark: Mark,
     ) -> Result<List<Pane>, NoMemory>
-        requires facts { facts.now ≡ facts_of plan.now.nodes }
         requires due { IsDueOf plan.now self.old.due self.old.cells.items }
         ensures fires { IfOk result (λ fired. is_group plan.now n ≡ true
             → AreGroupFired (rules_of plan.now n) n commit mark
@@ -114,18 +108,17 @@ impl Draft {
         ensures undo { undone_all self.new.changes.items self.new.cells.items
             ≡ undone_all self.old.changes.items self.old.cells.items }
     {
-        if !is_group(plan, n) {
-            return Ok(List::new(alloc));
+        match plan.rules(n) {
+            None => Ok(List::new(alloc)),
+            Some(rules) => self.fire_group(alloc, plan, rules, n, commit, mark),
         }
-        let rules = rules_of(plan, facts, n);
-        self.fire_group(alloc, plan, &rules, n, commit, mark)
     }
 
     // The cells of a Group that are due fire; the panes stand by key and window.
     fn fire_group(
         &mut self,
         alloc: Global,
-        plan: &Plan,
+        plan: &GroupPlan,
         rules: &Rules,
         node: u32,
         commit: u32,
@@ -149,7 +142,7 @@ impl Draft {
     fn fire_cells(
         &mut self,
         alloc: Global,
-        plan: &Plan,
+        plan: &GroupPlan,
         rules: &Rules,
         node: u32,
         commit: u32,
@@ -176,7 +169,7 @@ impl Draft {
     fn fire_places(
         &mut self,
         alloc: Global,
-        plan: &Plan,
+        plan: &GroupPlan,
         rules: &Rules,
         node: u32,
         commit: u32,
@@ -215,7 +208,7 @@ impl Draft {
     fn fire_next(
         &mut self,
         alloc: Global,
-        plan: &Plan,
+        plan: &GroupPlan,
         rules: &Rules,
         node: u32,
         commit: u32,
@@ -251,7 +244,7 @@ impl Draft {
     fn fire(
         &mut self,
         alloc: Global,
-        plan: &Plan,
+        plan: &GroupPlan,
         rules: &Rules,
         node: u32,
         commit: u32,
@@ -289,7 +282,7 @@ impl Draft {
     fn set_fired_due(
         &mut self,
         alloc: Global,
-        plan: &Plan,
+        plan: &GroupPlan,
         timing: Timing,
         from: usize,
         place: usize,

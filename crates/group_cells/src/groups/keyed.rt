@@ -1,13 +1,13 @@
 //! Lists by Group and key: the arrivals of a commit, and the places of the cells that stand at Groups of
 //! sessions.
 
-ghost use Rattle.std.specs.Prelude.{◌≡◌, ◌+◌, ◌∷◌, ◌++◌, [], length, List as ListOf, if◌then◌else◌};
-ghost use Rattle.std.specs.Prelude.{IfOk, OnOk};
+ghost use Rattle.std.specs.Prelude.{◌≡◌, ◌+◌, ◌&&◌, ◌∷◌, ◌++◌, [], length, List as ListOf};
+ghost use Rattle.std.specs.Prelude.{IfOk, OnOk, if◌then◌else◌};
 ghost use Rattle.std.specs.Ordering.{as_partial_cmp, eq_by_cmp, is_eq};
 ghost use Rattle.std.specs.Cmp.{partial_order_from_own_ties};
 ghost use Rattle.std.specs.Cmp.Rules.{comparing};
 ghost use Rattle.std.proofs.Common.{rules};
-ghost use Rattle.beam_values.specs.Nodes.{facts_of};
+ghost use Rattle.beam_values.specs.Nodes.{is_group};
 ghost use Rattle.beam_values.specs.declared.arrival.Arrival.{Arrival as ArrivalOf};
 ghost use Rattle.beam_values.specs.declared.cell.Cell.{Cell as CellOf};
 ghost use Rattle.beam_model.specs.Panes.{rules_of};
@@ -15,13 +15,12 @@ ghost use Rattle.group_cells.specs.Commits.{elements_keyed};
 ghost use Rattle.group_cells.specs.KeyLists.{all_listed, group_key_cmp, listed, AreStanding};
 ghost use Rattle.group_cells.specs.declared.groups.keyed.GroupKey.{GroupKey as GroupKeyOf};
 
+use crate::groups::group_plan::GroupPlan;
 use crate::groups::standing::{Standing, push_standing};
-use crate::rules::rules_of;
-use beam_values::{Arrival, Cell, Element, List, NoMemory, Plan, Value, cmp_values, copy_key};
+use beam_values::{Arrival, Cell, Element, List, NoMemory, Value, cmp_values, copy_key};
 use std::alloc::Global;
 use std::cmp::Ordering;
 use std::collections::BTreeMap;
-use windowing::NodeFacts;
 
 /// A Group and a key.
 #[derive(Debug, Drop)]
@@ -158,34 +157,30 @@ fn push_arrival(
 /// Where the cells stand that are at Groups of sessions.
 pub fn standing_of(
     alloc: Global,
-    plan: &Plan,
-    facts: &[NodeFacts],
+    plan: &GroupPlan,
     cells: &[Cell],
 ) -> Result<BTreeMap<GroupKey, List<Standing>>, NoMemory>
-    requires { facts.now ≡ facts_of plan.now.nodes }
     ensures { IfOk result (λ standing. AreStanding plan.now standing cells.now) }
 {
     let mut standing = BTreeMap::new(alloc);
     for (place, cell) in cells.iter().enumerate() {
-        push_cell(alloc, plan, facts, cell, place, &mut standing)?;
+        push_cell(alloc, plan, cell, place, &mut standing)?;
     }
     Ok(standing)
 }
 
 fn push_cell(
     alloc: Global,
-    plan: &Plan,
-    facts: &[NodeFacts],
+    plan: &GroupPlan,
     cell: &Cell,
     place: usize,
     standing: &mut BTreeMap<GroupKey, List<Standing>>,
 ) -> Result<(), NoMemory>
-    requires { facts.now ≡ facts_of plan.now.nodes }
     ensures { OnOk result
         ((cells : ListOf CellOf) → place ≡ length cells → AreStanding plan.now standing.old cells
         → AreStanding plan.now standing.new (cells ++ cell.now ∷ [])) }
 {
-    if !merges_at(plan, facts, cell.node) {
+    if !merges_at(plan, cell.node) {
         return Ok(());
     }
     if cell.merged_into.is_some() {
@@ -198,11 +193,14 @@ fn push_cell(
     put(standing, key, listed)
 }
 
-fn merges_at(plan: &Plan, facts: &[NodeFacts], node: u32) -> bool
-    requires { facts.now ≡ facts_of plan.now.nodes }
-    ensures { result ≡ (rules_of plan.now node).merges }
+/// Whether a node is a Group whose windows merge.
+fn merges_at(plan: &GroupPlan, node: u32) -> bool
+    ensures { result ≡ (is_group plan.now node && (rules_of plan.now node).merges) }
 {
-    rules_of(plan, facts, node).merges
+    match plan.rules(node) {
+        None => false,
+        Some(rules) => rules.merges,
+    }
 }
 
 fn key_of_cell(alloc: Global, cell: &Cell) -> Result<GroupKey, NoMemory>

@@ -3,7 +3,6 @@ ghost use Rattle.std.specs.Prelude.{if◌then◌else◌};
 ghost use Rattle.std.specs.List.{filter};
 ghost use Rattle.beam_values.specs.Grouping.{key_of};
 ghost use Rattle.beam_values.specs.Marks.{marks_at};
-ghost use Rattle.beam_values.specs.Nodes.{facts_of};
 ghost use Rattle.group_cells.specs.Arrivals.{arrived, with_arrival, with_arrivals};
 ghost use Rattle.group_cells.specs.Commits.{dropped_arrival, is_dropped};
 ghost use Rattle.group_cells.specs.Due.{IsDueOf};
@@ -12,17 +11,16 @@ ghost use Rattle.group_cells.specs.Rounds.{entry_of};
 ghost use Rattle.group_cells.specs.Undoing.{undone_all};
 
 use crate::groups::draft::Draft;
-use crate::rules::{Rules, is_group, rules_of};
-use beam_values::{Arrival, Dropped, Entry, Mark, NoMemory, Plan, StageMarks};
+use crate::groups::group_plan::GroupPlan;
+use crate::rules::Rules;
+use beam_values::{Arrival, Dropped, Entry, Mark, NoMemory, StageMarks};
 use pane_triggers::is_dropped;
 use std::alloc::Global;
-use windowing::NodeFacts;
 
 /// What is known of a commit while its arrivals are placed.
 #[derive(Clone, Copy)]
 pub struct Commit<'a> {
-    pub plan: &'a Plan,
-    pub facts: &'a [NodeFacts],
+    pub plan: &'a GroupPlan,
     /// The marks before it.
     pub before: &'a [StageMarks],
     pub number: u32,
@@ -44,7 +42,6 @@ impl Draft {
         arrivals: &[Arrival],
     ) -> Result<(), NoMemory>
         requires indexed { IsIndexOf self.old.index self.old.cells.items }
-        requires facts { commit.facts.now ≡ facts_of commit.plan.now.nodes }
         requires marks { length commit.before.now ≡ length commit.plan.now.nodes }
         requires due { IsDueOf commit.plan.now self.old.due self.old.cells.items }
         ensures ok { OnOk result (self.new.cells.items ≡ with_arrivals commit.entry.plan.now
@@ -68,7 +65,6 @@ impl Draft {
 
     fn place(&mut self, alloc: Global, commit: Commit, arrival: &Arrival) -> Result<(), NoMemory>
         requires indexed { IsIndexOf self.old.index self.old.cells.items }
-        requires facts { commit.facts.now ≡ facts_of commit.plan.now.nodes }
         requires marks { length commit.before.now ≡ length commit.plan.now.nodes }
         requires due { IsDueOf commit.plan.now self.old.due self.old.cells.items }
         ensures ok { OnOk result (self.new.cells.items ≡ with_arrival commit.entry.plan.now
@@ -85,15 +81,14 @@ impl Draft {
         ensures undo { undone_all self.new.changes.items self.new.cells.items
             ≡ undone_all self.old.changes.items self.old.cells.items }
     {
-        if !is_group(commit.plan, arrival.node) {
+        let Some(rules) = commit.plan.rules(arrival.node) else {
             return Ok(());
-        }
-        let rules = rules_of(commit.plan, commit.facts, arrival.node);
+        };
         let mark = mark_into(commit.before, arrival.node);
         if is_dropped(&rules.trigger, arrival.element.span.end(), mark) {
             self.drop_late(alloc, commit.number, arrival)
         } else {
-            self.take_in(alloc, commit.plan, &rules, commit.number, arrival)
+            self.take_in(alloc, commit.plan, rules, commit.number, arrival)
         }
     }
 
@@ -101,7 +96,7 @@ impl Draft {
     fn take_in(
         &mut self,
         alloc: Global,
-        plan: &Plan,
+        plan: &GroupPlan,
         rules: &Rules,
         commit: u32,
         arrival: &Arrival,

@@ -7,7 +7,7 @@ ghost use Rattle.std.specs.Prelude.{Some, false, true, fold, length, map, All, o
 ghost use Rattle.std.specs.Prelude.{slice_get, OnOk, IfOk};
 ghost use Rattle.std.specs.List.{filter, find, flat_map, list_any};
 ghost use Rattle.beam_values.specs.Marks.{marks_at};
-ghost use Rattle.beam_values.specs.Nodes.{facts_of, is_group};
+ghost use Rattle.beam_values.specs.Nodes.{is_group};
 ghost use Rattle.beam_values.specs.declared.cell.Cell.{Cell as CellOf};
 ghost use Rattle.beam_values.specs.declared.value.Value.{Value as ValueOf};
 ghost use Rattle.beam_model.specs.Panes.{is_cell_at_key, rules_of};
@@ -24,6 +24,7 @@ ghost use Rattle.group_cells.specs.Rounds.{entry_of, open_windows, AreSessionsOv
 ghost use Rattle.group_cells.specs.Undoing.{undone_all};
 
 use crate::groups::draft::{Change, Draft};
+use crate::groups::group_plan::GroupPlan;
 use crate::groups::handing::give_way;
 use crate::groups::index::CellKey;
 use crate::groups::keyed::{GroupKey, by_key, put, take};
@@ -31,9 +32,9 @@ use crate::groups::placing::Commit;
 use crate::groups::standing::{Places, Standing, listed_again, places_for};
 use crate::plain::arrivals::mark_into;
 use crate::plain::placing::{gives_way, is_same_span, own_spans, takes};
-use crate::rules::{Rules, rules_of};
+use crate::rules::Rules;
 use crate::windows::{is_open, push_if, sessions_over};
-use beam_values::{Arrival, Cell, Duplicate, Element, Entry, List, Mark, NoMemory, Plan, Span};
+use beam_values::{Arrival, Cell, Duplicate, Element, Entry, List, Mark, NoMemory, Span};
 use std::alloc::Global;
 use std::collections::BTreeMap;
 
@@ -46,7 +47,6 @@ impl Draft {
         taken: List<Arrival>,
         standing: &mut BTreeMap<GroupKey, List<Standing>>,
     ) -> Result<(), NoMemory>
-        requires facts { commit.facts.now ≡ facts_of commit.plan.now.nodes }
         requires groups { All (λ arrival. is_group commit.plan.now arrival.node ≡ true) taken }
         requires merging { All
             (λ arrival. (rules_of commit.plan.now arrival.node).merges ≡ true) taken }
@@ -85,7 +85,6 @@ impl Draft {
         own: List<Element>,
         standing: &mut BTreeMap<GroupKey, List<Standing>>,
     ) -> Result<(), NoMemory>
-        requires facts { commit.facts.now ≡ facts_of commit.plan.now.nodes }
         requires group { is_group commit.plan.now key.node ≡ true }
         requires merges { (rules_of commit.plan.now key.node).merges ≡ true }
         requires indexed { IsIndexOf self.old.index self.old.cells.items }
@@ -105,21 +104,23 @@ impl Draft {
         ensures undo { undone_all self.new.changes.items self.new.cells.items
             ≡ undone_all self.old.changes.items self.old.cells.items }
     {
-        let rules = rules_of(commit.plan, commit.facts, key.node);
+        let Some(rules) = commit.plan.rules(key.node) else {
+            unreachable!()
+        };
         let mark = mark_into(commit.before, key.node);
         let listed = take(alloc, standing, &key);
         let places = places_for(alloc, self.cells.as_slice(), own.as_slice(), listed)?;
-        let windows = self.sessions_for(alloc, &rules, mark, own.as_slice(), &places)?;
+        let windows = self.sessions_for(alloc, rules, mark, own.as_slice(), &places)?;
         let places = self.open_all(
             alloc,
             commit.plan,
-            &rules,
+            rules,
             mark,
             &key,
             windows.as_slice(),
             places,
         )?;
-        self.put_all(commit.plan, &rules, &key, commit.number, own, &places)?;
+        self.put_all(commit.plan, rules, &key, commit.number, own, &places)?;
         let listed = listed_again(self.cells.as_slice(), places)?;
         put(standing, key, listed)?;
         Ok(())
@@ -154,7 +155,7 @@ impl Draft {
     fn open_all(
         &mut self,
         alloc: Global,
-        plan: &Plan,
+        plan: &GroupPlan,
         rules: &Rules,
         before: Mark,
         key: &GroupKey,
@@ -188,7 +189,7 @@ impl Draft {
     fn open_session(
         &mut self,
         alloc: Global,
-        plan: &Plan,
+        plan: &GroupPlan,
         rules: &Rules,
         before: Mark,
         key: &GroupKey,
@@ -235,7 +236,7 @@ impl Draft {
     fn open_over(
         &mut self,
         alloc: Global,
-        plan: &Plan,
+        plan: &GroupPlan,
         rules: &Rules,
         before: Mark,
         key: &GroupKey,
@@ -266,7 +267,7 @@ impl Draft {
     fn hand_over(
         &mut self,
         alloc: Global,
-        plan: &Plan,
+        plan: &GroupPlan,
         rules: &Rules,
         before: Mark,
         span: Span,
@@ -299,7 +300,7 @@ impl Draft {
     fn give_way(
         &mut self,
         alloc: Global,
-        plan: &Plan,
+        plan: &GroupPlan,
         span: Span,
         place: u32,
         last: u32,
@@ -357,7 +358,7 @@ impl Draft {
     fn push_session(
         &mut self,
         alloc: Global,
-        plan: &Plan,
+        plan: &GroupPlan,
         key: &GroupKey,
         span: Span,
     ) -> Result<(), NoMemory>
@@ -382,7 +383,7 @@ impl Draft {
     /// Each entry goes to the first cell that takes it, of those of the key that stand.
     fn put_all(
         &mut self,
-        plan: &Plan,
+        plan: &GroupPlan,
         rules: &Rules,
         key: &GroupKey,
         commit: u32,
@@ -416,7 +417,7 @@ impl Draft {
 
     fn put_first(
         &mut self,
-        plan: &Plan,
+        plan: &GroupPlan,
         rules: &Rules,
         key: &GroupKey,
         entry: Entry,

@@ -78,7 +78,7 @@ pub fn others_of(
 }
 
 /// Whether an element arrives at a Group and in time, by the marks before the commit.
-pub fn is_taken(plan: &Plan, facts: &[NodeFacts], before: &[StageMarks], arrival: &Arrival) -> bool
+fn is_taken(plan: &Plan, facts: &[NodeFacts], before: &[StageMarks], arrival: &Arrival) -> bool
     requires { facts.now ≡ facts_of plan.now.nodes }
     ensures { result ≡ is_taken plan.now before.now arrival.now }
 {

@@ -1,15 +1,14 @@
-use Rattle.std.proofs.Common.{◌≡◌, ◌+◌, ◌++◌, List, ap, arith, length, map, refl, subst, sym, true, ◌∙◌}
+use Rattle.std.proofs.Common.{◌≡◌, ◌+◌, ◌++◌, List, ap, arith, length, map, refl, subst, sym, ◌∙◌}
 use Rattle.std.specs.Prelude.{not}
 use Rattle.std.specs.List.{filter}
+use Rattle.beam_values.specs.Checked.{IsChecked}
+use Rattle.beam_values.specs.Marks.{AreMarks}
 use Rattle.beam_values.specs.declared.arrival.Arrival.{Arrival}
 use Rattle.beam_values.specs.declared.cell.Cell.{Cell}
 use Rattle.beam_values.specs.declared.marks.StageMarks.{StageMarks}
 use Rattle.beam_values.specs.declared.plan.Plan.{Plan}
 use Rattle.watermarks.specs.Holds.{hold_at}
-use Rattle.group_cells.specs.Arrivals.{UnmergedStand}
-use Rattle.group_cells.specs.Commits.{IsCommitted, KeepsLegal, NoneFalls, SeenGroups, dropped_arrival, is_at_group, is_dropped}
-use Rattle.group_cells.specs.Due.{IsDueOf}
-use Rattle.group_cells.specs.KeyLists.{AreStanding}
+use Rattle.group_cells.specs.Commits.{IsCommitted, KeepsLegal, NoneFalls, SeenGroups, dropped_arrival, hold_with, is_at_group, is_dropped}
 use Rattle.group_cells.specs.Plain.{AreCells, AreCellsNext}
 use Rattle.group_cells.proofs.AllKeys.{keep_legal}
 use Rattle.group_cells.proofs.FiredFew.{commit_few}
@@ -17,19 +16,20 @@ use Rattle.group_cells.proofs.PlainRounds.{cells_kept, committed, rounds}
 use Rattle.group_cells.proofs.RisenMarks.{none_falls}
 use Rattle.group_cells.proofs.groups.Groups.commit.Goals as goal
 
+pub commit-requires-clause-checked : goal.commit-requires-clause-checked
+commit-requires-clause-checked c = subst IsChecked (sym (ap (λ (g : SeenGroups). g.plan) c.self.view_is ∙ c.requires.plan)) c.requires.checked
+
 pub invariant_of-self-2 : goal.invariant_of-self-2
 invariant_of-self-2 c =
     let next = c.in_ok-next.next in
-    let new = c.commit.new.self in
-    let plan_is : c.self.inside.plan ≡ c.args.plan.now = ap (λ (g : SeenGroups). g.plan) c.self.view_is ∙ c.requires.plan in
-    let was : AreCells c.args.plan.now c.self.inside.draft.cells.items = subst (λ (p : Plan). AreCells p c.self.inside.draft.cells.items) plan_is c.self.invariant.cells in
     record {
-      cells = subst (λ (p : Plan). AreCells p new.cells.items) (sym plan_is)
-          (cells_kept c.args.plan.now c.args.marks.now (hold_at c.args.holds.now) c.args.commit c.as_slice.result.now c.self.inside.draft.cells.items new.cells.items next.marks next.fired was c.in_ok-next.ensures.cells);
-      stand = subst (λ (p : Plan). UnmergedStand p new.cells.items) (sym plan_is) c.in_ok-next.ensures.stand;
+      cells =
+          cells_kept c.self.inside.plan c.args.marks.now (hold_at c.args.holds.now) c.args.commit c.as_slice.result.now c.self.inside.draft.cells.items c.commit.new.self.cells.items next.marks next.fired
+          c.self.invariant.cells c.in_ok-next.ensures.cells;
+      stand = c.in_ok-next.ensures.stand;
       index = λ e. c.in_ok-next.ensures.indexed;
-      due = subst (λ (p : Plan). true ≡ true → IsDueOf p new.due new.cells.items) (sym plan_is) (λ e. c.in_ok-next.ensures.due);
-      standing_are = subst (λ (p : Plan). true ≡ true → AreStanding p c.commit.new.standing new.cells.items) (sym plan_is) (λ e. c.in_ok-next.ensures.standing);
+      due = λ e. c.in_ok-next.ensures.due;
+      standing_are = λ e. c.in_ok-next.ensures.standing;
       small = c.in_ok-next.ensures.small;
       changes = c.in_ok-next.ensures.changes;
     }
@@ -47,13 +47,14 @@ returns-clause-legal c =
     let was : AreCells plan old.cells = subst (λ (l : List Cell). AreCells plan l) cells_are (subst (λ (p : Plan). AreCells p c.self.inside.draft.cells.items) plan_is c.self.invariant.cells) in
     let nexts : AreCellsNext plan before hold c.args.commit arrivals old.cells c.commit.new.self.cells.items next.marks next.fired =
     subst (λ (l : List Arrival). AreCellsNext plan before hold c.args.commit l old.cells c.commit.new.self.cells.items next.marks next.fired) c.as_slice.ensures
-    (subst (λ (l : List Cell). AreCellsNext plan before hold c.args.commit c.as_slice.result.now l c.commit.new.self.cells.items next.marks next.fired) cells_are c.in_ok-next.ensures.cells) in
+    (subst (λ (l : List Cell). AreCellsNext plan before hold c.args.commit c.as_slice.result.now l c.commit.new.self.cells.items next.marks next.fired) cells_are
+    (subst (λ (p : Plan). AreCellsNext p before hold c.args.commit c.as_slice.result.now c.self.inside.draft.cells.items c.commit.new.self.cells.items next.marks next.fired) plan_is c.in_ok-next.ensures.cells)) in
     let after_is : c.copy_from_slice.new.self ≡ next.marks = c.copy_from_slice.ensures.after ∙ c.as_slice-2.ensures in
     let new : SeenGroups = record { plan = c.self.inside.plan; cells = c.commit.new.self.cells.items; dropped = c.commit.new.self.dropped.items } in
     subst (λ (m : List StageMarks). KeepsLegal plan c.args.commit before m old new next.fired) (sym after_is)
     (keep_legal plan c.args.commit before next.marks arrivals old new next.fired c.requires.checked c.requires.marks nexts.fires.marks_are.sized c.requires.gaps
     (c.in_ok-next.ensures.dropped
-    ∙ (λ i. (ap (λ (g : SeenGroups). g.dropped) c.self.view_is) i ++ map (dropped_arrival c.args.commit) (filter (is_dropped plan before) (c.as_slice.ensures i))))
+    ∙ (λ i. (ap (λ (g : SeenGroups). g.dropped) c.self.view_is) i ++ map (dropped_arrival c.args.commit) (filter (is_dropped (plan_is i) before) (c.as_slice.ensures i))))
     (rounds plan before hold c.args.commit arrivals old.cells c.commit.new.self.cells.items next.marks next.fired was nexts))
 
 pub returns-clause-committed : goal.returns-clause-committed
@@ -69,14 +70,15 @@ returns-clause-committed c =
     let was : AreCells plan old.cells = subst (λ (l : List Cell). AreCells plan l) cells_are (subst (λ (p : Plan). AreCells p c.self.inside.draft.cells.items) plan_is c.self.invariant.cells) in
     let nexts : AreCellsNext plan before hold c.args.commit arrivals old.cells c.commit.new.self.cells.items next.marks next.fired =
     subst (λ (l : List Arrival). AreCellsNext plan before hold c.args.commit l old.cells c.commit.new.self.cells.items next.marks next.fired) c.as_slice.ensures
-    (subst (λ (l : List Cell). AreCellsNext plan before hold c.args.commit c.as_slice.result.now l c.commit.new.self.cells.items next.marks next.fired) cells_are c.in_ok-next.ensures.cells) in
+    (subst (λ (l : List Cell). AreCellsNext plan before hold c.args.commit c.as_slice.result.now l c.commit.new.self.cells.items next.marks next.fired) cells_are
+    (subst (λ (p : Plan). AreCellsNext p before hold c.args.commit c.as_slice.result.now c.self.inside.draft.cells.items c.commit.new.self.cells.items next.marks next.fired) plan_is c.in_ok-next.ensures.cells)) in
     let after_is : c.copy_from_slice.new.self ≡ next.marks = c.copy_from_slice.ensures.after ∙ c.as_slice-2.ensures in
     let new : SeenGroups = record { plan = c.self.inside.plan; cells = c.commit.new.self.cells.items; dropped = c.commit.new.self.dropped.items } in
     subst (λ (m : List StageMarks). IsCommitted plan c.args.commit before m hold arrivals next.others old new next.fired) (sym after_is)
     (committed plan before hold c.args.commit arrivals old.cells c.commit.new.self.cells.items next.marks next.fired was nexts old new next.others refl refl (ap (λ (g : SeenGroups). g.plan) c.self.view_is)
     (c.in_ok-next.ensures.dropped
-    ∙ (λ i. (ap (λ (g : SeenGroups). g.dropped) c.self.view_is) i ++ map (dropped_arrival c.args.commit) (filter (is_dropped plan before) (c.as_slice.ensures i))))
-    (c.in_ok-next.ensures.others ∙ ap (filter (λ arrival. not (is_at_group plan arrival))) c.as_slice.ensures))
+    ∙ (λ i. (ap (λ (g : SeenGroups). g.dropped) c.self.view_is) i ++ map (dropped_arrival c.args.commit) (filter (is_dropped (plan_is i) before) (c.as_slice.ensures i))))
+    (c.in_ok-next.ensures.others ∙ (λ i. filter (λ arrival. not (is_at_group (plan_is i) arrival)) (c.as_slice.ensures i))))
 
 pub returns-clause-rises : goal.returns-clause-rises
 returns-clause-rises c =
@@ -84,15 +86,17 @@ returns-clause-rises c =
     let before = c.args.marks.now in
     let next = c.in_ok-next.next in
     let after_is : c.copy_from_slice.new.self ≡ next.marks = c.copy_from_slice.ensures.after ∙ c.as_slice-2.ensures in
+    let plan_is : c.self.inside.plan ≡ plan = ap (λ (g : SeenGroups). g.plan) c.self.view_is ∙ c.requires.plan in
     λ held were. subst (NoneFalls before) (sym after_is)
-    (none_falls plan held (hold_at c.args.holds.now) before next.marks next.fired c.requires.checked were c.requires.rises c.in_ok-next.ensures.cells.fires.marks_are)
+    (none_falls plan held (hold_at c.args.holds.now) before next.marks next.fired c.requires.checked were c.requires.rises
+    (subst (λ (p : Plan). AreMarks p (hold_with (hold_at c.args.holds.now) before next.fired) next.marks) plan_is c.in_ok-next.ensures.cells.fires.marks_are))
 
 pub returns-clause-few : goal.returns-clause-few
 returns-clause-few c =
     let next = c.in_ok-next.next in
     let cells_are : c.self.inside.draft.cells.items ≡ c.args.self.now.cells = ap (λ (g : SeenGroups). g.cells) c.self.view_is in
     let fires = c.in_ok-next.ensures.cells.fires in
-    commit_few c.args.plan.now c.args.marks.now (hold_at c.args.holds.now) c.args.commit c.in_ok-next.ensures.cells.placed c.commit.new.self.cells.items next.marks next.fired
+    commit_few c.self.inside.plan c.args.marks.now (hold_at c.args.holds.now) c.args.commit c.in_ok-next.ensures.cells.placed c.commit.new.self.cells.items next.marks next.fired
     (length c.args.self.now.cells + length c.args.arrivals.now) fires
     (omega (arith, c.in_ok-next.ensures.grown, ap length cells_are, ap length c.as_slice.ensures))
 

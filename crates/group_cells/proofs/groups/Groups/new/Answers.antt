@@ -17,10 +17,10 @@ use Rattle.group_cells.proofs.groups.Groups.new.Goals as goal
 
 pub invariant_of-result : goal.invariant_of-result
 invariant_of-result c =
-    let plan = c.in_ok-copy.field-0 in
-    let none = sym c.new.ensures.items in
-    let unlisted : (q : GroupKey) → listed c.new-6.result q ≡ [] =
-    λ q. ap (λ (es : List (GroupKey × List Standing)). unwrap_or (lookup (λ k. is_eq (group_key_cmp q k)) es) []) c.new-6.ensures.empty in
+    let plan = c.in_ok-new.field-0 in
+    let none = sym c.new-2.ensures.items in
+    let unlisted : (q : GroupKey) → listed c.new-7.result q ≡ [] =
+    λ q. ap (λ (es : List (GroupKey × List Standing)). unwrap_or (lookup (λ k. is_eq (group_key_cmp q k)) es) []) c.new-7.ensures.empty in
     record {
       cells = subst (λ (l : List Cell). AreCells plan l) none (record {
         groups = All-nil (λ (cell : Cell). is_group plan cell.node ≡ true);
@@ -28,12 +28,12 @@ invariant_of-result c =
         once = λ node key w. omega arith;
       });
       stand = subst (λ (l : List Cell). UnmergedStand plan l) none (record { each = λ node key group unmerged. tt });
-      index = λ _. subst (λ (l : List Cell). IsIndexOf c.new-3.result l) none c.new-3.ensures;
-      due = λ _. subst (λ (l : List Cell). IsDueOf plan c.new-4.result l) none (c.new-4.ensures plan);
-      standing_are = λ _. subst (λ (l : List Cell). AreStanding plan c.new-6.result l) none (record {
+      index = λ _. subst (λ (l : List Cell). IsIndexOf c.new-4.result l) none c.new-4.ensures;
+      due = λ _. subst (λ (l : List Cell). IsDueOf plan c.new-5.result l) none (c.new-5.ensures plan);
+      standing_are = λ _. subst (λ (l : List Cell). AreStanding plan c.new-7.result l) none (record {
         each = λ q at merges. ap places_of (unlisted q);
         reached = λ q at merges. subst (AreReached []) (sym (unlisted q)) (λ i k d upto within. absurd (omega arith));
       });
-      small = omega (arith, ap length c.new.ensures.items);
-      changes = c.new-5.ensures.items;
+      small = omega (arith, ap length c.new-2.ensures.items);
+      changes = c.new-6.ensures.items;
     }

@@ -34,15 +34,15 @@ returns-clause-ok c =
     (ap places_of c.take-listed.ensures.list ∙ standing.each key c.requires.group c.requires.merges ∙ sym (ap (standing_places key.node key.key) c.as_slice.ensures.value))
     (subst (λ (l : List Cell). AreReached l c.take-listed.result) (sym c.as_slice.ensures.value)
     (subst (AreReached c.args.self.now.cells.items) (sym c.take-listed.ensures.list) (standing.reached key c.requires.group c.requires.merges)))) in
-    placed_by c.rules_of-rules.result (rules_of c.args.commit.plan.now key.node) c.mark_into-mark.result (marks_at c.args.commit.before.now key.node).mark_in key.node key.key c.args.commit.number
+    placed_by c.in-Some.rules.now (rules_of c.args.commit.plan.now key.node) c.mark_into-mark.result (marks_at c.args.commit.before.now key.node).mark_in key.node key.key c.args.commit.number
     c.as_slice-3.result.now c.args.own c.args.self.now.cells.items c.open_all.new.self.cells.items c.put_all.new.self.cells.items c.as_slice-4.result.now c.in_ok-windows.windows
-    c.rules_of-rules.ensures c.mark_into-mark.ensures c.requires.merges c.as_slice-3.ensures c.as_slice-4.ensures
+    c.in-Some.ensures.1 c.mark_into-mark.ensures c.requires.merges c.as_slice-3.ensures c.as_slice-4.ensures
     (c.in_ok-windows.ensures.windows key.node key.key places) c.in_ok-places-2.ensures.ok c.in_ok-put_all.ensures.ok
 
 pub returns-clause-grown : goal.returns-clause-grown
 returns-clause-grown c =
     let key = c.args.key in
-    placed_few c.rules_of-rules.result c.mark_into-mark.result key.node key.key c.args.commit.number c.args.own c.args.self.now.cells.items c.open_all.new.self.cells.items c.put_all.new.self.cells.items c.as_slice-4.result.now
+    placed_few c.in-Some.rules.now c.mark_into-mark.result key.node key.key c.args.commit.number c.args.own c.args.self.now.cells.items c.open_all.new.self.cells.items c.put_all.new.self.cells.items c.as_slice-4.result.now
     (omega (arith, c.in_ok-windows.ensures.few, ap length c.as_slice-4.ensures, ap length c.as_slice-3.ensures)) c.in_ok-places-2.ensures.ok c.in_ok-put_all.ensures.ok
 
 pub returns-clause-standing : goal.returns-clause-standing
@@ -59,9 +59,9 @@ returns-clause-standing c =
     (ap places_of c.take-listed.ensures.list ∙ standing.each key c.requires.group c.requires.merges ∙ sym (ap (standing_places key.node key.key) c.as_slice.ensures.value)) reached) in
     let placed : ArePlacedAt (rules_of c.args.commit.plan.now key.node) (marks_at c.args.commit.before.now key.node).mark_in key.node key.key c.args.commit.number c.args.own c.args.self.now.cells.items
     c.put_all.new.self.cells.items =
-    placed_by c.rules_of-rules.result (rules_of c.args.commit.plan.now key.node) c.mark_into-mark.result (marks_at c.args.commit.before.now key.node).mark_in key.node key.key c.args.commit.number
+    placed_by c.in-Some.rules.now (rules_of c.args.commit.plan.now key.node) c.mark_into-mark.result (marks_at c.args.commit.before.now key.node).mark_in key.node key.key c.args.commit.number
     c.as_slice-3.result.now c.args.own c.args.self.now.cells.items c.open_all.new.self.cells.items c.put_all.new.self.cells.items c.as_slice-4.result.now c.in_ok-windows.windows
-    c.rules_of-rules.ensures c.mark_into-mark.ensures c.requires.merges c.as_slice-3.ensures c.as_slice-4.ensures
+    c.in-Some.ensures.1 c.mark_into-mark.ensures c.requires.merges c.as_slice-3.ensures c.as_slice-4.ensures
     (c.in_ok-windows.ensures.windows key.node key.key places) c.in_ok-places-2.ensures.ok c.in_ok-put_all.ensures.ok in
     let far = c.in_ok-places.places.far in
     standing_placed c.args.commit.plan.now (marks_at c.args.commit.before.now key.node).mark_in c.args.commit.number key c.args.own c.args.self.now.cells.items c.put_all.new.self.cells.items
