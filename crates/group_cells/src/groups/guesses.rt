@@ -63,8 +63,8 @@ impl Guesses {
         Some(*guess)
     }
 
-    /// The first slot of the set that is empty or has this hash. Where all are taken, the one that gives
-    /// way goes by bits of the hash that don't choose the set, so that all do so alike.
+    /// The first slot of the set that is empty or has this hash. Where there is none, one by bits of the
+    /// hash that don't choose the set, so that no slot of it gives way more often than the others.
     fn slot_for(&self, hash: u32) -> usize {
         let first = first_slot(hash, self.slots.len());
         for at in first..first + WAYS {
