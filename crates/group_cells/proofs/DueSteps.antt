@@ -48,6 +48,24 @@ put_due plan old new cells after place entry was count first last_ within h put 
     (changed cells cell h found (moment cells h (found ∙ ap (λ (x : Cell). Some x) (sym here)) ∙ ap (own_moment plan) here) (ap (λ (x : Cell). x.node) made)
     (counted plan cells cell h found ∙ sym (unseen_more cell.entries entry unshown) ∙ ap (λ (x : Cell). unseen_in x.entries) (sym made))))
 
+-- what `recount` promises
+abbrev pub IsRecounted : DueCells → DueCells → ℕ → ℕ → Type 0
+IsRecounted old new place count =
+    (plan : Plan) (cells : List Cell) (before cell : Cell) → IsDueOf plan old cells → slice_get cells place ≡ Some before → own_moment plan before ≡ own_moment plan cell → cell.node ≡ before.node
+    → count ≡ unseen_in cell.entries → IsDueOf plan new (slice_set cells place cell)
+
+-- a cell that took an entry, where its moment stays
+pub put_recounted : (plan : Plan) (old new : DueCells) (cells after : List Cell) (place : ℕ) (entry : Entry) (count : ℕ) (first : Cell) → place < length cells
+    → IsDueOf plan old cells → ((cell : Cell) → slice_get cells place ≡ Some cell → after ≡ slice_set cells place (with_entry entry cell)) → entry.shown ≡ false
+    → first ≡ get_or cells place first → own_moment plan first ≡ own_moment plan (with_entry entry first)
+    → ((p : Plan) (l : List Cell) (cell : Cell) → IsDueOf p old l → slice_get l place ≡ Some cell → count ≡ unseen_in cell.entries + 1)
+    → IsRecounted old new place count → IsDueOf plan new after
+put_recounted plan old new cells after place entry count first within h put unshown read same counted recounted = with_cell cells place within (λ cell found.
+    let here : first ≡ cell = read_is cells place first cell read found in
+    subst (λ (l : List Cell). IsDueOf plan new l) (sym (put cell found))
+    (recounted plan cells cell (with_entry entry cell) h found (subst (λ (x : Cell). own_moment plan x ≡ own_moment plan (with_entry entry x)) here same) refl
+    (counted plan cells cell h found ∙ sym (unseen_more cell.entries entry unshown))))
+
 pub unseen_both : (first more : List Entry) → unseen_in (first ++ more) ≡ unseen_in more + unseen_in first
 unseen_both first more = omega (arith, count-append (λ (x : Entry). not x.shown) first more)
 

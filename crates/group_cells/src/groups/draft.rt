@@ -10,7 +10,7 @@ ghost use Rattle.group_cells.specs.Placing.{fresh_cell, with_entry};
 ghost use Rattle.group_cells.specs.Undoing.{undone, undone_all, without_last};
 ghost use Rattle.group_cells.specs.Unfiring.{unfired};
 
-use crate::groups::due::DueCells;
+use crate::groups::due::{DueCells, is_due_regardless};
 use crate::groups::fired::{Unfired, unfire};
 use crate::groups::group_plan::GroupPlan;
 use crate::groups::handing::{Given, hand_back};
@@ -139,8 +139,13 @@ impl Draft {
         ensures undo { undone_all self.new.changes.items self.new.cells.items
             ≡ undone_all self.old.changes.items self.old.cells.items }
     {
-        let was = self.due.moment_at(plan, place, &self.cells[place as usize]);
         let count = self.due.one_more(place)?;
+        if is_due_regardless(plan, &self.cells[place as usize]) {
+            self.put(place, entry)?;
+            self.due.recount(place, count);
+            return Ok(());
+        }
+        let was = self.due.moment_at(plan, place, &self.cells[place as usize]);
         self.put(place, entry)?;
         self.due
             .change(plan, place, was, &self.cells[place as usize], count)

@@ -10,18 +10,22 @@ ghost use Rattle.std.specs.Cmp.{partial_order_from_own_ties};
 ghost use Rattle.std.specs.Cmp.Rules.{comparing};
 ghost use Rattle.std.proofs.Common.{rules};
 ghost use Rattle.beam_values.specs.declared.cell.Cell.{Cell as CellOf};
+ghost use Rattle.beam_values.specs.declared.cell.Entry.{Entry as EntryOf};
 ghost use Rattle.beam_values.specs.Times.{least_time};
 ghost use Rattle.beam_values.specs.declared.plan.Plan.{Plan as PlanOf};
 ghost use Rattle.group_cells.specs.Cells.{unseen_in};
 ghost use Rattle.group_cells.specs.Due.{due_cmp, has_moment, is_key_of, own_moment, IsDueOf};
 ghost use Rattle.group_cells.specs.Due.{IsFirstBetween};
 ghost use Rattle.group_cells.specs.Looking.{IsNextDue};
+ghost use Rattle.group_cells.specs.Placing.{with_entry};
 ghost use Rattle.group_cells.specs.declared.groups.due.DueKey.{DueKey as DueKeyOf};
 
 use crate::firing::unseen;
 use crate::groups::group_plan::GroupPlan;
 use beam_values::{Cell, Mark, NoMemory, Time};
-use pane_triggers::laws::the_next_mark_is_the_least;
+use pane_triggers::laws::{
+    the_next_mark_is_the_least, unseen_entries_move_no_next_mark_without_an_early_count,
+};
 use pane_triggers::next_mark;
 use std::alloc::Global;
 use std::cmp::Ordering;
@@ -224,6 +228,17 @@ impl DueCells {
         self.enter(cell.node, place, now)
     }
 
+    /// The cell at a place has become another, which is due at the same moment.
+    pub fn recount(&mut self, place: u32, count: u64)
+        requires { place < length self.old.unseen.items }
+        ensures { (plan : PlanOf) (cells : ListOf CellOf) (before cell : CellOf)
+            → IsDueOf plan self.old cells → slice_get cells place ≡ Some before
+            → own_moment plan before ≡ own_moment plan cell → cell.node ≡ before.node
+            → count ≡ unseen_in cell.entries → IsDueOf plan self.new (slice_set cells place cell) }
+    {
+        self.unseen[place as usize] = count;
+    }
+
     fn leave(&mut self, node: u32, place: u32, moment: Option<i64>)
         ensures moments { (q : DueKeyOf) → contains due_cmp self.new.moments q
             ≡ (if is_key_of node place moment q
@@ -318,6 +333,16 @@ fn moment_in(key: Option<DueKey>) -> Option<i64>
         Some(key) => Some(key.moment),
         None => None,
     }
+}
+
+/// Whether a cell stays due at its moment whatever it takes: its on-time pane is yet to fire, and its
+/// trigger has no early count.
+pub fn is_due_regardless(plan: &GroupPlan, cell: &Cell) -> bool
+    ensures { result ≡ true → (entry : EntryOf)
+        → own_moment plan.now cell.now ≡ own_moment plan.now (with_entry entry cell.now) }
+{
+    unseen_entries_move_no_next_mark_without_an_early_count();
+    !cell.on_time && plan.trigger(cell.node).early.is_none()
 }
 
 fn moment_with(plan: &GroupPlan, cell: &Cell, count: u64) -> Option<i64>
