@@ -29,7 +29,7 @@ NARROWER = {"minimum": 1, "maximum": -1, "minLength": 1, "maxLength": -1}
 
 def document_bytes(text):
     """The document that a case writes: repetitions, and then escapes."""
-    text = re.sub(r"\{(\d+)\*([^}]*)\}", lambda m: m.group(2) * int(m.group(1)), text)
+    text = re.sub(r"\{(\d+)\*([^{}]*)\}", lambda m: m.group(2) * int(m.group(1)), text)
     byte = lambda m: chr(int(m.group(2), 16)) if m.group(2) else ESCAPES[m.group(1)]
     return re.sub(r"\\(x([0-9a-f]{2})|.)", byte, text).encode("latin-1")
 
@@ -59,6 +59,10 @@ def is_taken(answer):
 
 def has_whole_float(value):
     """To a schema 1.0 is a whole number."""
+    if isinstance(value, dict):
+        value = list(value.values())
+    if isinstance(value, list):
+        return any(map(has_whole_float, value))
     return isinstance(value, float) and value.is_integer()
 
 
@@ -73,11 +77,11 @@ def only_the_reader_sees(plan, answer):
     rule, number, key = told[1], int(told[3]), told[4]
     value = plan["nodes"][number][key]
     names = [node["name"] for node in plan["nodes"]]
+    if rule == "4" and has_whole_float(value):
+        return True
     if key == "windows":
         size, period = value.get("sliding", (0, 1))
         return 1 <= period <= size and -(-size // period) > 1024
-    if rule == "4":
-        return has_whole_float(value)
     if key == "input":
         return not set(value) <= set(names)
     if key == "name" and value in names[:number]:
