@@ -287,15 +287,17 @@ check_commands() {
     done <"$work/commands"
 } >>"$work/failures"
 
-# What an example of examples/ is said to print is what some case says of its plan.
+# What an example of examples/ is said to print is what some case says of its plan, and each case that says so has
+# the example's files.
 check_example() {
-    local at
+    local at other found=''
     for ((at = 1; at <= count; at++)); do
         if [[ " $(cat "$work/cases/$at.words") " == *" $2 "* ]] && cmp -s "$1" "$work/cases/$at.out"; then
-            return
+            found=$at
+            other=$(has_its_files "$at") || { echo "$1:1: a case of $2 that writes this has another $other"; return; }
         fi
     done
-    echo "$1:1: no case of $data/commands.cases with $2 writes this"
+    [ -n "$found" ] || echo "$1:1: no case of $data/commands.cases with $2 writes this"
 }
 
 check_examples() {
@@ -304,6 +306,7 @@ check_examples() {
         check_example "$output" "${output%output.txt}plan.json"
     done
     check_example examples/visits.panes.txt examples/visits.tsv
+    check_example examples/lag/short.txt examples/lag/short.json
 } >>"$work/failures"
 
 read_documents
