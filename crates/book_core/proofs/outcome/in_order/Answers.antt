@@ -14,5 +14,5 @@ returns-clause-ascending c =
 pub returns-clause-same : goal.returns-clause-same
 returns-clause-same c =
     subst (λ l. IsPermutation c.args.cells l) (sym c.from_vec.ensures)
-    (subst (λ l. IsPermutation l c.sort_by.new.self.items) c.into_vec.ensures
-    (IsPermutation-trans c.into_vec.result.items c.sort_by_ranks.new.cells.items c.sort_by.new.self.items c.sort_by_ranks.ensures c.in_ok-sort_by.ensures.permutation))
+    (subst (λ l. IsPermutation l c.sort_by.new.self.items) c.into_vec-cells.ensures
+    (IsPermutation-trans c.into_vec-cells.result.items c.sort_by_ranks.new.cells.items c.sort_by.new.self.items c.sort_by_ranks.ensures c.in_ok-sort_by.ensures.permutation))
