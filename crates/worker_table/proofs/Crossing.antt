@@ -19,11 +19,14 @@ use Rattle.group_cells.specs.contracts.groups.draft.Change as Change
 use Rattle.group_cells.specs.contracts.groups.draft.Draft as Draft
 use Rattle.group_cells.specs.contracts.groups.due.DueCells as DueCells
 use Rattle.group_cells.specs.contracts.groups.fired.Unfired as Unfired
+use Rattle.group_cells.specs.contracts.groups.group_plan.GroupPlan as GroupPlan
+use Rattle.group_cells.specs.contracts.groups.group_plan.GroupPlan.TheInside as GroupPlanInside
 use Rattle.group_cells.specs.contracts.groups.handing.Given as Given
 use Rattle.group_cells.specs.contracts.groups.index.CellIndex as CellIndex
 use Rattle.group_cells.specs.contracts.groups.index.CellKey as CellKey
 use Rattle.group_cells.specs.contracts.groups.keyed.GroupKey as GroupKey
 use Rattle.group_cells.specs.contracts.groups.room.Room as Room
+use Rattle.group_cells.specs.contracts.rules.Rules as Rules
 use Rattle.book_core.specs.contracts.book.Book as Book
 use Rattle.book_core.specs.contracts.book.Book.TheInside as BookInside
 use Rattle.book_core.specs.contracts.held.NodeHolds as NodeHolds
@@ -78,8 +81,14 @@ CellIndex-send = declared_send CellIndex.the_type (search (CellKey-send, as_row_
 Draft-send : IsSend Draft.the_row
 Draft-send = declared_send Draft.the_type (search (Cell-send, Dropped-send, CellIndex-send, DueCells-send, Change-send, as_row_send, sendable, crosses) depth 40)
 
+Rules-send : IsSend Rules.the_row
+Rules-send = search (sendable, crosses) depth 40
+
+GroupPlan-send : IsSend GroupPlan.the_row
+GroupPlan-send = view_send _ _ _ _ _ (declared_send GroupPlanInside.the_type (search (Plan-send, Rules-send, as_row_send, sendable, crosses) depth 40))
+
 Groups-send : IsSend Groups.the_row
-Groups-send = view_send _ _ _ _ _ (declared_send GroupsInside.the_type (search (Plan-send, Draft-send, GroupKey-send, List-send, as_row_send, sendable, crosses, maps) depth 40))
+Groups-send = view_send _ _ _ _ _ (declared_send GroupsInside.the_type (search (GroupPlan-send, Draft-send, GroupKey-send, List-send, as_row_send, sendable, crosses, maps) depth 40))
 
 -- ---- the book
 
