@@ -7,8 +7,8 @@
 //! The layer above may rely on this. Each call that is a turn makes one step of `book_core` and answers as it does
 //! (`turn` clauses), on the book that the last turn lent; what it asks of a job is asked of the job as the pass knows
 //! it; what others did in between has at most shortened that job's range, behind what was attempted. At the end
-//! [`Table::close`] gives a book that honest fails reached from the opening of its plan, which is as each pass noted it.
-//! No call takes a shelf or a store, so elements are worked between turns.
+//! [`Table::close`] gives a book that honest fails reached from the opening of its plan, and that fits what each pass
+//! noted: it has no slot but theirs. No call takes a shelf or a store, so elements are worked between turns.
 //!
 //! Read `specs/Notes.antt` first, for what is noted; then `specs/Fits.antt` and `specs/Moves.antt`, for when it is
 //! true and for what a pass may do; and then `table.rt` and `turns.rt`.

@@ -1,12 +1,13 @@
 //! How a table is made and ended, and how its passes are parted and joined.
-ghost use Rattle.std.specs.Prelude.{◌≡◌, ◌<◌, ◌≤◌, ◌++◌, ◌∷◌, [], None, IfOk};
+ghost use Rattle.std.specs.Prelude.{◌≡◌, ◌<◌, ◌≤◌, ◌++◌, ◌∷◌, [], List, None, IfOk};
 ghost use Rattle.std.specs.List.{AllByRecursion, sum_by};
-ghost use Rattle.turn_desk.specs.Notes.{size_of, opening_note, kept_part, given_part, joined_note};
+ghost use Rattle.turn_desk.specs.Notes.{IsSound, size_of, opening_note, kept_part, given_part};
+ghost use Rattle.turn_desk.specs.Notes.{joined_note};
 ghost use Rattle.book_core.specs.Runs.{Reached};
 ghost use Rattle.book_core.specs.Work.{Surroundings};
 ghost use Rattle.worker_table.specs.Ends.{IsEnded};
-ghost use Rattle.worker_table.specs.Fits.{IsBookOf};
-ghost use Rattle.worker_table.specs.Notes.{Setting, fresh, setting_for};
+ghost use Rattle.worker_table.specs.Fits.{Fits, IsBookOf};
+ghost use Rattle.worker_table.specs.Notes.{Owner, Setting, fresh, setting_for};
 ghost use Rattle.worker_table.specs.Passes.{IsOf, note_of_pass, setting_of, slot_of};
 
 use crate::did::owned_by;
@@ -84,11 +85,15 @@ impl Table {
         pass.pass = Some(own);
     }
 
-    /// Ends the table, by the pass into which all others were joined, and gives the book back.
+    /// Ends the table, by the pass into which all others were joined, and gives the book back: as they noted it, and
+    /// with no slot but theirs.
     pub fn close(self, pass: WorkerPass) -> Book
         requires table { IsOf self pass }
         requires all { size_of (note_of_pass pass) ≡ 4294967296 }
         ensures book { IsBookOf (setting_of self) result }
+        ensures sound { IsSound (note_of_pass pass) }
+        ensures fits { (owners : List Owner) × Fits (setting_of self)
+            result owners (note_of_pass pass) }
         ensures ended { AllByRecursion (λ entry. IsEnded result entry.ending)
             (note_of_pass pass).about }
         ensures calls { result.calls ≤ sum_by (λ entry. entry.calls) (note_of_pass pass).about }

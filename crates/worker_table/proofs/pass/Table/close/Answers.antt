@@ -1,10 +1,10 @@
 use Rattle.std.proofs.Common.{◌≡◌, ◌≤◌, sym, subst}
 use Rattle.std.specs.List.{AllByRecursion, sum_by}
-use Rattle.turn_desk.specs.Notes.{size_of}
+use Rattle.turn_desk.specs.Notes.{IsSound, size_of}
 use Rattle.book_core.specs.Book.{BookData}
 use Rattle.book_core.proofs.AllKept.{honest_reached}
 use Rattle.worker_table.specs.Ends.{IsEnded}
-use Rattle.worker_table.specs.Fits.{IsBookOf}
+use Rattle.worker_table.specs.Fits.{Fits, IsBookOf}
 use Rattle.worker_table.specs.Notes.{Entry}
 use Rattle.worker_table.specs.Passes.{note_in, note_of_pass, setting_of}
 use Rattle.worker_table.proofs.Counting.{calls_within, ended_all, reads_within}
@@ -12,6 +12,16 @@ use Rattle.worker_table.proofs.pass.Table.close.Goals as goal
 
 pub returns-clause-book : goal.returns-clause-book
 returns-clause-book c = subst (IsBookOf (setting_of c.args.self)) (sym c.into_inner.ensures) c.close-book.ensures.fits.book
+
+pub returns-clause-sound : goal.returns-clause-sound
+returns-clause-sound c = subst (λ p. IsSound (note_in p)) (sym c.in-Some.is) c.close-book.ensures.sound
+
+pub returns-clause-fits : goal.returns-clause-fits
+returns-clause-fits c =
+    let held = c.close-book.result in
+    let setting = setting_of c.args.self in
+    let noted = subst (λ p. Fits setting held.book.value held.owners.value (note_in p)) (sym c.in-Some.is) c.close-book.ensures.fits in
+    (held.owners.value, subst (λ (x : BookData). Fits setting x held.owners.value (note_of_pass c.args.pass)) (sym c.into_inner.ensures) noted)
 
 pub returns-clause-ended : goal.returns-clause-ended
 returns-clause-ended c =
