@@ -243,6 +243,7 @@ pub ending_made : (told : Option (List FileText)) (b b' : BookData) (i : ℕ) (a
 ending_made told b b' i Take Finished ending step fit = (step_frame told b b' i Take Finished step).left (step.2, step.3)
 ending_made told b b' i Take Stopped ending step fit = (step_frame told b b' i Take Stopped step).stopped step.0
 ending_made told b b' i (Fail at cause) (Spent note) ending step fit = spent_stops told b b' i at cause note step
+ending_made told b b' i Stop Noted ending step fit = subst (λ (x : BookData). IsRunning x → ⊥) (sym step) (λ running. or_some b.stopped stop.NoMemory running)
 ending_made told b b' i action answer ending step fit = let frame = step_frame told b b' i action answer step in ending_stays b b' ending frame.stopped frame.left fit
 
 -- no step but an enroll makes a slot

@@ -43,6 +43,7 @@ abbrev pub ending_after : Action → Answer → Ending → Ending
 ending_after Take Finished ending = HasFinished
 ending_after Take Stopped ending = IsStopped
 ending_after (Fail at cause) (Spent note) ending = IsStopped
+ending_after Stop Noted ending = IsStopped
 ending_after _ _ ending = ending
 
 abbrev pub owes_after : Action → Answer → Bool → Bool
