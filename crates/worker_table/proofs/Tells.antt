@@ -22,7 +22,7 @@ use Rattle.worker_table.specs.Frames.{next_keep, fail_leaves}
 use Rattle.worker_table.specs.Moves.{Deed, calls_after, first_after, known_at, known_in, reads_after}
 use Rattle.worker_table.specs.Notes.{Setting, Owner, Entry, KnownJob}
 use Rattle.worker_table.specs.Places.{set_here}
-use Rattle.worker_table.specs.Turns.{HasEnrolled, HasHelped, HasStepped, HasStopped, KeepsOthers, Turned, first_entry, later_of}
+use Rattle.worker_table.specs.Turns.{HasEnrolled, HasHelped, HasStepped, HasStopped, KeepsOthers, Turned, first_entry, later_of, number_in}
 
 -- ---- a job that is taken
 
@@ -98,7 +98,7 @@ module _ (setting : Setting) (m n : Note (List Entry)) (i : ℕ) where
   pub claim_tells : (p : ℕ) (granted : Bool) → (first_entry m).slot ≡ Some i → HasStepped setting m n i (Claim p) (Claimed granted) → AfterClaim (first_entry m).job p granted (first_entry n).job
   claim_tells p granted slot turn =
       let step = turn.made in
-      let fit = subst (IsSlotOf turn.lent turn.owners turn.number (first_entry m).job (first_entry m).calls (first_entry m).reads) slot turn.fit.slot in
+      let fit = subst (IsSlotOf turn.lent turn.owners (number_in m.numbers) (first_entry m).job (first_entry m).calls (first_entry m).reads) slot turn.fit.slot in
       let there : slot_at turn.back i ≡ Some (Some (live.Span step.piece (Some p))) =
       ap (λ (b : BookData). slot_at b i) step.is ∙ set_here turn.lent.slots i (Some (live.Span step.piece step.attempted)) (Some (live.Span step.piece (Some p))) step.works in
       by (first_entry m).job (subst (IsJobOf turn.lent.panes (first_entry m).job) step.works fit.1) (told_by (Claim p) (Claimed granted) turn ∙ ap (known_in turn.back.panes) there)
@@ -211,7 +211,7 @@ none_yet b owners number known calls reads (Some i) e fit = let w : Some i ≡ N
 
 pub enroll_tells : {E : Type 0} (setting : Setting) (m n : Note (List Entry)) (answer : Result ℕ E) → (first_entry m).slot ≡ None → HasEnrolled setting m n answer → AfterEnroll answer (first_entry m) (first_entry n)
 enroll_tells {E} setting m n (Ok i) none turn =
-    let f = none_yet turn.lent turn.owners turn.number (first_entry m).job (first_entry m).calls (first_entry m).reads (first_entry m).slot none turn.fit.slot in
+    let f = none_yet turn.lent turn.owners (number_in m.numbers) (first_entry m).job (first_entry m).calls (first_entry m).reads (first_entry m).slot none turn.fit.slot in
     record {
       slot = ap (λ (e : Entry). e.slot) turn.first;
       job = ap (λ (e : Entry). e.job) turn.first ∙ f.0;
@@ -221,7 +221,7 @@ enroll_tells {E} setting m n (Ok i) none turn =
       ending = ap (λ (e : Entry). e.ending) turn.first;
     }
 enroll_tells {E} setting m n (Err refused) none turn =
-    let f = none_yet turn.lent turn.owners turn.number (first_entry m).job (first_entry m).calls (first_entry m).reads (first_entry m).slot none turn.fit.slot in
+    let f = none_yet turn.lent turn.owners (number_in m.numbers) (first_entry m).job (first_entry m).calls (first_entry m).reads (first_entry m).slot none turn.fit.slot in
     record {
       slot = ap (λ (e : Entry). e.slot) turn.first ∙ none;
       job = ap (λ (e : Entry). e.job) turn.first ∙ f.0;

@@ -116,7 +116,7 @@ module _ (setting : Setting) (L x : Shared) (m : Note (List Entry)) (same : x â‰
             back = y.book.value;
             book = fit_now.book;
             owners = x.owners.value;
-            number = number_in m.numbers;
+            fits = fit_now;
             fit = entry_now;
             made = made;
             note = here;

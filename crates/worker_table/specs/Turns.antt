@@ -3,7 +3,7 @@ use Rattle.std.specs.Prelude.{◌≡◌, ℕ, List, [], ◌∷◌, length, Optio
 use Rattle.turn_desk.specs.declared.held.Note.{Note}
 use Rattle.book_core.specs.Book.{BookData}
 use Rattle.book_core.specs.Steps.{Action, Answer, Enroll, Enrolled, IsNextFor, NoMemory, Noted, Split, SplitAt, Step, Stop}
-use Rattle.worker_table.specs.Fits.{FitsEntry, IsBookOf}
+use Rattle.worker_table.specs.Fits.{Fits, FitsEntry, IsBookOf}
 use Rattle.worker_table.specs.Moves.{Deed, Rests, Steps, Stops, Enrolls, FindsNone, Helps, entry_after, note_after}
 use Rattle.worker_table.specs.Notes.{Setting, Owner, Entry, fresh}
 
@@ -20,14 +20,15 @@ abbrev pub number_in : List ℕ → ℕ
 number_in [] = 0
 number_in (n ∷ ns) = n
 
--- One turn: the book that it lent, the book that it gave back, and the new note, which is that after the deed. The old entry fits the book that was lent.
+-- One turn: the book that it lent, the book that it gave back, and the new note, which is that after the deed. The book that was lent fits the old note, for some
+-- owners of its slots, and so the pass's own entry.
 pub record Turned (setting : Setting) (m n : Note (List Entry)) (deed : Deed) (makes : BookData → BookData → Type 0) : Type 0 where
   pub lent : BookData
   pub back : BookData
   pub book : IsBookOf setting lent
   pub owners : List Owner
-  pub number : ℕ
-  pub fit : FitsEntry lent owners number (first_entry m)
+  pub fits : Fits setting lent owners m
+  pub fit : FitsEntry lent owners (number_in m.numbers) (first_entry m)
   pub made : makes lent back
   pub note : n ≡ note_after deed lent m back
   pub first : first_entry n ≡ entry_after deed lent (first_entry m) back
