@@ -92,8 +92,8 @@ sum_calls entries = sum_by (λ entry. entry.calls) entries
 abbrev pub sum_reads : List Entry → ℕ
 sum_reads entries = sum_by (λ entry. entry.reads) entries
 
--- The passes of the workers were joined into one, which has as many numbers as before. Their entries stand behind what it noted, in the order of the kits.
--- Their fails are those of the share, and at most the faults that were counted at all kits.
+-- The passes of the workers were joined into one, which has as many numbers as before. Their entries stand behind what it noted, and each end is as the entry at
+-- its place says. Their fails are those of the share, and at most the faults that were counted at all kits.
 pub record HaveWorked (setting : Setting) (m n : Note (List Entry)) (shelf : ObservedShelf) (store : ObservedStore) (end : AllEnd) : Type 0 where
   pub entries : List Entry
   pub behind : n.about ≡ m.about ++ entries

@@ -22,7 +22,7 @@ use std::sync::Wait;
 use std::thread::Threads;
 use worker_table::{Table, WorkerPass};
 
-/// How the workers ended, in the order of their kits, and the faults that all of them counted.
+/// How the workers ended, and the faults that all of them counted.
 #[derive(Drop)]
 pub struct AllEnd {
     pub ends: List<WorkerEnd>,

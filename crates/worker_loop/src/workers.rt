@@ -52,8 +52,9 @@ pub enum WorkerEnd {
     NoMemory,
 }
 
-/// Works jobs of a table until none is left or the book is stopped. The worker enrolls first, and its slot is
-/// its number at the gate. Where it finds no memory, it stops the book.
+/// Works jobs of a table until none is left or the book is stopped. Where it finds no memory, it stops the
+/// book. What is promised is how it ended, what it counted and what it leaves of its pass and its kit. No clause
+/// says that it enrolls first, nor that it names its slot to the gate.
 pub fn work<R: Wait, F: Shelf, S: Store, G: Gate>(
     rt: &R,
     alloc: Global,
