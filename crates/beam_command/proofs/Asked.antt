@@ -64,18 +64,18 @@ module _ (files : Option (List FileText)) (first before after : ℕ) (others : L
   refused_since (status.SourceFault kit) refused = failed_since kit refused
   refused_since (status.FileChanged name len other) refused =
       let one = there 0 refused.first refused.at_first in
-      let own = there refused.kit refused.store refused.at in record {
+      record {
         first = one.0;
         at_first = one.1;
         kit = refused.kit;
-        store = own.0;
-        at = own.1;
+        store = refused.store;
+        at = refused.at;
         before = refused.before;
         after = refused.after;
         names_are = refused.names_are;
         differ = refused.differ;
         len_at_first = subst (λ (f : Option (List FileText)). HasLength f name len) one.2 refused.len_at_first;
-        len_at = subst (λ (f : Option (List FileText)). HasLength f name other) own.2 refused.len_at;
+        len_at = refused.len_at;
       }
   refused_since status.NoMemory refused = refused
   refused_since status.Ok refused = absurd refused
@@ -88,7 +88,7 @@ module _ (files : Option (List FileText)) (first before after : ℕ) (others : L
 -- a run and the call that began it: all stores counted as much at least in the call, and what was refused in the run was so in the call
 module _ (shelf : ObservedShelf) (told : Option (List FileText)) (less more : ℕ) (stores since : List ObservedStore) (out : ObservedSink) (asked : Asked) (options : Options) (plan : Plan)
     (failed : ℕ) (grows : less ≤ more) (refused : (s : Status) → IsOpeningRefused stores plan options.attempts failed s → IsOpeningRefused since plan options.attempts 0 s)
-    (of : IsPlanOf told asked plan) where
+    (of : IsPlanOf told asked plan) (first : ObservedStore) (is_first : slice_get since 0 ≡ Some first) (of_first : IsPlanOf first.files asked plan) where
   abbrev at_run : Observed
   at_run = record { shelf = shelf; store = record { files = told; before = 0; after = less }; stores = stores; out = out }
 
@@ -97,7 +97,7 @@ module _ (shelf : ObservedShelf) (told : Option (List FileText)) (less more : �
 
   unbegun : (s : Status) → (IsOpeningRefused stores plan options.attempts failed s ⊎ (s ≡ status.NoMemory))
       → IsDocumentRefused at_call asked options.attempts s ⊎ AreSourcesRefused at_call asked options.attempts s ⊎ (s ≡ status.NoMemory)
-  unbegun s why = elim why [ inl is ↦ inr (inl (plan, of, refused s is)) | inr none ↦ inr (inr none) ]
+  unbegun s why = elim why [ inl is ↦ inr (inl (first, plan, is_first, of_first, refused s is)) | inr none ↦ inr (inr none) ]
 
   -- the run of its plan is its own
   pub pipeline_end : (s : Status) (outcome : Option Outcome) → IsGraphEnd at_run plan options failed s outcome → IsPipelineEnd at_call asked options s outcome
@@ -167,7 +167,8 @@ module _ {F S W : Type 0} (strict : F → Bool) (calls : F → ℕ) (files : S �
           pipeline_end shelf (told_by (files first.store ∷ tellings)) less more (own (faults store)) (own (faults first.store)) out (Run name options) options plan failed
           (omega (arith, rise_since (faults first.store) (faults store) (faults new.store) earlier))
           (refused_since (files first.store) (faults first.store) (faults store) (faults new.store) rest plan options failed allowed earlier later counted)
-          (λ told tells. of told (tells_first (files first.store) tellings told tells)) s outcome
+          (λ told tells. of told (tells_first (files first.store) tellings told tells))
+          (record { files = files first.store; before = faults first.store; after = faults new.store }) refl of s outcome
           (subst (λ (f : Option (List FileText)). IsGraphEnd (record {
             shelf = shelf;
             store = record { files = told_by (f ∷ tellings); before = 0; after = less };

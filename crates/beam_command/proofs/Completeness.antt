@@ -63,7 +63,7 @@ module _ (observed : Observed) (of_one : AreOfOne observed.stores observed.store
   pub unchanged : (names : List (List ℕ)) (name : List ℕ) (len other : ℕ) → HasChanged observed.stores names name len other → ⊥
   unchanged names name len other changed =
       let first = changed.len_at_first told (told_here observed.store changed.first told (of_one 0 changed.first changed.at_first) tells) in
-      let also = changed.len_at told (told_here observed.store changed.store told (of_one changed.kit changed.store changed.at) tells) in
+      let also = changed.len_at told (told_here observed.store changed.store told (of_one (suc changed.kit) changed.store changed.at) tells) in
       let text : also.0 ≡ first.0 = cc (first.1, also.1) in
       changed.differ (sym also.2 ∙ ap length text ∙ first.2)
 
@@ -120,7 +120,8 @@ module _ (observed : Observed) (of_one : AreOfOne observed.stores observed.store
       | inr other ↦ elim other [
         | inl refused ↦
             opened inputs.0 inputs.2 s
-            (subst (λ (p : Plan). IsOpeningRefused observed.stores p attempts 0 s) (plan_is observed.store told tells asked inputs.0 refused.0 inputs.1 refused.1) refused.2)
+            (subst (λ (p : Plan). IsOpeningRefused observed.stores p attempts 0 s)
+            (plan_is refused.0 told (told_here observed.store refused.0 told (of_one 0 refused.0 refused.2) tells) asked inputs.0 refused.1 inputs.1 refused.3) refused.4)
         | inr none ↦ none
       ]
     ]
@@ -131,7 +132,7 @@ module _ (observed : Observed) (of_one : AreOfOne observed.stores observed.store
   no_pipeline_changes : (own : Asked) (options : Options) (name : List ℕ) (len other : ℕ) (outcome : Option Outcome) → IsPipelineEnd observed own options (status.FileChanged name len other) outcome → ⊥
   no_pipeline_changes own options name len other outcome end = elim end.2 [
     | inl refused ↦ no_document own refused
-    | inr why ↦ elim why [ inl refused ↦ unchanged observed of_one told tells (file_names refused.0) name len other refused.2 | inr none ↦ absurd (cc) ]
+    | inr why ↦ elim why [ inl refused ↦ unchanged observed of_one told tells (file_names refused.1) name len other refused.4 | inr none ↦ absurd (cc) ]
   ]
     where
       no_document : (own : Asked) → IsDocumentRefused observed own options.attempts (status.FileChanged name len other) → ⊥

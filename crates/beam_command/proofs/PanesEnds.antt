@@ -160,7 +160,7 @@ module _ (observed : Observed) (of_one : AreOfOne observed.stores observed.store
     absent_unbegun s why = elim why [
       | inl refused ↦ absurd refused
       | inr other ↦ elim other [
-        | inl refused ↦ not_opened s (subst (λ (p : Plan). IsOpeningRefused observed.stores p options.attempts 0 s) refused.1 refused.2)
+        | inl refused ↦ not_opened s (subst (λ (p : Plan). IsOpeningRefused observed.stores p options.attempts 0 s) refused.3 refused.4)
         | inr none ↦ inr none
       ]
     ]

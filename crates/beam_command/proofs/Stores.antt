@@ -52,6 +52,13 @@ module _ {F S : Type 0} (files : S → Option (List FileText)) (faults : S → �
         (record { files = tells.0; counts = within_sum (faults old.store) (faults new.store) total (omega (arith, counted)) })
     each_of_one (old ∷ olds) (new ∷ news) tells counted (suc at) store is = each_of_one olds news tells.1 (omega (arith, counted)) at store is
 
+  -- the store of the first kit is observed
+  pub first_is_seen : (R : Kit F S → Kit F S → Type 0) (olds news : List (Kit F S)) → 0 < length olds → EachBecomes olds news R
+      → (first : ObservedStore) × (slice_get (observed_each files faults olds news) 0 ≡ Some first)
+  first_is_seen R [] news some each = absurd (omega arith)
+  first_is_seen R (old ∷ olds) [] some each = absurd each
+  first_is_seen R (old ∷ olds) (new ∷ news) some each = (observed_store files faults old.store new.store, refl)
+
   pub are_of_one : (olds news : List (Kit F S)) → AreOfOne (observed_each files faults olds news) (observed_stores files faults olds news)
   are_of_one olds news =
       each_of_one (told_by (map (λ kit. files kit.store) olds)) (sum_rises (λ kit. faults kit.store) olds news) olds news (told_by_each (map (λ kit. files kit.store) olds)) (omega arith)

@@ -64,9 +64,11 @@ IsDocumentRefused observed (Run name options) attempts s =
     (first : ObservedStore) × (slice_get observed.stores 0 ≡ Some first) × IsPlanRefused first name attempts s
 IsDocumentRefused observed _ attempts s = ⊥
 
--- the plan is there, and a file that it reads could not be opened, or not as the first kit opened it
+-- the plan that the first store tells is there, and a file that it reads could not be opened, or not as the first kit opened it
 abbrev pub AreSourcesRefused : Observed → Asked → ℕ → Status → Type 0
-AreSourcesRefused observed asked attempts s = (plan : Plan) × IsPlanOf observed.store.files asked plan × IsOpeningRefused observed.stores plan attempts 0 s
+AreSourcesRefused observed asked attempts s =
+    (first : ObservedStore) × (plan : Plan) × (slice_get observed.stores 0 ≡ Some first) × IsPlanOf first.files asked plan
+    × IsOpeningRefused observed.stores plan attempts 0 s
 
 -- ---- the ends of a pipeline that is run
 

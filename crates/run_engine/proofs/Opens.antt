@@ -393,7 +393,7 @@ module _ (plan : Plan) (attempts failed : ℕ) (store : ObservedStore) (stores :
       record {
         first = store;
         at_first = refl;
-        kit = suc is.kit;
+        kit = is.kit;
         store = is.store;
         at = is.at;
         before = r.0;

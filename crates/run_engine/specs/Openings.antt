@@ -81,13 +81,13 @@ pub record HasFailed (stores : List ObservedStore) (attempts failed kit : ℕ) :
   pub at : slice_get stores kit ≡ Some store
   pub counted : attempts ≤ failed_before failed kit + rise store.before store.after
 
--- the first kit met one length of a file of the plan, and another kit another one
+-- the first kit met one length of a file of the plan, and a later kit, that with number kit + 1, another one
 pub record HasChanged (stores : List ObservedStore) (names : List (List ℕ)) (name : List ℕ) (len other : ℕ) : Type 0 where
   pub first : ObservedStore
   pub at_first : slice_get stores 0 ≡ Some first
   pub kit : ℕ
   pub store : ObservedStore
-  pub at : slice_get stores kit ≡ Some store
+  pub at : slice_get stores (suc kit) ≡ Some store
   pub before : List (List ℕ)
   pub after : List (List ℕ)
   pub names_are : names ≡ before ++ name ∷ after

@@ -6,7 +6,8 @@ use Rattle.worker_loop.specs.Kits.{observed_shelves, observed_stores}
 use Rattle.command_words.specs.Commands.{Panes}
 use Rattle.run_engine.specs.Kits.{observed_each}
 use Rattle.beam_command.proofs.Asked.{pipeline_end}
-use Rattle.beam_command.proofs.Kept.{all_same, if_some}
+use Rattle.beam_command.proofs.Kept.{Keeps, all_same, if_some}
+use Rattle.beam_command.proofs.Stores.{first_is_seen}
 use Rattle.beam_command.proofs.top.run_panes.Goals as goal
 
 pub returns-in-Ok-clause-ends : goal.returns-in-Ok-clause-ends
@@ -14,9 +15,12 @@ returns-in-Ok-clause-ends g c =
     let same : to_z w64 (of_z w64 c.args.size) ≡ c.args.size = omega (arith, ints) in
     let store = observed_stores g.S.Store.files g.S.Store.faults c.args.kits.now c.run_graph.new.kits in
     let stores = observed_each g.S.Store.files g.S.Store.faults c.args.kits.now c.run_graph.new.kits in
+    let plan : c.in-Ok.graph ≡ panes_plan c.args.file.now c.args.size = c.in-Ok.ensures ∙ ap (λ (size : ℤ). panes_plan c.args.file.now size) same in
+    let first = first_is_seen g.S.Store.files g.S.Store.faults
+    (Keeps g.F.Shelf.strict g.F.Shelf.faults g.S.Store.files g.S.Store.faults g.S.Store.opened) c.args.kits.now c.run_graph.new.kits c.requires.some c.run_graph.ensures.kept in
     pipeline_end (observed_shelves g.F.Shelf.strict g.F.Shelf.faults c.args.kits.now c.run_graph.new.kits) store.files store.after store.after stores stores
     (observed_sink g.W.Sink.faults g.W.Sink.taken c.args.out.now c.run_graph.new.out) (Panes c.args.file.now c.args.size c.args.options.now) c.args.options.now c.in-Ok.graph 0
-    (omega arith) (λ s refused. refused) (c.in-Ok.ensures ∙ ap (λ (size : ℤ). panes_plan c.args.file.now size) same) c.run_graph.result.status c.run_graph.result.outcome c.run_graph.ensures.ends
+    (omega arith) (λ s refused. refused) plan first.0 first.1 plan c.run_graph.result.status c.run_graph.result.outcome c.run_graph.ensures.ends
 
 pub returns-in-Ok-clause-first_plan : goal.returns-in-Ok-clause-first_plan
 returns-in-Ok-clause-first_plan g c =
