@@ -3,16 +3,17 @@
 //!
 //! What a commit does to one Group and key is `IsRound` of `specs/Rounds.antt`, and what it promises is
 //! `KeepsLegal` and `IsCommitted` of `specs/Commits.antt`. [`Groups`] keeps the cells in the order of
-//! their making, and the rules of each Group beside the plan (`groups/group_plan.rt`). An arrival finds its cell by an index; at a Group of sessions it looks at the cells of its
-//! key that stand, from the newest back, until all that are left ended before the windows of what it has
-//! looked at begin. Firing finds the cells that are due in an ordered set. So a commit costs its arrivals,
-//! what these look at and the cells that fire, each times a logarithm. A commit that finds no memory undoes
-//! what it did, and leaves the indexes to be made anew. A cell fires where it lies, and a commit that is
-//! undone puts back which of its entries were shown. A cell that fires walks back from its last entry to
-//! the first one that no pane has shown, and no further; one that accumulates copies the parts of all. A
-//! commit fires at most a pane for each cell and makes at most a cell for each arrival.
-//! [`PlainGroups`] keeps the cells in a plain list, searched from the front and copied at each commit: only
-//! comparisons use it. The layer above may rely on these contracts alone.
+//! their making, and the rules of each Group beside the plan (`groups/group_plan.rt`). An arrival finds
+//! its cell by an index; at a Group of sessions it looks at the cells of its key that stand, from the
+//! newest back, until all that are left ended before the windows of what it has looked at begin. Firing
+//! finds the cells that are due in an ordered set. So a commit costs its arrivals, what these look at
+//! and the cells that fire, each times a logarithm. A commit that finds no memory undoes what it did,
+//! and leaves the indexes to be made anew. A cell fires where it lies, and a commit that is undone puts
+//! back which of its entries were shown. A cell that fires walks back from its last entry to the first
+//! one that no pane has shown, and no further; one that accumulates copies the parts of all. A commit
+//! fires at most a pane for each cell and makes at most a cell for each arrival. [`PlainGroups`] keeps
+//! the cells in a plain list, searched from the front and copied at each commit: only comparisons use
+//! it. The layer above may rely on these contracts alone.
 //!
 //! Two things spare comparisons, and no contract speaks of them: a guess at the place of an arrival's
 //! cell, which is compared with that cell before the index is asked (`groups/guesses.rt`), and ranks of
