@@ -9,9 +9,9 @@ use std::alloc::Global;
 /// Lists that are used again from call to call, so that memory is asked for seldom. They say nothing.
 #[derive(Debug, Drop)]
 pub struct Buffers {
-    /// What is still on its way, the next one last.
+    /// What waits on its way, the next one last.
     pub(crate) stack: List<Delivery>,
-    /// What a node puts out.
+    /// What the function of a node puts out.
     pub(crate) outputs: List<Element>,
     pub(crate) windows: List<Span>,
     /// What a position emits.

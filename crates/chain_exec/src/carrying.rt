@@ -1,5 +1,5 @@
 ghost use Rattle.std.specs.Prelude.{◌≡◌, ◌≢◌, ◌≤◌, ◌<◌, ◌+◌, ◌++◌, [], true, None, length, map};
-ghost use Rattle.std.specs.Prelude.{take, IfErr, OnOk};
+ghost use Rattle.std.specs.Prelude.{take, option_to_list, IfErr, IfOk, OnOk};
 ghost use Rattle.beam_values.specs.Checked.{is_function_allowed};
 ghost use Rattle.beam_values.specs.declared.plan.NodeKind.TheVariants.{ParDo};
 ghost use Rattle.beam_model.specs.Chains.{Arrives, chain};
@@ -15,7 +15,9 @@ ghost use Rattle.chain_exec.specs.Unused.{IsUnused};
 
 use crate::ExecRefusal;
 use crate::buffers::Buffers;
-use crate::deliveries::{Delivery, deliver, deliver_each, deliver_values, put_in_windows};
+use crate::deliveries::{
+    Delivery, forward, forward_each, forward_in_windows, forward_values, take_next,
+};
 use beam_values::{Args, Cause, Element, FnKind, List, NodeKind};
 use bundle_commit::Staging;
 use dofn_traits::{CallRefusal, Shelf};
@@ -48,8 +50,8 @@ impl Buffers {
             → first_poison (chain graph.now node element) ≡ None
             → F.faults shelf.new ≡ F.faults shelf.old }
     {
-        deliver(alloc, graph.followers(node), element, &mut self.stack)?;
-        self.carry(alloc, graph, shelf, staging)
+        let first = forward(alloc, graph.followers(node), element, &mut self.stack)?;
+        self.carry(alloc, graph, shelf, first, staging)
     }
 
     /// Stages what the emission that is held brings, from the source of this number.
@@ -79,42 +81,46 @@ impl Buffers {
             → F.faults shelf.new ≡ F.faults shelf.old }
     {
         let followers = graph.followers(node);
-        deliver_values(alloc, followers, &mut self.emission.items, &mut self.stack)?;
-        self.carry(alloc, graph, shelf, staging)
+        let first = forward_values(alloc, followers, &mut self.emission.items, &mut self.stack)?;
+        self.carry(alloc, graph, shelf, first, staging)
     }
 
-    // Takes what is on its way to the barriers, depth first, and stages it there.
+    // Takes what is on its way to the barriers, depth first, and stages it there: `first`, and then what is
+    // on the stack.
     fn carry<F: Shelf>(
         &mut self,
         alloc: Global,
         graph: &Graph,
         shelf: &mut F,
+        first: Option<Delivery>,
         staging: &mut Staging,
     ) -> Result<(), ExecRefusal>
         requires outputs { self.old.outputs ≡ [] }
         requires windows { self.old.windows ≡ [] }
         ensures unused { OnOk result (IsUnused self.new) }
         ensures staged { OnOk result (map Arrives staging.new.arrivals
-            ≡ map Arrives staging.old.arrivals ++ outputs_of_stack graph.now self.old.stack) }
+            ≡ map Arrives staging.old.arrivals
+            ++ outputs_of_stack graph.now (self.old.stack ++ option_to_list first)) }
         ensures only { staging.new ≡ record staging.old { arrivals = staging.new.arrivals } }
         ensures front { take (length staging.old.arrivals) staging.new.arrivals
             ≡ staging.old.arrivals }
         ensures refused { IfErr result
             (IsCallRefused (observed_shelf F.strict F.faults shelf.old shelf.new)
-            (outputs_of_stack graph.now self.old.stack)) }
+            (outputs_of_stack graph.now (self.old.stack ++ option_to_list first))) }
         ensures counts { F.faults shelf.old ≤ F.faults shelf.new }
         ensures strict { F.strict shelf.new ≡ F.strict shelf.old }
         ensures unharmed { F.strict shelf.old ≡ true
-            → first_poison (outputs_of_stack graph.now self.old.stack) ≡ None
+            → first_poison (outputs_of_stack graph.now (self.old.stack ++ option_to_list first)) ≡ None
             → F.faults shelf.new ≡ F.faults shelf.old }
     {
-        while let Some(delivery) = self.stack.pop() {
-            self.take(alloc, graph, shelf, delivery, staging)?;
+        let mut next = first;
+        while let Some(delivery) = take_next(next, &mut self.stack) {
+            next = self.take(alloc, graph, shelf, delivery, staging)?;
         }
         Ok(())
     }
 
-    // Takes one element at its node.
+    // Takes one element at its node. An answer is next, before what is on the stack.
     fn take<F: Shelf>(
         &mut self,
         alloc: Global,
@@ -122,16 +128,17 @@ impl Buffers {
         shelf: &mut F,
         delivery: Delivery,
         staging: &mut Staging,
-    ) -> Result<(), ExecRefusal>
+    ) -> Result<Option<Delivery>, ExecRefusal>
         requires outputs { self.old.outputs ≡ [] }
         requires windows { self.old.windows ≡ [] }
         ensures outputs { OnOk result (self.new.outputs ≡ []) }
         ensures windows { OnOk result (self.new.windows ≡ []) }
-        ensures staged { OnOk result
-            (map Arrives staging.new.arrivals ++ outputs_of_stack graph.now self.new.stack
+        ensures staged { IfOk result (λ next. map Arrives staging.new.arrivals
+            ++ outputs_of_stack graph.now (self.new.stack ++ option_to_list next)
             ≡ map Arrives staging.old.arrivals ++ (outputs_of_delivery graph.now delivery
             ++ outputs_of_stack graph.now self.old.stack)) }
-        ensures less { OnOk result (stops_of_all graph.now self.new.stack
+        ensures less { IfOk result (λ next.
+            stops_of_all graph.now (self.new.stack ++ option_to_list next)
             < stops_of graph.now delivery + stops_of_all graph.now self.old.stack) }
         ensures only { staging.new ≡ record staging.old { arrivals = staging.new.arrivals } }
         ensures front { take (length staging.old.arrivals) staging.new.arrivals
@@ -148,14 +155,14 @@ impl Buffers {
         let Delivery { node, element } = delivery;
         // An element is on its way to nodes of the plan alone.
         let Some(at) = graph.plan().nodes.get(node as usize) else {
-            return Ok(());
+            return Ok(None);
         };
         let followers = graph.followers(node);
         self.pass(alloc, node, &at.kind, followers, shelf, element, staging)
     }
 
     // Lets an element pass a node of this kind: at a barrier it is staged, and what another node makes of
-    // it is put on its way to the followers.
+    // it is put on its way to the followers. An answer is next, before what is on the stack.
     fn pass<F: Shelf>(
         &mut self,
         alloc: Global,
@@ -165,14 +172,15 @@ impl Buffers {
         shelf: &mut F,
         element: Element,
         staging: &mut Staging,
-    ) -> Result<(), ExecRefusal>
+    ) -> Result<Option<Delivery>, ExecRefusal>
         requires settings { HasSettings kind.now }
         requires outputs { self.old.outputs ≡ [] }
         requires windows { self.old.windows ≡ [] }
         ensures outputs { OnOk result (self.new.outputs ≡ []) }
         ensures windows { OnOk result (self.new.windows ≡ []) }
-        ensures passed { OnOk result (Passes node kind.now followers.now element
-            self.old.stack self.new.stack staging.old.arrivals staging.new.arrivals) }
+        ensures passed { IfOk result (λ next. Passes node kind.now followers.now element
+            self.old.stack (self.new.stack ++ option_to_list next)
+            staging.old.arrivals staging.new.arrivals) }
         ensures only { staging.new ≡ record staging.old { arrivals = staging.new.arrivals } }
         ensures front { take (length staging.old.arrivals) staging.new.arrivals
             ≡ staging.old.arrivals }
@@ -184,19 +192,25 @@ impl Buffers {
             → F.faults shelf.new ≡ F.faults shelf.old }
     {
         match kind {
-            NodeKind::Source { .. } => Ok(()),
+            NodeKind::Source { .. } => Ok(None),
             NodeKind::ParDo { work, args } => {
                 call_function(node, *work, args, shelf, &element, &mut self.outputs)?;
-                Ok(deliver_each(alloc, followers, &mut self.outputs, &mut self.stack)?)
+                Ok(forward_each(alloc, followers, &mut self.outputs, &mut self.stack)?)
             }
-            NodeKind::Flatten => Ok(deliver(alloc, followers, element, &mut self.stack)?),
+            NodeKind::Flatten => Ok(forward(alloc, followers, element, &mut self.stack)?),
             NodeKind::WindowInto { strategy } => {
                 assign(strategy, element.time, &mut self.windows)?;
-                put_in_windows(alloc, element, &mut self.windows, &mut self.outputs)?;
-                Ok(deliver_each(alloc, followers, &mut self.outputs, &mut self.stack)?)
+                Ok(forward_in_windows(
+                    alloc,
+                    followers,
+                    element,
+                    &mut self.windows,
+                    &mut self.stack,
+                )?)
             }
             NodeKind::Group { .. } | NodeKind::Stateful { .. } | NodeKind::Write { .. } => {
-                Ok(staging.add(node, element)?)
+                staging.add(node, element)?;
+                Ok(None)
             }
         }
     }

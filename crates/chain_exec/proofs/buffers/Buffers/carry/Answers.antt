@@ -1,4 +1,5 @@
 use Rattle.std.proofs.Common.{◌++◌, Bool, map, sym, ap, subst, ◌∙◌, arith}
+use Rattle.std.specs.Prelude.{option_to_list}
 use Rattle.std.proofs.lemmas.Result.{err_from_is_err_and}
 use Rattle.beam_model.specs.Chains.{Arrives}
 use Rattle.beam_model.specs.Spread.{first_poison}
@@ -15,45 +16,51 @@ loop-delivery-preserved g c =
     let plan = c.args.graph.now in
     let l = c.loop-delivery in
     let d = c.in-Some.delivery in
-    let top = top_first plan l.self.stack c.pop.new.self d c.in-Some.ensures in
-    let first = same_first l.staging.arrivals c.args.staging.now.arrivals (outputs_of_stack plan l.self.stack) (outputs_of_stack plan c.args.self.now.stack) l.invariant.staged in
+    let at_first = c.args.self.now.stack ++ option_to_list c.args.first in
+    let on_way = l.self.stack ++ option_to_list l.next in
+    let top = top_first plan on_way c.take_next.new.stack d c.in-Some.ensures in
+    let first = same_first l.staging.arrivals c.args.staging.now.arrivals (outputs_of_stack plan on_way) (outputs_of_stack plan at_first) l.invariant.staged in
     record {
-      outputs = c.in_ok-take.ensures.outputs;
-      windows = c.in_ok-take.ensures.windows;
-      staged = c.in_ok-take.ensures.staged ∙ ap (λ (o : _). map Arrives l.staging.arrivals ++ o) (sym top) ∙ l.invariant.staged;
+      outputs = c.in_ok-next.ensures.outputs;
+      windows = c.in_ok-next.ensures.windows;
+      staged = c.in_ok-next.ensures.staged ∙ ap (λ (o : _). map Arrives l.staging.arrivals ++ o) (sym top) ∙ l.invariant.staged;
       only = c.take.ensures.only ∙ ap (λ (s : Receipt). record s { arrivals = c.take.new.staging.arrivals }) l.invariant.only;
       front = front_after c.args.staging.now.arrivals l.staging.arrivals c.take.new.staging.arrivals l.invariant.front c.take.ensures.front;
       counts = omega (arith, l.invariant.counts, c.take.ensures.counts);
       strict = c.take.ensures.strict ∙ l.invariant.strict;
       unharmed = λ strict none. c.take.ensures.unharmed (l.invariant.strict ∙ strict)
-          (none_in_front (outputs_of_delivery plan d) (outputs_of_stack plan c.pop.new.self) (sym (ap first_poison top) ∙ first ∙ none)) ∙ l.invariant.unharmed strict none;
+          (none_in_front (outputs_of_delivery plan d) (outputs_of_stack plan c.take_next.new.stack) (sym (ap first_poison top) ∙ first ∙ none)) ∙ l.invariant.unharmed strict none;
     }
 
-pub returns-in_err-take-clause-front : goal.returns-in_err-take-clause-front
-returns-in_err-take-clause-front g c =
+pub returns-in_err-next-clause-front : goal.returns-in_err-next-clause-front
+returns-in_err-next-clause-front g c =
     front_after c.args.staging.now.arrivals c.loop-delivery.staging.arrivals c.take.new.staging.arrivals c.loop-delivery.invariant.front c.take.ensures.front
 
-pub returns-in_err-take-clause-refused : goal.returns-in_err-take-clause-refused
-returns-in_err-take-clause-refused g c =
+pub returns-in_err-next-clause-refused : goal.returns-in_err-next-clause-refused
+returns-in_err-next-clause-refused g c =
     let plan = c.args.graph.now in
     let l = c.loop-delivery in
     let d = c.in-Some.delivery in
-    let top = top_first plan l.self.stack c.pop.new.self d c.in-Some.ensures in
-    let first = same_first l.staging.arrivals c.args.staging.now.arrivals (outputs_of_stack plan l.self.stack) (outputs_of_stack plan c.args.self.now.stack) l.invariant.staged in
-    let e = c.in_err-take.field-0.0 in
+    let at_first = c.args.self.now.stack ++ option_to_list c.args.first in
+    let on_way = l.self.stack ++ option_to_list l.next in
+    let top = top_first plan on_way c.take_next.new.stack d c.in-Some.ensures in
+    let first = same_first l.staging.arrivals c.args.staging.now.arrivals (outputs_of_stack plan on_way) (outputs_of_stack plan at_first) l.invariant.staged in
+    let e = c.in_err-next.field-0.0 in
     let refused = subst (λ (s : Bool). IsCallRefused (record { strict = s; before = g.F.Shelf.faults l.shelf; after = g.F.Shelf.faults c.take.new.shelf }) (outputs_of_delivery plan d) e) l.invariant.strict
-    c.in_err-take.ensures.refused in
+    c.in_err-next.ensures.refused in
     let p = err_from_is_err_and c.from_residual.result c.from_residual.ensures.1 in
     rw (p.1, p.2) (refused_in_whole (g.F.Shelf.strict c.args.shelf.now) (g.F.Shelf.faults c.args.shelf.now) (g.F.Shelf.faults l.shelf) (g.F.Shelf.faults c.take.new.shelf)
-    (outputs_of_delivery plan d) (outputs_of_stack plan c.args.self.now.stack) l.invariant.counts
-    (λ at is. sym first ∙ ap first_poison top ∙ first_in_front (outputs_of_delivery plan d) (outputs_of_stack plan c.pop.new.self) at is) e refused)
+    (outputs_of_delivery plan d) (outputs_of_stack plan at_first) l.invariant.counts
+    (λ at is. sym first ∙ ap first_poison top ∙ first_in_front (outputs_of_delivery plan d) (outputs_of_stack plan c.take_next.new.stack) at is) e refused)
 
-pub returns-in_err-take-clause-unharmed : goal.returns-in_err-take-clause-unharmed
-returns-in_err-take-clause-unharmed g c = λ strict none.
+pub returns-in_err-next-clause-unharmed : goal.returns-in_err-next-clause-unharmed
+returns-in_err-next-clause-unharmed g c = λ strict none.
     let plan = c.args.graph.now in
     let l = c.loop-delivery in
     let d = c.in-Some.delivery in
-    let top = top_first plan l.self.stack c.pop.new.self d c.in-Some.ensures in
-    let first = same_first l.staging.arrivals c.args.staging.now.arrivals (outputs_of_stack plan l.self.stack) (outputs_of_stack plan c.args.self.now.stack) l.invariant.staged in
+    let at_first = c.args.self.now.stack ++ option_to_list c.args.first in
+    let on_way = l.self.stack ++ option_to_list l.next in
+    let top = top_first plan on_way c.take_next.new.stack d c.in-Some.ensures in
+    let first = same_first l.staging.arrivals c.args.staging.now.arrivals (outputs_of_stack plan on_way) (outputs_of_stack plan at_first) l.invariant.staged in
     c.take.ensures.unharmed (l.invariant.strict ∙ strict)
-    (none_in_front (outputs_of_delivery plan d) (outputs_of_stack plan c.pop.new.self) (sym (ap first_poison top) ∙ first ∙ none)) ∙ l.invariant.unharmed strict none
+    (none_in_front (outputs_of_delivery plan d) (outputs_of_stack plan c.take_next.new.stack) (sym (ap first_poison top) ∙ first ∙ none)) ∙ l.invariant.unharmed strict none

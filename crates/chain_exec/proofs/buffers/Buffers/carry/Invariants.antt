@@ -1,4 +1,5 @@
 use Rattle.std.proofs.Common.{◌≡◌, ◌≤◌, ◌++◌, [], true, None, length, map, take}
+use Rattle.std.specs.Prelude.{option_to_list}
 use Rattle.beam_model.specs.Chains.{Arrives}
 use Rattle.beam_model.specs.Spread.{first_poison}
 use Rattle.chain_exec.specs.Deliveries.{outputs_of_stack}
@@ -9,14 +10,15 @@ abbrev pub invariant-loop-delivery : goal.invariant-loop-delivery
 invariant-loop-delivery g l = record {
   outputs : l.self.outputs ≡ [];
   windows : l.self.windows ≡ [];
-  staged : map Arrives l.staging.arrivals ++ outputs_of_stack l.graph l.self.stack ≡ map Arrives l.initial.staging.arrivals ++ outputs_of_stack l.graph l.initial.self.stack;
+  staged : map Arrives l.staging.arrivals ++ outputs_of_stack l.graph (l.self.stack ++ option_to_list l.next)
+      ≡ map Arrives l.initial.staging.arrivals ++ outputs_of_stack l.graph (l.initial.self.stack ++ option_to_list l.initial.next);
   only : l.staging ≡ record l.initial.staging { arrivals = l.staging.arrivals };
   front : take (length l.initial.staging.arrivals) l.staging.arrivals ≡ l.initial.staging.arrivals;
   counts : g.F.Shelf.faults l.initial.shelf ≤ g.F.Shelf.faults l.shelf;
   strict : g.F.Shelf.strict l.shelf ≡ g.F.Shelf.strict l.initial.shelf;
-  unharmed : g.F.Shelf.strict l.initial.shelf ≡ true → first_poison (outputs_of_stack l.graph l.initial.self.stack) ≡ None
+  unharmed : g.F.Shelf.strict l.initial.shelf ≡ true → first_poison (outputs_of_stack l.graph (l.initial.self.stack ++ option_to_list l.initial.next)) ≡ None
       → g.F.Shelf.faults l.shelf ≡ g.F.Shelf.faults l.initial.shelf;
 }
 
 abbrev pub decreases-loop-delivery : goal.decreases-loop-delivery
-decreases-loop-delivery g l = stops_of_all l.graph l.self.stack
+decreases-loop-delivery g l = stops_of_all l.graph (l.self.stack ++ option_to_list l.next)
