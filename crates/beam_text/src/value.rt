@@ -74,7 +74,6 @@ fn append_items(items: &[Value], out: &mut List<u8>) -> Result<(), NoMemory>
     Ok(())
 }
 
-// Runs of plain bytes are appended whole.
 fn append_blob(bytes: &[u8], out: &mut List<u8>) -> Result<(), NoMemory>
     ensures ok { OnOk result (out.new ≡ out.old ++ blob_text bytes.now) }
     ensures err { OnErr result (take (length out.old) out.new ≡ out.old) }
@@ -85,6 +84,29 @@ fn append_blob(bytes: &[u8], out: &mut List<u8>) -> Result<(), NoMemory>
 }
 
 fn append_bytes(bytes: &[u8], out: &mut List<u8>) -> Result<(), NoMemory>
+    ensures ok { OnOk result (out.new ≡ out.old ++ flat_map byte_text bytes.now) }
+    ensures err { OnErr result (take (length out.old) out.new ≡ out.old) }
+{
+    if are_plain(bytes) {
+        out.extend_from_slice(bytes)
+    } else {
+        append_runs(bytes, out)
+    }
+}
+
+// Whether all bytes are printed as they are. Looks at many bytes at once, since it doesn't stop early.
+fn are_plain(bytes: &[u8]) -> bool
+    ensures { result ≡ true → flat_map byte_text bytes.now ≡ bytes.now }
+{
+    let mut any = false;
+    for byte in bytes {
+        any |= is_escaped(*byte);
+    }
+    !any
+}
+
+// Runs of plain bytes are appended whole.
+fn append_runs(bytes: &[u8], out: &mut List<u8>) -> Result<(), NoMemory>
     ensures ok { OnOk result (out.new ≡ out.old ++ flat_map byte_text bytes.now) }
     ensures err { OnErr result (take (length out.old) out.new ≡ out.old) }
 {

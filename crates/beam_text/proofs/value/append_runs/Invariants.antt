@@ -1,7 +1,7 @@
 use Rattle.std.proofs.Common.{◌≡◌, ◌++◌, length, take}
 use Rattle.std.specs.List.{flat_map}
 use Rattle.beam_values.specs.Texts.{byte_text}
-use Rattle.beam_text.proofs.value.append_bytes.Given as goal
+use Rattle.beam_text.proofs.value.append_runs.Given as goal
 
 -- what is written and what is left are the whole text
 abbrev pub invariant-loop-rest : goal.invariant-loop-rest
