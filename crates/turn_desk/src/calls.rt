@@ -7,6 +7,7 @@ ghost use Rattle.turn_desk.specs.Plays.{HasDrawn, IsInTurn};
 ghost use Rattle.turn_desk.specs.Seen.{constant_of, note_of, turn_note, lent_value, present_value};
 ghost use Rattle.turn_desk.specs.Seen.{IsPassOf, IsTurnOf};
 
+use crate::bells::{Bells, Pause};
 use crate::change::Change;
 use crate::desk::{Desk, Hold, Pass, Place, Turn};
 use crate::error::NoMemory;
@@ -18,15 +19,11 @@ use atomic_table::{Refused, Table};
 use std::alloc::Global;
 use std::snapshot::Snapshot;
 use std::sync::Wait;
-use std::{hint, thread};
 
 // Word 0 counts the tickets, and word 1 is the ticket that is served.
 const TICKETS: usize = 0;
 
 const SERVING: usize = 1;
-
-// How often a pass that waits looks before it yields.
-const SPINS: u8 = 63;
 
 impl<V: Held> Desk<V> {
     /// A desk with this value, and its first pass. The proof of the call picks the constant.
@@ -63,7 +60,10 @@ impl<V: Held> Desk<V> {
             note: Unseen::of(),
         })?;
         match Table::new(alloc, &[0, 0], slots, &constant) {
-            Ok((table, seat)) => Ok((Desk { table }, Pass { seat })),
+            Ok((table, seat)) => {
+                let bells = Bells::new();
+                Ok((Desk { table, bells }, Pass { seat }))
+            }
             Err(Refused { slots: _ }) => Err(NoMemory),
         }
     }
@@ -101,19 +101,13 @@ impl<V: Held> Desk<V> {
         ensures desk { seat.new.table_id ≡ seat.old.table_id }
         ensures turn { IsInTurn V.fits seat.old.me seat.new.me }
     {
-        let mut spins = 0;
+        let mut pause = Pause::new();
         for _ in rt.forever() {
             let serving = self.table.shared.load::<Serve<V>>(seat, SERVING);
             if serving == ticket {
                 break;
             }
-            // Whose turn is the next one looks again at once; others let those run who come before.
-            if spins < SPINS && ticket.wrapping_sub(serving) == 1 {
-                spins += 1;
-                hint::spin_loop();
-            } else {
-                thread::yield_now();
-            }
+            pause.step(rt, &self.bells, ticket, serving);
         }
     }
 
@@ -139,7 +133,9 @@ impl<V: Held> Desk<V> {
             note,
         };
         self.table.shared.exchange(&mut seat, 0, back).end_vacant();
-        self.table.shared.fetch_add::<End>(&mut seat, SERVING, 1);
+        let ended = self.table.shared.fetch_add::<End>(&mut seat, SERVING, 1);
+        let drawn = self.table.shared.peek(TICKETS);
+        self.bells.ring_after(ended, drawn);
         Pass { seat }
     }
 
@@ -175,7 +171,7 @@ impl<V: Held> Desk<V> {
         ensures sound { IsSound (note_of pass) }
         ensures fits { V.fits result (constant_of self) (note_of pass) }
     {
-        let Desk { table } = self;
+        let Desk { table, bells: _ } = self;
         let Pass { seat } = pass;
         let mut closed = table.close_with(seat);
         let value = closed.take(0).into_value();

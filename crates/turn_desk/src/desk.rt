@@ -3,6 +3,7 @@ ghost use Rattle.std.specs.Prelude.{◌≡◌, false, [], ◌∷◌, map};
 ghost use Rattle.std.specs.Option.{is_some};
 ghost use Rattle.turn_desk.specs.Standing.{IsIdle, IsIdle-prop, HasTaken, HasTaken-prop};
 
+use crate::bells::Bells;
 use crate::held::Held;
 use crate::plays::Order;
 use crate::unseen::Unseen;
@@ -26,6 +27,7 @@ pub struct Desk<V: Held> {
         Order<V>,
         Global,
     >,
+    pub(crate) bells: Bells,
     ghost counts: { (table.shared.table_id.words ≡ 2) × (table.shared.table_id.slots ≡ 1) },
 }
 

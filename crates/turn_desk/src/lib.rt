@@ -8,6 +8,7 @@
 //! Read `held.rt` first, for what a value has to meet, and then `calls.rt`. The README says why no two turns overlap.
 #![tactic(auto)]
 
+mod bells;
 mod calls;
 mod change;
 mod desk;

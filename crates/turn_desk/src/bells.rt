@@ -1,0 +1,98 @@
+//! Where passes that wait for their turn sleep, and how they are woken. Contracts see nothing of it: a pass that
+//! is woken looks at the ticket that is served before it goes on, and so does one that wakes for no reason.
+use std::sync::Wait;
+use std::sync::atomic::{AtomicU64, Ordering};
+use std::{array, hint};
+
+// Passes whose tickets leave the same remainder share a bell.
+const COUNT: usize = 16;
+
+// What a bell says: whether a pass asked to be woken that wasn't since.
+const QUIET: u64 = 0;
+
+const ASKED: u64 = 1;
+
+// A pass with at most so many turns to wait for looks again at once, and others sleep. Those who look are on a
+// processor as their turn comes, so that a turn costs no wake-up.
+const NEAR: u64 = 2;
+
+// How often it looks before it sleeps too: some ten turns long, since the pass in turn may be off its processor.
+const LOOKS: u32 = 1000;
+
+/// A bell for each of sixteen tickets in a row.
+#[derive(Drop)]
+pub struct Bells {
+    bells: [AtomicU64; COUNT],
+}
+
+impl Bells {
+    pub fn new() -> Bells {
+        Bells {
+            bells: array::from_fn(|_| AtomicU64::new(QUIET)),
+        }
+    }
+
+    fn bell(&self, ticket: u64) -> &AtomicU64 {
+        &self.bells[(ticket % COUNT as u64) as usize]
+    }
+
+    fn ask(&self, ticket: u64) {
+        self.bell(ticket).store(ASKED, Ordering::SeqCst);
+    }
+
+    // Sleeps until the bell is rung, unless it was since the pass asked.
+    fn sleep<R: Wait>(&self, rt: &R, ticket: u64) {
+        self.bell(ticket).park(rt, ASKED as u32);
+    }
+
+    fn ring(&self, ticket: u64) {
+        let bell = self.bell(ticket);
+        if bell.load(Ordering::SeqCst) == ASKED {
+            bell.store(QUIET, Ordering::SeqCst);
+            bell.wake_all();
+        }
+    }
+
+    /// The turn of this ticket has ended, where so many tickets were drawn. Wakes the pass whose turn it is now and the
+    /// one whose turn comes near.
+    pub fn ring_after(&self, ended: u64, drawn: u64) {
+        let left = drawn.wrapping_sub(ended);
+        if left > 1 {
+            self.ring(ended.wrapping_add(1));
+        }
+        if left > NEAR + 1 {
+            self.ring(ended.wrapping_add(NEAR + 1));
+        }
+    }
+}
+
+/// What a pass does between two looks at the ticket that is served.
+#[derive(Drop)]
+pub struct Pause {
+    looks: u32,
+    has_asked: bool,
+}
+
+impl Pause {
+    pub fn new() -> Pause {
+        Pause {
+            looks: 0,
+            has_asked: false,
+        }
+    }
+
+    /// Before it sleeps a pass asks to be woken and looks once more: a turn that ends after that look finds that it
+    /// asked.
+    pub fn step<R: Wait>(&mut self, rt: &R, bells: &Bells, ticket: u64, serving: u64) {
+        if self.looks < LOOKS && ticket.wrapping_sub(serving) <= NEAR {
+            self.looks += 1;
+            hint::spin_loop();
+        } else if self.has_asked {
+            bells.sleep(rt, ticket);
+            *self = Pause::new();
+        } else {
+            bells.ask(ticket);
+            self.has_asked = true;
+        }
+    }
+}
