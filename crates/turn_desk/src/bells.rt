@@ -2,7 +2,7 @@
 //! is woken looks at the ticket that is served before it goes on, and so does one that wakes for no reason.
 use std::sync::Wait;
 use std::sync::atomic::{AtomicU64, Ordering};
-use std::{array, hint};
+use std::{array, hint, thread};
 
 // Passes whose tickets leave the same remainder share a bell.
 const COUNT: usize = 16;
@@ -12,12 +12,15 @@ const QUIET: u64 = 0;
 
 const ASKED: u64 = 1;
 
-// A pass with at most so many turns to wait for looks again at once, and others sleep. Those who look are on a
-// processor as their turn comes, so that a turn costs no wake-up.
+// A pass with at most so many turns before its own looks again at once: it is on a processor as its turn comes, so
+// that no turn waits for a wake-up.
 const NEAR: u64 = 2;
 
-// How often it looks before it sleeps too: some ten turns long, since the pass in turn may be off its processor.
-const LOOKS: u32 = 1000;
+// How often it does so before it sleeps. The pass in turn may be off its processor, where other programs run.
+const LOOKS: u32 = 6000;
+
+// A pass with more turns than this before its own lets others run and looks again. It would sleep too shortly.
+const FAR: u64 = 3;
 
 /// A bell for each of sixteen tickets in a row.
 #[derive(Drop)]
@@ -84,9 +87,12 @@ impl Pause {
     /// Before it sleeps a pass asks to be woken and looks once more: a turn that ends after that look finds that it
     /// asked.
     pub fn step<R: Wait>(&mut self, rt: &R, bells: &Bells, ticket: u64, serving: u64) {
-        if self.looks < LOOKS && ticket.wrapping_sub(serving) <= NEAR {
+        let before = ticket.wrapping_sub(serving);
+        if before <= NEAR && self.looks < LOOKS {
             self.looks += 1;
             hint::spin_loop();
+        } else if before > FAR {
+            thread::yield_now();
         } else if self.has_asked {
             bells.sleep(rt, ticket);
             *self = Pause::new();
