@@ -4,7 +4,8 @@ use std::sync::Wait;
 use std::sync::atomic::{AtomicU64, Ordering};
 use std::{array, hint, thread};
 
-// Passes whose tickets leave the same remainder share a bell.
+// Passes whose tickets leave the same remainder share a bell. More than FAR, so that of those only one at a time asks, and
+// a divisor of 2^64, at which tickets begin anew.
 const COUNT: usize = 16;
 
 // What a bell says: whether a pass asked to be woken that wasn't since.
@@ -12,14 +13,15 @@ const QUIET: u64 = 0;
 
 const ASKED: u64 = 1;
 
-// A pass with at most so many turns before its own looks again at once: it is on a processor as its turn comes, so
-// that no turn waits for a wake-up.
+// A pass with at most so many turns before its own looks again at once: so it is on a processor as its turn comes, and
+// seldom has to be woken.
 const NEAR: u64 = 2;
 
-// How often it does so before it sleeps. The pass in turn may be off its processor, where other programs run.
+// How often it does so before it sleeps, since the pass in turn may be off its processor where other programs run.
 const LOOKS: u32 = 6000;
 
-// A pass with more turns than this before its own lets others run and looks again. It would sleep too shortly.
+// A pass with more turns than this before its own lets others run and looks again, and never sleeps: where turns are
+// short a sleep costs more than it waits.
 const FAR: u64 = 3;
 
 /// A bell for each of sixteen tickets in a row.
@@ -48,6 +50,7 @@ impl Bells {
         self.bell(ticket).park(rt, ASKED as u32);
     }
 
+    // The word changes before the wake: so who finds it changed needn't sleep, and who sleeps is woken after it.
     fn ring(&self, ticket: u64) {
         let bell = self.bell(ticket);
         if bell.load(Ordering::SeqCst) == ASKED {
@@ -84,8 +87,8 @@ impl Pause {
         }
     }
 
-    /// Before it sleeps a pass asks to be woken and looks once more: a turn that ends after that look finds that it
-    /// asked.
+    /// Before it sleeps a pass asks to be woken and looks once more: who ends a turn after that look finds that it asked, or
+    /// finds the word of one who rang since and wakes it.
     pub fn step<R: Wait>(&mut self, rt: &R, bells: &Bells, ticket: u64, serving: u64) {
         let before = ticket.wrapping_sub(serving);
         if before <= NEAR && self.looks < LOOKS {
