@@ -5,7 +5,8 @@
 //! `split_pass` and `join_pass` answer the parts and the join, and `close` gives a value that fits the last note.
 //! A call that is given a desk with a pass or a turn asks that these are of that desk.
 //!
-//! Read `held.rt` first, for what a value has to meet, and then `calls.rt`. The README says why no two turns overlap.
+//! Read `held.rt` first, for what a value has to meet, and then `calls.rt`. The README says why no two turns overlap,
+//! and `bells.rt` how a pass waits.
 #![tactic(auto)]
 
 mod bells;
