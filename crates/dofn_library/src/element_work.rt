@@ -4,7 +4,7 @@ ghost use Rattle.beam_values.specs.declared.plan.FnKind.{FnKind};
 ghost use Rattle.beam_model.specs.Functions.{emits};
 ghost use Rattle.dofn_library.specs.Answers.{Gives, counted};
 
-use crate::Strict;
+use crate::{SharedKeys, Strict};
 use beam_values::{Args, Element, FnKind, List};
 use dofn_traits::{CallRefusal, DoFn};
 use std::alloc::Global;
@@ -17,9 +17,11 @@ pub trait ElementWork {
     fn kind() -> FnKind
         ensures { result ≡ work };
 
-    /// Adds the outputs of an element, or fails where it is poison.
+    /// Adds the outputs of an element, or fails where it is poison. A key that it makes may come from
+    /// `keys`, which lasts from call to call.
     fn give(
         alloc: Global,
+        keys: &mut SharedKeys,
         args: &Args,
         e: &Element,
         out: &mut List<Element>,
@@ -49,7 +51,7 @@ impl<W: ElementWork + Send + Drop> DoFn for Strict<W> {
         ensures counts { self.new ≡ counted self.old result }
         ensures rises { self.old ≤ self.new }
     {
-        let answer = W::give(self.alloc, args, e, out);
+        let answer = W::give(self.alloc, &mut self.keys, args, e, out);
         self.count(answer);
         answer
     }

@@ -4,7 +4,8 @@
 //! Every type here is strict: it gives exactly what `emits` and `steps` of `beam_model` say, fails on
 //! poison alone and before it asks for any memory, and counts one fault for each such call and none
 //! else. The layer above may rely on this, which [`Strict`] says once for all of them by the clauses of
-//! its calls. A call borrows its input: what it gives shares the parts of pairs. Read `strict.rt`,
+//! its calls. A call borrows its input: what it gives shares the parts of pairs, and a key that is made
+//! of bytes is shared with the equal ones made lately (`shared_keys.rt`). Read `strict.rt`,
 //! `element_work.rt` and `state_work.rt` first; `work/` has what each function does.
 #![tactic(auto)]
 
@@ -14,12 +15,14 @@ mod element_work;
 mod kept;
 mod numbers;
 mod shapes;
+mod shared_keys;
 mod state_work;
 mod strict;
 mod texts;
 pub mod work;
 
 pub use element_work::ElementWork;
+pub use shared_keys::SharedKeys;
 pub use state_work::StateWork;
 pub use strict::Strict;
 

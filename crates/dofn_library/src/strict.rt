@@ -1,6 +1,7 @@
 ghost use Rattle.std.specs.Prelude.{◌≡◌, ◌≤◌};
 ghost use Rattle.dofn_library.specs.Answers.{counted};
 
+use crate::SharedKeys;
 use dofn_traits::CallRefusal;
 use std::alloc::Global;
 use std::marker::{Model, PhantomData};
@@ -9,6 +10,7 @@ use std::marker::{Model, PhantomData};
 #[derive(Drop)]
 pub struct Strict<W> {
     pub(crate) alloc: Global,
+    pub(crate) keys: SharedKeys,
     faults: u64,
     work: PhantomData<W>,
 }
@@ -28,6 +30,7 @@ impl<W> Strict<W> {
     {
         Strict {
             alloc,
+            keys: SharedKeys::new(alloc),
             faults: 0,
             work: PhantomData,
         }

@@ -1,8 +1,8 @@
 ghost use Rattle.beam_values.specs.declared.plan.FnKind.TheVariants as kinds;
 
-use crate::ElementWork;
 use crate::shapes::{blob_of, pair_of, push_pair, push_valued};
 use crate::texts::int_of;
+use crate::{ElementWork, SharedKeys};
 use beam_values::{Args, Element, FnKind, List, Value};
 use dofn_traits::CallRefusal;
 use std::alloc::Global;
@@ -20,6 +20,7 @@ impl ElementWork for FieldInt {
 
     fn give(
         alloc: Global,
+        _keys: &mut SharedKeys,
         _args: &Args,
         e: &Element,
         out: &mut List<Element>,
@@ -45,6 +46,7 @@ impl ElementWork for Swap {
 
     fn give(
         _alloc: Global,
+        _keys: &mut SharedKeys,
         _args: &Args,
         e: &Element,
         out: &mut List<Element>,
@@ -69,6 +71,7 @@ impl ElementWork for Values {
 
     fn give(
         alloc: Global,
+        _keys: &mut SharedKeys,
         _args: &Args,
         e: &Element,
         out: &mut List<Element>,

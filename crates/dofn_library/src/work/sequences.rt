@@ -1,8 +1,8 @@
 ghost use Rattle.beam_values.specs.declared.plan.FnKind.TheVariants as kinds;
 
-use crate::ElementWork;
 use crate::numbers::{greatest_of, in_word, sum_of};
 use crate::shapes::{items_of, pair_of, push_pair};
+use crate::{ElementWork, SharedKeys};
 use beam_values::{Args, Element, FnKind, List, Value};
 use dofn_traits::CallRefusal;
 use std::alloc::Global;
@@ -20,6 +20,7 @@ impl ElementWork for SumSeq {
 
     fn give(
         alloc: Global,
+        _keys: &mut SharedKeys,
         _args: &Args,
         e: &Element,
         out: &mut List<Element>,
@@ -46,6 +47,7 @@ impl ElementWork for CountSeq {
 
     fn give(
         alloc: Global,
+        _keys: &mut SharedKeys,
         _args: &Args,
         e: &Element,
         out: &mut List<Element>,
@@ -74,6 +76,7 @@ impl ElementWork for MaxSeq {
 
     fn give(
         alloc: Global,
+        _keys: &mut SharedKeys,
         _args: &Args,
         e: &Element,
         out: &mut List<Element>,
@@ -99,6 +102,7 @@ impl ElementWork for Unseq {
 
     fn give(
         alloc: Global,
+        _keys: &mut SharedKeys,
         _args: &Args,
         e: &Element,
         out: &mut List<Element>,

@@ -1,9 +1,9 @@
 ghost use Rattle.beam_values.specs.declared.plan.FnKind.TheVariants as kinds;
 
-use crate::ElementWork;
 use crate::arguments::{count_of, text_of};
 use crate::shapes::{blob_of, push_valued};
 use crate::texts::{begins_with, field, first_word};
+use crate::{ElementWork, SharedKeys};
 use beam_lines::key_field;
 use beam_values::{Args, Boxed, Bytes, Element, FnKind, List, Value};
 use dofn_traits::CallRefusal;
@@ -22,13 +22,14 @@ impl ElementWork for KeyField {
 
     fn give(
         alloc: Global,
+        keys: &mut SharedKeys,
         _args: &Args,
         e: &Element,
         out: &mut List<Element>,
     ) -> Result<(), CallRefusal> {
         let text = blob_of(&e.value).ok_or(CallRefusal::Failed)?;
         let (key, part) = key_field(text);
-        let key = Boxed::new(alloc, Value::Blob(Bytes::from_slice(alloc, key)?))?;
+        let key = keys.shared(alloc, key)?;
         let part = Boxed::new(alloc, Value::Blob(Bytes::from_slice(alloc, part)?))?;
         push_valued(e, Value::Pair(key, part), out)?;
         Ok(())
@@ -48,6 +49,7 @@ impl ElementWork for Words {
 
     fn give(
         alloc: Global,
+        _keys: &mut SharedKeys,
         _args: &Args,
         e: &Element,
         out: &mut List<Element>,
@@ -74,6 +76,7 @@ impl ElementWork for Field {
 
     fn give(
         alloc: Global,
+        _keys: &mut SharedKeys,
         args: &Args,
         e: &Element,
         out: &mut List<Element>,
@@ -98,6 +101,7 @@ impl ElementWork for KeepPrefix {
 
     fn give(
         alloc: Global,
+        _keys: &mut SharedKeys,
         args: &Args,
         e: &Element,
         out: &mut List<Element>,

@@ -1,7 +1,7 @@
 ghost use Rattle.beam_values.specs.declared.plan.FnKind.TheVariants as kinds;
 
-use crate::ElementWork;
 use crate::arguments::{later, number_of};
+use crate::{ElementWork, SharedKeys};
 use beam_values::{Args, Element, FnKind, List};
 use dofn_traits::CallRefusal;
 use std::alloc::Global;
@@ -19,6 +19,7 @@ impl ElementWork for Shift {
 
     fn give(
         alloc: Global,
+        _keys: &mut SharedKeys,
         args: &Args,
         e: &Element,
         out: &mut List<Element>,
