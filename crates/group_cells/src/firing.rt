@@ -20,6 +20,7 @@ use beam_values::{
 };
 use pane_triggers::{Fire, fire};
 use std::alloc::Global;
+use std::cmp::Ordering;
 use std::mem;
 
 /// How many entries no pane has shown.
@@ -169,7 +170,7 @@ pub fn pane_with(
     };
     Ok(Pane {
         node: cell.node,
-        element: pane_as(alloc, tag, &cell.key, cell.span, parts)?,
+        element: pane_as(alloc, tag, cell, parts)?,
         commit,
     })
 }
@@ -177,20 +178,32 @@ pub fn pane_with(
 fn pane_as(
     alloc: Global,
     tag: PaneTag,
-    key: &Value,
-    span: Span,
+    cell: &Cell,
     parts: List<Value>,
 ) -> Result<Element, NoMemory>
-    ensures { IfOk result (λ element. element ≡ pane_as tag key.now span parts) }
+    ensures { IfOk result (λ element. element ≡ pane_as tag cell.now.key cell.now.span parts) }
 {
-    let key = Boxed::new(alloc, key.copy(alloc)?)?;
+    let key = shared_key(alloc, cell)?;
     let parts = Boxed::new(alloc, Value::Seq(parts))?;
     Ok(Element {
         value: Value::Pair(key, parts),
-        time: last_time(span),
-        span,
+        time: last_time(cell.span),
+        span: cell.span,
         pane: tag,
     })
+}
+
+// The key of a cell, which is mostly that of its first entry and then shared.
+fn shared_key(alloc: Global, cell: &Cell) -> Result<Boxed<Value>, NoMemory>
+    ensures { IfOk result (λ key. key ≡ cell.now.key) }
+{
+    if let Some(first) = cell.entries.as_slice().first()
+        && let Value::Pair(own, _) = &first.element.value
+        && cmp_values(own.get(), &cell.key) == Ordering::Equal
+    {
+        return own.share();
+    }
+    Boxed::new(alloc, cell.key.copy(alloc)?)
 }
 
 // The parts of the entries that a pane holds, ascending by their spellings.
