@@ -37,11 +37,14 @@ pub fn unseen(entries: &[Entry]) -> u64
 }
 
 /// Up to where a pane has shown all entries, where `count` are unseen. New ones come last, except where
-/// sessions merged: so the walk from the back mostly passes no other.
+/// sessions merged: so the walk from the back mostly passes no other. Where all are new, there is none.
 pub fn first_unseen(entries: &[Entry], count: u64) -> usize
     requires { count ≡ unseen_in entries.now }
     ensures { AreShownTo result entries.now }
 {
+    if count == entries.len() as u64 {
+        return 0;
+    }
     let mut left = count;
     let mut at = entries.len();
     while 0 < left {
