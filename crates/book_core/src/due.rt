@@ -106,6 +106,7 @@ fn copy_panes(
     ensures { IfOk result (λ copies. copies ≡ panes_of panes.now waiting.now) }
 {
     let mut copies = List::new(alloc);
+    copies.reserve(waiting.len())?;
     for one in waiting {
         copy_pane(alloc, panes, one, &mut copies)?;
     }

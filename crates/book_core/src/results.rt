@@ -98,10 +98,15 @@ fn put_last<T: Drop>(items: &mut RoomyList<T>, item: T)
     };
 }
 
+// The first panes stay where they lie: a run over one file mostly fires all its panes at once.
 fn put_panes(panes: &mut RoomyList<Pane>, fired: List<Pane>)
     requires { length fired ≤ panes.old.room }
     ensures { panes.new.items ≡ panes.old.items ++ fired }
 {
+    if panes.is_empty() {
+        *panes = RoomyList::from_list(fired);
+        return;
+    }
     for pane in fired.into_vec() {
         put_last(panes, pane);
     }

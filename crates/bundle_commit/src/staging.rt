@@ -7,6 +7,10 @@ use std::alloc::Global;
 use std::marker::Model;
 use watermarks::observe;
 
+/// How many elements a bundle mostly puts out at most: one for each position. The first one takes the
+/// room for all of them, so that the list needn't grow in steps in each bundle.
+const USUAL_COUNT: usize = 64;
+
 /// What a bundle has put out so far. Contracts see it as the receipt that it would seal.
 #[derive(Debug, Drop)]
 pub struct Staging {
@@ -46,6 +50,9 @@ impl Staging {
         }) }
         ensures err { OnErr result (self.new ≡ self.old) }
     {
+        if self.receipt.arrivals.is_empty() {
+            self.receipt.arrivals.reserve(USUAL_COUNT)?;
+        }
         self.receipt.arrivals.push(Arrival { node, element })
     }
 

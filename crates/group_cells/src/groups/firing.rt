@@ -1,4 +1,4 @@
-ghost use Rattle.std.specs.Prelude.{◌≡◌, ◌<◌, ◌≤◌, List as ListOf, Some, None, [], true, false};
+ghost use Rattle.std.specs.Prelude.{◌≡◌, ◌<◌, ◌≤◌, ◌++◌, List as ListOf, Some, None, [], true, false};
 ghost use Rattle.std.specs.Prelude.{length, option_to_list, slice_get, slice_set, IfOk, OnErr};
 ghost use Rattle.std.specs.Prelude.{OnOk};
 ghost use Rattle.std.specs.List.Sorted.{IsNonDecreasing};
@@ -53,7 +53,7 @@ impl Draft {
         let mut fired = List::new(alloc);
         for (n, hold) in holds.iter().enumerate() {
             let panes = self.fire_node(alloc, plan, before, commit, n as u32, *hold, marks)?;
-            fired.append(panes)?;
+            fired = joined(fired, panes)?;
         }
         Ok(fired)
     }
@@ -328,6 +328,19 @@ impl Draft {
         self.changes.push_reserved(Change::Fired(at, before));
         Ok(())
     }
+}
+
+/// The panes of both lists. Where the first has none, the second stays where it lies: mostly one Group
+/// alone fires at a commit, and at the end of a file that are most panes of the run.
+fn joined(first: List<Pane>, second: List<Pane>) -> Result<List<Pane>, NoMemory>
+    ensures { IfOk result (λ all. all ≡ first ++ second) }
+{
+    if first.is_empty() {
+        return Ok(second);
+    }
+    let mut all = first;
+    all.append(second)?;
+    Ok(all)
 }
 
 fn timing_at(rules: &Rules, node: u32, mark: Mark, count: u64, cell: &Cell) -> Option<Timing>

@@ -17,7 +17,7 @@ loop-n-preserved c =
     subst (λ (h : ℤ). IsNodeDone plan before h c.args.commit n c.loop-n.self.cells.items c.fire_node.new.self.cells.items c.loop-n.marks.items c.fire_node.new.marks.items c.in_ok-panes.panes)
     (hold_read holds n c.index-holds-n.result inside c.index-holds-n.is) c.in_ok-panes.ensures.fired in
     record {
-      fired = subst (λ (l : List Pane). AreFiredBelow plan before (hold_at holds) c.args.commit c.args.self.now.cells.items (n + 1) c.fire_node.new.self.cells.items c.fire_node.new.marks.items l) (sym c.in_ok-append.ensures.ok)
+      fired = subst (λ (l : List Pane). AreFiredBelow plan before (hold_at holds) c.args.commit c.args.self.now.cells.items (n + 1) c.fire_node.new.self.cells.items c.fire_node.new.marks.items l) (sym c.in_ok-fired.ensures)
           (fired_more plan before (hold_at holds) c.args.commit c.args.self.now.cells.items n c.loop-n.self.cells.items c.fire_node.new.self.cells.items c.loop-n.marks.items c.fire_node.new.marks.items c.loop-n.fired
           c.in_ok-panes.panes c.requires.checked c.loop-n.invariant.fired done);
       due = c.in_ok-panes.ensures.due;
