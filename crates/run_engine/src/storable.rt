@@ -26,7 +26,7 @@ fn look_at(value: &Value)
         }
         Value::Blob(_bytes) => {}
         Value::Pair(key, value) => {
-            look_at(key.get());
+            look_at_item(key.get());
             look_at(value.get());
         }
         Value::Seq(items) => look_at_all(items.as_slice()),
@@ -38,6 +38,18 @@ fn look_at_all(items: &[Value])
     ensures { AllByRecursion IsStorable items.now }
 {
     for item in items {
-        look_at(item);
+        look_at_item(item);
+    }
+}
+
+// Most items are byte strings, which have no number: they need no call.
+#[cycle(looks)]
+#[inline(always)]
+fn look_at_item(item: &Value)
+    ensures { IsStorable item.now }
+{
+    match item {
+        Value::Blob(_bytes) => {}
+        _ => look_at(item),
     }
 }

@@ -18,7 +18,10 @@ look_at-returns-in-Blob t c = subst IsStorable (sym c.in-Blob.is) (Blob-fits c.i
 pub look_at-returns-in-Pair : goal.look_at-returns-in-Pair
 look_at-returns-in-Pair t c =
     subst IsStorable (sym c.in-Pair.is)
-    (Pair-fits c.in-Pair.key c.in-Pair.value (subst IsStorable c.get.ensures c.look_at.ensures) (subst IsStorable c.get-in-Pair.ensures c.look_at-in-Pair.ensures))
+    (Pair-fits c.in-Pair.key c.in-Pair.value (subst IsStorable c.get.ensures c.look_at_item.ensures) (subst IsStorable c.get-in-Pair.ensures c.look_at.ensures))
 
 pub look_at-returns-in-Seq : goal.look_at-returns-in-Seq
 look_at-returns-in-Seq t c = subst IsStorable (sym c.in-Seq.is) (Seq-fits c.in-Seq.items (subst (AllByRecursion IsStorable) c.as_slice.ensures c.look_at_all.ensures))
+
+pub look_at_item-returns-in-Blob : goal.look_at_item-returns-in-Blob
+look_at_item-returns-in-Blob t c = subst IsStorable (sym c.in-Blob.is) (Blob-fits c.in-Blob._bytes)
