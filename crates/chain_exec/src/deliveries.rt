@@ -1,4 +1,4 @@
-ghost use Rattle.std.specs.Prelude.{◌≡◌, ◌++◌, [], false, map, reverse, OnOk, IfOk};
+ghost use Rattle.std.specs.Prelude.{◌≡◌, ◌≢◌, ◌<◌, ◌++◌, [], false, length, map, reverse, OnOk, IfOk};
 ghost use Rattle.std.specs.List.{flat_map};
 ghost use Rattle.chain_exec.specs.Deliveries.{deliveries_to, element_of, on_way};
 ghost use Rattle.chain_exec.specs.Passing.{in_window};
@@ -47,10 +47,8 @@ pub fn forward_each(
         ≡ stack.old ++ reverse (flat_map (deliveries_to nodes.now) elements.old)) }
     ensures used { OnOk result (elements.new ≡ []) }
 {
-    while elements.len() > 1
-        && let Some(element) = elements.pop()
-    {
-        deliver(alloc, nodes, element, stack)?;
+    while elements.len() > 1 {
+        deliver_last(alloc, nodes, elements, stack)?;
     }
     match elements.pop() {
         Some(first) => {
@@ -75,11 +73,8 @@ pub fn forward_in_windows(
         (map (in_window next.old.element) windows.old))) }
     ensures used { OnOk result (windows.new ≡ []) }
 {
-    while windows.len() > 1
-        && let Some(span) = windows.pop()
-    {
-        let copy = next.element.copy(alloc)?;
-        deliver(alloc, nodes, Element { span, ..copy }, stack)?;
+    while windows.len() > 1 {
+        deliver_in_last_window(alloc, nodes, windows, &next.element, stack)?;
     }
     match windows.pop() {
         Some(span) => {
@@ -102,10 +97,8 @@ pub fn forward_values(
         ≡ stack.old ++ reverse (flat_map (deliveries_to nodes.now) (map element_of values.old))) }
     ensures used { OnOk result (values.new ≡ []) }
 {
-    while values.len() > 1
-        && let Some(timed) = values.pop()
-    {
-        deliver(alloc, nodes, element_of(timed), stack)?;
+    while values.len() > 1 {
+        deliver_last_value(alloc, nodes, values, stack)?;
     }
     match values.pop() {
         Some(first) => {
@@ -147,6 +140,65 @@ pub fn no_element() -> Element {
         value: Value::Null,
         time: Time::LEAST,
     })
+}
+
+// Takes the last element out, and puts it on the stack for each of these nodes.
+fn deliver_last(
+    alloc: Global,
+    nodes: &[u32],
+    elements: &mut List<Element>,
+    stack: &mut List<Delivery>,
+) -> Result<(), NoMemory>
+    requires some { elements.old ≢ [] }
+    ensures stack { OnOk result (stack.new ++ reverse (flat_map (deliveries_to nodes.now) elements.new)
+        ≡ stack.old ++ reverse (flat_map (deliveries_to nodes.now) elements.old)) }
+    ensures less { length elements.new < length elements.old }
+{
+    let Some(element) = elements.pop() else {
+        unreachable!()
+    };
+    deliver(alloc, nodes, element, stack)
+}
+
+// Takes the last window out, and puts a copy of the element in it on the stack for each of these nodes.
+fn deliver_in_last_window(
+    alloc: Global,
+    nodes: &[u32],
+    windows: &mut List<Span>,
+    element: &Element,
+    stack: &mut List<Delivery>,
+) -> Result<(), NoMemory>
+    requires some { windows.old ≢ [] }
+    ensures stack { OnOk result (stack.new
+        ++ reverse (flat_map (deliveries_to nodes.now) (map (in_window element.now) windows.new))
+        ≡ stack.old
+        ++ reverse (flat_map (deliveries_to nodes.now) (map (in_window element.now) windows.old))) }
+    ensures less { length windows.new < length windows.old }
+{
+    let Some(span) = windows.pop() else {
+        unreachable!()
+    };
+    let copy = element.copy(alloc)?;
+    deliver(alloc, nodes, Element { span, ..copy }, stack)
+}
+
+// Takes the last value out, and puts it on the stack as an element for each of these nodes.
+fn deliver_last_value(
+    alloc: Global,
+    nodes: &[u32],
+    values: &mut List<Timed>,
+    stack: &mut List<Delivery>,
+) -> Result<(), NoMemory>
+    requires some { values.old ≢ [] }
+    ensures stack { OnOk result (stack.new
+        ++ reverse (flat_map (deliveries_to nodes.now) (map element_of values.new))
+        ≡ stack.old ++ reverse (flat_map (deliveries_to nodes.now) (map element_of values.old))) }
+    ensures less { length values.new < length values.old }
+{
+    let Some(timed) = values.pop() else {
+        unreachable!()
+    };
+    deliver(alloc, nodes, element_of(timed), stack)
 }
 
 // Puts an element on the stack for each of these nodes, the first of them on top. For one node it is
