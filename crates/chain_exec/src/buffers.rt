@@ -1,4 +1,4 @@
-ghost use Rattle.std.specs.Prelude.{◌≡◌, [], None};
+ghost use Rattle.std.specs.Prelude.{◌≡◌, [], None, IsTrue};
 ghost use Rattle.chain_exec.specs.Unused.{IsUnused};
 
 use crate::deliveries::{Delivery, no_element};
@@ -38,15 +38,35 @@ impl Buffers {
         }
     }
 
-    /// Empties what a refused call has left.
+    /// Empties what a refused call has left. After any other call that is nothing.
     pub(crate) fn clear(&mut self)
         ensures unused { IsUnused self.new }
         ensures emission { self.new.emission ≡ record { items = []; declared = None } }
+    {
+        if !self.is_clear() {
+            self.clear_lists();
+        }
+        self.emission.declared = None;
+    }
+
+    /// Empties the lists, whatever they hold.
+    pub(crate) fn clear_lists(&mut self)
+        ensures unused { IsUnused self.new }
+        ensures items { self.new.emission.items ≡ [] }
     {
         self.stack.truncate(0);
         self.outputs.truncate(0);
         self.windows.truncate(0);
         self.emission.items.truncate(0);
-        self.emission.declared = None;
+    }
+
+    fn is_clear(&self) -> bool
+        ensures unused { IsTrue result → IsUnused self.now }
+        ensures items { IsTrue result → self.now.emission.items ≡ [] }
+    {
+        self.stack.is_empty()
+            && self.outputs.is_empty()
+            && self.windows.is_empty()
+            && self.emission.items.is_empty()
     }
 }
