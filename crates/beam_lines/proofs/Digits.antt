@@ -9,3 +9,7 @@ below_next_power value digit i below small = rw (add-one, pow-suc 10 i) (omega a
 -- fifteen digits fit
 pub below_fifteen : (value i : ℕ) → value < 10 ^ i → i ≤ 15 → value < 10 ^ 15
 below_fifteen value i below small = omega (arith, pow-le-pow_right {n = 10} (lit≤ tt) small)
+
+-- so do sixteen
+pub below_sixteen : (value i : ℕ) → value < 10 ^ i → i ≤ 16 → value < 10 ^ 16
+below_sixteen value i below small = omega (arith, pow-le-pow_right {n = 10} (lit≤ tt) small)

@@ -1,2 +1,3 @@
 pub mod Digits
 pub mod Finding
+pub mod Stamps

@@ -1,6 +1,8 @@
-ghost use Rattle.std.specs.Prelude.{◌≡◌, ◌+◌, ◌-◌, ◌≤◌, ◌<◌, ◌^◌, ℕ, length, IfSome, None, Some};
+ghost use Rattle.std.specs.Prelude.{◌≡◌, ◌+◌, ◌-◌, ◌≤◌, ◌<◌, ◌^◌, ℕ, length, IfSome, None, Some, drop};
+ghost use Rattle.std.specs.List.{position_or_len};
+ghost use Rattle.std.specs.Option.{option_map};
 ghost use Rattle.beam_values.specs.Functions as model;
-ghost use Rattle.beam_lines.specs.Shown.{shown};
+ghost use Rattle.beam_lines.specs.Shown.{shown, stamp_of, stamped};
 
 use crate::line::len_before;
 use beam_values::Time;
@@ -30,14 +32,65 @@ pub fn timed_line(line: &[u8]) -> TimedLine<'_>
             None => TimedLine::Poison,
         };
     }
-    let len = len_before(TAB, line);
-    if len == line.len() {
-        return TimedLine::Poison;
+    stamped_line(line)
+}
+
+// Reads a line that begins with a time.
+fn stamped_line(line: &[u8]) -> TimedLine<'_>
+    ensures { shown result ≡ stamped line.now }
+{
+    match line.split_first() {
+        Some((b'-', rest)) => match read_stamp(rest) {
+            Some(stamp) => timed_text(Time::new(-(stamp.magnitude as i64)), rest, stamp.len),
+            None => TimedLine::Poison,
+        },
+        _ => match read_stamp(line) {
+            Some(stamp) => timed_text(Time::new(stamp.magnitude as i64), line, stamp.len),
+            None => TimedLine::Poison,
+        },
     }
-    match time_of(line.split_at(len).0) {
+}
+
+// A time that `len` bytes write, then a TAB, then a text.
+fn timed_text(time: Option<Time>, line: &[u8], len: usize) -> TimedLine<'_>
+    requires { len < length line.now }
+    ensures { shown result ≡ model.timed_as time (drop (len + 1) line.now) }
+{
+    match time {
         Some(time) => TimedLine::Timed(time, line.split_at(len + 1).1),
         None => TimedLine::Poison,
     }
+}
+
+// The digits before the first TAB of a text: the number that they write, and how many they are.
+#[derive(Clone, Copy)]
+struct Stamp {
+    magnitude: u64,
+    len: usize,
+}
+
+// Reads digits up to a TAB, without a look for that TAB before.
+fn read_stamp(text: &[u8]) -> Option<Stamp>
+    ensures value { option_map (λ stamp. stamp.magnitude) result ≡ stamp_of text.now }
+    ensures len { IfSome result (λ stamp. stamp.len ≡ position_or_len model.is_tab text.now) }
+    ensures inside { IfSome result (λ stamp. stamp.len < length text.now) }
+    ensures within { IfSome result (λ stamp. stamp.magnitude ≤ 9223372036854775) }
+{
+    let mut value = 0u64;
+    for len in 0..text.len().min(MOST_DIGITS + 1) {
+        let byte = text[len];
+        if byte.is_ascii_digit() {
+            value = 10 * value + u64::from(byte - b'0');
+        } else if byte == TAB && len > 0 && value <= Time::GREATEST_MS as u64 {
+            return Some(Stamp {
+                magnitude: value,
+                len,
+            });
+        } else {
+            return None;
+        }
+    }
+    None
 }
 
 /// An optional `-` and 1 to 16 digits, within the bounds of a time.

@@ -1,5 +1,5 @@
 -- Elements on their way to nodes that take them, and their outputs from there.
-use Rattle.std.specs.Prelude.{ℕ, List, map, reverse}
+use Rattle.std.specs.Prelude.{ℕ, List, [], ◌∷◌, Bool, true, false, map, reverse}
 use Rattle.std.specs.List.{flat_map}
 use Rattle.beam_values.specs.declared.element.Element.{Element}
 use Rattle.beam_values.specs.declared.plan.Plan.{Plan}
@@ -13,6 +13,11 @@ use Rattle.chain_exec.specs.declared.deliveries.Delivery.{Delivery}
 -- an element on its way to each of these nodes
 abbrev pub deliveries_to : List ℕ → Element → List Delivery
 deliveries_to nodes e = map (λ node. record { node = node; element = e }) nodes
+
+-- a delivery alone, if it goes on
+abbrev pub on_way : Bool → Delivery → List Delivery
+on_way true delivery = delivery ∷ []
+on_way false delivery = []
 
 -- a value that a source emitted, as an element
 abbrev pub element_of : Timed → Element

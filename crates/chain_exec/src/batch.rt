@@ -37,7 +37,7 @@ pub fn run_batch<F: Shelf>(
     ensures counts { F.faults shelf.old ≤ F.faults shelf.new }
     ensures strict { F.strict shelf.new ≡ F.strict shelf.old }
 {
-    buffers.clear();
+    buffers.clear_lists();
     for pane in panes {
         let element = pane.element.copy(alloc)?;
         buffers.send(alloc, graph, shelf, node, element, staging)?;
