@@ -67,12 +67,25 @@ fn append_items(items: &[Value], out: &mut List<u8>) -> Result<(), NoMemory>
     let Some((first, others)) = items.split_first() else {
         return Ok(());
     };
-    append_value(first, out)?;
+    append_item(first, out)?;
     for item in others {
         out.push(b',')?;
-        append_value(item, out)?;
+        append_item(item, out)?;
     }
     Ok(())
+}
+
+// Most items are byte strings, which need no call of their own.
+#[cycle(texts)]
+#[inline(always)]
+fn append_item(item: &Value, out: &mut List<u8>) -> Result<(), NoMemory>
+    ensures ok { OnOk result (out.new ≡ out.old ++ value_text item.now) }
+    ensures err { OnErr result (take (length out.old) out.new ≡ out.old) }
+{
+    match item {
+        Value::Blob(bytes) => append_blob(bytes.as_slice(), out),
+        _ => append_value(item, out),
+    }
 }
 
 #[inline(always)]
@@ -100,6 +113,7 @@ fn append_bytes(bytes: &[u8], out: &mut List<u8>) -> Result<(), NoMemory>
 
 // Whether all bytes are printed as they are. Of a short string the ends are looked at, since for a length
 // that is known many bytes at once are.
+#[inline(always)]
 fn are_plain(bytes: &[u8]) -> bool
     ensures { result ≡ true → All IsPlain bytes.now }
 {
