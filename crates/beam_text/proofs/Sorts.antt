@@ -1,8 +1,9 @@
 -- What sorts leave, seen through the references that were sorted.
-use Rattle.std.proofs.Common.{◌≡◌, ℕ, ◌+◌, ◌<◌, List, [], ◌∷◌, ◌++◌, map, length, get_or, ap, refl, subst, ◌∙◌, arith}
+use Rattle.std.proofs.Common.{◌≡◌, ℕ, ◌+◌, ◌<◌, true, false, List, [], ◌∷◌, ◌++◌, map, length, get_or, ap, refl, subst, ◌∙◌, arith}
 use Rattle.std.specs.Borrow.{Bor}
 use Rattle.std.specs.declared.cmp.Ordering.{Ordering}
-use Rattle.std.specs.Ordering.{is_lt}
+use Rattle.std.specs.declared.cmp.Ordering.TheVariants.{Less, Equal, Greater}
+use Rattle.std.specs.Ordering.{is_le, is_lt, ordering_reverse}
 use Rattle.std.specs.Cmp.{IsTotalOrder}
 use Rattle.std.specs.List.{flat_map, filter}
 use Rattle.std.specs.List.Sorted.{IsSorted, IsPermutation}
@@ -13,6 +14,7 @@ use Rattle.beam_values.specs.Bags.{IsSameBag}
 use Rattle.beam_values.specs.Elements.{element_cmp}
 use Rattle.beam_values.specs.Spelling.{spelling}
 use Rattle.beam_values.specs.Texts.{element_line}
+use Rattle.beam_values.specs.Timings.{timing_number}
 use Rattle.beam_values.specs.declared.element.Element.{Element}
 use Rattle.beam_values.specs.declared.log.KeyLog.{KeyLog}
 use Rattle.beam_values.specs.declared.plan.Plan.{Plan}
@@ -36,6 +38,29 @@ log_total =
     then_total (on_total (λ (log : KeyLog). log.node) nat_cmp_total)
     (then_total (on_total (λ (log : KeyLog). spelling log.key) nat_list_cmp_total)
     (then_total (on_total (λ (log : KeyLog). log.span.start) int_cmp_total) (on_total (λ (log : KeyLog). log.span.end) int_cmp_total)))
+
+element_total : IsTotalOrder element_cmp
+element_total =
+    then_total
+    (then_total (on_total (λ (e : Element). e.span.start) int_cmp_total)
+    (then_total (on_total (λ (e : Element). e.span.end) int_cmp_total)
+    (then_total (on_total (λ (e : Element). e.pane.index) nat_cmp_total)
+    (then_total (on_total (λ (e : Element). timing_number e.pane.timing) nat_cmp_total) (on_total (λ (e : Element). e.time) int_cmp_total)))))
+    (on_total (λ (e : Element). spelling e.value) nat_list_cmp_total)
+
+not_above : (order : Ordering) → is_le order ≡ true → is_lt (ordering_reverse order) ≡ false
+not_above Less h = refl
+not_above Equal h = refl
+not_above Greater h = absurd cc
+
+-- elements of which none is above the next one
+pub ascending_by_neighbours : (elements : List (Bor Element))
+    → ((k : ℕ) (d : Bor Element) → k + 1 < length elements → is_le (element_cmp (get_or elements k d).now (get_or elements (k + 1) d).now) ≡ true)
+    → IsSorted (λ x y. element_cmp x.now y.now) elements
+ascending_by_neighbours elements each k d from within =
+    let one : Element = (get_or elements k d).now in
+    let next : Element = (get_or elements (k + 1) d).now in
+    ap is_lt (element_total.antisymm next one) ∙ not_above (element_cmp one next) (each k d within)
 
 -- sorted references to elements, printed in their order
 pub adds_lines : (elements sorted printed : List (Bor Element)) (before after : List ℕ) → IsPermutation elements sorted

@@ -1,9 +1,10 @@
 -- The parts that a rendering is written in.
-use Rattle.std.specs.Prelude.{◌≡◌, ℕ, ◌<◌, Bool, List, [], ◌∷◌, ◌++◌, Vec, codes, decimal, length, map, slice_index_or}
+use Rattle.std.specs.Prelude.{◌≡◌, ℕ, ◌<◌, Bool, false, List, [], ◌∷◌, ◌++◌, Vec, codes, decimal, length, map, slice_index_or}
 use Rattle.std.specs.Fmt.{signed_decimal}
 use Rattle.std.specs.Borrow.{Bor}
 use Rattle.std.specs.List.{flat_map}
 use Rattle.std.specs.declared.alloc.Global.{Global}
+use Rattle.beam_values.specs.Texts.{is_escaped, timing_text}
 use Rattle.beam_values.specs.declared.element.Element.{Element}
 use Rattle.beam_values.specs.declared.arrival.Arrival.{Arrival}
 use Rattle.beam_values.specs.declared.log.KeyLog.{KeyLog}
@@ -45,3 +46,12 @@ call_place log =
 -- the items of the sequences of what was written
 abbrev pub items_in : List Arrival → List Value
 items_in written = flat_map (λ arrival. items_written arrival.element) written
+
+-- a byte that is printed as it is
+abbrev pub IsPlain : ℕ → Type 0
+IsPlain byte = is_escaped byte ≡ false
+
+-- the front of an element's line: its window, and its pane's timing and index, with a TAB after each
+abbrev pub line_front : Element → List ℕ
+line_front e =
+    signed_decimal e.span.start ++ 9 ∷ (signed_decimal e.span.end ++ 9 ∷ (timing_text e.pane.timing ++ 9 ∷ (decimal e.pane.index ++ 9 ∷ [])))

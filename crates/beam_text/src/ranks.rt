@@ -15,6 +15,14 @@ struct Rank {
     key: KeyRank,
 }
 
+/// Sorts elements by their windows alone, of which there are mostly few. Those of one window stay in the
+/// order in which they came. Where there is no memory for that, all elements stay as they are.
+pub(crate) fn sort_by_windows(elements: &mut Vec<&Element>)
+    ensures { IsPermutation elements.old.items elements.new.items }
+{
+    let _ = elements.sort_by_cached_key(|element| element.span);
+}
+
 /// Sorts elements by their ranks, which lie side by side where the elements lie scattered. A sort by
 /// whole elements then finds most of them in order. Where there is no memory for the ranks, the elements
 /// stay as they are.

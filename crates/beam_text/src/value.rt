@@ -1,6 +1,7 @@
-ghost use Rattle.std.specs.Prelude.{◌≡◌, ◌++◌, ◌∷◌, [], ◌<◌, ◌≤◌, length, slice_index, take, true};
+ghost use Rattle.std.specs.Prelude.{◌≡◌, ◌+◌, ◌++◌, ◌∷◌, [], ◌<◌, ◌≤◌, length, slice_index, take, true};
 ghost use Rattle.std.specs.Prelude.{OnOk, OnErr, map};
-ghost use Rattle.std.specs.List.{flat_map};
+ghost use Rattle.std.specs.List.{All, flat_map};
+ghost use Rattle.beam_text.specs.Parts.{IsPlain};
 ghost use Rattle.beam_values.specs.Texts.{value_text, joined, is_escaped, blob_text, byte_text};
 ghost use Rattle.beam_values.specs.Texts.{hex_digit};
 
@@ -66,14 +67,28 @@ fn append_items(items: &[Value], out: &mut List<u8>) -> Result<(), NoMemory>
     let Some((first, others)) = items.split_first() else {
         return Ok(());
     };
-    append_value(first, out)?;
+    append_item(first, out)?;
     for item in others {
         out.push(b',')?;
-        append_value(item, out)?;
+        append_item(item, out)?;
     }
     Ok(())
 }
 
+// Most items are byte strings, which need no call of their own.
+#[cycle(texts)]
+#[inline(always)]
+fn append_item(item: &Value, out: &mut List<u8>) -> Result<(), NoMemory>
+    ensures ok { OnOk result (out.new ≡ out.old ++ value_text item.now) }
+    ensures err { OnErr result (take (length out.old) out.new ≡ out.old) }
+{
+    match item {
+        Value::Blob(bytes) => append_blob(bytes.as_slice(), out),
+        _ => append_value(item, out),
+    }
+}
+
+#[inline(always)]
 fn append_blob(bytes: &[u8], out: &mut List<u8>) -> Result<(), NoMemory>
     ensures ok { OnOk result (out.new ≡ out.old ++ blob_text bytes.now) }
     ensures err { OnErr result (take (length out.old) out.new ≡ out.old) }
@@ -83,6 +98,8 @@ fn append_blob(bytes: &[u8], out: &mut List<u8>) -> Result<(), NoMemory>
     out.push(b'"')
 }
 
+#[inline(always)]
+#[tactic(auto, using(crate::proofs::PlainBytes::plain_same))]
 fn append_bytes(bytes: &[u8], out: &mut List<u8>) -> Result<(), NoMemory>
     ensures ok { OnOk result (out.new ≡ out.old ++ flat_map byte_text bytes.now) }
     ensures err { OnErr result (take (length out.old) out.new ≡ out.old) }
@@ -94,9 +111,36 @@ fn append_bytes(bytes: &[u8], out: &mut List<u8>) -> Result<(), NoMemory>
     }
 }
 
-// Whether all bytes are printed as they are. Looks at many bytes at once, since it doesn't stop early.
+// Whether all bytes are printed as they are. Of a short string the ends are looked at, since for a length
+// that is known many bytes at once are.
+#[inline(always)]
 fn are_plain(bytes: &[u8]) -> bool
-    ensures { result ≡ true → flat_map byte_text bytes.now ≡ bytes.now }
+    ensures { result ≡ true → All IsPlain bytes.now }
+{
+    match bytes.len() {
+        4..=8 => ends_are_plain(bytes, 4),
+        9..=16 => ends_are_plain(bytes, 8),
+        17..=32 => ends_are_plain(bytes, 16),
+        _ => each_is_plain(bytes),
+    }
+}
+
+// The first bytes and the last, this many of each, are the whole string: some may be looked at twice.
+#[inline(always)]
+fn ends_are_plain(bytes: &[u8], count: usize) -> bool
+    requires long { count ≤ length bytes.now }
+    requires short { length bytes.now ≤ count + count }
+    ensures { result ≡ true → All IsPlain bytes.now }
+{
+    let first = bytes.split_at(count).0;
+    let last = bytes.split_at(bytes.len() - count).1;
+    each_is_plain(first) & each_is_plain(last)
+}
+
+// Doesn't stop early, so that many bytes are looked at at once.
+#[inline(always)]
+fn each_is_plain(bytes: &[u8]) -> bool
+    ensures { result ≡ true → All IsPlain bytes.now }
 {
     let mut any = false;
     for byte in bytes {
@@ -105,7 +149,9 @@ fn are_plain(bytes: &[u8]) -> bool
     !any
 }
 
-// Runs of plain bytes are appended whole.
+// Runs of plain bytes are appended whole. It stands apart, since few strings need it.
+#[cold]
+#[inline(never)]
 fn append_runs(bytes: &[u8], out: &mut List<u8>) -> Result<(), NoMemory>
     ensures ok { OnOk result (out.new ≡ out.old ++ flat_map byte_text bytes.now) }
     ensures err { OnErr result (take (length out.old) out.new ≡ out.old) }

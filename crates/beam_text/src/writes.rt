@@ -1,14 +1,17 @@
 ghost use Rattle.std.specs.Prelude.{◌≡◌, ◌++◌, ◌∷◌, [], ◌<◌, ℕ, IfOk, OnOk, count_by, length};
-ghost use Rattle.std.specs.Prelude.{nat_lt, slice_index_or};
+ghost use Rattle.std.specs.Prelude.{IfSome, nat_lt, slice_index_or};
 ghost use Rattle.std.specs.List.{flat_map};
+ghost use Rattle.std.specs.List.Sorted.{IsPermutation, IsSorted};
+ghost use Rattle.beam_values.specs.Elements.{element_cmp};
 ghost use Rattle.beam_values.specs.Nodes.{is_write_kind};
 ghost use Rattle.beam_values.specs.Texts.{element_line};
 ghost use Rattle.beam_model.specs.Rendering.{IsLines, IsWritten, title, writes};
 ghost use Rattle.beam_text.specs.Parts.{AppendsText, IsByNode, IsNodeText, contents, elements_in};
+ghost use Rattle.beam_text.specs.Parts.{line_front};
 
-use crate::element::push_element;
+use crate::element::{has_same_front, push_front, push_line};
 use crate::push_blob;
-use crate::ranks::sort_by_ranks;
+use crate::ranks::{sort_by_ranks, sort_by_windows};
 use beam_values::{Arrival, Element, List, NoMemory, Node, NodeKind, Plan};
 use std::alloc::Global;
 
@@ -28,7 +31,7 @@ pub(crate) fn push_writes(
     let mut lists = elements_by_node(alloc, nodes.len(), written)?;
     for (i, node) in nodes.iter().enumerate() {
         let elements = &mut lists[i];
-        push_node(labelled, &node.kind, elements, out)?;
+        push_node(alloc, labelled, &node.kind, elements, out)?;
     }
     Ok(())
 }
@@ -94,6 +97,7 @@ fn push_at<'a>(
 
 /// Appends the text of a node at which these elements arrived. Only a Write has one.
 fn push_node(
+    alloc: Global,
     labelled: bool,
     kind: &NodeKind,
     elements: &mut Vec<&Element>,
@@ -104,7 +108,7 @@ fn push_node(
 {
     if let NodeKind::Write { label } = kind {
         push_title(labelled, label.as_slice(), out)?;
-        push_lines(elements, out)?;
+        push_lines(alloc, elements, out)?;
     }
     Ok(())
 }
@@ -121,19 +125,59 @@ fn push_title(labelled: bool, label: &[u8], out: &mut List<u8>) -> Result<(), No
 }
 
 /// Appends the lines of elements in ascending order.
-fn push_lines(elements: &mut Vec<&Element>, out: &mut List<u8>) -> Result<(), NoMemory>
+fn push_lines(
+    alloc: Global,
+    elements: &mut Vec<&Element>,
+    out: &mut List<u8>,
+) -> Result<(), NoMemory>
     ensures { OnOk result (AppendsText (IsLines (elements_in elements.old.items)) out.old out.new) }
 {
-    sort_by_ranks(elements);
-    elements.sort()?;
-    push_sorted(elements.as_slice(), out)
+    sort_elements(elements)?;
+    push_sorted(alloc, elements.as_slice(), out)
 }
 
-fn push_sorted(elements: &[&Element], out: &mut List<u8>) -> Result<(), NoMemory>
-    ensures { OnOk result (out.new ≡ out.old ++ flat_map element_line (elements_in elements.now)) }
+/// Elements that came key by key are in order once they are sorted by their windows. Others are brought
+/// near to it by their ranks first.
+fn sort_elements(elements: &mut Vec<&Element>) -> Result<(), NoMemory>
+    ensures moved { OnOk result (IsPermutation elements.old.items elements.new.items) }
+    ensures sorted { OnOk result (IsSorted (λ x y. element_cmp x.now y.now) elements.new.items) }
 {
-    for element in elements {
-        push_element(element, out)?;
+    sort_by_windows(elements);
+    if !elements.as_slice().is_sorted() {
+        sort_by_ranks(elements);
+        elements.sort()?;
     }
     Ok(())
+}
+
+fn push_sorted(alloc: Global, elements: &[&Element], out: &mut List<u8>) -> Result<(), NoMemory>
+    ensures { OnOk result (out.new ≡ out.old ++ flat_map element_line (elements_in elements.now)) }
+{
+    let mut front = List::new(alloc);
+    let mut before = None;
+    for element in elements {
+        let element: &Element = element;
+        renew_front(before, element, &mut front)?;
+        before = Some(element);
+        push_line(front.as_slice(), &element.value, out)?;
+    }
+    Ok(())
+}
+
+/// Puts the front of an element's line in place of that of the element before, which mostly is the same.
+fn renew_front(
+    before: Option<&Element>,
+    element: &Element,
+    front: &mut List<u8>,
+) -> Result<(), NoMemory>
+    requires { IfSome before (λ before. front.old ≡ line_front before.now) }
+    ensures { OnOk result (front.new ≡ line_front element.now) }
+{
+    match before {
+        Some(before) if has_same_front(before, element) => Ok(()),
+        _ => {
+            front.truncate(0);
+            push_front(element, front)
+        }
+    }
 }

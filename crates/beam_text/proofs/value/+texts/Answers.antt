@@ -4,13 +4,13 @@ use Rattle.beam_text.proofs.Fronts.{front_of_more, front_of_front, on_err}
 use Rattle.beam_text.proofs.ValueTexts.{pair_added, seq_added}
 use Rattle.beam_text.proofs.value.+texts.Goals as goal
 
-pub append_items-returns-in_err-append_value-2-clause-err : goal.append_items-returns-in_err-append_value-2-clause-err
-append_items-returns-in_err-append_value-2-clause-err t c =
+pub append_items-returns-in_err-append_item-2-clause-err : goal.append_items-returns-in_err-append_item-2-clause-err
+append_items-returns-in_err-append_item-2-clause-err t c =
     let old = c.args.out.now in
-    on_err c.from_residual-in_err-append_value-2.result
-    (front_of_front old c.push.new.self c.append_value-in-loop-item.new.out
+    on_err c.from_residual-in_err-append_item-2.result
+    (front_of_front old c.push.new.self c.append_item-in-loop-item.new.out
     (front_of_front old c.loop-item.out c.push.new.self c.loop-item.invariant.kept (front_of_more c.loop-item.out (44 ∷ []) c.push.new.self c.in_ok-push.ensures.ok))
-    c.in_err-append_value-2.ensures.err)
+    c.in_err-append_item-2.ensures.err)
 
 pub append_value-returns-in_err-append_value-in-Pair-2-clause-err : goal.append_value-returns-in_err-append_value-in-Pair-2-clause-err
 append_value-returns-in_err-append_value-in-Pair-2-clause-err t c =
