@@ -18,17 +18,24 @@ pub struct Guess {
 
 const NO_GUESS: Guess = Guess { hash: 0, place: 0 };
 
-/// How many slots there are once there is a cell.
-const FEWEST: usize = 64;
+/// How many slots there are once there is a cell: room for the cells of a usual window, so that few
+/// guesses are lost before the slots grow.
+const FEWEST: usize = 4096;
 
 /// A guess may stand in any slot of a set of so many side by side: with one slot each, cells that share
 /// it push each other out at every arrival. Divides the number of slots.
 const WAYS: usize = 4;
 
 /// The last guesses of each set of slots. The number of slots is 0 or a power of two.
+///
+/// Most cells get no more elements once their windows have passed, and need no guess. So the slots grow
+/// where guesses of cells were missed, and not with the cells there are: few slots stay in the
+/// processor's caches.
 #[derive(Debug, Drop)]
 pub struct Guesses {
     pub slots: Vec<Guess>,
+    /// How often a cell that there is wasn't guessed, since the slots grew.
+    missed: usize,
 }
 
 impl Guesses {
@@ -38,6 +45,7 @@ impl Guesses {
     {
         Guesses {
             slots: Vec::new(alloc),
+            missed: 0,
         }
     }
 
@@ -63,17 +71,24 @@ impl Guesses {
         Some(*guess)
     }
 
-    /// The first slot of the set that is empty or has this hash. Where there is none, one by bits of the
-    /// hash that don't choose the set, so that no slot of it gives way more often than the others.
+    /// The first slot of the set that is empty or has this hash. Where there is none, the one whose cell
+    /// was made first, since elements come to it least.
     fn slot_for(&self, hash: u32) -> usize {
         let first = first_slot(hash, self.slots.len());
+        let mut oldest = first;
+        let mut least = u32::MAX;
         for at in first..first + WAYS {
             match self.guess_at(at) {
-                Some(guess) if guess.hash != hash && guess.hash != NO_GUESS.hash => {}
+                Some(guess) if guess.hash != hash && guess.hash != NO_GUESS.hash => {
+                    if guess.place < least {
+                        least = guess.place;
+                        oldest = at;
+                    }
+                }
                 _ => return at,
             }
         }
-        first + hash as usize % WAYS
+        oldest
     }
 
     /// Notes a guess in a slot of its set, in the place of what is there.
@@ -87,18 +102,38 @@ impl Guesses {
         }
     }
 
-    /// Makes room for the guesses of so many cells, at least two slots for each. Where there is no
-    /// memory, the slots stay as they are.
+    /// Notes the guess of a cell that wasn't guessed, of so many cells.
+    pub fn note_missed(&mut self, guess: Guess, cells: usize)
+        ensures { (places : TreeMap CellKeyOf ℕ) → All (IsOfKey places) self.old.slots.items
+            → IsOfKey places guess → All (IsOfKey places) self.new.slots.items }
+    {
+        self.missed = self.missed.saturating_add(1);
+        self.make_room(cells);
+        self.note(guess);
+    }
+
+    /// Makes room for the guesses of so many cells: the fewest slots at first, and more where there are
+    /// fewer than two for each cell and guesses were missed for a quarter of the slots. Where all guesses
+    /// that are needed have room, fewer are missed. Where there is no memory, the slots stay as they are.
     pub fn make_room(&mut self, cells: usize)
         ensures { (places : TreeMap CellKeyOf ℕ) → All (IsOfKey places) self.old.slots.items
             → All (IsOfKey places) self.new.slots.items }
     {
         let count = self.slots.len();
-        if count / 2 < cells {
-            let more = count.saturating_mul(2).max(FEWEST);
-            if self.slots.resize(more, NO_GUESS).is_ok() {
-                self.spread(count);
-            }
+        if count < FEWEST || (count / 2 < cells && count / 4 < self.missed) {
+            self.grow(count);
+        }
+    }
+
+    /// Doubles the slots, of which there are so many, or makes the fewest.
+    fn grow(&mut self, count: usize)
+        ensures { (places : TreeMap CellKeyOf ℕ) → All (IsOfKey places) self.old.slots.items
+            → All (IsOfKey places) self.new.slots.items }
+    {
+        self.missed = 0;
+        let more = count.saturating_mul(2).max(FEWEST);
+        if self.slots.resize(more, NO_GUESS).is_ok() {
+            self.spread(count);
         }
     }
 

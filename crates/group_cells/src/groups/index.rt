@@ -153,7 +153,8 @@ impl CellIndex {
         match known {
             Some(place) => {
                 put_back(&mut self.places, key, place);
-                self.guesses.note(Guess { hash, place });
+                self.guesses
+                    .note_missed(Guess { hash, place }, self.places.len());
                 Ok(Some(place))
             }
             None => {
