@@ -4,9 +4,8 @@
 ghost use Rattle.std.specs.Prelude.{◌≡◌, ◌<◌, ◌^◌, ℕ, [], All, Contains, IfSome};
 ghost use Rattle.std.specs.BTreeMap.{BTreeMap as TreeMap};
 ghost use Rattle.group_cells.specs.Indexes.{IsOfKey};
-ghost use Rattle.group_cells.specs.declared.groups.index.CellKey.{CellKey as CellKeyOf};
+ghost use Rattle.group_cells.specs.declared.groups.index_key.CellKey.{CellKey as CellKeyOf};
 
-use beam_values::{Span, Value};
 use std::alloc::Global;
 
 /// A place at which a cell was found, by what has this hash. A hash of 0 says that there is none.
@@ -171,46 +170,4 @@ fn first_slot(hash: u32, count: usize) -> usize
     ensures { result < 2 ^ 32 }
 {
     hash as usize & count.saturating_sub(1) & !(WAYS - 1)
-}
-
-/// A hash of the node, the key and the start of the window of a cell, never 0. Keys that are neither
-/// numbers nor bytes share one in each window.
-pub fn hash_of(node: u32, key: &Value, span: Span) -> u32
-    ensures { 0 < result }
-{
-    let keyed = mixed(hash_of_key(key), u64::from(node));
-    let hash = mixed(keyed, span.start().cast_unsigned());
-    ((hash % (1 << 32)) as u32).max(1)
-}
-
-fn hash_of_key(key: &Value) -> u64 {
-    match key {
-        Value::Int(number) => number.cast_unsigned(),
-        Value::Blob(bytes) => hash_of_bytes(bytes.as_slice()),
-        _ => 0,
-    }
-}
-
-fn hash_of_bytes(bytes: &[u8]) -> u64 {
-    let mut hash = 0;
-    for word in bytes.chunks(8) {
-        hash = mixed(hash, word_of(word));
-    }
-    hash
-}
-
-fn word_of(bytes: &[u8]) -> u64 {
-    let mut word: u64 = 0;
-    for byte in bytes {
-        word = word.rotate_left(8) ^ u64::from(*byte);
-    }
-    word
-}
-
-/// The multiplier is 2^64 over the golden ratio. The rotation brings the bits that depend on all others
-/// to where the next step, and the slot, have them first.
-fn mixed(hash: u64, word: u64) -> u64 {
-    (hash ^ word)
-        .wrapping_mul(0x9e37_79b9_7f4a_7c15)
-        .rotate_left(32)
 }
