@@ -266,7 +266,7 @@ impl Draft {
         match found {
             Some(place) => self.put_unseen(plan, place, entry),
             None => {
-                let cell = first_cell(alloc, &key, entry)?;
+                let cell = first_cell(alloc, key, entry)?;
                 self.push(plan, cell)
             }
         }
@@ -303,17 +303,16 @@ fn cell_key(alloc: Global, node: u32, entry: &Entry) -> Result<IndexKey, NoMemor
 }
 
 /// A new cell with its first entry.
-fn first_cell(alloc: Global, key: &IndexKey, entry: Entry) -> Result<Cell, NoMemory>
-    ensures { IfOk result
-        (λ cell. cell ≡ fresh_cell key.now.node key.now.key key.now.span (entry ∷ [])) }
+fn first_cell(alloc: Global, key: IndexKey, entry: Entry) -> Result<Cell, NoMemory>
+    ensures { IfOk result (λ cell. cell ≡ fresh_cell key.node key.key key.span (entry ∷ [])) }
 {
     let mut entries = List::new(alloc);
     entries.push(entry)?;
-    let key = key.cell();
+    let CellKey { node, span, key } = key.into_cell();
     Ok(Cell {
-        node: key.node,
-        key: key.key.copy(alloc)?,
-        span: key.span,
+        node,
+        key,
+        span,
         entries,
         next_index: 0,
         on_time: false,

@@ -58,10 +58,11 @@ impl IndexKey {
     }
 
     /// What the cell is found by.
-    pub fn cell(&self) -> &CellKey
-        ensures { result.now ≡ self.now }
+    pub fn into_cell(self) -> CellKey
+        ensures { result ≡ self }
     {
-        &self.cell
+        let IndexKey { lead: _, cell } = self;
+        cell
     }
 
     /// Never 0.
