@@ -25,11 +25,13 @@ use Rattle.beam_values.specs.Intervals.{Interval}
 use Rattle.beam_values.specs.declared.cell.Cell.{Cell}
 use Rattle.beam_values.specs.declared.value.Value.{Value}
 use Rattle.group_cells.specs.Looking.{is_cell_of, place_of}
-use Rattle.group_cells.specs.Indexes.{cell_key_cmp, IsFoundPlace, IsIndexOf, IsOfKey}
+use Rattle.group_cells.specs.Indexes.{cell_key_cmp, place_cmp, IsFoundPlace, IsIndexOf, IsOfKey}
+use Rattle.group_cells.specs.Leads.{lead_of}
+use Rattle.group_cells.proofs.Leading.{one_lead}
 use Rattle.group_cells.specs.declared.groups.guesses.Guess.{Guess}
 use Rattle.group_cells.specs.declared.groups.guesses.Guesses.{Guesses}
 use Rattle.group_cells.specs.declared.groups.index.CellIndex.{CellIndex}
-use Rattle.group_cells.specs.declared.groups.index.CellKey.{CellKey}
+use Rattle.group_cells.specs.declared.groups.index_key.CellKey.{CellKey}
 
 pushed_at : {X : Type 0} (p : X → Bool) (xs : List X) (y : X) (i : ℕ) → position_or_len p xs ≡ i
     → position p (xs ++ y ∷ []) ≡ option_or (position p xs) (cond (p y) (Some (length xs)) None)
@@ -44,6 +46,14 @@ nat_tied a b = grind (arith, nat_tests)
 pub int_tied : (a b : ℤ) → is_eq (int_cmp a b) ≡ int_eq a b
 int_tied a b = refl
 
+and_false : (b : Bool) → (b && false) ≡ false
+and_false true = refl
+and_false false = refl
+
+and_parts : (a b : Bool) → (a && b) ≡ true → (a ≡ true) × (b ≡ true)
+and_parts true b e = (refl, e)
+and_parts false b e = absurd (false≢true e)
+
 and_swapped : (n k s e : Bool) → (n && ((s && e) && k)) ≡ ((n && k) && (s && e))
 and_swapped true true true true = refl
 and_swapped true true true false = refl
@@ -53,9 +63,8 @@ and_swapped true false true false = refl
 and_swapped true false false e = refl
 and_swapped false k s e = refl
 
--- keys of the index compare as equal exactly where they are of one node, key and window
-pub same_place : (a q : CellKey) → is_eq (cell_key_cmp a q) ≡ ((a.node == q.node && bytes_eq (spelling a.key) (spelling q.key)) && same_span a.span q.span)
-same_place a q =
+place_tied : (a q : CellKey) → is_eq (place_cmp a q) ≡ ((a.node == q.node && bytes_eq (spelling a.key) (spelling q.key)) && same_span a.span q.span)
+place_tied a q =
     sym (tied_then (nat_cmp a.node q.node) (ordering_then (span_cmp a.span q.span) (value_cmp a.key q.key)))
     ∙ ap (λ b. is_eq (nat_cmp a.node q.node) && b)
     (sym (tied_then (span_cmp a.span q.span) (value_cmp a.key q.key))
@@ -66,9 +75,24 @@ same_place a q =
     ∙ ap (λ b. (a.node == q.node && bytes_eq (spelling a.key) (spelling q.key)) && (b && is_eq (int_cmp a.span.end q.span.end))) (int_tied a.span.start q.span.start)
     ∙ ap (λ b. (a.node == q.node && bytes_eq (spelling a.key) (spelling q.key)) && (int_eq a.span.start q.span.start && b)) (int_tied a.span.end q.span.end)
 
-and_parts : (a b : Bool) → (a && b) ≡ true → (a ≡ true) × (b ≡ true)
-and_parts true b e = (refl, e)
-and_parts false b e = absurd (false≢true e)
+-- what is of one place has one lead
+led_alike : (a q : CellKey) → (t : Bool) → ((a.node == q.node && bytes_eq (spelling a.key) (spelling q.key)) && same_span a.span q.span) ≡ t
+    → (is_eq (nat_cmp (lead_of a.key a.span) (lead_of q.key q.span)) && t) ≡ t
+led_alike a q false e = and_false (is_eq (nat_cmp (lead_of a.key a.span) (lead_of q.key q.span)))
+led_alike a q true e =
+    let all = and_parts (a.node == q.node && bytes_eq (spelling a.key) (spelling q.key)) (same_span a.span q.span) e in
+    let keyed = and_parts (a.node == q.node) (bytes_eq (spelling a.key) (spelling q.key)) all.0 in
+    let starts = and_parts (int_eq a.span.start q.span.start) (int_eq a.span.end q.span.end) all.1 in
+    let one : lead_of a.key a.span ≡ lead_of q.key q.span =
+    one_lead a.key q.key a.span q.span ((bytes_eq-Decides (spelling a.key) (spelling q.key)).0 keyed.1) ((Decides-int_eq a.span.start q.span.start).0 starts.0) in
+    ap (λ b. b && true) (nat_tied (lead_of a.key a.span) (lead_of q.key q.span) ∙ (Decides-eqb (lead_of a.key a.span) (lead_of q.key q.span)).1 one)
+
+-- keys of the index compare as equal exactly where they are of one node, key and window
+pub same_place : (a q : CellKey) → is_eq (cell_key_cmp a q) ≡ ((a.node == q.node && bytes_eq (spelling a.key) (spelling q.key)) && same_span a.span q.span)
+same_place a q =
+    sym (tied_then (nat_cmp (lead_of a.key a.span) (lead_of q.key q.span)) (place_cmp a q))
+    ∙ ap (λ b. is_eq (nat_cmp (lead_of a.key a.span) (lead_of q.key q.span)) && b) (place_tied a q)
+    ∙ led_alike a q ((a.node == q.node && bytes_eq (spelling a.key) (spelling q.key)) && same_span a.span q.span) refl
 
 -- the place of the cell of a node, a spelling and the ends of a window
 abbrev place_by : ℕ → List ℕ → ℤ → ℤ → List Cell → Option ℕ

@@ -1,4 +1,5 @@
 mod Alike
+mod Leading
 mod Arriving
 pub mod Counting
 pub mod WindowTests

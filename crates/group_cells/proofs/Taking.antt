@@ -21,7 +21,7 @@ use Rattle.group_cells.specs.Indexes.{IsIndexOf}
 use Rattle.group_cells.specs.Looking.{is_cell_of, place_of}
 use Rattle.group_cells.specs.Placing.{with_entry, fresh_cell}
 use Rattle.group_cells.specs.declared.groups.index.CellIndex.{CellIndex}
-use Rattle.group_cells.specs.declared.groups.index.CellKey.{CellKey}
+use Rattle.group_cells.specs.declared.groups.index_key.CellKey.{CellKey}
 use Rattle.group_cells.proofs.Indexing.{position_yes, position_no}
 use Rattle.group_cells.proofs.Undoing.{none_within}
 

@@ -9,14 +9,19 @@ use Rattle.beam_values.specs.Intervals.{Interval}
 use Rattle.beam_values.specs.Orders.{value_cmp}
 use Rattle.beam_values.specs.declared.cell.Cell.{Cell}
 use Rattle.beam_values.specs.declared.value.Value.{Value}
+use Rattle.group_cells.specs.Leads.{lead_of}
 use Rattle.group_cells.specs.Looking.{is_cell_of, place_of}
 use Rattle.group_cells.specs.declared.groups.index.CellIndex.{CellIndex}
-use Rattle.group_cells.specs.declared.groups.index.CellKey.{CellKey}
+use Rattle.group_cells.specs.declared.groups.index_key.CellKey.{CellKey}
 use Rattle.group_cells.specs.declared.groups.guesses.Guess.{Guess}
 
--- by node, window and the bytes that spell the key: most cells of a node differ by their windows or in the first bytes of their keys
+-- by node, window and the bytes that spell the key
+abbrev pub place_cmp : CellKey → CellKey → Ordering
+place_cmp = then_cmp (on (λ k. k.node) nat_cmp) (then_cmp (on (λ k. k.span) span_cmp) (on (λ k. k.key) value_cmp))
+
+-- by their leads first, which differ for nearly all of them
 abbrev pub cell_key_cmp : CellKey → CellKey → Ordering
-cell_key_cmp = then_cmp (on (λ k. k.node) nat_cmp) (then_cmp (on (λ k. k.span) span_cmp) (on (λ k. k.key) value_cmp))
+cell_key_cmp = then_cmp (on (λ k. lead_of k.key k.span) nat_cmp) place_cmp
 
 -- a place that is guessed is that of some node, key and window, of whichever hash
 abbrev pub IsOfKey : tree.BTreeMap CellKey ℕ → Guess → Type 0

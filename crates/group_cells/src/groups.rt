@@ -16,6 +16,7 @@ mod group_plan;
 mod guesses;
 mod handing;
 mod index;
+mod index_key;
 mod keyed;
 mod looking;
 mod placing;
@@ -28,7 +29,8 @@ use crate::groups::advance::Next;
 use crate::groups::draft::Draft;
 use crate::groups::due::DueCells;
 use crate::groups::group_plan::GroupPlan;
-use crate::groups::index::{CellIndex, CellKey};
+use crate::groups::index::CellIndex;
+use crate::groups::index_key::{CellKey, IndexKey};
 use crate::groups::keyed::GroupKey;
 use crate::groups::looking::{next_due, place_among};
 use crate::groups::standing::Standing;
@@ -167,7 +169,10 @@ impl Groups {
     {
         if self.indexed {
             if let Ok(key) = key.copy(self.alloc) {
-                return self.draft.index.find(&CellKey { node, span, key });
+                return self
+                    .draft
+                    .index
+                    .find(&IndexKey::of(CellKey { node, span, key }));
             }
         }
         place_among(node, key, span, self.draft.cells.as_slice())

@@ -15,9 +15,11 @@
 //! the cells in a plain list, searched from the front and copied at each commit: only comparisons use
 //! it. The layer above may rely on these contracts alone.
 //!
-//! Two things spare comparisons, and no contract speaks of them: a guess at the place of an arrival's
-//! cell, which is compared with that cell before the index is asked (`groups/guesses.rt`), and ranks of
-//! the panes of a commit, by which they are sorted before whole keys are compared (`groups/ranks.rt`).
+//! Three things spare comparisons, and no public contract speaks of them: a guess at the place of an
+//! arrival's cell, which is compared with that cell before the index is asked (`groups/guesses.rt`), a
+//! number that leads each key of the index and is compared before the key itself
+//! (`groups/index_key.rt`), and ranks of the panes of a commit, by which they are sorted before whole
+//! keys are compared (`groups/ranks.rt`).
 //!
 //! [`laws`] says that commits that go by rounds, Group by Group and key by key, keep panes, cells and
 //! dropped elements legal by `beam_model::specs::Panes`. Read `firing.rt`, `plain.rt` and `groups.rt` first.

@@ -23,7 +23,9 @@ use Rattle.group_cells.specs.contracts.groups.group_plan.GroupPlan as GroupPlan
 use Rattle.group_cells.specs.contracts.groups.group_plan.GroupPlan.TheInside as GroupPlanInside
 use Rattle.group_cells.specs.contracts.groups.handing.Given as Given
 use Rattle.group_cells.specs.contracts.groups.index.CellIndex as CellIndex
-use Rattle.group_cells.specs.contracts.groups.index.CellKey as CellKey
+use Rattle.group_cells.specs.contracts.groups.index_key.CellKey as CellKey
+use Rattle.group_cells.specs.contracts.groups.index_key.IndexKey as IndexKey
+use Rattle.group_cells.specs.contracts.groups.index_key.IndexKey.TheInside as IndexKeyInside
 use Rattle.group_cells.specs.contracts.groups.keyed.GroupKey as GroupKey
 use Rattle.group_cells.specs.contracts.groups.room.Room as Room
 use Rattle.group_cells.specs.contracts.rules.Rules as Rules
@@ -60,6 +62,9 @@ Unfired-send = search (sendable, crosses) depth 40
 CellKey-send : IsSend CellKey.the_row
 CellKey-send = declared_send CellKey.the_type (search (Value-send, as_row_send, sendable) depth 40)
 
+IndexKey-send : IsSend IndexKey.the_row
+IndexKey-send = view_send _ _ _ _ _ (declared_send IndexKeyInside.the_type (search (CellKey-send, as_row_send, sendable) depth 40))
+
 GroupKey-send : IsSend GroupKey.the_row
 GroupKey-send = declared_send GroupKey.the_type (search (Value-send, as_row_send, sendable) depth 40)
 
@@ -76,7 +81,7 @@ DueCells-send : IsSend DueCells.the_row
 DueCells-send = declared_send DueCells.the_type (search (as_row_send, sendable, crosses, maps) depth 40)
 
 CellIndex-send : IsSend CellIndex.the_row
-CellIndex-send = declared_send CellIndex.the_type (search (CellKey-send, as_row_send, sendable, crosses, maps) depth 40)
+CellIndex-send = declared_send CellIndex.the_type (search (IndexKey-send, as_row_send, sendable, crosses, maps) depth 40)
 
 Draft-send : IsSend Draft.the_row
 Draft-send = declared_send Draft.the_type (search (Cell-send, Dropped-send, CellIndex-send, DueCells-send, Change-send, as_row_send, sendable, crosses) depth 40)

@@ -14,7 +14,8 @@ use crate::groups::due::{DueCells, is_due_regardless};
 use crate::groups::fired::{Unfired, unfire};
 use crate::groups::group_plan::GroupPlan;
 use crate::groups::handing::{Given, hand_back};
-use crate::groups::index::{CellIndex, CellKey};
+use crate::groups::index::CellIndex;
+use crate::groups::index_key::{CellKey, IndexKey};
 use crate::groups::looking::is_cell_of;
 use beam_values::{Cell, Dropped, Element, Entry, List, NoMemory, Value, copy_key, key_or};
 use std::alloc::Global;
@@ -152,7 +153,7 @@ impl Draft {
     }
 
     /// Puts a cell behind the others, and its key into the index.
-    pub fn open(&mut self, plan: &GroupPlan, key: CellKey, cell: Cell) -> Result<(), NoMemory>
+    pub fn open(&mut self, plan: &GroupPlan, key: IndexKey, cell: Cell) -> Result<(), NoMemory>
         requires { (cell.node ≡ key.node) × (cell.key ≡ key.key) × (cell.span ≡ key.span) }
         ensures ok { OnOk result (self.new.cells.items ≡ self.old.cells.items ++ cell ∷ []) }
         ensures indexed { OnOk result (IsIndexOf self.old.index self.old.cells.items
@@ -235,7 +236,7 @@ impl Draft {
         match found {
             Some(place) => self.put_unseen(plan, place, entry),
             None => {
-                let cell = first_cell(alloc, &key, entry)?;
+                let cell = first_cell(alloc, key, entry)?;
                 self.push(plan, cell)
             }
         }
@@ -259,28 +260,29 @@ impl Draft {
     }
 }
 
-fn cell_key(alloc: Global, node: u32, entry: &Entry) -> Result<CellKey, NoMemory>
+fn cell_key(alloc: Global, node: u32, entry: &Entry) -> Result<IndexKey, NoMemory>
     ensures { IfOk result (λ key. key
         ≡ record { node = node; span = entry.now.element.span; key = key_of entry.now.element }) }
 {
-    Ok(CellKey {
+    let key = copy_key(alloc, &entry.element)?;
+    Ok(IndexKey::of(CellKey {
         node,
         span: entry.element.span,
-        key: copy_key(alloc, &entry.element)?,
-    })
+        key,
+    }))
 }
 
 /// A new cell with its first entry.
-fn first_cell(alloc: Global, key: &CellKey, entry: Entry) -> Result<Cell, NoMemory>
-    ensures { IfOk result
-        (λ cell. cell ≡ fresh_cell key.now.node key.now.key key.now.span (entry ∷ [])) }
+fn first_cell(alloc: Global, key: IndexKey, entry: Entry) -> Result<Cell, NoMemory>
+    ensures { IfOk result (λ cell. cell ≡ fresh_cell key.node key.key key.span (entry ∷ [])) }
 {
     let mut entries = List::new(alloc);
     entries.push(entry)?;
+    let CellKey { node, span, key } = key.into_cell();
     Ok(Cell {
-        node: key.node,
-        key: key.key.copy(alloc)?,
-        span: key.span,
+        node,
+        key,
+        span,
         entries,
         next_index: 0,
         on_time: false,

@@ -64,12 +64,12 @@ impl DueKey {
     }
 }
 
+/// By node and moment.
 fn cmp_moments(a: &DueKey, b: &DueKey) -> Ordering
-    ensures { result
-        ≡ then_cmp (on (λ k. k.moment) int_cmp) (on (λ k. k.place) nat_cmp) a.now b.now }
+    ensures { result ≡ then_cmp (on (λ k. k.node) nat_cmp) (on (λ k. k.moment) int_cmp) a.now b.now }
 {
-    match a.moment.cmp(&b.moment) {
-        Ordering::Equal => a.place.cmp(&b.place),
+    match a.node.cmp(&b.node) {
+        Ordering::Equal => a.moment.cmp(&b.moment),
         decided => decided,
     }
 }
@@ -108,10 +108,12 @@ impl Ord for DueKey {
 
     ghost matches_eq = { Prim.search (comparing, rules) depth 12 };
 
+    /// Most keys that are compared are of one node and one moment: those of the cells of a window.
     fn cmp(&self, other: &DueKey) -> Ordering {
-        match self.node.cmp(&other.node) {
-            Ordering::Equal => cmp_moments(self, other),
-            decided => decided,
+        if self.node == other.node && self.moment == other.moment {
+            self.place.cmp(&other.place)
+        } else {
+            cmp_moments(self, other)
         }
     }
 }

@@ -4,9 +4,8 @@
 ghost use Rattle.std.specs.Prelude.{◌≡◌, ◌<◌, ◌^◌, ℕ, [], All, Contains, IfSome};
 ghost use Rattle.std.specs.BTreeMap.{BTreeMap as TreeMap};
 ghost use Rattle.group_cells.specs.Indexes.{IsOfKey};
-ghost use Rattle.group_cells.specs.declared.groups.index.CellKey.{CellKey as CellKeyOf};
+ghost use Rattle.group_cells.specs.declared.groups.index_key.CellKey.{CellKey as CellKeyOf};
 
-use beam_values::{Span, Value};
 use std::alloc::Global;
 
 /// A place at which a cell was found, by what has this hash. A hash of 0 says that there is none.
@@ -18,17 +17,24 @@ pub struct Guess {
 
 const NO_GUESS: Guess = Guess { hash: 0, place: 0 };
 
-/// How many slots there are once there is a cell.
-const FEWEST: usize = 64;
+/// How many slots there are once there is a cell: room for the cells of a usual window, so that few
+/// guesses are lost before the slots grow.
+const FEWEST: usize = 4096;
 
 /// A guess may stand in any slot of a set of so many side by side: with one slot each, cells that share
 /// it push each other out at every arrival. Divides the number of slots.
 const WAYS: usize = 4;
 
 /// The last guesses of each set of slots. The number of slots is 0 or a power of two.
+///
+/// Most cells get no more elements once their windows have passed, and need no guess. So the slots grow
+/// where guesses of cells were missed, and not with the cells there are: few slots stay in the
+/// processor's caches.
 #[derive(Debug, Drop)]
 pub struct Guesses {
     pub slots: Vec<Guess>,
+    /// How often a cell that there is wasn't guessed, since the slots grew.
+    missed: usize,
 }
 
 impl Guesses {
@@ -38,6 +44,7 @@ impl Guesses {
     {
         Guesses {
             slots: Vec::new(alloc),
+            missed: 0,
         }
     }
 
@@ -63,17 +70,24 @@ impl Guesses {
         Some(*guess)
     }
 
-    /// The first slot of the set that is empty or has this hash. Where there is none, one by bits of the
-    /// hash that don't choose the set, so that no slot of it gives way more often than the others.
+    /// The first slot of the set that is empty or has this hash. Where there is none, the one whose cell
+    /// was made first, since elements come to it least.
     fn slot_for(&self, hash: u32) -> usize {
         let first = first_slot(hash, self.slots.len());
+        let mut oldest = first;
+        let mut least = u32::MAX;
         for at in first..first + WAYS {
             match self.guess_at(at) {
-                Some(guess) if guess.hash != hash && guess.hash != NO_GUESS.hash => {}
+                Some(guess) if guess.hash != hash && guess.hash != NO_GUESS.hash => {
+                    if guess.place < least {
+                        least = guess.place;
+                        oldest = at;
+                    }
+                }
                 _ => return at,
             }
         }
-        first + hash as usize % WAYS
+        oldest
     }
 
     /// Notes a guess in a slot of its set, in the place of what is there.
@@ -87,18 +101,38 @@ impl Guesses {
         }
     }
 
-    /// Makes room for the guesses of so many cells, at least two slots for each. Where there is no
-    /// memory, the slots stay as they are.
+    /// Notes the guess of a cell that wasn't guessed, of so many cells.
+    pub fn note_missed(&mut self, guess: Guess, cells: usize)
+        ensures { (places : TreeMap CellKeyOf ℕ) → All (IsOfKey places) self.old.slots.items
+            → IsOfKey places guess → All (IsOfKey places) self.new.slots.items }
+    {
+        self.missed = self.missed.saturating_add(1);
+        self.make_room(cells);
+        self.note(guess);
+    }
+
+    /// Makes room for the guesses of so many cells: the fewest slots at first, and more where there are
+    /// fewer than two for each cell and guesses were missed for a quarter of the slots. Where all guesses
+    /// that are needed have room, fewer are missed. Where there is no memory, the slots stay as they are.
     pub fn make_room(&mut self, cells: usize)
         ensures { (places : TreeMap CellKeyOf ℕ) → All (IsOfKey places) self.old.slots.items
             → All (IsOfKey places) self.new.slots.items }
     {
         let count = self.slots.len();
-        if count / 2 < cells {
-            let more = count.saturating_mul(2).max(FEWEST);
-            if self.slots.resize(more, NO_GUESS).is_ok() {
-                self.spread(count);
-            }
+        if count < FEWEST || (count / 2 < cells && count / 4 < self.missed) {
+            self.grow(count);
+        }
+    }
+
+    /// Doubles the slots, of which there are so many, or makes the fewest.
+    fn grow(&mut self, count: usize)
+        ensures { (places : TreeMap CellKeyOf ℕ) → All (IsOfKey places) self.old.slots.items
+            → All (IsOfKey places) self.new.slots.items }
+    {
+        self.missed = 0;
+        let more = count.saturating_mul(2).max(FEWEST);
+        if self.slots.resize(more, NO_GUESS).is_ok() {
+            self.spread(count);
         }
     }
 
@@ -136,46 +170,4 @@ fn first_slot(hash: u32, count: usize) -> usize
     ensures { result < 2 ^ 32 }
 {
     hash as usize & count.saturating_sub(1) & !(WAYS - 1)
-}
-
-/// A hash of the node, the key and the start of the window of a cell, never 0. Keys that are neither
-/// numbers nor bytes share one in each window.
-pub fn hash_of(node: u32, key: &Value, span: Span) -> u32
-    ensures { 0 < result }
-{
-    let keyed = mixed(hash_of_key(key), u64::from(node));
-    let hash = mixed(keyed, span.start().cast_unsigned());
-    ((hash % (1 << 32)) as u32).max(1)
-}
-
-fn hash_of_key(key: &Value) -> u64 {
-    match key {
-        Value::Int(number) => number.cast_unsigned(),
-        Value::Blob(bytes) => hash_of_bytes(bytes.as_slice()),
-        _ => 0,
-    }
-}
-
-fn hash_of_bytes(bytes: &[u8]) -> u64 {
-    let mut hash = 0;
-    for word in bytes.chunks(8) {
-        hash = mixed(hash, word_of(word));
-    }
-    hash
-}
-
-fn word_of(bytes: &[u8]) -> u64 {
-    let mut word: u64 = 0;
-    for byte in bytes {
-        word = word.rotate_left(8) ^ u64::from(*byte);
-    }
-    word
-}
-
-/// The multiplier is 2^64 over the golden ratio. The rotation brings the bits that depend on all others
-/// to where the next step, and the slot, have them first.
-fn mixed(hash: u64, word: u64) -> u64 {
-    (hash ^ word)
-        .wrapping_mul(0x9e37_79b9_7f4a_7c15)
-        .rotate_left(32)
 }

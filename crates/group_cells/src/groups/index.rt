@@ -11,76 +11,16 @@ ghost use Rattle.beam_values.specs.declared.cell.Cell.{Cell as CellOf};
 ghost use Rattle.group_cells.specs.Looking.{place_of};
 ghost use Rattle.group_cells.specs.Indexes.{cell_key_cmp, IsFoundPlace, IsIndexOf};
 
-use crate::groups::guesses::{Guess, Guesses, hash_of};
-use beam_values::{Cell, NoMemory, Span, Value, cmp_spans, cmp_values};
+use crate::groups::guesses::{Guess, Guesses};
+use crate::groups::index_key::{CellKey, IndexKey, hash_with, lead_of};
+use beam_values::{Cell, NoMemory, Span, Value};
 use std::alloc::Global;
-use std::cmp::Ordering;
 use std::collections::BTreeMap;
-
-/// What a cell is found by.
-#[derive(Debug, Drop)]
-pub struct CellKey {
-    pub node: u32,
-    pub span: Span,
-    pub key: Value,
-}
-
-fn cmp_windows(a: &CellKey, b: &CellKey) -> Ordering
-    ensures { result
-        ≡ then_cmp (on (λ k. k.span) span_cmp) (on (λ k. k.key) value_cmp) a.now b.now }
-{
-    match cmp_spans(a.span, b.span) {
-        Ordering::Equal => cmp_values(&a.key, &b.key),
-        decided => decided,
-    }
-}
-
-impl PartialEq for CellKey {
-    ghost eq = { eq_by_cmp cell_key_cmp };
-
-    ghost laws = { Prim.search (comparing, rules) depth 12 };
-
-    fn eq(&self, other: &CellKey) -> bool {
-        self.cmp(other).is_eq()
-    }
-}
-
-impl Eq for CellKey {
-    ghost laws = { Prim.search (comparing, rules) depth 12 };
-}
-
-impl PartialOrd for CellKey {
-    ghost partial_cmp = { as_partial_cmp cell_key_cmp };
-
-    ghost laws = { partial_order_from_own_ties (Prim.search (comparing, rules) depth 12)
-        (Prim.search (comparing, rules) depth 12) };
-
-    fn partial_cmp(&self, other: &CellKey) -> Option<Ordering> {
-        Some(self.cmp(other))
-    }
-}
-
-impl Ord for CellKey {
-    ghost cmp = { cell_key_cmp };
-
-    ghost total = { Prim.search (comparing, rules) depth 12 };
-
-    ghost matches_partial_cmp = { Prim.search (comparing, rules) depth 12 };
-
-    ghost matches_eq = { Prim.search (comparing, rules) depth 12 };
-
-    fn cmp(&self, other: &CellKey) -> Ordering {
-        match self.node.cmp(&other.node) {
-            Ordering::Equal => cmp_windows(self, other),
-            decided => decided,
-        }
-    }
-}
 
 /// The places of cells by node, window and key.
 #[derive(Debug, Drop)]
 pub struct CellIndex {
-    pub places: BTreeMap<CellKey, u32>,
+    pub places: BTreeMap<IndexKey, u32>,
     /// Of cells that were found or put lately.
     pub guesses: Guesses,
 }
@@ -122,7 +62,7 @@ impl CellIndex {
     }
 
     /// The place of the cell among all cells, counted from 0, if there is one.
-    pub fn find(&self, key: &CellKey) -> Option<u32>
+    pub fn find(&self, key: &IndexKey) -> Option<u32>
         ensures { (cells : ListOf CellOf) → IsIndexOf self.now cells
             → result ≡ place_of key.now.node key.now.key key.now.span cells }
     {
@@ -135,7 +75,7 @@ impl CellIndex {
     pub fn find_or_add(
         &mut self,
         alloc: Global,
-        key: &CellKey,
+        key: &IndexKey,
         next: u32,
     ) -> Result<Option<u32>, NoMemory>
         ensures found { IfOk result (λ place. (cells : ListOf CellOf) → IsIndexOf self.old cells
@@ -147,13 +87,14 @@ impl CellIndex {
             → cell.node ≡ key.now.node → cell.key ≡ key.now.key → cell.span ≡ key.now.span
             → IsIndexOf self.new (cells ++ cell ∷ [])) }
     {
-        let hash = hash_of(key.node, &key.key, key.span);
-        let own = copy_of(alloc, key)?;
+        let hash = key.hash();
+        let own = key.copy(alloc)?;
         let known = self.places.insert(own, next)?;
         match known {
             Some(place) => {
                 put_back(&mut self.places, key, place);
-                self.guesses.note(Guess { hash, place });
+                self.guesses
+                    .note_missed(Guess { hash, place }, self.places.len());
                 Ok(Some(place))
             }
             None => {
@@ -169,18 +110,18 @@ impl CellIndex {
         ensures { (cells : ListOf CellOf) → IsIndexOf self.now cells
             → IfSome result (IsFoundPlace cells) }
     {
-        self.guesses.place(hash_of(node, key, span))
+        self.guesses.place(hash_with(node, lead_of(key, span)))
     }
 
     /// The place of one more cell, behind the others.
-    pub fn add(&mut self, key: CellKey, place: u32) -> Result<(), NoMemory>
+    pub fn add(&mut self, key: IndexKey, place: u32) -> Result<(), NoMemory>
         ensures { OnOk result ((cells : ListOf CellOf) (cell : CellOf)
             → IsIndexOf self.old cells → place ≡ length cells
             → cell.node ≡ key.node → cell.key ≡ key.key → cell.span ≡ key.span
             → place_of key.node key.key key.span cells ≡ None
             → IsIndexOf self.new (cells ++ cell ∷ [])) }
     {
-        let hash = hash_of(key.node, &key.key, key.span);
+        let hash = key.hash();
         self.places.insert(key, place)?;
         self.guesses.make_room(self.places.len());
         self.guesses.note(Guess { hash, place });
@@ -189,7 +130,7 @@ impl CellIndex {
 }
 
 /// A key that the map has gets its place again.
-fn put_back(places: &mut BTreeMap<CellKey, u32>, key: &CellKey, place: u32)
+fn put_back(places: &mut BTreeMap<IndexKey, u32>, key: &IndexKey, place: u32)
     ensures { IsSome (tree.get cell_key_cmp places.old key.now)
         → tree.Updates cell_key_cmp places.old places.new key.now (Some place) }
 {
@@ -198,23 +139,14 @@ fn put_back(places: &mut BTreeMap<CellKey, u32>, key: &CellKey, place: u32)
     }
 }
 
-fn copy_of(alloc: Global, key: &CellKey) -> Result<CellKey, NoMemory>
-    ensures { IfOk result (λ own. own ≡ key.now) }
-{
-    Ok(CellKey {
-        node: key.node,
-        span: key.span,
-        key: key.key.copy(alloc)?,
-    })
-}
-
-fn key_of_cell(alloc: Global, cell: &Cell) -> Result<CellKey, NoMemory>
+fn key_of_cell(alloc: Global, cell: &Cell) -> Result<IndexKey, NoMemory>
     ensures { IfOk result
         (λ key. key ≡ record { node = cell.now.node; span = cell.now.span; key = cell.now.key }) }
 {
-    Ok(CellKey {
+    let key = cell.key.copy(alloc)?;
+    Ok(IndexKey::of(CellKey {
         node: cell.node,
         span: cell.span,
-        key: cell.key.copy(alloc)?,
-    })
+        key,
+    }))
 }

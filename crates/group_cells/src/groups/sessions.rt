@@ -26,7 +26,7 @@ ghost use Rattle.group_cells.specs.Undoing.{undone_all};
 use crate::groups::draft::{Change, Draft};
 use crate::groups::group_plan::GroupPlan;
 use crate::groups::handing::give_way;
-use crate::groups::index::CellKey;
+use crate::groups::index_key::{CellKey, IndexKey};
 use crate::groups::keyed::{GroupKey, by_key, put, take};
 use crate::groups::placing::Commit;
 use crate::groups::standing::{Places, Standing, listed_again, places_for};
@@ -551,13 +551,14 @@ fn session_cell(alloc: Global, key: &GroupKey, span: Span) -> Result<Cell, NoMem
     })
 }
 
-fn session_key(alloc: Global, key: &GroupKey, span: Span) -> Result<CellKey, NoMemory>
+fn session_key(alloc: Global, key: &GroupKey, span: Span) -> Result<IndexKey, NoMemory>
     ensures { IfOk result
         (λ own. own ≡ record { node = key.now.node; span = span; key = key.now.key }) }
 {
-    Ok(CellKey {
+    let own = key.key.copy(alloc)?;
+    Ok(IndexKey::of(CellKey {
         node: key.node,
         span,
-        key: key.key.copy(alloc)?,
-    })
+        key: own,
+    }))
 }

@@ -3,7 +3,7 @@ use Rattle.std.proofs.lemmas.Result.{on_ok_weaker}
 use Rattle.beam_values.specs.declared.cell.Cell.{Cell}
 use Rattle.group_cells.specs.Indexes.{IsIndexOf}
 use Rattle.group_cells.specs.declared.groups.index.CellIndex.{CellIndex}
-use Rattle.group_cells.specs.declared.groups.index.CellKey.{CellKey}
+use Rattle.group_cells.specs.declared.groups.index_key.CellKey.{CellKey}
 use Rattle.group_cells.proofs.Indexing.{index_again}
 use Rattle.group_cells.proofs.groups.draft.Draft.push_session.Goals as goal
 

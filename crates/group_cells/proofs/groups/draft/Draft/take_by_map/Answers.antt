@@ -22,13 +22,13 @@ returns-in-Some-clause-indexed c =
     c.put_unseen.ensures.others.0 (sym c.in-Some.is ∙ c.in_ok-found.ensures.found c.args.self.now.cells.items c.requires.indexed)
     (c.in_ok-found.ensures.kept known c.args.self.now.cells.items c.requires.indexed)) c.put_unseen.ensures.ok
 
-pub returns-clause-ok : goal.returns-clause-ok
-returns-clause-ok c =
+pub returns-in_ok-cell-in-None-clause-ok : goal.returns-in_ok-cell-in-None-clause-ok
+returns-in_ok-cell-in-None-clause-ok c =
     on_ok_weaker c.push.result (first_taken c.in_ok-key.key c.args.node c.args.entry c.args.self.now.cells.items c.push.new.self.cells.items c.in_ok-cell-in-None.cell
     c.in_ok-key.ensures c.in_ok-cell-in-None.ensures (sym c.in-None.is ∙ c.in_ok-found.ensures.found c.args.self.now.cells.items c.requires.indexed)) c.push.ensures.ok
 
-pub returns-clause-indexed : goal.returns-clause-indexed
-returns-clause-indexed c =
+pub returns-in_ok-cell-in-None-clause-indexed : goal.returns-in_ok-cell-in-None-clause-indexed
+returns-in_ok-cell-in-None-clause-indexed c =
     let new : IsNone c.in_ok-found.found = subst (λ (o : Option ℕ). IsNone o) (sym c.in-None.is) refl in
     let next : c.in_ok-next.next ≡ length c.args.self.now.cells.items = search rules in
     let fresh = c.in_ok-cell-in-None.ensures in

@@ -3,5 +3,5 @@ use Rattle.group_cells.proofs.groups.index.CellIndex.add.Goals as goal
 
 pub returns : goal.returns
 returns c = λ cells cell.
-    index_more c.args.self.now (record { places = c.insert.new.self; guesses = c.note.new.self }) c.args.key c.hash_of-hash.result c.args.place c.in_ok-insert.ensures.updates
+    index_more c.args.self.now (record { places = c.insert.new.self; guesses = c.note.new.self }) c.args.key c.hash-hash.result c.args.place c.in_ok-insert.ensures.updates
     (λ places kept own. c.note.ensures places (c.make_room.ensures places kept) own) cells cell

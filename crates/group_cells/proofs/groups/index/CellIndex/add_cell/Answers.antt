@@ -1,6 +1,6 @@
 use Rattle.std.proofs.Common.{◌≡◌, ap, rules, sym, ◌∙◌}
 use Rattle.std.proofs.lemmas.Result.{on_ok_weaker}
-use Rattle.group_cells.specs.declared.groups.index.CellKey.{CellKey}
+use Rattle.group_cells.specs.declared.groups.index_key.CellKey.{CellKey}
 use Rattle.group_cells.proofs.Indexing.{index_again}
 use Rattle.group_cells.proofs.groups.index.CellIndex.add_cell.Goals as goal
 

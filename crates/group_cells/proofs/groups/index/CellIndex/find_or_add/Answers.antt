@@ -2,7 +2,7 @@ use Rattle.std.proofs.Common.{◌≡◌, ℕ, Option, Some, None, ap, refl, subs
 use Rattle.std.specs.BTreeMap as tree
 use Rattle.std.specs.Prelude.{IsSome}
 use Rattle.group_cells.specs.Indexes.{cell_key_cmp}
-use Rattle.group_cells.specs.declared.groups.index.CellKey.{CellKey}
+use Rattle.group_cells.specs.declared.groups.index_key.CellKey.{CellKey}
 use Rattle.group_cells.proofs.Indexing.{index_more, index_put_back}
 use Rattle.group_cells.proofs.groups.index.CellIndex.find_or_add.Goals as goal
 
@@ -19,8 +19,8 @@ returns-in-Some-clause-kept c =
     let written : tree.Updates cell_key_cmp old over key (Some c.args.next) = subst (λ (k : CellKey). tree.Updates cell_key_cmp old over k (Some c.args.next)) c.in_ok-own.ensures c.in_ok-known.ensures.updates in
     let there : IsSome (tree.get cell_key_cmp over key) = subst (λ (o : Option ℕ). IsSome o) (sym written.1) refl in
     λ some cells h.
-    index_put_back c.args.self.now (record { places = c.put_back.new.places; guesses = c.note.new.self }) over key c.hash_of-hash.result c.in-Some.place c.args.next
-    known written (c.put_back.ensures there) c.note.ensures cells h
+    index_put_back c.args.self.now (record { places = c.put_back.new.places; guesses = c.note_missed.new.self }) over key c.hash-hash.result c.in-Some.place c.args.next
+    known written (c.put_back.ensures there) c.note_missed.ensures cells h
 
 pub returns-in-None-clause-found : goal.returns-in-None-clause-found
 returns-in-None-clause-found c = λ cells h.
@@ -34,5 +34,5 @@ returns-in-None-clause-added c =
     let known : None ≡ tree.get cell_key_cmp old key = sym c.in-None.is ∙ c.in_ok-known.ensures.old ∙ ap (tree.get cell_key_cmp old) c.in_ok-own.ensures in
     let written : tree.Updates cell_key_cmp old over key (Some c.args.next) = subst (λ (k : CellKey). tree.Updates cell_key_cmp old over k (Some c.args.next)) c.in_ok-own.ensures c.in_ok-known.ensures.updates in
     λ none cells cell h at nodes keys spans.
-    index_more c.args.self.now (record { places = over; guesses = c.note-in-None.new.self }) key c.hash_of-hash.result c.args.next written
-    (λ places kept own. c.note-in-None.ensures places (c.make_room.ensures places kept) own) cells cell h at nodes keys spans (sym (known ∙ h.finds key))
+    index_more c.args.self.now (record { places = over; guesses = c.note.new.self }) key c.hash-hash.result c.args.next written
+    (λ places kept own. c.note.ensures places (c.make_room.ensures places kept) own) cells cell h at nodes keys spans (sym (known ∙ h.finds key))

@@ -3,4 +3,4 @@ use Rattle.group_cells.proofs.Indexing.{guess_found}
 use Rattle.group_cells.proofs.groups.index.CellIndex.guess.Goals as goal
 
 pub returns : goal.returns
-returns c = λ cells h. IfSome_then c.place.result c.place.ensures (λ place there. guess_found c.args.self.now c.hash_of.result place c.hash_of.ensures there cells h)
+returns c = λ cells h. IfSome_then c.place.result c.place.ensures (λ place there. guess_found c.args.self.now c.hash_with.result place c.hash_with.ensures there cells h)

@@ -1,7 +1,7 @@
 use Rattle.std.specs.Result.{is_ok}
 use Rattle.group_cells.specs.Indexes.{IsOfKey}
 use Rattle.group_cells.proofs.Indexing.{no_key, resized}
-use Rattle.group_cells.proofs.groups.guesses.Guesses.make_room.Goals as goal
+use Rattle.group_cells.proofs.groups.guesses.Guesses.grow.Goals as goal
 
 pub returns-then-is_ok : goal.returns-then-is_ok
 returns-then-is_ok c = λ places all.
