@@ -6,8 +6,9 @@ use crate::writes::push_writes;
 use beam_values::{Bytes, List, NoMemory, Outcome};
 use std::alloc::Global;
 
-/// About how long a line is, in bytes. Longer ones only make the text grow while it is written.
-const USUAL_LINE_LEN: usize = 48;
+/// About how long a line is, in bytes, with some to spare: room that isn't written costs nothing, where a
+/// text that grows may be moved. Longer lines only make it grow while it is written.
+const USUAL_LINE_LEN: usize = 128;
 
 /// The text of an outcome: for each Write in number order the lines of its elements, in ascending
 /// order and below a line with its label where there are several, and then the calls of the stateful

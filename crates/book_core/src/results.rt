@@ -98,12 +98,13 @@ fn put_last<T: Drop>(items: &mut RoomyList<T>, item: T)
     };
 }
 
-// The first panes stay where they lie: a run over one file mostly fires all its panes at once.
+// The first panes stay where they lie: a run over one file mostly fires all its panes at once. Before that,
+// the room that is kept is left as it is.
 fn put_panes(panes: &mut RoomyList<Pane>, fired: List<Pane>)
     requires { length fired ≤ panes.old.room }
     ensures { panes.new.items ≡ panes.old.items ++ fired }
 {
-    if panes.is_empty() {
+    if panes.is_empty() && !fired.is_empty() {
         *panes = RoomyList::from_list(fired);
         return;
     }

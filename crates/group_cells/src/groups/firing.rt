@@ -186,7 +186,8 @@ impl Draft {
         ensures undo { undone_all self.new.changes.items self.new.cells.items
             ≡ undone_all self.old.changes.items self.old.cells.items }
     {
-        let mut panes = Vec::new(alloc);
+        let mut panes = Vec::with_capacity(alloc, places.len())?;
+        self.changes.reserve(places.len())?;
         let mut done = 0;
         for place in places {
             done = self.fire_next(
