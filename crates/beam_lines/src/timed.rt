@@ -69,7 +69,7 @@ struct Stamp {
     len: usize,
 }
 
-// Reads digits up to a TAB, without a look for that TAB before.
+// Reads digits up to a TAB, without searching for the TAB first.
 fn read_stamp(text: &[u8]) -> Option<Stamp>
     ensures value { option_map (λ stamp. stamp.magnitude) result ≡ stamp_of text.now }
     ensures len { IfSome result (λ stamp. stamp.len ≡ position_or_len model.is_tab text.now) }

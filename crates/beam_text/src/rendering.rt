@@ -6,8 +6,8 @@ use crate::writes::push_writes;
 use beam_values::{Bytes, List, NoMemory, Outcome};
 use std::alloc::Global;
 
-/// About how long a line is, in bytes, with some to spare: room that isn't written costs nothing, where a
-/// text that grows may be moved. Longer lines only make it grow while it is written.
+/// About how long a line is, in bytes, with some to spare: room that isn't written is mostly free, where a
+/// text that grows may be moved. Where it is refused, and for longer lines, the text grows while it is written.
 const USUAL_LINE_LEN: usize = 128;
 
 /// The text of an outcome: for each Write in number order the lines of its elements, in ascending
@@ -18,7 +18,7 @@ pub fn render(alloc: Global, outcome: &Outcome) -> Result<Bytes, NoMemory>
 {
     let written = outcome.written.as_slice();
     let mut out = List::new(alloc);
-    out.reserve(written.len().saturating_mul(USUAL_LINE_LEN))?;
+    let _ = out.reserve(written.len().saturating_mul(USUAL_LINE_LEN));
     push_writes(alloc, &outcome.plan, written, &mut out)?;
     push_logs(alloc, &outcome.plan, outcome.logs.as_slice(), &mut out)?;
     Bytes::from_list(alloc, out)

@@ -98,8 +98,8 @@ fn put_last<T: Drop>(items: &mut RoomyList<T>, item: T)
     };
 }
 
-// The first panes stay where they lie: a run over one file mostly fires all its panes at once. Before that,
-// the room that is kept is left as it is.
+// The first panes stay where they lie: a run over one file mostly fires all its panes at once. Where no
+// pane fires, the list isn't replaced, so the room that it keeps isn't lost.
 fn put_panes(panes: &mut RoomyList<Pane>, fired: List<Pane>)
     requires { length fired ≤ panes.old.room }
     ensures { panes.new.items ≡ panes.old.items ++ fired }

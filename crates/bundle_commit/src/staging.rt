@@ -7,8 +7,8 @@ use std::alloc::Global;
 use std::marker::Model;
 use watermarks::observe;
 
-/// How many elements a bundle mostly puts out at most: one for each position. The first one takes the
-/// room for all of them, so that the list needn't grow in steps in each bundle.
+/// How many elements a bundle mostly puts out at most: one for each position of a bundle of the usual size.
+/// The first one asks for the room of all, so that the list needn't grow in steps in each bundle.
 const USUAL_COUNT: usize = 64;
 
 /// What a bundle has put out so far. Contracts see it as the receipt that it would seal.
@@ -51,7 +51,7 @@ impl Staging {
         ensures err { OnErr result (self.new ≡ self.old) }
     {
         if self.receipt.arrivals.is_empty() {
-            self.receipt.arrivals.reserve(USUAL_COUNT)?;
+            let _ = self.receipt.arrivals.reserve(USUAL_COUNT);
         }
         self.receipt.arrivals.push(Arrival { node, element })
     }

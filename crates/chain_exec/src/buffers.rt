@@ -9,7 +9,8 @@ use std::alloc::Global;
 /// Lists that are used again from call to call, so that memory is asked for seldom. They say nothing.
 #[derive(Debug, Drop)]
 pub struct Buffers {
-    /// What is next on its way. Once it is done it has no value any more.
+    /// What is next on its way. At a barrier its value is moved out of it; what a function put nothing out
+    /// for stays until the next one comes.
     pub(crate) next: Delivery,
     /// What waits on its way, the next one last.
     pub(crate) stack: List<Delivery>,

@@ -1,5 +1,6 @@
-//! Boxes of keys that were made lately, so that keys that are equal lie in memory once. A slot is read
-//! and then compared, so that a box that is lost, or never found, costs a box more and nothing else.
+//! Boxes of keys that were made lately, so that keys that are equal mostly lie in memory once for each
+//! worker. A slot is read and then compared, so that a box that is lost, or never found, costs a box more
+//! and nothing else.
 
 ghost use Rattle.std.specs.Prelude.{◌≡◌, IfOk, IfSome, IsTrue};
 ghost use Rattle.beam_model.specs.Values.{blob};
@@ -11,7 +12,10 @@ use std::alloc::Global;
 const FEWEST: usize = 256;
 
 /// How many slots there are at most: a key in a slot stays in memory, also where it never comes again.
-const MOST: usize = 65536;
+const MOST: usize = 16384;
+
+/// Longer keys get no slot, so that what the slots keep in memory stays small: some 3 MB.
+const LONGEST: usize = 128;
 
 /// Where so many keys are found for each that is made, more slots would gain little.
 const ENOUGH: usize = 32;
@@ -43,13 +47,16 @@ impl SharedKeys {
     pub fn shared(&mut self, alloc: Global, bytes: &[u8]) -> Result<Boxed<Value>, NoMemory>
         ensures { IfOk result (λ key. key ≡ blob bytes.now) }
     {
+        if bytes.len() > LONGEST {
+            return made(alloc, bytes);
+        }
         let hash = hash_of_bytes(bytes);
         if let Some(known) = self.known(hash, bytes) {
             let key = known.share()?;
             self.found = self.found.saturating_add(1);
             return Ok(key);
         }
-        let key = Boxed::new(alloc, Value::Blob(Bytes::from_slice(alloc, bytes)?))?;
+        let key = made(alloc, bytes)?;
         self.note(hash, key.share()?);
         Ok(key)
     }
@@ -92,6 +99,12 @@ impl SharedKeys {
     fn grow(&mut self, count: usize) {
         let _ = self.slots.resize_with(count, || None);
     }
+}
+
+fn made(alloc: Global, bytes: &[u8]) -> Result<Boxed<Value>, NoMemory>
+    ensures { IfOk result (λ key. key ≡ blob bytes.now) }
+{
+    Boxed::new(alloc, Value::Blob(Bytes::from_slice(alloc, bytes)?))
 }
 
 /// The slot of a hash, where the number of slots is a power of two.

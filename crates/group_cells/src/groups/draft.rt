@@ -17,8 +17,14 @@ use crate::groups::handing::{Given, hand_back};
 use crate::groups::index::CellIndex;
 use crate::groups::index_key::{CellKey, IndexKey};
 use crate::groups::looking::is_cell_of;
-use beam_values::{Cell, Dropped, Element, Entry, List, NoMemory, Value, copy_key, key_or};
+use beam_values::{
+    Boxed, Cell, Dropped, Element, Entry, List, NoMemory, Value, cmp_values, copy_key, key_or,
+};
 use std::alloc::Global;
+use std::cmp::Ordering;
+
+/// Byte strings of this length lie in their values.
+const LEN_INSIDE: usize = 22;
 
 /// A change of the cells.
 #[derive(Debug, Drop)]
@@ -45,7 +51,8 @@ pub struct Draft {
     pub changes: Vec<Change>,
 }
 
-/// Where a cell has its place, an entry goes to it.
+/// Where a cell has its place, an entry goes to it. A key that takes memory of its own is shared with the
+/// entry before it, so that it lies in memory once for each cell.
 fn put_at(cells: &mut Vec<Cell>, place: u32, entry: Entry) -> Result<(), NoMemory>
     requires { place < length cells.old.items }
     ensures ok { OnOk result ((cell : CellOf) → slice_get cells.old.items place ≡ Some cell
@@ -53,8 +60,43 @@ fn put_at(cells: &mut Vec<Cell>, place: u32, entry: Entry) -> Result<(), NoMemor
     ensures err { OnErr result (cells.new.items ≡ cells.old.items) }
 {
     let cell = &mut cells[place as usize];
+    let mut entry = entry;
+    if let Some(last) = cell.entries.as_slice().last() {
+        share_key(&last.element.value, &mut entry.element.value)?;
+    }
     cell.entries.push(entry)?;
     Ok(())
+}
+
+/// A value shares a large key of another pair where that is the same, and is what it was.
+fn share_key(other: &Value, value: &mut Value) -> Result<(), NoMemory>
+    ensures { value.new ≡ value.old }
+{
+    match (other, value) {
+        (Value::Pair(key, _), Value::Pair(own, _)) if is_large(own.get()) => share_equal(key, own),
+        _ => Ok(()),
+    }
+}
+
+/// Whether a key takes more memory than its box.
+fn is_large(key: &Value) -> bool {
+    match key {
+        Value::Null | Value::Int(_) => false,
+        Value::Blob(bytes) => bytes.len() > LEN_INSIDE,
+        Value::Pair(_, _) | Value::Seq(_) => true,
+    }
+}
+
+fn share_equal(key: &Boxed<Value>, own: &mut Boxed<Value>) -> Result<(), NoMemory>
+    ensures { own.new ≡ own.old }
+{
+    match cmp_values(key.get(), own.get()) {
+        Ordering::Equal => {
+            *own = key.share()?;
+            Ok(())
+        }
+        _ => Ok(()),
+    }
 }
 
 /// Takes the last entry of the cell away.

@@ -112,8 +112,8 @@ impl Guesses {
     }
 
     /// Makes room for the guesses of so many cells: the fewest slots at first, and more where there are
-    /// fewer than two for each cell and guesses were missed for a quarter of the slots. Where all guesses
-    /// that are needed have room, fewer are missed. Where there is no memory, the slots stay as they are.
+    /// fewer than two for each cell and guesses were missed for a quarter of the slots since they grew.
+    /// Where there is no memory, the slots stay as they are.
     pub fn make_room(&mut self, cells: usize)
         ensures { (places : TreeMap CellKeyOf ℕ) → All (IsOfKey places) self.old.slots.items
             → All (IsOfKey places) self.new.slots.items }

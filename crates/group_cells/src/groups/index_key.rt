@@ -65,7 +65,8 @@ impl IndexKey {
         cell
     }
 
-    /// Never 0.
+    /// A hash of the node, the key and the start of the window. It is never 0, which says of a slot that
+    /// it has no guess.
     pub fn hash(&self) -> u32
         ensures { 0 < result }
     {
@@ -148,11 +149,13 @@ impl Ord for IndexKey {
     }
 }
 
-/// A hash of a node and a lead, never 0.
+/// A hash of a node and a lead, never 0. The start of the window is folded into the lower half first: what
+/// stands above alone would only reach the highest bits, and the lowest ones choose the slot of a guess.
 pub fn hash_with(node: u32, lead: u64) -> u32
     ensures { 0 < result }
 {
-    let mixed = (lead ^ u64::from(node)).wrapping_mul(0x9e37_79b9_7f4a_7c15);
+    let named = lead ^ u64::from(node);
+    let mixed = (named ^ named / (1 << 32)).wrapping_mul(0x9e37_79b9_7f4a_7c15);
     ((mixed / (1 << 32)) as u32).max(1)
 }
 
