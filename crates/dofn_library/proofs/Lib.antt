@@ -1,4 +1,5 @@
 pub mod Cells
+pub mod Crossing
 pub mod Digits
 pub mod Fields
 pub mod NumbersIn
