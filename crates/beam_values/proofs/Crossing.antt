@@ -18,6 +18,8 @@ use Rattle.beam_values.specs.contracts.log.LogEntry as LogEntry
 use Rattle.beam_values.specs.contracts.log.LogInput as LogInput
 use Rattle.beam_values.specs.contracts.log.KeyLog as KeyLog
 use Rattle.beam_values.specs.contracts.plan.Args as Args
+use Rattle.beam_values.specs.contracts.plan.Bar as Bar
+use Rattle.beam_values.specs.contracts.plan.Trigger as Trigger
 use Rattle.beam_values.specs.contracts.plan.Node as Node
 use Rattle.beam_values.specs.contracts.plan.NodeKind as NodeKind
 use Rattle.beam_values.specs.contracts.plan.Plan as Plan
@@ -101,8 +103,14 @@ CommitMarks-send = declared_send CommitMarks.the_type (search (StageMarks-send, 
 pub Args-send : IsSend Args.the_row
 Args-send = variants_send Args.enum (search (Bytes-send, as_row_send, sendable) depth 40)
 
+pub Bar-send : IsSend Bar.the_row
+Bar-send = declared_send Bar.the_type (search (as_row_send, sendable) depth 40)
+
+pub Trigger-send : IsSend Trigger.the_row
+Trigger-send = declared_send Trigger.the_type (search (Bar-send, List-send, as_row_send, sendable) depth 40)
+
 pub NodeKind-send : IsSend NodeKind.the_row
-NodeKind-send = variants_send NodeKind.enum (search (Args-send, Bytes-send, List-send, as_row_send, sendable) depth 40)
+NodeKind-send = variants_send NodeKind.enum (search (Args-send, Bytes-send, List-send, Trigger-send, as_row_send, sendable) depth 40)
 
 pub Node-send : IsSend Node.the_row
 Node-send = declared_send Node.the_type (search (NodeKind-send, List-send, as_row_send, sendable) depth 40)
@@ -113,8 +121,14 @@ Plan-send = declared_send Plan.the_type (search (Node-send, List-send, as_row_se
 pub Args-sync : IsSync Args.the_row
 Args-sync = variants_sync Args.enum (search (Bytes-sync, as_row_sync, sendable) depth 40)
 
+pub Bar-sync : IsSync Bar.the_row
+Bar-sync = declared_sync Bar.the_type (search (as_row_sync, sendable) depth 40)
+
+pub Trigger-sync : IsSync Trigger.the_row
+Trigger-sync = declared_sync Trigger.the_type (search (Bar-sync, List-sync, as_row_sync, sendable) depth 40)
+
 pub NodeKind-sync : IsSync NodeKind.the_row
-NodeKind-sync = variants_sync NodeKind.enum (search (Args-sync, Bytes-sync, List-sync, as_row_sync, sendable) depth 40)
+NodeKind-sync = variants_sync NodeKind.enum (search (Args-sync, Bytes-sync, List-sync, Trigger-sync, as_row_sync, sendable) depth 40)
 
 pub Node-sync : IsSync Node.the_row
 Node-sync = declared_sync Node.the_type (search (NodeKind-sync, List-sync, as_row_sync, sendable) depth 40)

@@ -1,16 +1,17 @@
 -- Checked plans: the rules of a pipeline, and the order in which they are tested (Beam Programming Guide, Creating a pipeline; the limits are this
 -- profile's).
-use Rattle.std.specs.Prelude.{◌≡◌, ℕ, ◌+◌, ℤ, pos, ◌==◌, Bool, true, false, ◌&&◌, if◌then◌else◌, nat_le, nat_lt, int_le, List, [], ◌∷◌, ◌++◌, length, slice_get, unwrap_or, Option, Some, None, not}
+use Rattle.std.specs.Prelude.{◌≡◌, ℕ, ◌+◌, ℤ, pos, negsuc, ◌-ℤ◌, ◌==◌, Bool, true, false, ◌&&◌, if◌then◌else◌, nat_le, nat_lt, int_le, int_lt, List, [], ◌∷◌, ◌++◌, length, slice_get, unwrap_or, Option, Some, None, not}
 use Rattle.std.specs.List.{list_all, list_any}
 use Rattle.std.specs.Option.{option_map, option_or}
 use Rattle.beam_values.specs.declared.graph_refusal.GraphRefusal.{GraphRefusal}
 use Rattle.beam_values.specs.declared.graph_refusal.GraphRefusal.TheVariants as refusal
 use Rattle.beam_values.specs.declared.plan.Args.{Args}
 use Rattle.beam_values.specs.declared.plan.Args.TheVariants.{Nothing, Text, Number, Two}
+use Rattle.beam_values.specs.declared.plan.Bar.{Bar}
 use Rattle.beam_values.specs.declared.plan.Estimator.{Estimator}
 use Rattle.beam_values.specs.declared.plan.Estimator.TheVariants as estimator
 use Rattle.beam_values.specs.declared.plan.FnKind.{FnKind}
-use Rattle.beam_values.specs.declared.plan.FnKind.TheVariants.{Field, KeepPrefix, Shift}
+use Rattle.beam_values.specs.declared.plan.FnKind.TheVariants.{Field, KeepPrefix, Shift, Tag}
 use Rattle.beam_values.specs.declared.plan.Node.{Node}
 use Rattle.beam_values.specs.declared.plan.NodeKind.{NodeKind}
 use Rattle.beam_values.specs.declared.plan.NodeKind.TheVariants.{Source, ParDo, Flatten, WindowInto, Group, Stateful, Write}
@@ -85,6 +86,7 @@ abbrev pub is_function_allowed : FnKind → Args → Bool
 is_function_allowed Field args = is_number_upto (pos 1000) args
 is_function_allowed KeepPrefix args = is_text_upto 4096 args
 is_function_allowed Shift args = is_number_upto greatest_length args
+is_function_allowed Tag args = is_number_upto (pos 1) args
 is_function_allowed _ args = is_nothing args
 
 -- the argument that a stateful function takes
@@ -101,9 +103,43 @@ abbrev pub is_early_allowed : Option ℕ → Bool
 is_early_allowed None = true
 is_early_allowed (Some count) = is_count count
 
+-- a delay after another one is less; none is the least
+abbrev pub is_less_delay : Option ℤ → Option ℤ → Bool
+is_less_delay (Some before) (Some after) = int_lt after before
+is_less_delay (Some before) None = true
+is_less_delay None after = false
+
+abbrev pub is_stair : Option Bar → Bar → Bool
+is_stair None bar = true
+is_stair (Some before) bar = nat_lt before.count bar.count && is_less_delay before.delay bar.delay
+
+-- bars after this one, if there is one, are a staircase: each asks for more elements than the one before it, and for less delay
+abbrev pub are_stairs_after : Option Bar → List Bar → Bool
+are_stairs_after before [] = true
+are_stairs_after before (bar ∷ bars) = is_stair before bar && are_stairs_after (Some bar) bars
+
+abbrev pub is_delay_within : ℤ → ℤ → Option ℤ → Bool
+is_delay_within least most None = true
+is_delay_within least most (Some delay) = int_le least delay && int_le delay most
+
+abbrev pub is_bar_within : ℤ → ℤ → Bar → Bool
+is_bar_within least most bar = is_count bar.count && is_delay_within least most bar.delay
+
+-- The bars (2, 5000) and (9, none) are a staircase; (2, none) and (9, 5000), or twice the same count, are not.
+abbrev pub are_bars_allowed : ℤ → ℤ → List Bar → Bool
+are_bars_allowed least most bars = list_all (is_bar_within least most) bars && are_stairs_after None bars
+
+-- early bars are before the window's end, late ones at it or after it
+abbrev pub are_early_bars : List Bar → Bool
+are_early_bars = are_bars_allowed (pos 0 -ℤ greatest_length) (negsuc 0)
+
+abbrev pub are_late_bars : List Bar → Bool
+are_late_bars = are_bars_allowed (pos 0) greatest_length
+
 abbrev pub is_trigger_allowed : Trigger → Bool
 is_trigger_allowed trigger =
     is_early_allowed trigger.early && is_count trigger.late && int_le (pos 0) trigger.lateness && int_le trigger.lateness greatest_length
+    && are_early_bars trigger.early_bars && are_late_bars trigger.late_bars
 
 -- a WindowInto takes any allowed strategy but Kept, which stands below a Group of sessions
 abbrev pub is_kept : Strategy → Bool

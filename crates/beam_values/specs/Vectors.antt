@@ -1,16 +1,19 @@
 -- The base definitions computed: which nodes stand below which, the rules of plans, firing, marks, and where a restriction is split.
 use Rattle.std.specs.Prelude.{◌≡◌, ℕ, ℤ, pos, negsuc, true, false, List, [], ◌∷◌, replicate, Option, Some, None, codes, refl}
-use Rattle.beam_values.specs.Checked.{graph_refusal}
-use Rattle.beam_values.specs.Firing.{firing, is_expired}
+use Rattle.beam_values.specs.Checked.{graph_refusal, is_function_allowed, is_trigger_allowed}
+use Rattle.beam_values.specs.Cover.{times_dead}
+use Rattle.beam_values.specs.Firing.{firing, is_expired, met}
 use Rattle.beam_values.specs.Marks.{seen_after, mark_of}
 use Rattle.beam_values.specs.Nodes.{nodes_below, strategy_of}
-use Rattle.beam_values.specs.Times.{least_time}
+use Rattle.beam_values.specs.Times.{least_time, final_mark}
 use Rattle.beam_values.specs.Tracking.{split_point_of}
 use Rattle.beam_values.specs.declared.element.Timing.TheVariants.{Early, OnTime, Late}
+use Rattle.beam_values.specs.declared.fault.Cause.TheVariants.{Call}
 use Rattle.beam_values.specs.declared.graph_refusal.GraphRefusal.TheVariants as refusal
-use Rattle.beam_values.specs.declared.plan.Args.TheVariants.{Nothing, Two}
+use Rattle.beam_values.specs.declared.plan.Args.TheVariants.{Nothing, Number, Two}
+use Rattle.beam_values.specs.declared.plan.Bar.{Bar}
 use Rattle.beam_values.specs.declared.plan.Estimator.TheVariants as estimator
-use Rattle.beam_values.specs.declared.plan.FnKind.TheVariants.{KeyField, Swap}
+use Rattle.beam_values.specs.declared.plan.FnKind.TheVariants.{KeyField, Swap, Tag, JoinList}
 use Rattle.beam_values.specs.declared.plan.Mode.TheVariants.{Discarding}
 use Rattle.beam_values.specs.declared.plan.Node.{Node}
 use Rattle.beam_values.specs.declared.plan.NodeKind.{NodeKind}
@@ -28,7 +31,14 @@ abbrev node : NodeKind → List ℕ → Node
 node kind inputs = record { kind = kind; inputs = inputs }
 
 abbrev trigger : Option ℕ → ℕ → ℤ → Trigger
-trigger early late lateness = record { early = early; late = late; lateness = lateness; mode = Discarding }
+trigger early late lateness = record { early = early; late = late; lateness = lateness; mode = Discarding; early_bars = []; late_bars = [] }
+
+abbrev bar : ℕ → Option ℤ → Bar
+bar count delay = record { count = count; delay = delay }
+
+-- early bars, and late bars with a lateness of 100
+abbrev barred : List Bar → List Bar → Trigger
+barred early late = record (trigger None 1 (pos 100)) { early_bars = early; late_bars = late }
 
 -- one on-time pane, and no late elements
 abbrev default_trigger : Trigger
@@ -77,6 +87,89 @@ late_once_the_window_expires = refl
 
 late_without_new_elements : firing (trigger None 3 (pos 100)) (pos 60000) (pos 60100) true 0 ≡ None
 late_without_new_elements = refl
+
+-- from 5000 before the end on with two unseen, or with nine at any time
+abbrev early_bars : Trigger
+early_bars = barred (bar 2 (Some (negsuc 4999)) ∷ bar 9 None ∷ []) []
+
+early_bar_at_its_delay : firing early_bars (pos 60000) (pos 55000) false 2 ≡ Some Early
+early_bar_at_its_delay = refl
+
+early_bar_a_millisecond_before : firing early_bars (pos 60000) (pos 54999) false 8 ≡ None
+early_bar_a_millisecond_before = refl
+
+early_bar_without_a_delay : firing early_bars (pos 60000) (pos 0) false 9 ≡ Some Early
+early_bar_without_a_delay = refl
+
+early_bars_leave_the_on_time_pane : firing early_bars (pos 60000) (pos 60000) false 0 ≡ Some OnTime
+early_bars_leave_the_on_time_pane = refl
+
+-- with three unseen from 5 after the end on; one alone waits for the window to expire
+abbrev late_bars : Trigger
+late_bars = barred [] (bar 3 (Some (pos 5)) ∷ [])
+
+late_bar_at_its_delay : firing late_bars (pos 60000) (pos 60005) true 3 ≡ Some Late
+late_bar_at_its_delay = refl
+
+late_bar_a_millisecond_before : firing late_bars (pos 60000) (pos 60004) true 3 ≡ None
+late_bar_a_millisecond_before = refl
+
+late_bars_stand_in_place_of_the_late_count : firing late_bars (pos 60000) (pos 60099) true 1 ≡ None
+late_bars_stand_in_place_of_the_late_count = refl
+
+late_bars_leave_the_last_pane : firing late_bars (pos 60000) (pos 60100) true 1 ≡ Some Late
+late_bars_leave_the_last_pane = refl
+
+-- a delay that no number of 64 bits leaves room for
+late_bar_at_the_final_mark : firing (barred [] (bar 1 (Some (pos 31536000000000)) ∷ [])) (negsuc 9223372036854775807) final_mark true 1 ≡ Some Late
+late_bar_at_the_final_mark = refl
+
+-- Composite triggers of checked plans.
+
+stairs_are_allowed : is_trigger_allowed (barred (bar 2 (Some (negsuc 4999)) ∷ bar 9 None ∷ []) (bar 3 (Some (pos 5)) ∷ [])) ≡ true
+stairs_are_allowed = refl
+
+bars_that_rise_in_delay_are_not : is_trigger_allowed (barred (bar 2 (Some (negsuc 4999)) ∷ bar 9 (Some (negsuc 0)) ∷ []) []) ≡ false
+bars_that_rise_in_delay_are_not = refl
+
+nothing_comes_after_a_bar_without_a_delay : is_trigger_allowed (barred (bar 2 None ∷ bar 9 None ∷ []) []) ≡ false
+nothing_comes_after_a_bar_without_a_delay = refl
+
+bars_of_one_count_are_not : is_trigger_allowed (barred [] (bar 2 (Some (pos 9)) ∷ bar 2 (Some (pos 5)) ∷ [])) ≡ false
+bars_of_one_count_are_not = refl
+
+an_early_bar_at_the_end_is_not : is_trigger_allowed (barred (bar 1 (Some (pos 0)) ∷ []) []) ≡ false
+an_early_bar_at_the_end_is_not = refl
+
+a_late_bar_before_the_end_is_not : is_trigger_allowed (barred [] (bar 1 (Some (negsuc 0)) ∷ [])) ≡ false
+a_late_bar_before_the_end_is_not = refl
+
+a_bar_of_no_element_is_not : is_trigger_allowed (barred (bar 0 None ∷ []) []) ≡ false
+a_bar_of_no_element_is_not = refl
+
+-- Functions of side inputs.
+
+a_tag_of_one : is_function_allowed Tag (Number (pos 1)) ≡ true
+a_tag_of_one = refl
+
+a_tag_of_two : is_function_allowed Tag (Number (pos 2)) ≡ false
+a_tag_of_two = refl
+
+a_join_with_an_argument : is_function_allowed JoinList (Number (pos 0)) ≡ false
+a_join_with_an_argument = refl
+
+-- Dead positions: the position 9 of the first item, set aside after three attempts.
+
+abbrev set_aside : ℕ → ℕ
+set_aside offset =
+    times_dead (record { node = 0; item = 0; at = 9; note = record { node = 0; item = 0; at = 0; attempt = 3; cause = Call } } ∷ [])
+    (record { node = 0; item = 0; offset = offset })
+
+set_aside_once : set_aside 9 ≡ 1
+set_aside_once = refl
+
+not_set_aside : set_aside 10 ≡ 0
+not_set_aside = refl
 
 -- a lateness of 100
 not_expired_a_millisecond_before : is_expired (trigger None 1 (pos 100)) (pos 60000) (pos 60099) ≡ false

@@ -9,6 +9,7 @@
 #![tactic(auto)]
 
 mod arrival;
+mod bars;
 mod bits;
 mod cell;
 mod cell_order;
@@ -34,6 +35,7 @@ mod time;
 mod value;
 
 pub use arrival::Arrival;
+pub use bars::{met, met_after};
 pub use beam_containers::{Boxed, Bytes, Duplicate, List, NoMemory, RoomyList};
 pub use bits::unsigned_bits;
 pub use cell::{Cell, Dropped, Entry, Pane};
@@ -53,9 +55,9 @@ pub use log::{KeyLog, LogEntry, LogInput, Timer};
 pub use marks::{CommitMarks, StageMarks};
 pub use options::Options;
 pub use outcome::{Outcome, StopCause};
-pub use piece::{Done, FileLen, Piece};
+pub use piece::{Dead, Done, FileLen, Piece};
 pub use plan::{
-    Args, Estimator, FnKind, Mode, Node, NodeKind, Plan, SourceKind, StateKind, Strategy, Trigger,
+    Args, Bar, Estimator, FnKind, Mode, Node, NodeKind, Plan, SourceKind, StateKind, Strategy, Trigger,
 };
 pub use range::Range;
 pub use span::Span;

@@ -1,4 +1,6 @@
-use crate::{Arrival, Cell, CommitMarks, Done, Dropped, FaultNote, FileLen, KeyLog, Pane, Plan};
+use crate::{
+    Arrival, Cell, CommitMarks, Dead, Done, Dropped, FaultNote, FileLen, KeyLog, Pane, Plan,
+};
 use beam_containers::List;
 
 /// Why a run was stopped.
@@ -17,6 +19,8 @@ pub struct Outcome {
     pub files: List<FileLen>,
     /// By node, item and range.
     pub done: List<Done>,
+    /// Positions that were set aside, by node, item and position.
+    pub dead: List<Dead>,
     /// By node, the bytes that spell the key, and window.
     pub cells: List<Cell>,
     /// By the commit that fired them, and within a commit by node, the bytes that spell the key, and window.

@@ -1,4 +1,4 @@
-use crate::{Range, Time};
+use crate::{FaultNote, Range, Time};
 
 /// A source item and its length: bytes of a file, or how many elements are counted or made.
 #[derive(Clone, Copy, Debug, PartialEq, Eq)]
@@ -18,6 +18,18 @@ pub struct Piece {
     pub seen: Time,
     /// How often its work failed.
     pub attempts: u32,
+    /// Of a single position that failed as often as it may: how. It is not worked again, and its commit sets it aside.
+    pub spent: Option<FaultNote>,
+}
+
+/// A position of a source item that was set aside, since its work failed as often as it may.
+#[derive(Clone, Copy, Debug, PartialEq, Eq)]
+pub struct Dead {
+    pub node: u32,
+    pub item: u32,
+    pub at: u64,
+    /// The last of these failures.
+    pub note: FaultNote,
 }
 
 /// A range of a source item that was committed.

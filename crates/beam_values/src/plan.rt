@@ -37,8 +37,16 @@ pub enum Mode {
     Accumulating,
 }
 
+/// A step of a composite trigger: it is met once so many elements are unseen and, where it has a delay, the watermark
+/// has come so many milliseconds past the window's end; a delay below 0 is a time before it.
+#[derive(Clone, Copy, Debug, PartialEq, Eq)]
+pub struct Bar {
+    pub count: u32,
+    pub delay: Option<i64>,
+}
+
 /// When the panes of a window fire (Beam Programming Guide, Triggers).
-#[derive(Debug, PartialEq, Eq, Drop)]
+#[derive(Debug, Drop)]
 pub struct Trigger {
     /// Before the watermark passes the window's end: as soon as this many elements are unseen.
     pub early: Option<u32>,
@@ -47,6 +55,11 @@ pub struct Trigger {
     /// How long after its end a window still takes elements, in milliseconds.
     pub lateness: i64,
     pub mode: Mode,
+    /// Before the watermark passes the window's end, beside `early`: as soon as one of these is met. Of the bars of a
+    /// checked plan each asks for more elements than the one before it, and for less delay.
+    pub early_bars: List<Bar>,
+    /// After the on-time pane, in place of `late` where there is one.
+    pub late_bars: List<Bar>,
 }
 
 /// The arguments of a function or a source.
@@ -86,6 +99,12 @@ pub enum FnKind {
     MaxSeq,
     Unseq,
     Values,
+    /// Of a side input, before the grouping: marks a value as one of the main input, 1, or of the view, 0.
+    Tag,
+    /// After it: each main value with all values of the view, with its only one, or with those of its key.
+    JoinList,
+    JoinSingle,
+    JoinLookup,
 }
 
 /// The functions with state and timers (Beam Programming Guide, State and Timers).
@@ -217,13 +236,21 @@ impl Duplicate for NodeKind {
 }
 
 impl Duplicate for Trigger {
-    fn duplicate(&self, _alloc: Global) -> Result<Trigger, NoMemory> {
+    fn duplicate(&self, alloc: Global) -> Result<Trigger, NoMemory> {
         Ok(Trigger {
             early: self.early,
             late: self.late,
             lateness: self.lateness,
             mode: self.mode,
+            early_bars: self.early_bars.duplicate(alloc)?,
+            late_bars: self.late_bars.duplicate(alloc)?,
         })
+    }
+}
+
+impl Duplicate for Bar {
+    fn duplicate(&self, _alloc: Global) -> Result<Bar, NoMemory> {
+        Ok(*self)
     }
 }
 
