@@ -52,7 +52,7 @@ use Rattle.beam_model.proofs.Positions.{spread_steps}
 -- ---- the pipeline and its file
 
 abbrev early_trigger : Trigger
-early_trigger = record { early = Some 1; late = 1; lateness = pos 0; mode = Discarding }
+early_trigger = record { early = Some 1; late = 1; lateness = pos 0; mode = Discarding; early_bars = []; late_bars = [] }
 
 -- whole numbers by keys in windows of a minute: a Group and its Write; and a Group with early panes, whose numbers are added up and written
 abbrev branched : Plan

@@ -1,9 +1,11 @@
 pub mod Above
 mod Agreement
 pub mod Ascending
+pub mod BarrierReach
 pub mod Barriers
 mod Branches
 pub mod Coverings
+pub mod DeadPositions
 mod Flows
 mod Groupings
 mod LegalRuns
@@ -15,4 +17,5 @@ mod Outputs
 pub mod Positions
 pub mod Runs
 mod Sessions
+mod SideInputs
 mod Witnesses

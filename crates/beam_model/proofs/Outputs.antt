@@ -17,11 +17,11 @@ use Rattle.beam_values.specs.declared.log.Timer.{Timer}
 use Rattle.beam_values.specs.declared.state_cell.StateCell.TheVariants.{Number}
 use Rattle.beam_values.specs.declared.plan.Args.{Args}
 use Rattle.beam_values.specs.declared.plan.FnKind.{FnKind}
-use Rattle.beam_values.specs.declared.plan.FnKind.TheVariants.{KeyField, Words, Field, KeepPrefix, FieldInt, Swap, Shift, SumSeq, CountSeq, MaxSeq, Unseq, Values}
+use Rattle.beam_values.specs.declared.plan.FnKind.TheVariants.{KeyField, Words, Field, KeepPrefix, FieldInt, Swap, Shift, SumSeq, CountSeq, MaxSeq, Unseq, Values, Tag, JoinList, JoinSingle, JoinLookup}
 use Rattle.beam_values.specs.declared.plan.StateKind.{StateKind}
 use Rattle.beam_values.specs.declared.plan.StateKind.TheVariants.{Dedupe, RunningSum, BatchUntil, LatestThenEmit}
-use Rattle.beam_model.specs.Values.{KeyedValue, blob, int, pair, seq, as_blob, as_pair, as_seq, as_int}
-use Rattle.beam_model.specs.Functions.{number_arg, text_arg, later_by, in_word, valued, one, keyed_text, on_part, int_in, sum_in, count_in, greatest_in, from_blob, from_pair, kept_prefix, emits}
+use Rattle.beam_model.specs.Values.{KeyedValue, null, blob, int, pair, seq, as_blob, as_pair, as_seq, as_int}
+use Rattle.beam_model.specs.Functions.{number_arg, text_arg, later_by, in_word, valued, one, keyed_text, on_part, int_in, sum_in, count_in, greatest_in, from_blob, from_pair, kept_prefix, joined_values, side_parts, joins, emits}
 use Rattle.beam_model.specs.Texts.{words, fields, begins_with}
 use Rattle.beam_model.specs.Premises.{KeepsPlace, IsForward, IsOfCall}
 use Rattle.beam_values.specs.States.{KeptState}
@@ -72,6 +72,12 @@ module _ (e : Element) (within : e.time ≤ℤ greatest_time) where
   shift_keeps : (delay : ℤ) → pos 0 ≤ℤ delay → KeepsPlace e (record e { time = later_by delay e.time })
   shift_keeps delay forward = record { span = refl; pane = refl; time = omega (arith, ints, clamps); bound = omega (arith, ints, clamps) }
 
+  -- of what a join gives: each main value with another one
+  joins_keep : (kind : FnKind) → IfSome (joins kind e) Kept
+  joins_keep kind =
+      from_pair_keeps (λ keyed. option_map (map (valued e)) (option_and_then (joined_values kind) (side_parts keyed)))
+      (λ keyed. if_map Kept (map (valued e)) (each-map (KeepsPlace e) (valued e) valued_keeps) (option_and_then (joined_values kind) (side_parts keyed)))
+
   emits_keeps : (kind : FnKind) (args : Args) → IsForward kind args → IfSome (emits kind args e) Kept
   emits_keeps KeyField args forward = from_blob_keeps (λ text. Some (one e (keyed_text text))) (λ text. one_keeps (keyed_text text))
   emits_keeps Words args forward =
@@ -93,6 +99,10 @@ module _ (e : Element) (within : e.time ≤ℤ greatest_time) where
       (λ items. each-map (KeepsPlace e) (λ item. valued e (pair keyed.key item)) (λ item. valued_keeps (pair keyed.key item)) items)
       (as_seq keyed.part))
   emits_keeps Values args forward = from_pair_keeps (λ keyed. Some (one e keyed.part)) (λ keyed. one_keeps keyed.part)
+  emits_keeps Tag args forward = one_keeps (pair null (pair (int (number_arg args)) e.value))
+  emits_keeps JoinList args forward = joins_keep JoinList
+  emits_keeps JoinSingle args forward = joins_keep JoinSingle
+  emits_keeps JoinLookup args forward = joins_keep JoinLookup
 
 pub emitted_keep : (kind : FnKind) (args : Args) (e : Element) (outputs : List Element)
     → e.time ≤ℤ greatest_time → IsForward kind args → emits kind args e ≡ Some outputs → All (KeepsPlace e) outputs

@@ -1,5 +1,5 @@
 -- What the definitions refuse and admit, on computed examples: no outcome passes by putting things where they don't belong.
-use Rattle.std.proofs.Common.{◌≡◌, ℕ, zero, suc, ◌+◌, ◌<◌, ◌&&◌, ◌==◌, ℤ, pos, negsuc, FitsSigned, w64, Bool, true, false, cond, min, List, [], ◌∷◌, map, None, refl, sym, ap, subst, ◌∙◌, arith}
+use Rattle.std.proofs.Common.{◌≡◌, ℕ, zero, suc, ◌+◌, ◌<◌, ◌&&◌, ◌==◌, ℤ, pos, negsuc, FitsSigned, w64, Bool, true, false, cond, min, List, [], ◌∷◌, map, Some, None, refl, sym, ap, subst, ◌∙◌, arith}
 use Rattle.std.specs.Prelude.{codes}
 use Rattle.std.proofs.lemmas.Bool.{true≢false, false≢true}
 use Rattle.std.proofs.lemmas.Bool.Decides.{nat_tests}
@@ -20,6 +20,8 @@ use Rattle.beam_values.specs.declared.element.Element.{Element}
 use Rattle.beam_values.specs.declared.log.KeyLog.{KeyLog}
 use Rattle.beam_values.specs.declared.log.LogInput.TheVariants.{Arrived}
 use Rattle.beam_values.specs.declared.outcome.Outcome.{Outcome}
+use Rattle.beam_values.specs.declared.fault.Cause.TheVariants.{Call}
+use Rattle.beam_values.specs.declared.piece.Dead.{Dead}
 use Rattle.beam_values.specs.declared.piece.Done.{Done}
 use Rattle.beam_values.specs.declared.piece.FileLen.{FileLen}
 use Rattle.beam_values.specs.declared.plan.Args.TheVariants.{Nothing, Two}
@@ -36,11 +38,13 @@ use Rattle.beam_values.proofs.Storable.{fits-Int}
 use Rattle.beam_model.specs.Account.{arrivals, IsAccounted}
 use Rattle.beam_model.specs.Chains.{Arrives}
 use Rattle.beam_model.specs.Covers.{IsCovered}
+use Rattle.beam_model.specs.Dead.{items_without}
 use Rattle.beam_model.specs.Flow.{flow}
+use Rattle.beam_model.specs.Holds.{timer_hold}
 use Rattle.beam_model.specs.Plain.{IsPlainRun, ArePlainlyWritten}
 use Rattle.beam_model.specs.Plans.{node, default_trigger, panes_plan}
 use Rattle.beam_model.specs.Positions.{SourceItem, items, emission, nothing}
-use Rattle.beam_model.specs.Spread.{from_source}
+use Rattle.beam_model.specs.Spread.{from_source, spread_all}
 use Rattle.beam_model.specs.Values.{null, int, blob}
 use Rattle.beam_model.proofs.Agreement.{pane_fits}
 
@@ -50,6 +54,7 @@ outcome plan files done dropped logs written = record {
   plan = plan;
   files = files;
   done = done;
+  dead = [];
   cells = [];
   panes = [];
   dropped = dropped;
@@ -192,7 +197,7 @@ an_item_listed_twice_is_covered_once place =
     held_once : (p : ℕ) → times_in (record { from = 0; to = 1 }) p < 2
     held_once p = grind (arith, nat_tests)
 
-    by_test : (own : Bool) (times : ℕ) → times < 2 → 0 + cond own times 0 ≡ min 1 ((0 + cond own times 0) + cond own times 0)
+    by_test : (own : Bool) (times : ℕ) → times < 2 → (0 + cond own times 0) + 0 ≡ min 1 ((0 + cond own times 0) + cond own times 0)
     by_test true times once = omega arith
     by_test false times once = omega arith
 
@@ -200,6 +205,69 @@ an_item_listed_twice_is_not_covered_twice : IsCovered (outcome counted (item ∷
 an_item_listed_twice_is_not_covered_twice h =
     let twice : ◌≡◌ {A = ℕ} 2 1 = h (record { node = 0; item = 0; offset = 0 }) in
     absurd (omega arith)
+
+-- an item of three positions, the second of which was set aside
+abbrev dead_at : ℕ → Dead
+dead_at position = record { node = 0; item = 0; at = position; note = record { node = 0; item = 0; at = 0; attempt = 3; cause = Call } }
+
+abbrev part : ℕ → ℕ → Done
+part from to = record { node = 0; item = 0; range = record { from = from; to = to } }
+
+abbrev set_aside : List Done → List Dead → Outcome
+set_aside done dead = record (outcome counted (record { node = 0; item = 0; len = 3 } ∷ []) done [] [] []) { dead = dead }
+
+a_dead_position_and_the_ranges_beside_it_cover_an_item : IsCovered (set_aside (part 0 1 ∷ part 2 3 ∷ []) (dead_at 1 ∷ []))
+a_dead_position_and_the_ranges_beside_it_cover_an_item place =
+    by_test (0 == place.node && 0 == place.item)
+    (times_in (record { from = 0; to = 1 }) place.offset) (times_in (record { from = 2; to = 3 }) place.offset) (times_in (record { from = 1; to = 2 }) place.offset)
+    (times_in (record { from = 0; to = 3 }) place.offset) (once place.offset) (one place.offset)
+  where
+    once : (p : ℕ) → times_in (record { from = 0; to = 1 }) p + times_in (record { from = 2; to = 3 }) p + times_in (record { from = 1; to = 2 }) p
+        ≡ times_in (record { from = 0; to = 3 }) p
+    once p = grind (arith, nat_tests)
+
+    one : (p : ℕ) → times_in (record { from = 0; to = 3 }) p < 2
+    one p = grind (arith, nat_tests)
+
+    by_test : (own : Bool) (first last dead whole : ℕ) → first + last + dead ≡ whole → whole < 2
+        → ((0 + cond own first 0) + cond own last 0) + (0 + cond own dead 0) ≡ min 1 (0 + cond own whole 0)
+    by_test true first last dead whole sum one = omega (arith, sum, one)
+    by_test false first last dead whole sum one = omega arith
+
+-- a dead position that is committed too is no cover, and neither is one that is dead twice
+a_dead_position_that_is_committed_is_refused : IsCovered (set_aside (part 0 3 ∷ []) (dead_at 1 ∷ [])) → ⊥
+a_dead_position_that_is_committed_is_refused h =
+    let twice : ◌≡◌ {A = ℕ} 2 1 = h (record { node = 0; item = 0; offset = 1 }) in
+    absurd (omega arith)
+
+a_position_that_is_dead_twice_is_refused : IsCovered (set_aside (part 0 1 ∷ part 2 3 ∷ []) (dead_at 1 ∷ dead_at 1 ∷ [])) → ⊥
+a_position_that_is_dead_twice_is_refused h =
+    let twice : ◌≡◌ {A = ℕ} 2 1 = h (record { node = 0; item = 0; offset = 1 }) in
+    absurd (omega arith)
+
+-- what such an item brings has nothing of the position that was set aside
+abbrev three : SourceItem
+three = record { node = 0; item = 0; work = Count; args = Two 3 0; file = []; left_out = [] }
+
+a_dead_position_brings_nothing : spread_all counted (items_without (dead_at 1 ∷ []) (three ∷ []))
+    ≡ Arrives (record { node = 1; element = from_source (record { value = int (pos 0); time = pos 0 }) })
+    ∷ Arrives (record { node = 1; element = from_source (record { value = int (pos 2); time = pos 0 }) }) ∷ []
+unfolding offsets
+a_dead_position_brings_nothing = refl
+
+-- ---- holds of timers, after a commit before which the mark behind the node was 2000
+
+a_timer_holds_at_the_mark : timer_hold (pos 2000) None None (Some (pos 1500)) ≡ Some (pos 2000)
+a_timer_holds_at_the_mark = refl
+
+a_timer_that_stays_keeps_its_hold : timer_hold (pos 3000) (Some (pos 2000)) (Some (pos 1500)) (Some (pos 1500)) ≡ Some (pos 2000)
+a_timer_that_stays_keeps_its_hold = refl
+
+a_timer_that_is_set_anew_holds_anew : timer_hold (pos 3000) (Some (pos 2000)) (Some (pos 1500)) (Some (pos 4000)) ≡ Some (pos 4000)
+a_timer_that_is_set_anew_holds_anew = refl
+
+a_timer_that_is_cleared_holds_nothing : timer_hold (pos 3000) (Some (pos 2000)) (Some (pos 1500)) None ≡ None
+a_timer_that_is_cleared_holds_nothing = refl
 
 -- ---- the end of an item
 

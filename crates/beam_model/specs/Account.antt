@@ -11,6 +11,7 @@ use Rattle.beam_values.specs.declared.log.LogInput.{LogInput}
 use Rattle.beam_values.specs.declared.log.LogInput.TheVariants.{Arrived, Fired}
 use Rattle.beam_values.specs.declared.outcome.Outcome.{Outcome}
 use Rattle.beam_model.specs.Chains.{Arrives}
+use Rattle.beam_model.specs.Dead.{items_without}
 use Rattle.beam_model.specs.Flow.{flow}
 use Rattle.beam_model.specs.Positions.{SourceItem}
 
@@ -37,8 +38,8 @@ arrivals_of cells dropped logs written =
 abbrev pub arrivals : Outcome → List Arrival
 arrivals o = arrivals_of o.cells o.dropped o.logs o.written
 
--- The arrivals are one bag with the flow of the outcome, and none of the flow is poison: every position's outputs, every pane and every stateful output
--- came to each barrier that it reaches exactly once, and nothing else did. Each part of the record is of nodes of its kind, so the arrivals of a Group are
+-- The arrivals are one bag with the flow of the outcome, without its dead positions, and none of the flow is poison: the outputs of every other position,
+-- every pane and every stateful output came to each barrier that it reaches exactly once, and nothing else did. Each part of the record is of nodes of its kind, so the arrivals of a Group are
 -- in its cells or dropped, those of a Stateful node in its logs, and those of a Write are written.
 pub record IsAccounted (items : List SourceItem) (o : Outcome) : Type 0 where
   pub cells : All (λ cell. is_group o.plan cell.node ≡ true) o.cells
@@ -46,4 +47,4 @@ pub record IsAccounted (items : List SourceItem) (o : Outcome) : Type 0 where
   pub panes : All (λ pane. is_group o.plan pane.node ≡ true) o.panes
   pub logs : All (λ log. is_stateful o.plan log.node ≡ true) o.logs
   pub written : All (λ arrival. is_write o.plan arrival.node ≡ true) o.written
-  pub flow : IsSameBag (flow o.plan items o.panes o.logs) (map Arrives (arrivals o))
+  pub flow : IsSameBag (flow o.plan (items_without o.dead items) o.panes o.logs) (map Arrives (arrivals o))

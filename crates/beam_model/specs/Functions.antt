@@ -1,9 +1,11 @@
 -- The functions of single elements (Beam Programming Guide, ParDo): what each gives of an element, or that the element is poison for it.
-use Rattle.std.specs.Prelude.{ℕ, ℤ, pos, negsuc, ◌+ℤ◌, ◌&&◌, if◌then◌else◌, int_le, List, [], ◌∷◌, length, map, fold, slice_get, Option, Some, None}
+use Rattle.std.specs.Prelude.{ℕ, ℤ, pos, negsuc, ◌+ℤ◌, Bool, true, false, ◌&&◌, ◌||◌, if◌then◌else◌, int_le, bytes_eq, unwrap_or, List, [], ◌∷◌, length, map, fold, slice_get, Option, Some, None}
 use Rattle.std.specs.Option.{option_map, option_and_then}
 use Rattle.std.specs.Int.{int_min, int_max}
-use Rattle.std.specs.Ordering.{is_lt}
+use Rattle.std.specs.List.{flat_map, list_all}
+use Rattle.std.specs.Ordering.{is_lt, int_eq}
 use Rattle.beam_values.specs.Orders.{value_cmp}
+use Rattle.beam_values.specs.Spelling.{spelling}
 use Rattle.beam_values.specs.Times.{greatest_time}
 use Rattle.beam_values.specs.Windows.{or_zero}
 use Rattle.beam_values.specs.Functions.{key_field}
@@ -12,8 +14,8 @@ use Rattle.beam_values.specs.declared.element.Element.{Element}
 use Rattle.beam_values.specs.declared.plan.Args.{Args}
 use Rattle.beam_values.specs.declared.plan.Args.TheVariants.{Text, Number, Two}
 use Rattle.beam_values.specs.declared.plan.FnKind.{FnKind}
-use Rattle.beam_values.specs.declared.plan.FnKind.TheVariants.{KeyField, Words, Field, KeepPrefix, FieldInt, Swap, Shift, SumSeq, CountSeq, MaxSeq, Unseq, Values}
-use Rattle.beam_model.specs.Values.{KeyedValue, null, int, blob, pair, as_blob, as_pair, as_seq, numbers_in}
+use Rattle.beam_values.specs.declared.plan.FnKind.TheVariants.{KeyField, Words, Field, KeepPrefix, FieldInt, Swap, Shift, SumSeq, CountSeq, MaxSeq, Unseq, Values, Tag, JoinList, JoinSingle, JoinLookup}
+use Rattle.beam_model.specs.Values.{KeyedValue, null, int, blob, pair, seq, as_blob, as_int, as_pair, as_seq, is_null, numbers_in}
 use Rattle.beam_model.specs.Texts.{words, fields, begins_with, int_of}
 
 -- the arguments by their forms; another form reads as nothing
@@ -98,6 +100,89 @@ abbrev pub kept_prefix : List ℕ → Element → Option (List ℕ) → List Ele
 kept_prefix prefix e (Some text) = if begins_with prefix text then e ∷ [] else []
 kept_prefix prefix e None = []
 
+-- The fold of the parts of a key and window: what a function of sequences gives of a pane with these parts. None where it gives nothing, and of other
+-- functions.
+abbrev pub fold_of : FnKind → List Value → Option Value
+fold_of SumSeq parts = sum_in (seq parts)
+fold_of CountSeq parts = count_in (seq parts)
+fold_of MaxSeq parts = greatest_in (seq parts)
+fold_of _ parts = None
+
+-- ---- side inputs (Beam Programming Guide, Side inputs): a part is marked 1, of the main input, or 0, of the view
+
+abbrev pub is_marked : ℤ → Value → Bool
+is_marked mark key = unwrap_or (option_map (int_eq mark) (as_int key)) false
+
+abbrev pub marked_as : ℤ → KeyedValue → List Value
+marked_as mark keyed = if is_marked mark keyed.key then keyed.part ∷ [] else []
+
+-- the value of a part that has this mark; of another part none
+abbrev pub value_marked : ℤ → Value → List Value
+value_marked mark part = unwrap_or (option_map (marked_as mark) (as_pair part)) []
+
+abbrev pub is_of_side : KeyedValue → Bool
+is_of_side keyed = is_marked (pos 1) keyed.key || is_marked (pos 0) keyed.key
+
+-- a value with one of the two marks
+abbrev pub is_side_part : Value → Bool
+is_side_part part = unwrap_or (option_map is_of_side (as_pair part)) false
+
+-- the values of the main input, and those of the view, in order
+abbrev pub main_values : List Value → List Value
+main_values parts = flat_map (value_marked (pos 1)) parts
+
+abbrev pub view_values : List Value → List Value
+view_values parts = flat_map (value_marked (pos 0)) parts
+
+abbrev pub is_pair : Value → Bool
+is_pair v = unwrap_or (option_map (λ keyed. true) (as_pair v)) false
+
+-- what belongs to a key in a value of the view
+abbrev pub found_as : Value → KeyedValue → List Value
+found_as key keyed = if bytes_eq (spelling keyed.key) (spelling key) then keyed.part ∷ [] else []
+
+abbrev pub found_in : Value → Value → List Value
+found_in key view = unwrap_or (option_map (found_as key) (as_pair view)) []
+
+-- the only one of some values
+abbrev pub only_one : List Value → Option Value
+only_one (v ∷ []) = Some v
+only_one _ = None
+
+-- What a main value is joined with: all values of the view, ascending; its only value; or, of its key, what belongs to that key in the view, ascending. None
+-- where there is no only one, where the main value has no key, and of other functions.
+abbrev pub joined_with : FnKind → List Value → Value → Option Value
+joined_with JoinList views main = Some (seq (ascending views))
+joined_with JoinSingle views main = only_one views
+joined_with JoinLookup views main = option_map (λ keyed. seq (ascending (flat_map (found_in keyed.key) views))) (as_pair main)
+joined_with _ views main = None
+
+abbrev pub joined_value : FnKind → List Value → Value → Option Value
+joined_value work views main = option_map (pair main) (joined_with work views main)
+
+-- a join by keys takes values of the view that have one
+abbrev pub takes_views : FnKind → List Value → Bool
+takes_views JoinLookup views = list_all is_pair views
+takes_views _ views = true
+
+-- the values of a list where each is there
+abbrev pub all_there : List (Option Value) → Option (List Value)
+all_there [] = Some []
+all_there (None ∷ values) = None
+all_there (Some v ∷ values) = option_map (λ rest. v ∷ rest) (all_there values)
+
+-- each main value joined, in order
+abbrev pub joined_values : FnKind → List Value → Option (List Value)
+joined_values work parts =
+    if list_all is_side_part parts && takes_views work (view_values parts) then all_there (map (joined_value work (view_values parts)) (main_values parts)) else None
+
+-- a pane of a side input has the key Null
+abbrev pub side_parts : KeyedValue → Option (List Value)
+side_parts keyed = if is_null keyed.key then as_seq keyed.part else None
+
+abbrev pub joins : FnKind → Element → Option (List Element)
+joins work e = from_pair e (λ keyed. option_map (map (valued e)) (option_and_then (joined_values work) (side_parts keyed)))
+
 -- what an element gives, in order; None where it is poison
 abbrev pub emits : FnKind → Args → Element → Option (List Element)
 -- a byte string, split at its first TAB
@@ -120,3 +205,9 @@ emits MaxSeq args e = from_pair e (λ keyed. option_map (one e) (on_part greates
 emits Unseq args e = from_pair e (λ keyed. option_map (map (λ item. valued e (pair keyed.key item))) (as_seq keyed.part))
 -- the part of a pair
 emits Values args e = from_pair e (λ keyed. Some (one e keyed.part))
+-- any value, with a mark, below the key Null
+emits Tag args e = Some (one e (pair null (pair (int (number_arg args)) e.value)))
+-- of a pair of Null and a sequence of marked values: each main value with what it is joined with
+emits JoinList args e = joins JoinList e
+emits JoinSingle args e = joins JoinSingle e
+emits JoinLookup args e = joins JoinLookup e

@@ -1,9 +1,11 @@
 -- Holds: what keeps the watermarks of a run back (The Dataflow Model, watermarks; which holds there are is this profile's).
-use Rattle.std.specs.Prelude.{ℕ, ℤ, ◌==◌, List, ◌++◌, map, slice_get, unwrap_or}
+use Rattle.std.specs.Prelude.{ℕ, ℤ, ◌==◌, Bool, false, if◌then◌else◌, Option, Some, None, List, ◌++◌, map, slice_get, unwrap_or}
 use Rattle.std.specs.Int.{int_max}
+use Rattle.std.specs.Ordering.{int_eq}
 use Rattle.std.specs.List.{filter}
 use Rattle.std.specs.Option.{option_map}
 use Rattle.beam_values.specs.Marks.{mark_of, least_mark, marks_at, AreMarks}
+use Rattle.beam_values.specs.declared.arrival.Arrival.{Arrival}
 use Rattle.beam_values.specs.declared.cell.Pane.{Pane}
 use Rattle.beam_values.specs.declared.marks.StageMarks.{StageMarks}
 use Rattle.beam_values.specs.declared.piece.Piece.{Piece}
@@ -34,6 +36,22 @@ piece_hold plan piece = record { node = piece.node; mark = mark_of (estimator_of
 -- pane of `[0, 60000)` that is fired where that mark was 70000 holds it at 70000.
 abbrev pub pane_hold : List StageMarks → Pane → Hold
 pane_hold before pane = record { node = pane.node; mark = int_max pane.element.time (marks_at before pane.node).mark_out }
+
+-- An element that waits at a Stateful node, or is worked there, holds the node back at the greater of its time and the mark after the node before the
+-- commit that brought it.
+abbrev pub arrival_hold : List StageMarks → Arrival → Hold
+arrival_hold before arrival = record { node = arrival.node; mark = int_max arrival.element.time (marks_at before arrival.node).mark_out }
+
+abbrev pub is_same_time : ℤ → Option ℤ → Bool
+is_same_time time None = false
+is_same_time time (Some old) = int_eq old time
+
+-- The hold of a timer after a commit, where `mark` was the mark after its node before that commit, `hold` its hold and `old` its time: a timer that isn't
+-- set holds nothing; one that has the time that it had keeps its hold, also where it was set again; another holds at the greater of its time and the mark.
+-- At the mark 2000 a timer that is set to 1500 holds at 2000, and still does so once the mark is 3000; set anew to 4000 it holds at 4000.
+abbrev pub timer_hold : ℤ → Option ℤ → Option ℤ → Option ℤ → Option ℤ
+timer_hold mark hold old None = None
+timer_hold mark hold old (Some time) = if is_same_time time old then hold else Some (int_max time mark)
 
 abbrev pub marks_held : List Hold → ℕ → List ℤ
 marks_held holds node = map (λ hold. hold.mark) (filter (λ hold. hold.node == node) holds)

@@ -2,6 +2,7 @@ pub mod Account
 pub mod Chains
 pub mod Coverings
 pub mod Covers
+pub mod Dead
 pub mod Estimators
 pub mod Flow
 pub mod Functions
@@ -12,8 +13,10 @@ pub mod Plain
 pub mod Plans
 pub mod Positions
 pub mod Premises
+pub mod Reach
 pub mod Rendering
 pub mod Sessions
+pub mod Sides
 pub mod Spread
 pub mod Steps
 pub mod Texts

@@ -15,6 +15,7 @@ use Rattle.beam_values.specs.declared.plan.Plan.{Plan}
 use Rattle.beam_values.specs.declared.plan.Strategy.{Strategy}
 use Rattle.beam_values.specs.declared.plan.Strategy.TheVariants.{Sessions}
 use Rattle.beam_model.specs.Chains.{Output, Arrives, PoisonAt, chain}
+use Rattle.beam_model.specs.Dead.{items_without}
 use Rattle.beam_model.specs.Estimators.{AreSoundAbove}
 use Rattle.beam_model.specs.Flow.{elements_at}
 use Rattle.beam_model.specs.Panes.{trigger_of}
@@ -66,10 +67,10 @@ IsPlainAt plan items barrier elements =
 abbrev pub NothingIsDroppedAbove : Plan → ℕ → List Dropped → Type 0
 NothingIsDroppedAbove plan barrier dropped = All (λ lost. is_above plan lost.node barrier ≡ false) dropped
 
--- At each Write with no Stateful node above it: all that was written is brought there by plain grouping of the whole input, and no Group above it dropped an
--- element.
+-- At each Write with no Stateful node above it: all that was written is brought there by plain grouping of the whole input without its dead positions, and
+-- no Group above it dropped an element.
 pub record IsPlainlyWritten (items : List SourceItem) (o : Outcome) (node : ℕ) : Type 0 where
-  pub plain : IsPlainAt o.plan items node (elements_at node o.written)
+  pub plain : IsPlainAt o.plan (items_without o.dead items) node (elements_at node o.written)
   pub undropped : NothingIsDroppedAbove o.plan node o.dropped
 
 abbrev pub ArePlainlyWritten : List SourceItem → Outcome → Type 0

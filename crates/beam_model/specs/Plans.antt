@@ -17,7 +17,7 @@ node kind inputs = record { kind = kind; inputs = inputs }
 
 -- one on-time pane, and no late elements (Beam Programming Guide, Triggers: the default trigger)
 abbrev pub default_trigger : Trigger
-default_trigger = record { early = None; late = 1; lateness = pos 0; mode = Discarding }
+default_trigger = record { early = None; late = 1; lateness = pos 0; mode = Discarding; early_bars = []; late_bars = [] }
 
 -- `panes FILE SIZE`: timed lines of the file, by the field before the next TAB, in fixed windows of this many milliseconds
 abbrev pub panes_plan : List ℕ → ℤ → Plan

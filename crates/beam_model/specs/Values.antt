@@ -1,5 +1,5 @@
 -- Values by their forms: what a function sees of the value that it is given.
-use Rattle.std.specs.Prelude.{ℕ, ℤ, List, [], ◌∷◌, Option, Some, None}
+use Rattle.std.specs.Prelude.{ℕ, ℤ, Bool, true, false, List, [], ◌∷◌, Option, Some, None}
 use Rattle.beam_values.specs.declared.value.Value.{Value}
 use Rattle.beam_values.specs.declared.value.Value.TheOpen as layer
 use Rattle.beam_values.specs.declared.value.Value.TheViews.{out-Value, roll-Value}
@@ -39,6 +39,13 @@ keyed_of _ = None
 abbrev pub items_of : layer.Value-F Value → Option (List Value)
 items_of (layer.Seq items) = Some items
 items_of _ = None
+
+abbrev pub is_null_layer : layer.Value-F Value → Bool
+is_null_layer layer.Null = true
+is_null_layer _ = false
+
+abbrev pub is_null : Value → Bool
+is_null v = is_null_layer (out-Value v)
 
 -- what a value holds, where it has the form
 abbrev pub as_blob : Value → Option (List ℕ)

@@ -13,13 +13,13 @@ use Rattle.beam_values.specs.declared.graph_refusal.GraphRefusal.TheVariants as 
 use Rattle.beam_values.specs.declared.log.LogInput.TheVariants.{Arrived, Fired}
 use Rattle.beam_values.specs.declared.outcome.Outcome.{Outcome}
 use Rattle.beam_values.specs.declared.plan.Args.TheVariants.{Nothing, Text, Number, Two}
-use Rattle.beam_values.specs.declared.plan.FnKind.TheVariants.{KeyField, Words, Field, KeepPrefix, FieldInt, Swap, Shift, SumSeq, CountSeq, MaxSeq, Unseq, Values}
+use Rattle.beam_values.specs.declared.plan.FnKind.TheVariants.{KeyField, Words, Field, KeepPrefix, FieldInt, Swap, Shift, SumSeq, CountSeq, MaxSeq, Unseq, Values, Tag, JoinList, JoinSingle, JoinLookup}
 use Rattle.beam_values.specs.declared.plan.SourceKind.TheVariants.{Lines, TimedLines, Count, Made}
 use Rattle.beam_values.specs.declared.plan.StateKind.TheVariants.{Dedupe, RunningSum, BatchUntil, LatestThenEmit}
 use Rattle.beam_values.specs.declared.state_cell.StateCell.{StateCell}
 use Rattle.beam_values.specs.declared.state_cell.StateCell.TheVariants.{Unset, Number as NumberCell, Bag}
 use Rattle.beam_model.specs.Values.{null, int, blob, pair, seq}
-use Rattle.beam_model.specs.Functions.{emits}
+use Rattle.beam_model.specs.Functions.{emits, fold_of}
 use Rattle.beam_values.specs.States.{KeptState}
 use Rattle.beam_model.specs.Plans.{panes_plan}
 use Rattle.beam_model.specs.Rendering.{summary}
@@ -150,6 +150,77 @@ values = simp out-roll-Value refl
 
 values_of_a_sequence : emits Values Nothing (with (seq [])) ≡ None
 values_of_a_sequence = simp out-roll-Value refl
+
+-- folds of parts: what the functions of sequences give of a pane with these parts
+fold_of_a_sum : fold_of SumSeq (int (pos 1) ∷ int (pos 3) ∷ []) ≡ Some (int (pos 4))
+fold_of_a_sum = simp out-roll-Value refl
+
+fold_of_a_sum_that_leaves_64_bits : fold_of SumSeq (int (pos 9223372036854775807) ∷ int (pos 1) ∷ []) ≡ None
+fold_of_a_sum_that_leaves_64_bits = simp out-roll-Value refl
+
+fold_of_a_count : fold_of CountSeq (null ∷ text [] ∷ []) ≡ Some (int (pos 2))
+fold_of_a_count = simp out-roll-Value refl
+
+fold_of_another_function : fold_of Unseq (null ∷ []) ≡ None
+fold_of_another_function = refl
+
+-- Side inputs: parts marked 1 of the main input, and 0 of the view.
+
+abbrev main : Value → Value
+main v = pair (int (pos 1)) v
+
+abbrev view : Value → Value
+view v = pair (int (pos 0)) v
+
+abbrev sides : List Value → Element
+sides parts = with (pair null (seq parts))
+
+tag : emits Tag (Number (pos 1)) (with (text (codes "x"))) ≡ Some (with (pair null (main (text (codes "x")))) ∷ [])
+tag = refl
+
+join_list : emits JoinList Nothing (sides (view (int (pos 7)) ∷ view (int (pos 5)) ∷ main (text (codes "x")) ∷ main (text (codes "y")) ∷ []))
+    ≡ Some (with (pair (text (codes "x")) (seq (int (pos 5) ∷ int (pos 7) ∷ []))) ∷ with (pair (text (codes "y")) (seq (int (pos 5) ∷ int (pos 7) ∷ []))) ∷ [])
+unfolding groups
+join_list = simp (out-roll-Value, fold-roll-Value) refl
+
+join_list_without_a_view : emits JoinList Nothing (sides (main null ∷ [])) ≡ Some (with (pair null (seq [])) ∷ [])
+join_list_without_a_view = simp out-roll-Value refl
+
+join_list_of_a_mark_of_two : emits JoinList Nothing (sides (pair (int (pos 2)) null ∷ [])) ≡ None
+join_list_of_a_mark_of_two = simp out-roll-Value refl
+
+join_list_of_another_key : emits JoinList Nothing (with (pair (text (codes "a")) (seq []))) ≡ None
+join_list_of_another_key = simp out-roll-Value refl
+
+join_single : emits JoinSingle Nothing (sides (view (int (pos 5)) ∷ main (text (codes "x")) ∷ [])) ≡ Some (with (pair (text (codes "x")) (int (pos 5))) ∷ [])
+join_single = simp out-roll-Value refl
+
+join_single_of_two : emits JoinSingle Nothing (sides (view (int (pos 5)) ∷ view (int (pos 7)) ∷ main null ∷ [])) ≡ None
+join_single_of_two = simp out-roll-Value refl
+
+join_single_of_none : emits JoinSingle Nothing (sides (main null ∷ [])) ≡ None
+join_single_of_none = simp out-roll-Value refl
+
+-- where no main value asks, nothing is poison
+join_single_without_a_main : emits JoinSingle Nothing (sides (view (int (pos 5)) ∷ view (int (pos 7)) ∷ [])) ≡ Some []
+join_single_without_a_main = simp out-roll-Value refl
+
+join_lookup : emits JoinLookup Nothing (sides (view (keyed (int (pos 5))) ∷ view (pair (text (codes "b")) (int (pos 9))) ∷ view (keyed (int (pos 4))) ∷ main (keyed (text (codes "x"))) ∷ []))
+    ≡ Some (with (pair (keyed (text (codes "x"))) (seq (int (pos 4) ∷ int (pos 5) ∷ []))) ∷ [])
+unfolding groups
+join_lookup = simp (out-roll-Value, fold-roll-Value) refl
+
+join_lookup_of_no_such_key : emits JoinLookup Nothing (sides (view (keyed (int (pos 5))) ∷ main (pair (text (codes "b")) null) ∷ []))
+    ≡ Some (with (pair (pair (text (codes "b")) null) (seq [])) ∷ [])
+unfolding groups
+join_lookup_of_no_such_key = simp (out-roll-Value, fold-roll-Value) refl
+
+join_lookup_of_a_main_without_a_key : emits JoinLookup Nothing (sides (main null ∷ [])) ≡ None
+join_lookup_of_a_main_without_a_key = simp out-roll-Value refl
+
+-- also where no main value asks
+join_lookup_in_a_view_without_keys : emits JoinLookup Nothing (sides (view null ∷ [])) ≡ None
+join_lookup_in_a_view_without_keys = simp out-roll-Value refl
 
 -- Stateful functions, of the key `a`. Cells 0 and 1 and timer 0 are as given, and the others unset.
 
@@ -291,6 +362,7 @@ summed = record {
   plan = panes_plan (codes "f") (pos 60000);
   files = record { node = 0; item = 0; len = 5 } ∷ [];
   done = [];
+  dead = [];
   cells = [];
   panes = [];
   dropped = [];

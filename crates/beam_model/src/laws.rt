@@ -1,7 +1,7 @@
 //! What the definitions mean to a reader. Each function does nothing: its contract is the law.
 
 ghost use Rattle.std.specs.Prelude.{◌≡◌, ◌⊎◌, ℕ, ◌+◌, ◌<◌, ◌≤◌, ◌≤ℤ◌, ◌==◌, ◌||◌, true, List, []};
-ghost use Rattle.std.specs.Prelude.{◌∷◌, ◌++◌, Some, slice_get};
+ghost use Rattle.std.specs.Prelude.{◌∷◌, ◌++◌, Some, length, slice_get};
 ghost use Rattle.std.specs.List.{All, AllPairs, count_by, list_any};
 ghost use Rattle.std.specs.List.Sorted.{IsSorted};
 ghost use Rattle.beam_values.specs.Bags.{IsSameBag};
@@ -38,6 +38,7 @@ ghost use Rattle.beam_model.specs.Positions.{nothing, positions_in, emission, ne
 ghost use Rattle.beam_model.specs.Positions.{SourceItem};
 ghost use Rattle.beam_values.specs.Sessions.{IsApart, IsSession};
 ghost use Rattle.beam_model.specs.Sessions.{IsMerging};
+ghost use Rattle.beam_model.specs.Reach.{ReachesBarrier};
 ghost use Rattle.beam_model.specs.Spread.{outputs_at, spread_range, spread_all};
 ghost use Rattle.beam_values.specs.States.{KeptState};
 ghost use Rattle.beam_model.specs.Functions.{ascending};
@@ -207,6 +208,13 @@ pub fn nodes_stand_above_by_inputs()
 pub fn outputs_end_below_their_node()
     ensures { (plan : Plan) (n : ℕ) (e : Element)
         → All (λ output. is_above plan n (node_of output) ≡ true) (chain plan n e) }
+{}
+
+/// What an output of a node brings is poison, or arrives at a barrier that the node reaches.
+#[tactic(auto, using(crate::proofs::BarrierReach::chain_reaches))]
+pub fn outputs_reach_barriers()
+    ensures { (plan : Plan) (n : ℕ) (e : Element) → n < length plan.nodes
+        → All (ReachesBarrier plan n) (chain plan n e) }
 {}
 
 /// What is plainly written under any triggers and estimators is so in particular under default triggers

@@ -20,8 +20,7 @@ use Rattle.beam_model.specs.Chains.{Output, Arrives, PoisonAt, carried, chain, c
 use Rattle.beam_model.specs.Functions.{emits}
 use Rattle.beam_model.specs.Positions.{Emission, Emits, Poison, TimedValue}
 use Rattle.beam_model.specs.Spread.{emission_outputs, from_source}
-use Rattle.book_core.specs.Work.{passed_nodes, reaches_barrier, takes_passed, with_passed}
-use Rattle.book_core.proofs.HeldOnce.{get_at_end}
+use Rattle.beam_model.specs.Reach.{ReachesBarrier, passed_nodes, reaches_barrier, takes_passed, with_passed}
 
 -- whether a test stands at a place; none does past the end
 abbrev stands : List Bool → ℕ → Bool
@@ -39,6 +38,10 @@ any_at p [] k d inside is = absurd (omega arith)
 any_at p (x ∷ xs) zero d inside is = or_left (p x) (list_any p xs) is
 any_at p (x ∷ xs) (suc k) d inside is = or_right (p x) (list_any p xs) (any_at p xs k d (omega arith) is)
 
+get_at_end : {X : Type 0} (xs : List X) (y : X) (ys : List X) → slice_get (xs ++ y ∷ ys) (length xs) ≡ Some y
+get_at_end [] y ys = refl
+get_at_end (x ∷ xs) y ys = get_at_end xs y ys
+
 module _ (plan : Plan) (from : ℕ) where
   abbrev passed_by : List Bool → List Node → List Bool
   passed_by before nodes = fold (with_passed from) before nodes
@@ -50,35 +53,33 @@ module _ (plan : Plan) (from : ℕ) where
       let added : List Bool = (list_any (takes_from from before) node.inputs && not (is_barrier_kind node.kind)) ∷ [] in
       kept (before ++ added) later n (omega (arith, length-append before added)) ∙ stands_before before added n inside
 
-  -- the output is poison, or arrives at a barrier that the node reaches
-  abbrev pub ReachesBarrier : Output → Type 0
-  ReachesBarrier (Arrives arrival) = reaches_barrier plan from arrival.node ≡ true
-  ReachesBarrier (PoisonAt node) = Unit {0}
+  abbrev Reaches : Output → Type 0
+  Reaches = ReachesBarrier plan from
 
   -- the node is the first, or outputs of the first pass through it
   abbrev IsPassed : ℕ → Type 0
   IsPassed n = (n ≡ from) ⊎ (stands (passed_nodes plan from) n ≡ true)
 
-  elements_reach : (onward : Element → List Output) → ((e : Element) → All ReachesBarrier (onward e)) → (outputs : List Element) → All ReachesBarrier (flat_map onward outputs)
-  elements_reach onward brings [] = All-nil ReachesBarrier
-  elements_reach onward brings (e ∷ outputs) = All-append ReachesBarrier (onward e) (flat_map onward outputs) (brings e) (elements_reach onward brings outputs)
+  elements_reach : (onward : Element → List Output) → ((e : Element) → All Reaches (onward e)) → (outputs : List Element) → All Reaches (flat_map onward outputs)
+  elements_reach onward brings [] = All-nil Reaches
+  elements_reach onward brings (e ∷ outputs) = All-append Reaches (onward e) (flat_map onward outputs) (brings e) (elements_reach onward brings outputs)
 
-  windows_reach : (onward : Element → List Output) → ((e : Element) → All ReachesBarrier (onward e)) → (e : Element) (spans : List Interval)
-      → All ReachesBarrier (flat_map (λ span. onward (record e { span = span })) spans)
-  windows_reach onward brings e [] = All-nil ReachesBarrier
+  windows_reach : (onward : Element → List Output) → ((e : Element) → All Reaches (onward e)) → (e : Element) (spans : List Interval)
+      → All Reaches (flat_map (λ span. onward (record e { span = span })) spans)
+  windows_reach onward brings e [] = All-nil Reaches
   windows_reach onward brings e (span ∷ spans) =
-      All-append ReachesBarrier (onward (record e { span = span })) (flat_map (λ s. onward (record e { span = s })) spans) (brings (record e { span = span })) (windows_reach onward brings e spans)
+      All-append Reaches (onward (record e { span = span })) (flat_map (λ s. onward (record e { span = s })) spans) (brings (record e { span = span })) (windows_reach onward brings e spans)
 
-  function_reaches : (n : ℕ) (onward : Element → List Output) → ((e : Element) → All ReachesBarrier (onward e)) → (given : Option (List Element)) → All ReachesBarrier (carried n onward given)
-  function_reaches n onward brings None = All-cons ReachesBarrier (PoisonAt n) [] tt (All-nil ReachesBarrier)
+  function_reaches : (n : ℕ) (onward : Element → List Output) → ((e : Element) → All Reaches (onward e)) → (given : Option (List Element)) → All Reaches (carried n onward given)
+  function_reaches n onward brings None = All-cons Reaches (PoisonAt n) [] tt (All-nil Reaches)
   function_reaches n onward brings (Some outputs) = elements_reach onward brings outputs
 
-  arrival_reaches : (n : ℕ) (e : Element) → reaches_barrier plan from n ≡ true → All ReachesBarrier (Arrives (record { node = n; element = e }) ∷ [])
-  arrival_reaches n e is = All-cons ReachesBarrier (Arrives (record { node = n; element = e })) [] is (All-nil ReachesBarrier)
+  arrival_reaches : (n : ℕ) (e : Element) → reaches_barrier plan from n ≡ true → All Reaches (Arrives (record { node = n; element = e }) ∷ [])
+  arrival_reaches n e is = All-cons Reaches (Arrives (record { node = n; element = e })) [] is (All-nil Reaches)
 
   node_reaches : (n : ℕ) (kind : NodeKind) (onward : Element → List Output) → (is_barrier_kind kind ≡ true → reaches_barrier plan from n ≡ true)
-      → (is_barrier_kind kind ≡ false → (e : Element) → All ReachesBarrier (onward e)) → (e : Element) → All ReachesBarrier (through n kind onward e)
-  node_reaches n (Source work args files estimator) onward ends brings e = All-nil ReachesBarrier
+      → (is_barrier_kind kind ≡ false → (e : Element) → All Reaches (onward e)) → (e : Element) → All Reaches (through n kind onward e)
+  node_reaches n (Source work args files estimator) onward ends brings e = All-nil Reaches
   node_reaches n (ParDo work args) onward ends brings e = function_reaches n onward (brings refl) (emits work args e)
   node_reaches n Flatten onward ends brings e = brings refl e
   node_reaches n (WindowInto strategy) onward ends brings e = windows_reach onward (brings refl) e (windows_of strategy e.time)
@@ -86,27 +87,27 @@ module _ (plan : Plan) (from : ℕ) where
   node_reaches n (Stateful work args log) onward ends brings e = arrival_reaches n e (ends refl)
   node_reaches n (Write label) onward ends brings e = arrival_reaches n e (ends refl)
 
-  inputs_reach : (n : ℕ) (outputs : List Output) (inputs : List ℕ) → All (λ input. input ≡ n → All ReachesBarrier outputs) inputs
-      → All ReachesBarrier (flat_map (λ input. cond (input == n) outputs []) inputs)
-  inputs_reach n outputs [] brings = All-nil ReachesBarrier
+  inputs_reach : (n : ℕ) (outputs : List Output) (inputs : List ℕ) → All (λ input. input ≡ n → All Reaches outputs) inputs
+      → All Reaches (flat_map (λ input. cond (input == n) outputs []) inputs)
+  inputs_reach n outputs [] brings = All-nil Reaches
   inputs_reach n outputs (input ∷ inputs) brings =
-      All-append ReachesBarrier (cond (input == n) outputs []) (flat_map (λ i. cond (i == n) outputs []) inputs)
-      (by (input == n) refl) (inputs_reach n outputs inputs (All-tail (λ i. i ≡ n → All ReachesBarrier outputs) input inputs brings))
+      All-append Reaches (cond (input == n) outputs []) (flat_map (λ i. cond (i == n) outputs []) inputs)
+      (by (input == n) refl) (inputs_reach n outputs inputs (All-tail (λ i. i ≡ n → All Reaches outputs) input inputs brings))
     where
-      by : (t : Bool) → (input == n) ≡ t → All ReachesBarrier (cond t outputs [])
-      by true e = All-head (λ i. i ≡ n → All ReachesBarrier outputs) input inputs brings (eqb-true input n e)
-      by false e = All-nil ReachesBarrier
+      by : (t : Bool) → (input == n) ≡ t → All Reaches (cond t outputs [])
+      by true e = All-head (λ i. i ≡ n → All Reaches outputs) input inputs brings (eqb-true input n e)
+      by false e = All-nil Reaches
 
   -- node after node, where `before` says of each earlier node whether outputs pass through it
   nodes_reach : (front : List Node) (before : List Bool) (nodes : List Node) (next : ℕ) → plan.nodes ≡ front ++ nodes → next ≡ length front → length before ≡ next
-      → passed_nodes plan from ≡ passed_by before nodes → (n : ℕ) → n < next → IsPassed n → (e : Element) → All ReachesBarrier (chain_from nodes next n e)
-  nodes_reach front before [] next same at sized all n low way e = All-nil ReachesBarrier
+      → passed_nodes plan from ≡ passed_by before nodes → (n : ℕ) → n < next → IsPassed n → (e : Element) → All Reaches (chain_from nodes next n e)
+  nodes_reach front before [] next same at sized all n low way e = All-nil Reaches
   nodes_reach front before (node ∷ later) next same at sized all n low way e =
       let added : List Bool = (list_any (takes_from from before) node.inputs && not (is_barrier_kind node.kind)) ∷ [] in
-      let onward : (m : ℕ) → m < next + 1 → IsPassed m → (x : Element) → All ReachesBarrier (chain_from later (next + 1) m x) =
+      let onward : (m : ℕ) → m < next + 1 → IsPassed m → (x : Element) → All Reaches (chain_from later (next + 1) m x) =
       nodes_reach (front ++ node ∷ []) (before ++ added) later (next + 1) (same ∙ sym (append_assoc front (node ∷ []) later))
       (omega (arith, at, length-append front (node ∷ []))) (omega (arith, sized, length-append before added)) all in
-      All-append ReachesBarrier (flat_map (λ input. cond (input == n) (through next node.kind (chain_from later (next + 1) next) e) []) node.inputs) (chain_from later (next + 1) n e)
+      All-append Reaches (flat_map (λ input. cond (input == n) (through next node.kind (chain_from later (next + 1) next) e) []) node.inputs) (chain_from later (next + 1) n e)
       (inputs_reach n (through next node.kind (chain_from later (next + 1) next) e) node.inputs
       (λ k d inside is.
       node_reaches next node.kind (chain_from later (next + 1) next) (λ barrier. ends barrier k d inside is)
@@ -163,17 +164,17 @@ module _ (plan : Plan) (from : ℕ) where
   fold_join before [] ys = refl
   fold_join before (x ∷ xs) ys = fold_join (before ++ (list_any (takes_from from before) x.inputs && not (is_barrier_kind x.kind)) ∷ []) xs ys
 
-  pub chain_reaches : from < length plan.nodes → (e : Element) → All ReachesBarrier (chain plan from e)
+  pub chain_reaches : from < length plan.nodes → (e : Element) → All Reaches (chain plan from e)
   chain_reaches low e =
       let cut = split_at plan.nodes (from + 1) (omega arith) in
       nodes_reach cut.0 (passed_by [] cut.0) (drop (from + 1) plan.nodes) (from + 1) cut.1 cut.2 (sized_after [] cut.0 ∙ omega (arith, cut.2))
       (ap (passed_by []) cut.1 ∙ fold_join [] cut.0 (drop (from + 1) plan.nodes)) from (omega arith) (inl refl) e
 
-  values_reach : from < length plan.nodes → (values : List TimedValue) → All ReachesBarrier (flat_map (λ v. chain plan from (from_source v)) values)
-  values_reach low [] = All-nil ReachesBarrier
+  values_reach : from < length plan.nodes → (values : List TimedValue) → All Reaches (flat_map (λ v. chain plan from (from_source v)) values)
+  values_reach low [] = All-nil Reaches
   values_reach low (v ∷ values) =
-      All-append ReachesBarrier (chain plan from (from_source v)) (flat_map (λ v. chain plan from (from_source v)) values) (chain_reaches low (from_source v)) (values_reach low values)
+      All-append Reaches (chain plan from (from_source v)) (flat_map (λ v. chain plan from (from_source v)) values) (chain_reaches low (from_source v)) (values_reach low values)
 
-  pub emission_reaches : from < length plan.nodes → (e : Emission) → All ReachesBarrier (emission_outputs plan from e)
+  pub emission_reaches : from < length plan.nodes → (e : Emission) → All Reaches (emission_outputs plan from e)
   emission_reaches low (Emits values declared) = values_reach low values
-  emission_reaches low Poison = All-cons ReachesBarrier (PoisonAt from) [] tt (All-nil ReachesBarrier)
+  emission_reaches low Poison = All-cons Reaches (PoisonAt from) [] tt (All-nil Reaches)
