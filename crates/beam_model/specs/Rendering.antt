@@ -105,7 +105,7 @@ dead_line dead =
 abbrev pub IsRendering : Outcome → List ℕ → Type 0
 IsRendering o text =
     (front : List ℕ) × (back : List ℕ) × IsWritten (nat_lt 1 (length (writes o.plan))) o.written (writes o.plan) front
-    × IsLogged o.plan o.logs back × (text ≡ front ++ (back ++ flat_map dead_line o.dead))
+    × IsLogged o.plan o.logs back × (text ≡ (front ++ back) ++ flat_map dead_line o.dead)
 
 -- The summary of an outcome: how many positions its source items have, how many elements were written, how many items the sequences of these have,
 -- and the sum of the whole numbers among them. An element that is no key with a sequence counts no item.
