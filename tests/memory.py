@@ -1,8 +1,9 @@
 #!/usr/bin/env python3
 """Measures the memory of a built program against the rule of docs/using/PLAN.md: tests/memory.py PROGRAM
 
-Each row of the rule's table is tried on growing inputs by one worker. What a run takes beyond the least run, for each line,
-window, byte or bundle, may be at most what the row says, at every size, and at the largest one at least half of it: so the rule stays near.
+Each row of the rule's table is tried on growing inputs by one worker. What a run takes beyond the row `the run itself`, for each
+line, window, byte or bundle, may be at most what the row says, at every size, and at the largest one at least half of it: so the
+rule stays near. The sizes are such that a run takes more memory than this script, whose own the system counts as well.
 """
 import json
 import os
@@ -13,7 +14,7 @@ import sys
 import tempfile
 
 ROOT = pathlib.Path(__file__).resolve().parent.parent
-SIZES = (50_000, 110_000, 240_000, 500_000)
+SIZES = (140_000, 270_000, 500_000)
 
 
 def plan(files, *nodes):
@@ -69,7 +70,7 @@ def rule():
     """The rows of the table: what is counted, and its bytes."""
     text = (ROOT / "docs/using/PLAN.md").read_text()
     rows = dict(re.findall(r"^\| ([a-z][^|]*) \| (\d+) \|$", text[text.index("## Memory"):], re.M))
-    return {name: int(rows[name]) for name in TRIED}
+    return {name: int(rows[name]) for name in ("the run itself", *TRIED)}
 
 
 def main():
@@ -78,11 +79,9 @@ def main():
     program, most, wrong = os.path.abspath(sys.argv[1]), rule(), 0
     with tempfile.TemporaryDirectory() as path:
         folder = pathlib.Path(path)
-        base = most_memory(program, filtered(1, folder))
-        print(f"memory: the least run takes {base // 1024} KB")
         for name, (words, beside) in TRIED.items():
             for size in SIZES:
-                taken = (most_memory(program, words(size, folder)) - base) / size - (most[beside] if beside else 0)
+                taken = (most_memory(program, words(size, folder)) - most["the run itself"]) / size - (most[beside] if beside else 0)
                 taken /= UNITS.get(name, 1)
                 is_near = taken <= most[name] and (size != SIZES[-1] or taken >= most[name] / 2)
                 wrong += not is_near
