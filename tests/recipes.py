@@ -117,6 +117,34 @@ ACCESS = (
 )
 TIMED = '1700000001000\t/index.html\t512\n1700000002000\t/a\\"b\t0\n1709170200000\t-\t7\n'
 
+# What TimedLines takes, and FieldInt of it, at the bounds of times and numbers.
+GOOD = (
+    "1000\tada\t5\n!5000\n007\ta\t-9223372036854775808\n9223372036854775\ta\t0009223372036854775\n"
+    "-9223372036854775\ta\t9223372036854775807\n0000000000000007\ta\t0\n"
+)
+BAD = [
+    ("2,5\tada\t6", "no time"), ("!x", "no time behind !"), ("!5000\t", "no time behind !"), ("", "no TAB"), ("17", "no TAB"),
+    ("9223372036854776\ta\t1", "no time"), ("12345678901234567\ta\t1", "no time"), ("- 1\ta\t1", "no time"), ("+1\ta\t1", "no time"),
+]
+NO_NUMBERS = [
+    ("3000\tada\t7 pears", "no number"), ("7\ta\t9223372036854775808", "no number"), ("7\ta\t-9223372036854775809", "no number"),
+    ("7\ta", "no part"), ("7\ta\t", "no number"), ("7\ta\t1\t2", "no number"), ("7\ta\t00000000000000000001", "no number"),
+]
+
+
+def good_lines_fault(awk):
+    """Each bad line alone behind the good ones, without and with a look at parts."""
+    words = [*awk, "-f", str(RECIPES / "good_lines.awk")]
+    yield fault_of(words, "\ufeff" + GOOD.replace("\n", "\r\n"), GOOD, 0, "")
+    yield fault_of([*awk, "-v", "numbers=1", *words[len(awk):]], GOOD, GOOD, 0, "")
+    for line, why in BAD:
+        yield fault_of(words, GOOD + line + "\n", GOOD, 1, f":7: {why}: {line}\n")
+    for line, why in BAD + NO_NUMBERS:
+        yield fault_of([*awk, "-v", "numbers=1", *words[len(awk):]], GOOD + line + "\n", GOOD, 1, f":7: {why}: {line}\n")
+    yield fault_of(words, "x\n" + GOOD + "x\nx\n", GOOD, 1, ": 3 lines left out\n")
+    for line, _ in NO_NUMBERS:
+        yield fault_of(words, line + "\n", line + "\n", 0, "")
+
 
 def ran(words, text):
     data = text.encode("utf-8", "surrogateescape")
@@ -228,10 +256,12 @@ def main():
     for awk in awks:
         words = [awk, "awk"] if awk == "busybox" else [awk]
         faults.append(fault_of([*words, "-f", str(RECIPES / "access.awk")], ACCESS, TIMED, 1, ":4: no line of an access log"))
+        faults.extend(good_lines_fault(words))
     faults = [*filter(None, faults), *line_faults(), *text_faults(), *memory_fault()]
     for fault in faults:
         print(fault)
-    print(f"recipes: {len(CASES) + len(LINES) + len(awks)} cases, access.awk by {' and '.join(awks) or 'no awk'}, {len(faults)} wrong")
+    count = len(CASES) + len(LINES) + len(awks) * (4 + 2 * (len(BAD) + len(NO_NUMBERS)))
+    print(f"recipes: {count} cases, awk is {' and '.join(awks) or 'not here'}, {len(faults)} wrong")
     return 1 if faults else 0
 
 
