@@ -47,7 +47,7 @@ while IFS= read -r -d '' plan; do
     else
         run "$plan" "${folder}output.txt" ''
     fi
-done < <(find "$@" -name plan.json -print0 | sort -z)
+done < <(find -H "$@" -name plan.json -print0 | sort -z)
 
 echo "plans: $good as wanted, $bad not"
 [ "$bad" -eq 0 ] || exit 1

@@ -4,8 +4,8 @@
 A command is a line `$ ..` of a block, with the lines below it that it needs to be whole; what stands below is what it
 writes, where a last line `..` leaves the rest out. PROGRAM stands for ./beam_run. The commands of a document run one
 after another in a folder that looks like the top of the repository. Where `cat NAME` or `head -N NAME` is shown of a file
-that isn't there, what is shown is the file: so documents tell of their inputs. A command `./beam_run ..` inside a line of
-text, without words in capitals, has to end with status 0. From a command on whose tool isn't here, the rest of its
+that isn't there, what is shown is the file: so documents tell of their inputs. A command inside a line of text, of those
+that `WITHIN` names and without words in capitals but between quotes, has to end with status 0. From a command on whose tool isn't here, the rest of its
 document isn't run, and the last line says so.
 """
 import os
@@ -19,7 +19,7 @@ import tempfile
 ROOT = pathlib.Path(__file__).resolve().parent.parent
 TOOLS = ("jq", "mlr", "gnuplot", "mawk", "gawk", "xxd", "dot", "iconv", "python3", "awk")
 SHOWN = re.compile(r"(?:cat|head -(?:n )?\d+) ([A-Za-z0-9_.-]+)")
-WITHIN = re.compile(r"`(\./beam_run (?:run|panes) [^`]*)`")
+WITHIN = re.compile(r"`((?:\./beam_run (?:run|panes)|awk -F|df|grep|iconv|jq|mlr|sed|tests/plans.sh) [^`]*)`")
 
 
 def blocks(lines):
@@ -39,7 +39,7 @@ def blocks(lines):
                 yield block
             block = None
             for command in WITHIN.findall(line):
-                if not re.search(r"\b[A-Z]{2,}\b", command):
+                if not re.search(r"\b[A-Z]{2,}\b", re.sub("'[^']*'", "", command)):
                     yield number, ["$ " + command, None]
         blank = not line.strip()
 
