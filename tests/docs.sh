@@ -4,8 +4,10 @@
 # - links, files and names that are nowhere, and names that aren't in the file that is told with them;
 # - a block headed ```case FILE```, which stands word for word in crates/worked_cases/data/FILE;
 # - a line `$ ./beam_run ..` in a block with its output below, which is a case of commands.cases over the same files
-#   (a last line `..` leaves the rest of the output out), and so are the outputs of examples/.
-# With `--run PROGRAM` it runs the commands that are shown on a built program as well.
+#   (a last line `..` leaves the rest of the output out), and so are the outputs of examples/ but those of examples/scores.
+#   Pages whose commands are for people's own files are only run;
+# - the options of an example, which are those that examples/README.md shows.
+# With `--run PROGRAM [DRAWING PROGRAM]` it also runs each command that is shown, by sessions.py, and the plans of examples/, by plans.sh.
 set -u
 cd "$(dirname "$0")/.." || exit 1
 export LC_ALL=C
@@ -15,11 +17,14 @@ read -r -d '' exceptions <<'END'
 out/    what rt makes in a crate, and the program
 END
 
-program=
+# Documents whose commands no case of commands.cases has to have.
+only_run=' docs/using/ERRORS.md docs/using/PLAN.md docs/using/RECIPES.md docs/using/SCORES.md docs/using/TESTING.md '
+
+programs=()
 case "${1-}" in
     '') ;;
-    --run) program=$(readlink -f "${2:?docs.sh --run PROGRAM}") ;;
-    *) echo "usage: tests/docs.sh [--run PROGRAM]" >&2; exit 2 ;;
+    --run) shift; for name in "${@:?docs.sh --run PROGRAM}"; do programs+=("$(readlink -f "$name")"); done ;;
+    *) echo "usage: tests/docs.sh [--run PROGRAM [DRAWING PROGRAM]]" >&2; exit 2 ;;
 esac
 
 work=$(mktemp -d) || exit 2
@@ -271,21 +276,21 @@ check_command() {
     fi
 }
 
-run_command() {
-    local number=$1 place=$2 words
-    [ -s "$work/shown/$number.out" ] || return
-    read -ra words <<<"$3"
-    "$program" "${words[@]}" >"$work/ran" 2>&1 </dev/null
-    is_as_shown "$work/shown/$number.out" "$work/ran" || echo "$place: the program writes something else for $3"
-}
-
 check_commands() {
     [ -f "$work/commands" ] || return
     while IFS=$'\t' read -r number place words; do
-        check_command "$number" "$place" "$words"
-        [ -z "$program" ] || run_command "$number" "$place" "$words"
+        [[ $only_run == *" ${place%:*} "* ]] || check_command "$number" "$place" "$words"
     done <"$work/commands"
 } >>"$work/failures"
+
+# Each command that is shown, and the plans of the examples.
+run_all() {
+    [ "${#programs[@]}" -gt 0 ] || return 0
+    python3 tests/sessions.py "${programs[@]}" >"$work/ran"
+    sed -n '$p; /^sessions: not run/p' "$work/ran" | sort -u >&3
+    sed '$d; /^sessions: not run/d' "$work/ran"
+    BEAM_RUN=${programs[0]} tests/plans.sh examples >"$work/ran" || cat "$work/ran"
+} >"$work/failures.ran"
 
 # What an example of examples/ is said to print is what some case says of its plan, and each case that says so has
 # the example's files.
@@ -307,6 +312,10 @@ check_examples() {
     done
     check_example examples/visits.panes.txt examples/visits.tsv
     check_example examples/lag/short.txt examples/lag/short.json
+    for output in examples/*/options; do
+        [ "$(wc -l <"$output")" -gt 1 ] || grep -qF "run ${output%options}plan.json $(cat "$output")\`" examples/README.md ||
+            echo "$output:1: examples/README.md doesn't show these options"
+    done
 } >>"$work/failures"
 
 read_documents
@@ -315,9 +324,11 @@ check_blocks
 read_cases
 check_commands
 check_examples
+run_all 3>&1
 
-if [ -s "$work/failures" ]; then
+if [ -s "$work/failures" ] || [ -s "$work/failures.ran" ]; then
     sort -t: -k1,1 -k2,2n "$work/failures" | uniq
+    cat "$work/failures.ran"
     exit 1
 fi
 lines() { cat "$@" 2>/dev/null | wc -l; }

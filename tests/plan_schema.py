@@ -5,7 +5,7 @@ What the reader takes the schema has to take too, and so what is read and breaks
 the reader refuses for a key, a word or a number the schema has to refuse, but for what only the reader can see
 (`only_the_reader_sees`). Each word and each limit of the schema is shown by a document: without the word, or with a
 limit one less wide, the schema would refuse what the reader takes; with a limit one wider it would take what the
-reader refuses. The plans of the examples are checked as well, and the nodes that docs/using/PLAN.md shows, which
+reader refuses. Each kind and each work has exactly one `if`. What the schema says of a mistake names it (`MESSAGES`). The plans of the examples are checked as well, and the nodes that docs/using/PLAN.md shows, which
 have to be one of the cases, as one plan. Without the package jsonschema nothing is checked, and it says so.
 """
 import copy
@@ -24,7 +24,30 @@ except ImportError:
 ROOT = pathlib.Path(__file__).resolve().parent.parent
 ESCAPES = {"n": "\n", "r": "\r", "t": "\t", '"': '"', "\\": "\\"}
 # What a limit becomes that is one less wide.
-NARROWER = {"minimum": 1, "maximum": -1, "minLength": 1, "maxLength": -1}
+NARROWER = {"minimum": 1, "maximum": -1, "minLength": 1, "maxLength": -1, "maxProperties": -1}
+# Mistakes in the nodes of a plan that is good without them, and what the schema says of each.
+MESSAGES = [
+    ({"kind": "parDo"}, 1, "'parDo' is not one of ['source', 'pardo'"),
+    ({"kind": None}, 1, "'kind' is a required property"),
+    ({"work": "keyField"}, 1, "'keyField' is not one of ['KeyField'"),
+    ({"work": None}, 1, "'work' is a required property"),
+    ({"number": 3}, 1, "'number' was unexpected"),
+    ({"file": ["f"]}, 0, "'file' was unexpected"),
+    ({"files": None}, 0, "'files' is a required property"),
+    ({"files": "f"}, 0, "'f' is not of type 'array'"),
+    ({"estimator": "late"}, 0, "'late' is not one of ['none', 'monotonic', 'declared']"),
+    ({"estimator": {"lag": -5}}, 0, "-5 is less than the minimum of 0"),
+    ({"estimator": {"lags": 5}}, 0, "'lags' was unexpected"),
+    ({"windows": {"fixed": -5}}, 2, "-5 is less than the minimum of 1"),
+    ({"windows": {"fixd": 5}}, 2, "'fixd' was unexpected"),
+    ({"windows": {"sliding": [60000, 0]}}, 2, "0 is less than the minimum of 1"),
+    ({"windows": "daily"}, 2, "'daily' is not one of ['global']"),
+    ({"lateness_ms": 5}, 3, "'lateness_ms' was unexpected"),
+    ({"lateness": "5"}, 3, "'5' is not of type 'integer'"),
+    ({"mode": "accumulate"}, 3, "'accumulate' is not one of ['discarding', 'accumulating']"),
+    ({"input": "win"}, 3, "'win' is not of type 'array'"),
+    ({"labl": "x"}, 4, "'labl' was unexpected"),
+]
 
 
 def document_bytes(text):
@@ -91,9 +114,11 @@ def only_the_reader_sees(plan, answer):
 
 
 def places(schema, path=()):
-    """Each word and each limit of the schema: the path to it."""
+    """Each word and each limit of the schema but those inside an `if`: the path to it."""
     if isinstance(schema, dict):
         for key, value in schema.items():
+            if key == "if":
+                continue
             if key in NARROWER:
                 yield path + (key,)
             elif key == "enum":
@@ -105,13 +130,32 @@ def places(schema, path=()):
             yield from places(value, path + (at,))
 
 
+def words_of(condition, key):
+    """The words of this key for which an `if` of the schema is met."""
+    said = condition["properties"].get(key, {})
+    return said.get("enum", [said["const"]] if "const" in said else [])
+
+
+def unlike_conditions(schema):
+    """Each key of the schema with words, and conditions beside it that aren't met by each word exactly once."""
+    if isinstance(schema, dict):
+        met = [part["if"] for part in schema.get("allOf", [])]
+        for key, value in schema.get("properties", {}).items() if met else []:
+            if isinstance(value, dict) and "enum" in value and sorted(value["enum"]) != sorted(word for part in met for word in words_of(part, key)):
+                yield key, value["enum"]
+        schema = list(schema.values())
+    if isinstance(schema, list):
+        for part in schema:
+            yield from unlike_conditions(part)
+
+
 def changed(schema, path, step):
     """The schema without this word, or with this limit moved by so much."""
     schema = copy.deepcopy(schema)
     at = schema
     for key in path[:-1]:
         at = at[key]
-    if isinstance(at, list):
+    if path[-1] not in NARROWER:
         at[path[-1]] = "no word of a plan"
     else:
         at[path[-1]] += step
@@ -136,6 +180,21 @@ def not_shown(schema, taken, refused):
             yield path, "the reader refuses no document just past"
 
 
+def other_messages(schema):
+    """The mistakes of which the schema says something else or much more, and what it says."""
+    good = json.loads((ROOT / "examples/late/plan.json").read_text())
+    validator = jsonschema.Draft202012Validator(schema)
+    for mistake, number, wanted in MESSAGES:
+        plan = copy.deepcopy(good)
+        node = plan["nodes"][number]
+        node.update(mistake)
+        for key in [key for key in node if node[key] is None]:
+            del node[key]
+        messages = [error.message for error in validator.iter_errors(plan)]
+        if len(messages) > 2 or not any(wanted in message for message in messages):
+            yield mistake, wanted, messages
+
+
 def main():
     schema = json.loads((ROOT / "docs/plan.schema.json").read_text())
     is_valid = jsonschema.Draft202012Validator(schema).is_valid
@@ -155,6 +214,10 @@ def main():
     bad_nodes = [plan for plan in each_node(refused) if not is_valid(plan)]
     for path, what in not_shown(schema, each_node(taken), bad_nodes):
         wrong.append(f"{what} this word or limit of the schema: {'/'.join(map(str, path))}")
+    for key, words in unlike_conditions(schema):
+        wrong.append(f"not each {key} of {words} has one condition")
+    for mistake, wanted, messages in other_messages(schema):
+        wrong.append(f"the schema says of {json.dumps(mistake)} not {wanted!r}, but {messages}")
     for line in wrong:
         print(line)
     print(f"plan_schema: {len(taken)} taken, {len(refused)} refused by the reader, {len(wrong)} wrong")

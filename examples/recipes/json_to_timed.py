@@ -1,0 +1,50 @@
+"""Turns JSON lines into timed lines: json_to_timed.py FILE TIME KEY PART
+
+TIME, KEY and PART are keys of the records; one as user.id is the key id in the record user. A time is a text in RFC 3339
+with a zone, or a number: of seconds below 100000000000, else of milliseconds. A line that is no such record is named on
+standard error, and the status is then 1.
+"""
+import datetime
+import decimal
+import functools
+import json
+import math
+import sys
+
+EPOCH = datetime.datetime(1970, 1, 1, tzinfo=datetime.timezone.utc)
+BLANKS = str.maketrans("\t\r\n", "   ")
+
+
+def milliseconds(time):
+    if isinstance(time, str):
+        at = datetime.datetime.fromisoformat(time.replace("Z", "+00:00"))
+        if at.tzinfo is None:
+            raise ValueError("no zone")
+        return (at - EPOCH) // datetime.timedelta(milliseconds=1)
+    if isinstance(time, bool) or not isinstance(time, (int, float)):
+        raise ValueError("no time")
+    return math.floor(decimal.Decimal(str(time)) * (1000 if abs(time) < 10**11 else 1))
+
+
+def text(value):
+    if value is None:
+        raise ValueError("null where there is to be a text")
+    return (value if isinstance(value, str) else json.dumps(value, ensure_ascii=False)).translate(BLANKS)
+
+
+if len(sys.argv) != 5:
+    sys.exit(__doc__)
+name, *paths = sys.argv[1:]
+paths = [path.split(".") for path in paths]
+sys.stdout.reconfigure(encoding="utf-8", errors="surrogateescape")
+status = 0
+with open(name, encoding="utf-8-sig", errors="surrogateescape") as file:
+    for number, line in enumerate(file, 1):
+        try:
+            record = json.loads(line)
+            time, key, part = (functools.reduce(lambda at, word: at[word], path, record) for path in paths)
+            print(milliseconds(time), text(key), text(part), sep="\t")
+        except (ValueError, KeyError, TypeError, OverflowError) as fault:
+            print(f"{name}:{number}: {type(fault).__name__}: {fault}: {line.rstrip()[:200]}", file=sys.stderr)
+            status = 1
+sys.exit(status)

@@ -1,0 +1,94 @@
+#!/usr/bin/env python3
+"""Measures the memory of a built program against the rule of docs/using/PLAN.md: tests/memory.py PROGRAM
+
+Each row of the rule's table is tried on growing inputs by one worker. What a run takes beyond the row `the run itself`, for each
+line, window, byte or bundle, may be at most what the row says, at every size, and at the largest one at least half of it: so the
+rule stays near. The sizes are such that a run takes more memory than this script, whose own the system counts as well.
+"""
+import json
+import os
+import pathlib
+import re
+import subprocess
+import sys
+import tempfile
+
+ROOT = pathlib.Path(__file__).resolve().parent.parent
+SIZES = (140_000, 270_000, 500_000)
+
+
+def plan(files, *nodes):
+    """A plan of timed lines and nodes that each take from the one before."""
+    made = [{"name": "in", "kind": "source", "work": "TimedLines", "files": files}]
+    for number, node in enumerate([*nodes, {"kind": "write"}]):
+        made.append({"name": f"n{number}", "input": [made[-1]["name"]], **node})
+    return json.dumps({"beam": 1, "nodes": made})
+
+
+def most_memory(program, words):
+    """The most bytes of memory that a run held."""
+    run = subprocess.Popen([program, *words], stdout=subprocess.DEVNULL)
+    _, status, usage = os.wait4(run.pid, 0)
+    run.returncode = os.waitstatus_to_exitcode(status)
+    if run.returncode:
+        sys.exit(f"memory: {words} ended with status {run.returncode}")
+    return usage.ru_maxrss * 1024
+
+
+def grouped(line):
+    """A run of `panes` over so many lines."""
+
+    def words(count, folder):
+        path = folder / "lines.tsv"
+        with open(path, "w") as file:
+            file.writelines(line(at) for at in range(count))
+        return ["panes", str(path), "60000", "--workers", "1"]
+
+    return words
+
+
+def filtered(count, folder):
+    """A run that keeps nothing, each of whose lines is a bundle."""
+    path = folder / "lines.tsv"
+    with open(path, "w") as file:
+        file.writelines(f"{at}\ta\tx\n" for at in range(count))
+    (folder / "plan.json").write_text(plan([str(path)], {"kind": "pardo", "work": "KeepPrefix", "text": "no"}))
+    return ["run", str(folder / "plan.json"), "--workers", "1", "--bundle", "1"]
+
+
+# How each row of the table is tried, and what stands in a line beside what is measured.
+TRIED = {
+    "each line grouped": (grouped(lambda at: f"{at % 60000}\tkey\t{at}\n"), None),
+    "each key and window": (grouped(lambda at: f"0\tk{at}\tx\n"), "each line grouped"),
+    "each byte of a part above 22": (grouped(lambda at: f"{at % 60000}\tkey\t{at:0272}\n"), "each line grouped"),
+    "each bundle": (filtered, None),
+}
+UNITS = {"each byte of a part above 22": 250}
+
+
+def rule():
+    """The rows of the table: what is counted, and its bytes."""
+    text = (ROOT / "docs/using/PLAN.md").read_text()
+    rows = dict(re.findall(r"^\| ([a-z][^|]*) \| (\d+) \|$", text[text.index("## Memory"):], re.M))
+    return {name: int(rows[name]) for name in ("the run itself", *TRIED)}
+
+
+def main():
+    if len(sys.argv) != 2:
+        sys.exit(__doc__)
+    program, most, wrong = os.path.abspath(sys.argv[1]), rule(), 0
+    with tempfile.TemporaryDirectory() as path:
+        folder = pathlib.Path(path)
+        for name, (words, beside) in TRIED.items():
+            for size in SIZES:
+                taken = (most_memory(program, words(size, folder)) - most["the run itself"]) / size - (most[beside] if beside else 0)
+                taken /= UNITS.get(name, 1)
+                is_near = taken <= most[name] and (size != SIZES[-1] or taken >= most[name] / 2)
+                wrong += not is_near
+                print(f"memory: {name}: {taken:.1f} of {most[name]} at {size}{'' if is_near else '  WRONG'}")
+    print(f"memory: {wrong} wrong")
+    return 1 if wrong else 0
+
+
+if __name__ == "__main__":
+    sys.exit(main())

@@ -1,0 +1,269 @@
+#!/usr/bin/env python3
+"""Runs the scripts of examples/recipes/ on small inputs and compares with what was worked out by hand.
+
+panes_to.py also reads each text that a worked case says the program prints, and what it makes of that is spelled as a
+text again: it has to be the same. A script whose awk isn't there is passed over, and the last line says so.
+"""
+import json
+import pathlib
+import re
+import resource
+import shutil
+import subprocess
+import sys
+import tempfile
+
+ROOT = pathlib.Path(__file__).resolve().parent.parent
+RECIPES = ROOT / "examples/recipes"
+DATA = ROOT / "crates/worked_cases/data"
+
+MINUTE = '"start":0,"end":60000,"from":"1970-01-01T00:00:00Z","to":"1970-01-01T00:01:00Z"'
+FIRST = MINUTE + ',"timing":"ON_TIME","index":0'
+
+# One line of a text, and its JSON line.
+LINES = [
+    # a key and its parts, a number, null, no pair, nothing in a sequence
+    (r'0	60000	ON_TIME	0	("a",["x","y"])', "{" + FIRST + ',"key":"a","value":["x","y"]}'),
+    (r'0	60000	ON_TIME	0	("a",-9223372036854775808)', "{" + FIRST + ',"key":"a","value":-9223372036854775808}'),
+    (r'0	60000	ON_TIME	0	(null,null)', "{" + FIRST + ',"key":null,"value":null}'),
+    (r'0	60000	ON_TIME	0	7', "{" + FIRST + ',"value":7}'),
+    (r'0	60000	ON_TIME	0	null', "{" + FIRST + ',"value":null}'),
+    (r'0	60000	ON_TIME	0	("a",[])', "{" + FIRST + ',"key":"a","value":[]}'),
+    # pairs and sequences inside one another
+    (r'0	60000	ON_TIME	0	("a",[("b",1),[2,[null,"c"]],[]])', "{" + FIRST + ',"key":"a","value":[{"key":"b","value":1},[2,[null,"c"]],[]]}'),
+    (r'0	60000	ON_TIME	0	((1,"b"),("c",2))', "{" + FIRST + ',"key":{"key":1,"value":"b"},"value":{"key":"c","value":2}}'),
+    (r'0	60000	ON_TIME	0	[("a",1)]', "{" + FIRST + ',"value":[{"key":"a","value":1}]}'),
+    # quotes, backslashes, TAB, CR, LF, signs of the text inside a text, bytes of UTF-8 and others
+    (r'0	60000	ON_TIME	0	"q\"b\\t\tn\nr\r"', "{" + FIRST + r',"value":"q\"b\\t\tn\nr\r"}'),
+    (r'0	60000	ON_TIME	0	("),(","[\\",)', None),
+    (r'0	60000	ON_TIME	0	("),(","[\\")', "{" + FIRST + r',"key":"),(","value":"[\\"}'),
+    (r'0	60000	ON_TIME	0	"/caf\xc3\xa9 \xe2\x82\xac"', "{" + FIRST + ',"value":"/caf\u00e9 \u20ac"}'),
+    (r'0	60000	ON_TIME	0	"\xff\x00\x7f"', "{" + FIRST + r',"value":"\\xff\u0000' + '\x7f"}'),
+    (r'0	60000	ON_TIME	0	""', "{" + FIRST + ',"value":""}'),
+    # timings and indices
+    (r'0	60000	EARLY	4294967295	1', "{" + MINUTE + ',"timing":"EARLY","index":4294967295,"value":1}'),
+    (r'0	60000	LATE	1	1', "{" + MINUTE + ',"timing":"LATE","index":1,"value":1}'),
+    (r'0	60000	UNKNOWN	0	1', "{" + MINUTE + ',"timing":"UNKNOWN","index":0,"value":1}'),
+    # times before 1970, with milliseconds, and without a year of four digits
+    (r'-1	1699999980001	ON_TIME	0	1', '{"start":-1,"end":1699999980001,"from":"1969-12-31T23:59:59.999Z","to":"2023-11-14T22:13:00.001Z","timing":"ON_TIME","index":0,"value":1}'),
+    (r'-9223372036854775	9223372036854776	ON_TIME	0	1', '{"start":-9223372036854775,"end":9223372036854776,"from":null,"to":null,"timing":"ON_TIME","index":0,"value":1}'),
+    # logs and dead positions
+    (r'log	2	0	60000	"b"	element	1000	9', '{"line":"element","node":2,' + MINUTE + ',"key":"b","time":1000,"value":9}'),
+    (r'log	2	0	60000	("b",1)	timer	3	-500', '{"line":"timer","node":2,' + MINUTE + ',"key":{"key":"b","value":1},"name":3,"time":-500}'),
+    (r'dead	0	1	9	2', '{"line":"dead","node":0,"item":1,"position":9,"at":2}'),
+    # no lines of a text
+    (r'0	60000	ON_TIME	0', None),
+    (r'0	60000	ON_TIME	0	1	2', None),
+    (r'0	60000	on time	0	1', None),
+    (r'0	x	ON_TIME	0	1', None),
+    (r'0	60000	ON_TIME	0	("a")', None),
+    (r'0	60000	ON_TIME	0	("a",1', None),
+    (r'0	60000	ON_TIME	0	[1,]', None),
+    (r'0	60000	ON_TIME	0	[1 2]', None),
+    (r'0	60000	ON_TIME	0	1 ', None),
+    (r'0	60000	ON_TIME	0	"a', None),
+    (r'0	60000	ON_TIME	0	"\q"', None),
+    (r'0	60000	ON_TIME	0	"\xG1"', None),
+    ('0	60000	ON_TIME	0	"\u00e9"', None),
+    (r'log	2	0	60000	"b"	other	1000	9', None),
+    (r'log	2	0	60000	"b"	element	1000', None),
+    (r'dead	0	1	9', None),
+    (r'work fault: node 0 item 0 at 0 attempt 3 call', None),
+    (r'', None),
+]
+
+TWO = '# "a\\""\n0\t60000\tON_TIME\t0\t("k",["x,y",1])\n# "b"\n0\t60000\tON_TIME\t0\t("t\\t\\"\\\\",null)\n'
+HEAD = ["label", "start", "end", "from", "to", "timing", "index", "key", "value"]
+
+# Words behind the script, the input, what comes on standard output and the status; and a part of standard error.
+CASES = [
+    ("panes_to.py", ["json"], TWO, '{"label":"a\\"",' + FIRST + ',"key":"k","value":["x,y",1]}\n{"label":"b",' + FIRST + r',"key":"t\t\"\\","value":null}' + "\n", 0, ""),
+    ("panes_to.py", ["csv"], TWO,
+     ",".join(HEAD) + '\n"a""",0,60000,1970-01-01T00:00:00Z,1970-01-01T00:01:00Z,ON_TIME,0,k,"[""x,y"",1]"\n'
+     'b,0,60000,1970-01-01T00:00:00Z,1970-01-01T00:01:00Z,ON_TIME,0,"t\t""\\",\n', 0, ""),
+    ("panes_to.py", ["tsv"], TWO,
+     "\t".join(HEAD) + '\na"\t0\t60000\t1970-01-01T00:00:00Z\t1970-01-01T00:01:00Z\tON_TIME\t0\tk\t["x,y",1]\n'
+     'b\t0\t60000\t1970-01-01T00:00:00Z\t1970-01-01T00:01:00Z\tON_TIME\t0\tt\\t"\\\\\t\n', 0, ""),
+    ("panes_to.py", ["csv"], "0\t1\tON_TIME\t0\t5\n", "start,end,from,to,timing,index,key,value\n0,1,1970-01-01T00:00:00Z,1970-01-01T00:00:00.001Z,ON_TIME,0,,5\n", 0, ""),
+    ("panes_to.py", ["json"], '# "a"\n# "b"\n', "", 0, ""),
+    ("panes_to.py", ["json"], "# 5\n", "", 1, ":1: no label: # 5"),
+    ("panes_to.py", ["json"], "", "", 0, ""),
+    ("panes_to.py", ["tsv"], "dead\t0\t1\t9\t2\n" + 'log\t2\t0\t1\t"b"\ttimer\t0\t5\n', "", 1, "2 lines of logs and dead positions"),
+    ("panes_to.py", ["json"], "x\n0\t60000\tON_TIME\t0\t1\n0\t60000\tON_TIME\t0\t1", "{" + FIRST + ',"value":1}\n', 1, ":3: the text was cut"),
+    ("panes_to.py", ["json"], "0\t1\tON_TIME\t0\t" + "[" * 5000 + "]" * 5000 + "\n", "", 1, ":1: "),
+    ("panes_to.py", ["xml"], "", "", 1, "json|tsv|csv"),
+    ("json_to_timed.py", ["FILE", "at", "user.id", "page"],
+     '{"at":"2023-11-14T22:13:20Z","user":{"id":"ada"},"page":"/home"}\n'
+     '{"at":"2023-11-14 23:13:20.1239+01:00","user":{"id":7},"page":"a\\tb\\nc"}\n'
+     '{"at":1700000000,"user":{"id":"u"},"page":[1,{"a":2.5}]}\n{"at":1700000000.1239,"user":{"id":"u"},"page":1.5}\n'
+     '{"at":1700000000123,"user":{"id":"\\u00e9"},"page":true}\n{"at":-1.0005,"user":{"id":"u"},"page":""}\n',
+     '1700000000000\tada\t/home\n1700000000123\t7\ta b c\n1700000000000\tu\t[1, {"a": 2.5}]\n1700000000123\tu\t1.5\n'
+     "1700000000123\t\u00e9\ttrue\n-1001\tu\t\n", 0, ""),
+    ("json_to_timed.py", ["FILE", "at", "user", "page"],
+     '{"at":"2023-11-14T22:13:20","user":"u","page":""}\n{"at":true,"user":"u","page":""}\n{"at":5,"user":null,"page":""}\n'
+     '{"at":5,"page":""}\n[1]\nx\n\n{"at":5,"user":"u","page":"p"}\n{"at":NaN,"user":"u","page":""}\n', "5000\tu\tp\n", 1, ":1: ValueError: no zone"),
+    ("json_to_timed.py", ["FILE", "at", "user", "page"], '\ufeff{"at":5,"user":"u","page":"\udcff"}\n', "5000\tu\t\udcff\n", 0, ""),
+    ("csv_to_timed.py", ["FILE", "t", "k", "p"],
+     '\ufefft,k,p\r\n2023-11-14T22:13:20Z,"a,""b",1\r\n1700000000,k,\r\n1700000000123,k\r\n1700000000.9999,k,"x\ny"\r\nsoon,k,1\r\n',
+     '1700000000000\ta,"b\t1\n1700000000000\tk\t\n1700000000999\tk\tx y\n', 1, ":4: not as many fields"),
+    ("csv_to_timed.py", ["FILE", "t", "k", "p", ";"], "p;k;t\n1,5;a;0\n", "0\ta\t1,5\n", 0, ""),
+    ("csv_to_timed.py", ["FILE", "t", "k", "q"], "t,k,p\n", "", 1, "no column ['q']"),
+]
+ACCESS = (
+    '1.2.3.4 - - [15/Nov/2023:06:13:21 +0800] "GET /index.html HTTP/1.1" 200 512 "-" "curl/8.0"\n'
+    '1.2.3.4 - - [14/Nov/2023:22:13:22 +0000] "GET /a\\"b HTTP/1.1" 200 -\n'
+    '1.2.3.4 - - [29/Feb/2024:00:00:00 -0130] "-" 400 7\n'
+    '1.2.3.4 - - [30/Feb/2024:00:00:00 +0000] "GET / HTTP/1.1" 200 7\n'
+)
+TIMED = '1700000001000\t/index.html\t512\n1700000002000\t/a\\"b\t0\n1709170200000\t-\t7\n'
+
+# What TimedLines takes, and FieldInt of it, at the bounds of times and numbers.
+GOOD = (
+    "1000\tada\t5\n!5000\n007\ta\t-9223372036854775808\n9223372036854775\ta\t0009223372036854775\n"
+    "-9223372036854775\ta\t9223372036854775807\n0000000000000007\ta\t0\n"
+)
+BAD = [
+    ("2,5\tada\t6", "no time"), ("!x", "no time behind !"), ("!5000\t", "no time behind !"), ("", "no TAB"), ("17", "no TAB"),
+    ("9223372036854776\ta\t1", "no time"), ("12345678901234567\ta\t1", "no time"), ("- 1\ta\t1", "no time"), ("+1\ta\t1", "no time"),
+]
+NO_NUMBERS = [
+    ("3000\tada\t7 pears", "no number"), ("7\ta\t9223372036854775808", "no number"), ("7\ta\t-9223372036854775809", "no number"),
+    ("7\ta", "no part"), ("7\ta\t", "no number"), ("7\ta\t1\t2", "no number"), ("7\ta\t00000000000000000001", "no number"),
+]
+
+
+def good_lines_fault(awk):
+    """Each bad line alone behind the good ones, without and with a look at parts."""
+    words = [*awk, "-f", str(RECIPES / "good_lines.awk")]
+    yield fault_of(words, "\ufeff" + GOOD.replace("\n", "\r\n"), GOOD, 0, "")
+    yield fault_of([*awk, "-v", "numbers=1", *words[len(awk):]], GOOD, GOOD, 0, "")
+    for line, why in BAD:
+        yield fault_of(words, GOOD + line + "\n", GOOD, 1, f":7: {why}: {line}\n")
+    for line, why in BAD + NO_NUMBERS:
+        yield fault_of([*awk, "-v", "numbers=1", *words[len(awk):]], GOOD + line + "\n", GOOD, 1, f":7: {why}: {line}\n")
+    yield fault_of(words, "x\n" + GOOD + "x\nx\n", GOOD, 1, ": 3 lines left out\n")
+    for line, _ in NO_NUMBERS:
+        yield fault_of(words, line + "\n", line + "\n", 0, "")
+
+
+def ran(words, text):
+    data = text.encode("utf-8", "surrogateescape")
+    with tempfile.NamedTemporaryFile() as file:
+        file.write(data)
+        file.flush()
+        words = [file.name if word == "FILE" else word for word in words]
+        done = subprocess.run(words, input=data, capture_output=True)
+    return done.stdout.decode("utf-8", "surrogateescape"), done.returncode, done.stderr.decode("utf-8", "replace")
+
+
+def fault_of(words, text, out, status, note):
+    got = ran(words, text)
+    if got[:2] == (out, status) and note in got[2] and (status or not got[2]):
+        return None
+    return f"{' '.join(words)}: wanted {status} {out!r} and {note!r}, got {got[1]} {got[0]!r} and {got[2]!r}"
+
+
+def script(name):
+    return [sys.executable, str(RECIPES / name)]
+
+
+def line_faults():
+    """All lines as one text: each that is none is named by its number."""
+    text = "".join(line + "\n" for line, _ in LINES)
+    out, _, notes = ran([*script("panes_to.py"), "json"], text)
+    wanted = [record for _, record in LINES if record is not None]
+    for want, got in zip(wanted, out.split("\n")):
+        if want != got:
+            yield f"panes_to.py: wanted {want}, got {got}"
+    if out.count("\n") != len(wanted):
+        yield f"panes_to.py: {out.count(chr(10))} records of {len(wanted)}"
+    named = [int(number) for number in re.findall(r"^standard input:(\d+): ", notes, re.M)]
+    if named != [at for at, (_, record) in enumerate(LINES, 1) if record is None]:
+        yield f"panes_to.py names the lines {named}"
+
+
+def spelled(value):
+    """A value of a JSON record as the program prints it."""
+    if value is None:
+        return "null"
+    if isinstance(value, int):
+        return str(value)
+    if isinstance(value, list):
+        return "[" + ",".join(map(spelled, value)) + "]"
+    if isinstance(value, dict):
+        return f"({spelled(value['key'])},{spelled(value['value'])})"
+    signs = {'"': '\\"', "\\": "\\\\", "\n": "\\n", "\r": "\\r", "\t": "\\t"}
+    return '"' + "".join(signs.get(chr(b), chr(b) if 32 <= b <= 126 else f"\\x{b:02x}") for b in value.encode()) + '"'
+
+
+def line_of(record):
+    window = [record.get("start"), record.get("end")]
+    if record.get("line") == "element":
+        words = ["log", record["node"], *window, spelled(record["key"]), "element", record["time"], spelled(record["value"])]
+    elif record.get("line") == "timer":
+        words = ["log", record["node"], *window, spelled(record["key"]), "timer", record["name"], record["time"]]
+    else:
+        value = record if "key" in record else record["value"]
+        words = [*window, record["timing"], record["index"], spelled(value)]
+    return "\t".join(map(str, words))
+
+
+def printed_texts():
+    """Each text of the worked cases that the program prints, as bytes."""
+    for name, first in (("commands.cases", "command"), ("texts.cases", "outcome")):
+        text = ""
+        for line in (DATA / name).read_text("ascii").splitlines():
+            if line.startswith(first):
+                text = ""
+            elif line.startswith("out "):
+                text += line[len("out "):]
+            elif line == "end" and re.match(r"-?\d|#|log", text):
+                yield re.sub(r'\\(x([0-9a-f]{2})|.)', lambda m: chr(int(m[2], 16)) if m[2] else {"n": "\n", "t": "\t"}.get(m[1], m[1]), text)
+                text = ""
+
+
+def text_faults():
+    count = 0
+    for text in printed_texts():
+        out, status, notes = ran([*script("panes_to.py"), "json"], text)
+        if not text.endswith("\n"):
+            if (out, status) != ("", 1) or ":1: the text was cut" not in notes:
+                yield f"panes_to.py reads a text that was cut: {text!r}, {out!r}"
+            continue
+        lines = [line for line in text.splitlines() if not line.startswith("# ")]
+        count += len(lines)
+        # a byte that is no UTF-8 is shown by a backslash of the text's own
+        if any("\\xff" in line for line in lines):
+            continue
+        if status or [line_of(json.loads(record)) for record in out.splitlines()] != lines:
+            yield f"panes_to.py reads a text of the worked cases otherwise: {text!r}, {out!r}, {notes!r}"
+    if count < 200:
+        yield f"only {count} lines in texts of the worked cases"
+
+
+def memory_fault():
+    """A text of 20 MB is read line by line."""
+    line = b'0\t60000\tON_TIME\t0\t("a",["' + b"x" * 950 + b'"])\n'
+    done = subprocess.run([*script("panes_to.py"), "csv"], input=line * 20000, stdout=subprocess.DEVNULL)
+    most = resource.getrusage(resource.RUSAGE_CHILDREN).ru_maxrss
+    if done.returncode or most > 60000:
+        yield f"panes_to.py took {most} KB for a text of 20 MB"
+
+
+def main():
+    faults = [fault_of([*script(name), *words], *rest) for name, words, *rest in CASES]
+    awks = [awk for awk in ("mawk", "gawk", "busybox") if shutil.which(awk)]
+    for awk in awks:
+        words = [awk, "awk"] if awk == "busybox" else [awk]
+        faults.append(fault_of([*words, "-f", str(RECIPES / "access.awk")], ACCESS, TIMED, 1, ":4: no line of an access log"))
+        faults.extend(good_lines_fault(words))
+    faults = [*filter(None, faults), *line_faults(), *text_faults(), *memory_fault()]
+    for fault in faults:
+        print(fault)
+    count = len(CASES) + len(LINES) + len(awks) * (4 + 2 * (len(BAD) + len(NO_NUMBERS)))
+    print(f"recipes: {count} cases, awk is {' and '.join(awks) or 'not here'}, {len(faults)} wrong")
+    return 1 if faults else 0
+
+
+if __name__ == "__main__":
+    sys.exit(main())
