@@ -1,7 +1,7 @@
 use Rattle.std.proofs.Common.{◌≡◌, ◌+◌, ◌-◌, ◌<◌, ◌≤◌, length, take}
 use Rattle.beam_ports.specs.Counts.{rise}
 use Rattle.beam_ports.specs.Sinks.{then_taken}
-use Rattle.run_engine.proofs.writing.put.Given as goal
+use Rattle.command_ends.proofs.writing.put.Given as goal
 
 abbrev pub invariant-loop-done : goal.invariant-loop-done
 invariant-loop-done g l = record {

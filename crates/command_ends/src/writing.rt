@@ -1,7 +1,10 @@
 ghost use Rattle.std.specs.Prelude.{◌≡◌, ◌<◌, ◌≤◌, ℕ, length, take, OnOk, OnErr};
 ghost use Rattle.beam_ports.specs.Counts.{rise};
+ghost use Rattle.beam_ports.specs.Observed.{observed_sink};
 ghost use Rattle.beam_ports.specs.Sinks.{then_taken};
+ghost use Rattle.command_ends.specs.Writing.{IsTextEnd};
 
+use crate::status::Status;
 use beam_ports::{Failed, Sink};
 
 /// Writes the whole text: after a short write the rest, and after a failed one the same again, until
@@ -28,4 +31,15 @@ pub fn put<W: Sink>(sink: &mut W, text: &[u8], attempts: u32) -> Result<(), Fail
         }
     }
     Ok(())
+}
+
+/// Writes a whole text, with the status that this gives.
+pub fn written<W: Sink>(out: &mut W, text: &[u8], attempts: u32) -> Status
+    requires { 1 ≤ attempts }
+    ensures { IsTextEnd (observed_sink W.faults W.taken out.old out.new) attempts text.now result }
+{
+    match put(out, text, attempts) {
+        Ok(()) => Status::Ok,
+        Err(Failed) => Status::SinkFault,
+    }
 }

@@ -1,7 +1,7 @@
 use Rattle.std.proofs.Common.{◌≡◌, ◌≤◌, ◌-◌}
 use Rattle.beam_ports.specs.Counts.{rise}
 use Rattle.beam_ports.specs.Files.{KeepsOpenings}
-use Rattle.beam_command.proofs.plan_file.open_whole.Given as goal
+use Rattle.command_ends.proofs.plan_file.open_whole.Given as goal
 
 abbrev pub invariant-loop-failed : goal.invariant-loop-failed
 invariant-loop-failed g l = record {

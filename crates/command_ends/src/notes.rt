@@ -2,16 +2,17 @@
 
 ghost use Rattle.std.specs.Prelude.{◌≡◌, ◌++◌, ℕ, IfOk, OnOk, IfSome, IfNone, ◌⊎◌, decimal};
 ghost use Rattle.beam_ports.specs.Observed.{observed_sink};
-ghost use Rattle.beam_command.specs.Notes.{changed_text, note_line, work_text, place_text};
-ghost use Rattle.beam_command.specs.Notes.{attempt_text, cause_text};
-ghost use Rattle.beam_command.specs.Ends.{IsLongNoted, IsNoted, IsNotedUpTo, StaysOrNoMemory};
+ghost use Rattle.command_ends.specs.Notes.{changed_text, note_line, work_text, place_text};
+ghost use Rattle.command_ends.specs.Notes.{attempt_text, cause_text};
+ghost use Rattle.command_ends.specs.Notes.{IsLongNoted, IsNoted, IsNotedUpTo, StaysOrNoMemory};
 
+use crate::status::Status;
+use crate::writing::put;
 use beam_ports::Sink;
 use beam_text::push_blob;
 use beam_values::{Bytes, Cause, FaultNote, List, NoMemory};
 use itoa::Buffer;
 use plan_reader::refusal_text;
-use run_engine::{Status, put};
 use std::alloc::Global;
 
 /// The line of a status whose line has no part of its own, so that it needs no memory.

@@ -1,12 +1,15 @@
 -- The line that a command writes to its notes where it did not end Ok.
-use Rattle.std.specs.Prelude.{ℕ, List, [], ◌∷◌, ◌++◌, codes, decimal}
+use Rattle.std.specs.Prelude.{◌≡◌, ◌⊎◌, ℕ, ◌<◌, ◌≤◌, List, [], ◌∷◌, ◌++◌, codes, decimal, length, take}
 use Rattle.beam_values.specs.Texts.{blob_text}
 use Rattle.beam_values.specs.declared.fault.Cause.{Cause}
 use Rattle.beam_values.specs.declared.fault.Cause.TheVariants.{Call, Read}
 use Rattle.beam_values.specs.declared.fault.FaultNote.{FaultNote}
+use Rattle.beam_ports.specs.Counts.{Rose}
+use Rattle.beam_ports.specs.Observed.{ObservedSink}
+use Rattle.beam_ports.specs.Sinks.{then_taken}
 use Rattle.plan_reader.specs.Texts.{refusal_text}
-use Rattle.run_engine.specs.declared.status.Status.{Status}
-use Rattle.run_engine.specs.declared.status.Status.TheVariants as status
+use Rattle.command_ends.specs.declared.status.Status.{Status}
+use Rattle.command_ends.specs.declared.status.Status.TheVariants as status
 
 abbrev pub cause_text : Cause → List ℕ
 cause_text Call = codes "call"
@@ -40,3 +43,30 @@ note_text (status.FileChanged name first other) = changed_text name first other
 
 abbrev pub note_line : Status → List ℕ
 note_line s = note_text s ++ 10 ∷ []
+
+-- ---- what the notes took
+
+-- a line was taken, or its first n bytes where the sink failed
+pub record IsNotedUpTo (line : List ℕ) (notes : ObservedSink) (n : ℕ) : Type 0 where
+  pub within : n ≤ length line
+  pub taken : notes.taken_after ≡ then_taken notes.taken_before (take n line)
+  pub cut_short : n < length line → Rose notes.before notes.after
+
+-- what the notes took: nothing where the end is Ok or Help, and else its line, or the front of it where the notes failed
+abbrev pub IsNoted : Status → ObservedSink → Type 0
+IsNoted status.Ok notes = notes.taken_after ≡ notes.taken_before
+IsNoted status.Help notes = notes.taken_after ≡ notes.taken_before
+IsNoted s notes = (n : ℕ) × IsNotedUpTo (note_line s) notes n
+
+-- only for these ends is memory taken to write the note
+abbrev pub IsLongNoted : Status → Type 0
+IsLongNoted (status.BadPlan refusal) = Unit {0}
+IsLongNoted (status.NoSource name) = Unit {0}
+IsLongNoted (status.SourceFault kit) = Unit {0}
+IsLongNoted (status.WorkFault note) = Unit {0}
+IsLongNoted (status.FileChanged name first other) = Unit {0}
+IsLongNoted _ = ⊥
+
+-- the end after its note was written: the same, or want of memory for the note
+abbrev pub StaysOrNoMemory : Status → Status → Type 0
+StaysOrNoMemory before after = (after ≡ before) ⊎ ((after ≡ status.NoMemory) × IsLongNoted before)

@@ -5,17 +5,15 @@ ghost use Rattle.std.specs.Prelude.{OnErr};
 ghost use Rattle.beam_ports.specs.Counts.{rise};
 ghost use Rattle.beam_ports.specs.Files.{KeepsOpenings};
 ghost use Rattle.beam_ports.specs.Observed.{observed_store, WhereTold};
-ghost use Rattle.beam_command.specs.Asking.{AreNamesOf, IsMeaningOf};
-ghost use Rattle.beam_command.specs.Ends.{IsPlanRefused};
-ghost use Rattle.beam_command.specs.PlanFiles.{IsOpenedWhole, IsOpenRefused, IsReadRefused};
-ghost use Rattle.beam_command.specs.PlanFiles.{IsTextOf};
-ghost use Rattle.run_engine.specs.Openings.{IsNoSourceOrNoMemory};
+ghost use Rattle.command_ends.specs.PlanFiles.{AreNamesOf, IsMeaningOf, IsPlanRefused};
+ghost use Rattle.command_ends.specs.PlanFiles.{IsOpenedWhole, IsOpenRefused, IsReadRefused};
+ghost use Rattle.command_ends.specs.PlanFiles.{IsTextOf};
 
+use crate::status::{Status, no_source};
 use beam_ports::{Failed, OpenRefusal, Store};
 use beam_values::{Bytes, List};
 use pipeline_graph::Graph;
 use plan_reader::{NamedPlan, PlanReadRefusal, length_refusal, read_named_plan};
-use run_engine::Status;
 use std::alloc::Global;
 
 /// A checked pipeline with the names of its nodes, each by its number, and how often the store failed while
@@ -69,15 +67,6 @@ pub fn read_plan_file<S: Store>(
         }),
         Err(PlanReadRefusal::Bad(refusal)) => Err(Status::BadPlan(refusal)),
         Err(PlanReadRefusal::NoMemory) => Err(Status::NoMemory),
-    }
-}
-
-fn no_source(alloc: Global, name: &[u8]) -> Status
-    ensures { IsNoSourceOrNoMemory name.now result }
-{
-    match Bytes::from_slice(alloc, name) {
-        Ok(name) => Status::NoSource(name),
-        Err(_refused) => Status::NoMemory,
     }
 }
 

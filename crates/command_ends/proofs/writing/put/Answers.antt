@@ -2,7 +2,7 @@ use Rattle.std.proofs.Common.{◌≡◌, ℕ, ◌+◌, take, drop, List, Option,
 use Rattle.std.proofs.Math.Seq.{take-add}
 use Rattle.beam_ports.specs.Sinks.{then_taken}
 use Rattle.beam_ports.proofs.Rises.{rise_grows}
-use Rattle.run_engine.proofs.writing.put.Goals as goal
+use Rattle.command_ends.proofs.writing.put.Goals as goal
 
 -- the front, and then a part of the rest
 then_rest : (taken : Option (List ℕ)) (text : List ℕ) (done count : ℕ) → then_taken (then_taken taken (take done text)) (take count (drop done text)) ≡ then_taken taken (take (done + count) text)

@@ -1,8 +1,7 @@
 ghost use Rattle.std.specs.Prelude.{◌≡◌};
-ghost use Rattle.run_engine.specs.Statuses.{number_of};
-ghost use Rattle.run_engine.specs.Openings.{IsNoSourceOrNoMemory};
+ghost use Rattle.command_ends.specs.Statuses.{IsNoSourceOrNoMemory, number_of};
 
-use beam_values::{Bytes, FaultNote, NoMemory, Outcome};
+use beam_values::{Bytes, FaultNote, NoMemory};
 use plan_reader::PlanRefusal;
 use std::alloc::Global;
 
@@ -54,7 +53,7 @@ impl Status {
 
 impl From<NoMemory> for Status {
     ghost use Rattle.std.specs.Prelude.{◌≡◌};
-    ghost use Rattle.run_engine.specs.declared.status.Status.TheVariants as status;
+    ghost use Rattle.command_ends.specs.declared.status.Status.TheVariants as status;
 
     ghost from_gives = { λ _ s. s ≡ status.NoMemory };
 
@@ -64,19 +63,11 @@ impl From<NoMemory> for Status {
 }
 
 /// That no file of this name is there.
-pub(crate) fn no_source(alloc: Global, name: &[u8]) -> Status
+pub fn no_source(alloc: Global, name: &[u8]) -> Status
     ensures { IsNoSourceOrNoMemory name.now result }
 {
     match Bytes::from_slice(alloc, name) {
         Ok(name) => Status::NoSource(name),
         Err(_refused) => Status::NoMemory,
     }
-}
-
-/// The end of a command: its status and, where a run came to its end, its outcome.
-#[derive(Debug, Drop)]
-pub struct RunEnd {
-    pub status: Status,
-    /// What was committed; `None` where no run began, or there was no memory.
-    pub outcome: Option<Outcome>,
 }

@@ -1,7 +1,14 @@
-use Rattle.std.proofs.Common.{refl, ◌∙◌, arith, length-append}
-use Rattle.sdf_library.proofs.Filling.{filled_more}
+use Rattle.std.proofs.Common.{◌≡◌, ℕ, List, ◌+◌, ◌++◌, length, take, drop, refl, sym, ap, ◌∙◌, arith, length-append}
+use Rattle.std.proofs.Math.Seq.{take-add, take-append-add}
 use Rattle.beam_ports.proofs.Rises.{rise_grows}
-use Rattle.beam_command.proofs.plan_file.fill.Goals as goal
+use Rattle.command_ends.proofs.plan_file.fill.Goals as goal
+
+-- what was there is the front of the text, and what comes is the text from there on
+filled_more : (front buffer text : List ℕ) (done n : ℕ) → length front ≡ done → front ≡ take done text → take n buffer ≡ take n (drop done text)
+    → take (done + n) (front ++ buffer) ≡ take (done + n) text
+filled_more front buffer text done n size begun read =
+    ap (λ k. take (k + n) (front ++ buffer)) (sym size) ∙ take-append-add front buffer n ∙ ap (λ t. t ++ take n buffer) begun
+    ∙ ap (λ t. take done text ++ t) read ∙ sym (take-add done n text)
 
 pub loop-done-preserved-in-Ok : goal.loop-done-preserved-in-Ok
 loop-done-preserved-in-Ok g c =

@@ -1,5 +1,5 @@
 use Rattle.std.proofs.Common.{ℕ, List, ◌++◌, codes, decimal, ap, ◌∙◌, append_assoc}
-use Rattle.beam_command.proofs.notes.push_place.Goals as goal
+use Rattle.command_ends.proofs.notes.push_place.Goals as goal
 
 pub returns : goal.returns
 returns c =
