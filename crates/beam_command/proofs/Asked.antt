@@ -15,10 +15,12 @@ use Rattle.worker_loop.specs.declared.kit.Kit.{Kit}
 use Rattle.run_engine.specs.Kits.{observed_each}
 use Rattle.run_engine.specs.Openings.{HasFailed, HasLength, IsFirstAbsent, IsOpeningRefused}
 use Rattle.run_engine.specs.PlanRun.{surroundings_of}
-use Rattle.run_engine.specs.declared.status.Status.{Status}
-use Rattle.run_engine.specs.declared.status.Status.TheVariants as status
+use Rattle.command_ends.specs.declared.status.Status.{Status}
+use Rattle.command_ends.specs.declared.status.Status.TheVariants as status
 use Rattle.beam_command.specs.Asking.{IsPlanOf}
-use Rattle.beam_command.specs.Ends.{Observed, AreSourcesRefused, IsDocumentRefused, IsEndOf, IsHelpEnd, IsLongNoted, IsPipelineEnd, IsPlanRefused, IsUnwritten, StaysOrNoMemory}
+use Rattle.beam_command.specs.Ends.{Observed, AreSourcesRefused, IsDocumentRefused, IsEndOf, IsHelpEnd, IsPipelineEnd, IsUnwritten}
+use Rattle.command_ends.specs.Notes.{IsLongNoted, StaysOrNoMemory}
+use Rattle.command_ends.specs.PlanFiles.{IsPlanRefused}
 use Rattle.beam_command.specs.Kits.{observed_in_use, observed_kits}
 use Rattle.beam_command.specs.Pipelines.{IsGraphEnd}
 use Rattle.beam_command.proofs.Graphs.{spent_since, stopped_since}

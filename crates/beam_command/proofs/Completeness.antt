@@ -20,12 +20,13 @@ use Rattle.command_words.specs.Commands.{Asked, Help, Panes, Run}
 use Rattle.worker_loop.specs.Openings.{file_names}
 use Rattle.run_engine.specs.Openings.{HasChanged, HasFailed, IsOpeningRefused, failed_before}
 use Rattle.run_engine.specs.PlanRun.{IsStoppedBy, surroundings_of}
-use Rattle.run_engine.specs.declared.status.Status.{Status}
-use Rattle.run_engine.specs.declared.status.Status.TheVariants as status
+use Rattle.command_ends.specs.declared.status.Status.{Status}
+use Rattle.command_ends.specs.declared.status.Status.TheVariants as status
 use Rattle.beam_command.specs.Asking.{IsPlanOf}
 use Rattle.beam_command.specs.Clauses.{IsChange}
 use Rattle.beam_command.specs.Completeness.{AreFaultsFew, AreReadFaultsFew, HasCleanInputs, HasInputs, IsEndOfClean, IsStrict, WherePipeline}
-use Rattle.beam_command.specs.Ends.{Observed, AreFound, AreSourcesRefused, IsDocumentRefused, IsEndOf, IsOutcomeOfAsked, IsPipelineEnd, IsPlanRefused}
+use Rattle.beam_command.specs.Ends.{Observed, AreFound, AreSourcesRefused, IsDocumentRefused, IsEndOf, IsOutcomeOfAsked, IsPipelineEnd}
+use Rattle.command_ends.specs.PlanFiles.{IsPlanRefused}
 use Rattle.beam_command.proofs.Stores.{AreOfOne, IsOneOf, told_here}
 
 -- ---- what is there can't be refused

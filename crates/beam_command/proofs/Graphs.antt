@@ -22,8 +22,8 @@ use Rattle.book_core.specs.Work.{Surroundings}
 use Rattle.worker_loop.specs.Bundles.{IsCountedAs}
 use Rattle.worker_loop.specs.Openings.{AreOpened, file_names}
 use Rattle.run_engine.specs.PlanRun.{IsOutcomeWhere, IsPlanEnd, IsSpent, IsStoppedBy, surroundings_of}
-use Rattle.run_engine.specs.declared.status.Status.{Status}
-use Rattle.run_engine.specs.declared.status.Status.TheVariants as status
+use Rattle.command_ends.specs.declared.status.Status.{Status}
+use Rattle.command_ends.specs.declared.status.Status.TheVariants as status
 use Rattle.beam_command.specs.Ends.{Observed, AreFound, IsUnwritten}
 use Rattle.beam_command.specs.Pipelines.{IsGraphEnd, IsRunPrinted}
 

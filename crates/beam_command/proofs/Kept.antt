@@ -17,11 +17,11 @@ use Rattle.worker_loop.specs.declared.kit.Kit.{Kit}
 use Rattle.worker_loop.proofs.Answered.{kit_onward, kit_same}
 use Rattle.run_engine.specs.Openings.{AgreeInLength, AgreeWithFirst, AreOpenedByAll}
 use Rattle.run_engine.specs.PlanRun.{IsOutcomeWhere, IsPlanEnd, lengths_of_first, opened_lengths}
-use Rattle.run_engine.specs.declared.status.Status.{Status}
-use Rattle.run_engine.specs.declared.status.Status.TheVariants as status
+use Rattle.command_ends.specs.declared.status.Status.{Status}
+use Rattle.command_ends.specs.declared.status.Status.TheVariants as status
 use Rattle.run_engine.proofs.Opens.{become_onward, opened_later, same_become}
 use Rattle.beam_command.specs.Clauses.{HasNotBegun}
-use Rattle.beam_command.specs.Ends.{StaysOrNoMemory}
+use Rattle.command_ends.specs.Notes.{StaysOrNoMemory}
 use Rattle.beam_command.specs.Kits.{IsOutcomeOfOpened, first_files}
 use Rattle.beam_command.specs.Pipelines.{IsRunPrinted}
 

@@ -35,10 +35,11 @@ use Rattle.ended_runs.specs.Stops.{IsHonestStop}
 use Rattle.ended_runs.specs.Unpoisoned.{TakesNoPoison}
 use Rattle.worker_loop.specs.Bundles.{IsCountedAs}
 use Rattle.worker_loop.specs.Openings.{file_names}
-use Rattle.run_engine.specs.Openings.{IsOpeningRefused, IsNoSourceOrNoMemory}
+use Rattle.run_engine.specs.Openings.{IsOpeningRefused}
+use Rattle.command_ends.specs.Statuses.{IsNoSourceOrNoMemory}
 use Rattle.run_engine.specs.PlanRun.{IsStoppedBy, surroundings_of}
-use Rattle.run_engine.specs.declared.status.Status.{Status}
-use Rattle.run_engine.specs.declared.status.Status.TheVariants as status
+use Rattle.command_ends.specs.declared.status.Status.{Status}
+use Rattle.command_ends.specs.declared.status.Status.TheVariants as status
 use Rattle.beam_command.specs.Asking.{IsPlanOf}
 use Rattle.beam_command.specs.Completeness.{AreReadFaultsFew, AsksForPoison, FailsOnPoison, HasInputs, HasNotFailed, IsEndOfClean, IsEndOfPoison, IsStrict, WherePanes, first_fault}
 use Rattle.beam_command.specs.Ends.{Observed, AreFound, AreSourcesRefused, HasRun, IsDocumentRefused, IsEndOf, IsOutcomeOfAsked, IsPipelineEnd}

@@ -21,8 +21,8 @@ use Rattle.book_core.specs.Runs.{AreTold, HonestlyReached, IsEnded, IsThrough, R
 use Rattle.book_core.specs.Work.{Surroundings}
 use Rattle.command_words.specs.Commands.{Asked, Help, Panes, Run}
 use Rattle.ended_runs.specs.Storable.{ArePanesStorable}
-use Rattle.run_engine.specs.declared.status.Status.{Status}
-use Rattle.run_engine.specs.declared.status.Status.TheVariants as status
+use Rattle.command_ends.specs.declared.status.Status.{Status}
+use Rattle.command_ends.specs.declared.status.Status.TheVariants as status
 use Rattle.beam_command.specs.Asking.{IsPlanOf}
 use Rattle.beam_command.specs.Ends.{Observed, AreFound, HasRun, IsEndOf, IsHelpEnd, IsOutcomeOfAsked, IsPipelineEnd}
 use Rattle.beam_command.specs.Promises.{AsksPanes, HasLegalPanes, IsPlanAsked}

@@ -17,7 +17,7 @@ use Rattle.worker_loop.proofs.Told.{told_by_each}
 use Rattle.run_engine.specs.Kits.{observed_each}
 use Rattle.run_engine.specs.Openings.{AreOpenedByAll}
 use Rattle.run_engine.specs.PlanRun.{IsPlanEnd}
-use Rattle.run_engine.specs.declared.status.Status.{Status}
+use Rattle.command_ends.specs.declared.status.Status.{Status}
 use Rattle.beam_command.specs.Ends.{AreFound}
 use Rattle.beam_command.proofs.Graphs.{are_found, ended_since}
 

@@ -16,14 +16,6 @@ IsAskedWith options Help = ⊥
 IsAskedWith options (Panes file size own) = own ≡ options
 IsAskedWith options (Run name own) = own ≡ options
 
--- these files have this name, and as a plan document the file means that
-abbrev pub IsMeaningOf : List FileText → List ℕ → Meaning Plan → Type 0
-IsMeaningOf told name meaning = (text : List ℕ) × (first_named name told ≡ Some text) × (document_of text ≡ meaning)
-
--- these files have this name, and as a plan document the file gives its nodes these names
-abbrev pub AreNamesOf : List FileText → List ℕ → List (List ℕ) → Type 0
-AreNamesOf told name names = (text : List ℕ) × (first_named name told ≡ Some text) × (node_names_of text ≡ Ok names)
-
 -- the plan that is asked for: that of `panes`, or the one of the document, where the files are told
 abbrev pub IsPlanOf : Option (List FileText) → Asked → Plan → Type 0
 IsPlanOf files Help plan = ⊥

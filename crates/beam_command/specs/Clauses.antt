@@ -8,10 +8,10 @@ use Rattle.beam_values.specs.declared.file_text.FileText.{FileText}
 use Rattle.beam_model.specs.Plain.{ArePlainlyWritten}
 use Rattle.beam_model.specs.Positions.{items}
 use Rattle.command_words.specs.Commands.{Asked, command_of, words_of}
-use Rattle.run_engine.specs.Openings.{IsNoSourceOrNoMemory}
-use Rattle.run_engine.specs.declared.status.RunEnd.{RunEnd}
-use Rattle.run_engine.specs.declared.status.Status.{Status}
-use Rattle.run_engine.specs.declared.status.Status.TheVariants as status
+use Rattle.command_ends.specs.Statuses.{IsNoSourceOrNoMemory}
+use Rattle.run_engine.specs.declared.run_end.RunEnd.{RunEnd}
+use Rattle.command_ends.specs.declared.status.Status.{Status}
+use Rattle.command_ends.specs.declared.status.Status.TheVariants as status
 use Rattle.beam_command.specs.Completeness.{AreFaultsFew, AreReadFaultsFew, AsksForPoison, FailsOnPoison, HasCleanInputs, HasInputs, HasNotFailed, IsEndOfClean, IsEndOfPoison, IsStrict, WherePanes, WherePipeline}
 use Rattle.beam_command.specs.Ends.{Observed, IsEndOf, IsRun}
 use Rattle.beam_command.specs.Promises.{AsksPanes}

@@ -12,8 +12,8 @@ use Rattle.beam_ports.specs.Observed.{ObservedStore}
 use Rattle.chain_exec.specs.Causes.{ObservedShelf}
 use Rattle.ended_runs.specs.Unpoisoned.{TakesNoPoison}
 use Rattle.command_words.specs.Commands.{Asked, Panes, Run}
-use Rattle.run_engine.specs.declared.status.Status.{Status}
-use Rattle.run_engine.specs.declared.status.Status.TheVariants as status
+use Rattle.command_ends.specs.declared.status.Status.{Status}
+use Rattle.command_ends.specs.declared.status.Status.TheVariants as status
 use Rattle.beam_command.specs.Asking.{IsPlanOf}
 use Rattle.beam_command.specs.Ends.{Observed, AreFound}
 use Rattle.beam_command.specs.Promises.{IsPlanAsked}

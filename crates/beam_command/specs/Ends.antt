@@ -18,11 +18,12 @@ use Rattle.command_words.specs.HelpText.{help_text}
 use Rattle.worker_loop.specs.Openings.{file_names}
 use Rattle.run_engine.specs.Openings.{IsOpeningRefused}
 use Rattle.run_engine.specs.PlanRun.{IsOutcomeWhere, IsSpent, IsStoppedBy, surroundings_of}
-use Rattle.run_engine.specs.declared.status.RunEnd.{RunEnd}
-use Rattle.run_engine.specs.declared.status.Status.{Status}
-use Rattle.run_engine.specs.declared.status.Status.TheVariants as status
-use Rattle.beam_command.specs.Asking.{IsMeaningOf, IsPlanOf}
-use Rattle.beam_command.specs.Notes.{note_line}
+use Rattle.run_engine.specs.declared.run_end.RunEnd.{RunEnd}
+use Rattle.command_ends.specs.declared.status.Status.{Status}
+use Rattle.command_ends.specs.declared.status.Status.TheVariants as status
+use Rattle.beam_command.specs.Asking.{IsPlanOf}
+use Rattle.command_ends.specs.PlanFiles.{IsMeaningOf}
+use Rattle.command_ends.specs.Notes.{note_line}
 
 -- What a command observed at the kits in use and at its output: of all shelves and of all stores as if they were one, and of each store.
 pub record Observed : Type 0 where
@@ -37,26 +38,11 @@ IsUnwritten observed = observed.out.taken_after ≡ observed.out.taken_before
 
 -- ---- what is written
 
--- a text was written whole, or less of it where the sink failed as often as it may
-abbrev pub IsWritten : ObservedSink → ℕ → List ℕ → Status → Type 0
-IsWritten out attempts text status.SinkFault =
-    (attempts ≤ rise out.before out.after) × ((n : ℕ) × (n < length text) × (out.taken_after ≡ then_taken out.taken_before (take n text)))
-IsWritten out attempts text s = out.taken_after ≡ then_taken out.taken_before text
-
 -- the rendering of an outcome was written so
 abbrev pub IsPrinted : ObservedSink → ℕ → Status → Outcome → Type 0
 IsPrinted out attempts s o = (text : List ℕ) × IsRendering o text × IsWritten out attempts text s
 
 -- ---- why a command did not come to its end
-
--- The plan's file was not read: where the files are told it isn't there, or it has no plan; or opening and reading failed as often as they may; or there was
--- no memory.
-abbrev pub IsPlanRefused : ObservedStore → List ℕ → ℕ → Status → Type 0
-IsPlanRefused store name attempts (status.NoSource absent) = (absent ≡ name) × WhereTold store.files (λ told. first_named name told ≡ None)
-IsPlanRefused store name attempts (status.SourceFault kit) = (kit ≡ 0) × (attempts ≤ rise store.before store.after)
-IsPlanRefused store name attempts (status.BadPlan refusal) = WhereTold store.files (λ told. IsMeaningOf told name (Err refusal))
-IsPlanRefused store name attempts status.NoMemory = Unit {0}
-IsPlanRefused store name attempts _ = ⊥
 
 -- a plan's document was refused, where the command reads one, by the first store
 abbrev pub IsDocumentRefused : Observed → Asked → ℕ → Status → Type 0
@@ -126,30 +112,3 @@ HasRun s outcome P = Unit {0}
 
 abbrev pub IsRun : RunEnd → (Outcome → Type 0) → Type 0
 IsRun end P = HasRun end.status end.outcome P
-
--- ---- notes
-
--- a line was taken, or its first n bytes where the sink failed
-pub record IsNotedUpTo (line : List ℕ) (notes : ObservedSink) (n : ℕ) : Type 0 where
-  pub within : n ≤ length line
-  pub taken : notes.taken_after ≡ then_taken notes.taken_before (take n line)
-  pub cut_short : n < length line → Rose notes.before notes.after
-
--- what the notes took: nothing where the end is Ok or Help, and else its line, or the front of it where the notes failed
-abbrev pub IsNoted : Status → ObservedSink → Type 0
-IsNoted status.Ok notes = notes.taken_after ≡ notes.taken_before
-IsNoted status.Help notes = notes.taken_after ≡ notes.taken_before
-IsNoted s notes = (n : ℕ) × IsNotedUpTo (note_line s) notes n
-
--- only for these ends is memory taken to write the note
-abbrev pub IsLongNoted : Status → Type 0
-IsLongNoted (status.BadPlan refusal) = Unit {0}
-IsLongNoted (status.NoSource name) = Unit {0}
-IsLongNoted (status.SourceFault kit) = Unit {0}
-IsLongNoted (status.WorkFault note) = Unit {0}
-IsLongNoted (status.FileChanged name first other) = Unit {0}
-IsLongNoted _ = ⊥
-
--- the end after its note was written: the same, or want of memory for the note
-abbrev pub StaysOrNoMemory : Status → Status → Type 0
-StaysOrNoMemory before after = (after ≡ before) ⊎ ((after ≡ status.NoMemory) × IsLongNoted before)

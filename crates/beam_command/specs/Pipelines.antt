@@ -7,15 +7,10 @@ use Rattle.beam_values.specs.declared.plan.Plan.{Plan}
 use Rattle.book_core.specs.Runs.{IsEnded}
 use Rattle.run_engine.specs.Openings.{IsOpeningRefused}
 use Rattle.run_engine.specs.PlanRun.{IsOutcomeWhere, IsSpent, IsStoppedBy, surroundings_of}
-use Rattle.run_engine.specs.declared.status.Status.{Status}
-use Rattle.run_engine.specs.declared.status.Status.TheVariants as status
-use Rattle.beam_command.specs.Ends.{Observed, AreFound, IsUnwritten, IsPrinted, IsWritten}
-
--- a text was written, or its writing failed
-abbrev pub IsTextEnd : ObservedSink → ℕ → List ℕ → Status → Type 0
-IsTextEnd out attempts text status.Ok = IsWritten out attempts text status.Ok
-IsTextEnd out attempts text status.SinkFault = IsWritten out attempts text status.SinkFault
-IsTextEnd out attempts text _ = ⊥
+use Rattle.command_ends.specs.declared.status.Status.{Status}
+use Rattle.command_ends.specs.declared.status.Status.TheVariants as status
+use Rattle.beam_command.specs.Ends.{Observed, AreFound, IsUnwritten, IsPrinted}
+use Rattle.command_ends.specs.Writing.{IsWritten}
 
 -- the rendering of an outcome was written, or its writing failed, or there was no memory for it
 abbrev pub IsRunPrinted : ObservedSink → ℕ → Outcome → Status → Option Outcome → Type 0

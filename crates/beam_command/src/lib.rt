@@ -2,18 +2,12 @@
 //!
 //! [`beam_main`] is the whole program but for the system's files and streams, and its contract is the
 //! promise of the program: what was printed, what each other end means, that it comes only so, and which
-//! end must come where little or nothing outside fails. The layer above may rely on that alone. Another
-//! command over plans may use what reads a plan's file ([`read_plan_file`]), writes a text ([`written`]) and
-//! writes a note ([`noted`]). Read `top.rt` first, then `specs/Ends.antt` and `specs/Completeness.antt`.
+//! end must come where little or nothing outside fails. The layer above may rely on that alone.
+//! Read `top.rt` first, then `specs/Ends.antt` and `specs/Completeness.antt`.
 #![tactic(auto)]
 
-mod notes;
 mod pipeline;
-mod plan_file;
 mod plans;
 mod top;
 
-pub use notes::{noted, write_note};
-pub use pipeline::written;
-pub use plan_file::{PlanRead, read_plan_file};
 pub use top::beam_main;

@@ -8,14 +8,15 @@ ghost use Rattle.worker_loop.specs.Kits.{EachBecomes};
 ghost use Rattle.worker_loop.specs.Outside.{IsKitKept};
 ghost use Rattle.beam_command.specs.Clauses.{HasNotBegun};
 ghost use Rattle.beam_command.specs.Kits.{IsOutcomeOfOpened, observed_kits};
-ghost use Rattle.beam_command.specs.Pipelines.{IsGraphEnd, IsRunPrinted, IsTextEnd};
+ghost use Rattle.beam_command.specs.Pipelines.{IsGraphEnd, IsRunPrinted};
 
-use beam_ports::{Failed, Gate, Sink, Store};
+use beam_ports::{Gate, Sink, Store};
 use beam_text::render;
 use beam_values::{Options, Outcome};
+use command_ends::written;
 use dofn_traits::Shelf;
 use pipeline_graph::Graph;
-use run_engine::{Kit, RunEnd, Status, open_sources, put, run_plan};
+use run_engine::{Kit, RunEnd, Status, open_sources, run_plan};
 use std::alloc::Global;
 use std::sync::Wait;
 use std::thread::Threads;
@@ -90,16 +91,5 @@ fn printed<W: Sink>(alloc: Global, outcome: Outcome, attempts: u32, out: &mut W)
             outcome: Some(outcome),
         },
         Err(_refused) => ended(Status::NoMemory),
-    }
-}
-
-/// Writes a whole text.
-pub fn written<W: Sink>(out: &mut W, text: &[u8], attempts: u32) -> Status
-    requires { 1 ≤ attempts }
-    ensures { IsTextEnd (observed_sink W.faults W.taken out.old out.new) attempts text.now result }
-{
-    match put(out, text, attempts) {
-        Ok(()) => Status::Ok,
-        Err(Failed) => Status::SinkFault,
     }
 }

@@ -13,7 +13,8 @@ ghost use Rattle.worker_loop.specs.Outside.{IsKitKept};
 ghost use Rattle.beam_model.specs.Plans.{panes_plan};
 ghost use Rattle.beam_command.specs.Asking.{IsPlanOf};
 ghost use Rattle.beam_command.specs.Promises.{HasLegalPanes, IsPlanAsked};
-ghost use Rattle.beam_command.specs.Ends.{AreFound, IsRun, IsEndOf, IsHelpEnd, IsNoted};
+ghost use Rattle.beam_command.specs.Ends.{AreFound, IsRun, IsEndOf, IsHelpEnd};
+ghost use Rattle.command_ends.specs.Notes.{IsNoted};
 ghost use Rattle.beam_command.specs.Ends.{IsPipelineEnd};
 ghost use Rattle.beam_command.specs.Kits.{IsOutcomeOfOpened, first_files, in_use, kit_files};
 ghost use Rattle.beam_command.specs.Kits.{observed_in_use, observed_kits, workers_of};
@@ -22,13 +23,12 @@ ghost use Rattle.beam_command.specs.Clauses.{asked_by, EndsAsAsked, HasNotBegun,
 ghost use Rattle.beam_command.specs.Clauses.{ArePanesPlain, EndsWhereAbsent, EndsWherePoison};
 ghost use Rattle.beam_command.specs.Clauses.{EndsWhereClean, EndsWhereFewFaults, EndsWhereNoPoison};
 
-use crate::notes::noted;
-use crate::pipeline::{ended, run_graph, written};
-use crate::plan_file::read_plan_file;
+use crate::pipeline::{ended, run_graph};
 use crate::plans::panes_graph;
 use beam_ports::{Gate, Sink, Store};
 use beam_values::{NoMemory, Options, Outcome};
 use book_core::laws::{honest_runs_are_runs, reached_books_are_kept};
+use command_ends::{noted, read_plan_file, written};
 use command_words::laws::words_ask_by_the_rules;
 use command_words::{Command, Usage, help_text, read_words};
 use dofn_traits::Shelf;

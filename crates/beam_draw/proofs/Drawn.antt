@@ -5,11 +5,11 @@ use Rattle.std.specs.declared.alloc.Global.{Global}
 use Rattle.std.specs.declared.string.String.{String}
 use Rattle.beam_values.specs.declared.plan.Plan.{Plan}
 use Rattle.beam_ports.specs.Observed.{ObservedSink, ObservedStore, WhereTold}
-use Rattle.beam_command.specs.Asking.{AreNamesOf, IsMeaningOf}
-use Rattle.beam_command.specs.Pipelines.{IsTextEnd}
+use Rattle.command_ends.specs.PlanFiles.{AreNamesOf, IsMeaningOf}
+use Rattle.command_ends.specs.Writing.{IsTextEnd}
 use Rattle.plan_drawing.specs.Drawing.{drawing_of}
-use Rattle.run_engine.specs.declared.status.Status.{Status}
-use Rattle.run_engine.specs.declared.status.Status.TheVariants as status
+use Rattle.command_ends.specs.declared.status.Status.{Status}
+use Rattle.command_ends.specs.declared.status.Status.TheVariants as status
 use Rattle.beam_draw.specs.Ends.{IsDrawEnd, IsTextWritten, attempts, file_asked}
 
 -- two words ask for the file that the second names

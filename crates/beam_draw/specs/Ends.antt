@@ -2,11 +2,12 @@
 use Rattle.std.specs.Prelude.{◌≡◌, ℕ, List, [], ◌∷◌, Option, Some, None, Ok}
 use Rattle.beam_values.specs.declared.plan.Plan.{Plan}
 use Rattle.beam_ports.specs.Observed.{ObservedSink, ObservedStore, WhereTold}
-use Rattle.beam_command.specs.Asking.{AreNamesOf, IsMeaningOf}
-use Rattle.beam_command.specs.Ends.{IsPlanRefused, IsWritten}
+use Rattle.command_ends.specs.PlanFiles.{AreNamesOf, IsMeaningOf}
+use Rattle.command_ends.specs.PlanFiles.{IsPlanRefused}
+use Rattle.command_ends.specs.Writing.{IsWritten}
 use Rattle.plan_drawing.specs.Drawing.{drawing_of}
-use Rattle.run_engine.specs.declared.status.Status.{Status}
-use Rattle.run_engine.specs.declared.status.Status.TheVariants as status
+use Rattle.command_ends.specs.declared.status.Status.{Status}
+use Rattle.command_ends.specs.declared.status.Status.TheVariants as status
 
 -- how often opening, reading and writing may fail
 abbrev pub attempts : ℕ

@@ -1,9 +1,9 @@
 -- The line that the command writes to its notes where it did not end Ok.
 use Rattle.std.specs.Prelude.{ℕ, List, [], ◌∷◌, ◌++◌, codes}
 use Rattle.beam_ports.specs.Observed.{ObservedSink}
-use Rattle.beam_command.specs.Ends.{IsNoted, IsNotedUpTo}
-use Rattle.run_engine.specs.declared.status.Status.{Status}
-use Rattle.run_engine.specs.declared.status.Status.TheVariants as status
+use Rattle.command_ends.specs.Notes.{IsNoted, IsNotedUpTo}
+use Rattle.command_ends.specs.declared.status.Status.{Status}
+use Rattle.command_ends.specs.declared.status.Status.TheVariants as status
 
 abbrev pub usage_line : List ℕ
 usage_line = codes "usage: beam_draw PLAN" ++ 10 ∷ []

@@ -5,10 +5,9 @@ ghost use Rattle.plan_drawing.specs.Drawing.{drawing_of};
 ghost use Rattle.beam_draw.specs.Ends.{IsDrawEnd, IsTextWritten, file_asked};
 ghost use Rattle.beam_draw.specs.Notes.{IsDrawNoted};
 
-use beam_command::{PlanRead, noted, read_plan_file, write_note, written};
 use beam_ports::{Sink, Store};
+use command_ends::{PlanRead, Status, noted, read_plan_file, write_note, written};
 use plan_drawing::draw;
-use run_engine::Status;
 use std::alloc::Global;
 
 /// How often opening, reading and writing may fail.

@@ -21,8 +21,8 @@ use Rattle.worker_loop.specs.Outside.{IsStoreKept}
 use Rattle.worker_loop.specs.declared.kit.Kit.{Kit}
 use Rattle.run_engine.specs.Kits.{observed_each}
 use Rattle.run_engine.specs.Openings.{AgreeInLength, AreCounted, AreNamesRefused, HasFailed, HasLength, HasSameLength, IsChanged, IsFileRefused, IsNameRefused, IsOpeningRefused, IsOtherRefused}
-use Rattle.run_engine.specs.declared.status.Status.{Status}
-use Rattle.run_engine.specs.declared.status.Status.TheVariants as status
+use Rattle.command_ends.specs.declared.status.Status.{Status}
+use Rattle.command_ends.specs.declared.status.Status.TheVariants as status
 
 -- ---- counts
 

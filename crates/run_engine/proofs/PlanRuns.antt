@@ -36,9 +36,9 @@ use Rattle.worker_loop.specs.declared.workers.WorkerEnd.{WorkerEnd}
 use Rattle.worker_loop.specs.declared.workers.WorkerEnd.TheVariants as end
 use Rattle.worker_loop.proofs.Told.{told_by_each}
 use Rattle.run_engine.specs.PlanRun.{AreFirstLengths, lengths_of_first, opened_lengths, IsEndOfBook, IsOutcomeWhere, IsPlanEnd, IsSpent, IsStatusAfter, IsStoppedBy, surroundings_of}
-use Rattle.run_engine.specs.declared.status.RunEnd.{RunEnd}
-use Rattle.run_engine.specs.declared.status.Status.{Status}
-use Rattle.run_engine.specs.declared.status.Status.TheVariants as status
+use Rattle.run_engine.specs.declared.run_end.RunEnd.{RunEnd}
+use Rattle.command_ends.specs.declared.status.Status.{Status}
+use Rattle.command_ends.specs.declared.status.Status.TheVariants as status
 use Rattle.run_engine.proofs.Stopped.{IsNoteCounted, count_by, counts_low, stop_counted}
 
 -- ---- what is known of a result

@@ -1,4 +1,3 @@
-pub mod Statuses
 pub mod Openings
 pub mod PlanRun
 pub mod Kits

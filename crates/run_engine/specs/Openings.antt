@@ -10,8 +10,8 @@ use Rattle.beam_ports.specs.Observed.{ObservedStore, WhereTold}
 use Rattle.beam_ports.specs.declared.store.Opened.{Opened}
 use Rattle.worker_loop.specs.Openings.{AreOpened, file_names}
 use Rattle.worker_loop.specs.declared.kit.Kit.{Kit}
-use Rattle.run_engine.specs.declared.status.Status.{Status}
-use Rattle.run_engine.specs.declared.status.Status.TheVariants as status
+use Rattle.command_ends.specs.declared.status.Status.{Status}
+use Rattle.command_ends.specs.declared.status.Status.TheVariants as status
 
 -- ---- files that were opened
 
@@ -135,6 +135,3 @@ HasSameLength first at len = (file : Opened) → slice_get first at ≡ Some fil
 -- failures that were counted before a call and after it: where the first were at most what the count of the store had risen by, so are the later
 abbrev pub AreCounted : ℕ → ℕ → ℕ → ℕ → Type 0
 AreCounted failures later before after = (base first : ℕ) → first ≤ before → failures ≤ base + rise first before → later ≤ base + rise first after
-
-abbrev pub IsNoSourceOrNoMemory : List ℕ → Status → Type 0
-IsNoSourceOrNoMemory name s = (s ≡ status.NoSource name) ⊎ (s ≡ status.NoMemory)

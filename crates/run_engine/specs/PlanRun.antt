@@ -22,9 +22,9 @@ use Rattle.beam_ports.specs.declared.store.Opened.{Opened}
 use Rattle.worker_loop.specs.Bundles.{IsCountedAs}
 use Rattle.worker_loop.specs.Reading.{length_in, readers_from}
 use Rattle.worker_loop.specs.declared.kit.Kit.{Kit}
-use Rattle.run_engine.specs.declared.status.RunEnd.{RunEnd}
-use Rattle.run_engine.specs.declared.status.Status.{Status}
-use Rattle.run_engine.specs.declared.status.Status.TheVariants as status
+use Rattle.run_engine.specs.declared.run_end.RunEnd.{RunEnd}
+use Rattle.command_ends.specs.declared.status.Status.{Status}
+use Rattle.command_ends.specs.declared.status.Status.TheVariants as status
 
 -- the surroundings of a run: the files, where the store tells them, and whether the shelf fails on poison alone
 abbrev pub surroundings_of : ObservedShelf → ObservedStore → Surroundings

@@ -3,19 +3,18 @@
 //!
 //! [`run_plan`] ends with the data of the run's own book (`specs/PlanRun.antt`): one that is ended, or one
 //! that an honest fail stopped; what such an outcome is, `ended_runs` says. [`open_sources`] opens the
-//! files before. [`put`] writes a text whole, or says how far. Nothing that is promised depends on how many
+//! files before; [`Status`] and [`put`] are those of `command_ends`. Nothing that is promised depends on how many
 //! workers there are, on what they split, nor on how large pieces and bundles are. Read `plan_run.rt` first,
 //! then `opening.rt`.
 #![tactic(auto)]
 
 mod opening;
 mod plan_run;
-mod status;
+mod run_end;
 mod storable;
-mod writing;
 
+pub use command_ends::{Status, put};
 pub use opening::open_sources;
 pub use plan_run::run_plan;
-pub use status::{RunEnd, Status};
+pub use run_end::RunEnd;
 pub use worker_loop::Kit;
-pub use writing::put;

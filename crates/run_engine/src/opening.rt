@@ -9,9 +9,9 @@ ghost use Rattle.run_engine.specs.Openings.{AgreeInLength, AreCounted, AreNamesR
 ghost use Rattle.run_engine.specs.Openings.{AreOpenedByAll, HasSameLength, IsFileRefused};
 ghost use Rattle.run_engine.specs.Openings.{IsNameRefused, IsOpeningRefused, IsOtherRefused};
 
-use crate::status::{Status, no_source};
 use beam_ports::{OpenRefusal, Opened, Store};
 use beam_values::{Bytes, List, Node, Options};
+use command_ends::{Status, no_source};
 use dofn_traits::Shelf;
 use pipeline_graph::Graph;
 use std::alloc::Global;

@@ -14,12 +14,13 @@ ghost use Rattle.run_engine.specs.Openings.{AreOpenedByAll};
 ghost use Rattle.run_engine.specs.PlanRun.{AreFirstLengths, IsEndOfBook, opened_lengths};
 ghost use Rattle.run_engine.specs.PlanRun.{lengths_of_first, IsPlanEnd, IsStatusAfter};
 
-use crate::status::{RunEnd, Status};
+use crate::run_end::RunEnd;
 use crate::storable::look_at_panes;
 use beam_ports::{Gate, Opened, Store};
 use beam_values::{FileLen, List, NoMemory, Options, StopCause};
 use book_core::Book;
 use book_core::laws::{attempts_are_counted, honest_runs_are_runs};
+use command_ends::Status;
 use dofn_traits::Shelf;
 use pipeline_graph::Graph;
 use pipeline_graph::laws::{

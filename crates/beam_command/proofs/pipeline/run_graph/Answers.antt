@@ -1,5 +1,5 @@
 use Rattle.std.proofs.Common.{refl, ap}
-use Rattle.run_engine.specs.declared.status.RunEnd.{RunEnd}
+use Rattle.run_engine.specs.declared.run_end.RunEnd.{RunEnd}
 use Rattle.beam_command.specs.Kits.{observed_kits}
 use Rattle.beam_command.proofs.Graphs.{finished_end, unprinted_end}
 use Rattle.beam_command.proofs.Kept.{finished_begun, finished_some, idle_opened, if_none, kept_opened, kept_run, outcome_opened, run_begun}

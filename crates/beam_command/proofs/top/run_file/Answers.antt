@@ -5,7 +5,7 @@ use Rattle.beam_values.specs.declared.plan.Plan.{Plan}
 use Rattle.command_words.specs.Commands.{Run}
 use Rattle.worker_loop.specs.declared.kit.Kit.{Kit}
 use Rattle.run_engine.proofs.Opens.{become_onward}
-use Rattle.run_engine.specs.declared.status.RunEnd.{RunEnd}
+use Rattle.run_engine.specs.declared.run_end.RunEnd.{RunEnd}
 use Rattle.beam_command.specs.Asking.{IsPlanOf}
 use Rattle.beam_command.specs.Ends.{IsPipelineEnd}
 use Rattle.beam_command.specs.Kits.{observed_kits}

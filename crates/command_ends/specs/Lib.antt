@@ -1,0 +1,4 @@
+pub mod Statuses
+pub mod Writing
+pub mod Notes
+pub mod PlanFiles

@@ -1,0 +1,18 @@
+//! What commands over plans share: how they end, what they write, and how they read the file of a plan.
+//!
+//! A command ends with a [`Status`]. Its text is written whole or up to a fault of the sink ([`put`],
+//! [`written`]), and where it doesn't end well a line goes to its notes ([`noted`], [`write_note`]). The
+//! file of a plan document is opened and read by a store whose calls may fail ([`read_plan_file`]). The layer
+//! above may rely on the contracts of these calls, in which each store and sink is what was observed of it.
+//! Read `status.rt` first, then `specs/PlanFiles.antt` and `specs/Notes.antt`.
+#![tactic(auto)]
+
+mod notes;
+mod plan_file;
+mod status;
+mod writing;
+
+pub use notes::{noted, write_note};
+pub use plan_file::{PlanRead, read_plan_file};
+pub use status::{Status, no_source};
+pub use writing::{put, written};
