@@ -29,9 +29,9 @@ def most_memory(program, words):
     """The most bytes of memory that a run held."""
     run = subprocess.Popen([program, *words], stdout=subprocess.DEVNULL)
     _, status, usage = os.wait4(run.pid, 0)
-    run.returncode = os.waitstatus_to_exitcode(status)
-    if run.returncode:
-        sys.exit(f"memory: {words} ended with status {run.returncode}")
+    run.returncode = status
+    if status:
+        sys.exit(f"memory: {words} ended with {status}")
     return usage.ru_maxrss * 1024
 
 

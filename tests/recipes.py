@@ -101,7 +101,12 @@ CASES = [
      "1700000000123\t\u00e9\ttrue\n-1001\tu\t\n", 0, ""),
     ("json_to_timed.py", ["FILE", "at", "user", "page"],
      '{"at":"2023-11-14T22:13:20","user":"u","page":""}\n{"at":true,"user":"u","page":""}\n{"at":5,"user":null,"page":""}\n'
-     '{"at":5,"page":""}\n[1]\nx\n\n{"at":5,"user":"u","page":"p"}\n{"at":NaN,"user":"u","page":""}\n', "5000\tu\tp\n", 1, ":1: ValueError: no zone"),
+     '{"at":5,"page":""}\n[1]\nx\n\n{"at":5,"user":"u","page":"p"}\n{"at":NaN,"user":"u","page":""}\n', "5000\tu\tp\n", 1, ":1: ValueError: no time with a zone"),
+    ("json_to_timed.py", ["FILE", "at", "user", "page"],
+     "".join(f'{{"at":"{at}","user":"u","page":""}}\n' for at in (
+         "1969-12-31T23:59:59.9999Z", "1970-01-01t00:00:00z", "1970-01-01T00:00:00.5+00:01", "2024-02-29T00:00:00Z",
+         "2023-02-29T00:00:00Z", "1970-01-01T24:00:00Z", "1970-01-01T00:00:60Z", "1970-01-01T00:00Z", "19700101T000000Z", "1970-01-01T00:00:00+24:00")),
+     "-1\tu\t\n0\tu\t\n-59500\tu\t\n1709164800000\tu\t\n", 1, ":10: "),
     ("json_to_timed.py", ["FILE", "at", "user", "page"], '\ufeff{"at":5,"user":"u","page":"\udcff"}\n', "5000\tu\t\udcff\n", 0, ""),
     ("csv_to_timed.py", ["FILE", "t", "k", "p"],
      '\ufefft,k,p\r\n2023-11-14T22:13:20Z,"a,""b",1\r\n1700000000,k,\r\n1700000000123,k\r\n1700000000.9999,k,"x\ny"\r\nsoon,k,1\r\n',

@@ -15,6 +15,7 @@ if not 5 <= len(sys.argv) <= 6:
     sys.exit(__doc__)
 name, *columns = sys.argv[1:5]
 delimiter = sys.argv[5] if len(sys.argv) == 6 else ","
+STAMP = re.compile(r"([0-9]{4}-[0-9]{2}-[0-9]{2})[Tt ]([0-9]{2}:[0-9]{2}:[0-9]{2})(?:[.]([0-9]+))?(?:[Zz]|([-+][0-9]{2}:[0-9]{2}))")
 EPOCH = datetime.datetime(1970, 1, 1, tzinfo=datetime.timezone.utc)
 BLANKS = str.maketrans("\t\r\n", "   ")
 
@@ -23,10 +24,12 @@ def milliseconds(time):
     if re.fullmatch(r"-?[0-9]+([.][0-9]+)?", time):
         number = decimal.Decimal(time)
         return math.floor(number * (1000 if abs(number) < 10**11 else 1))
-    at = datetime.datetime.fromisoformat(time.replace("Z", "+00:00"))
-    if at.tzinfo is None:
-        raise ValueError(f"no zone: {time!r}")
-    return (at - EPOCH) // datetime.timedelta(milliseconds=1)
+    found = STAMP.fullmatch(time)
+    if not found:
+        raise ValueError(f"no time with a zone: {time!r}")
+    day, clock, fraction, zone = found.groups()
+    at = datetime.datetime.fromisoformat(f"{day}T{clock}{zone or '+00:00'}")
+    return (at - EPOCH) // datetime.timedelta(seconds=1) * 1000 + int(((fraction or "") + "000")[:3])
 
 
 sys.stdout.reconfigure(encoding="utf-8", errors="surrogateescape")

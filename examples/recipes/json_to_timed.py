@@ -9,18 +9,22 @@ import decimal
 import functools
 import json
 import math
+import re
 import sys
 
+STAMP = re.compile(r"([0-9]{4}-[0-9]{2}-[0-9]{2})[Tt ]([0-9]{2}:[0-9]{2}:[0-9]{2})(?:[.]([0-9]+))?(?:[Zz]|([-+][0-9]{2}:[0-9]{2}))")
 EPOCH = datetime.datetime(1970, 1, 1, tzinfo=datetime.timezone.utc)
 BLANKS = str.maketrans("\t\r\n", "   ")
 
 
 def milliseconds(time):
     if isinstance(time, str):
-        at = datetime.datetime.fromisoformat(time.replace("Z", "+00:00"))
-        if at.tzinfo is None:
-            raise ValueError("no zone")
-        return (at - EPOCH) // datetime.timedelta(milliseconds=1)
+        found = STAMP.fullmatch(time)
+        if not found:
+            raise ValueError("no time with a zone")
+        day, clock, fraction, zone = found.groups()
+        at = datetime.datetime.fromisoformat(f"{day}T{clock}{zone or '+00:00'}")
+        return (at - EPOCH) // datetime.timedelta(seconds=1) * 1000 + int(((fraction or "") + "000")[:3])
     if isinstance(time, bool) or not isinstance(time, (int, float)):
         raise ValueError("no time")
     return math.floor(decimal.Decimal(str(time)) * (1000 if abs(time) < 10**11 else 1))
