@@ -16,6 +16,7 @@ mod kept;
 mod numbers;
 mod shapes;
 mod shared_keys;
+mod sides;
 mod state_work;
 mod strict;
 mod texts;
@@ -61,6 +62,18 @@ pub type Unseq = Strict<work::Unseq>;
 
 /// [`work::Values`] as an object.
 pub type Values = Strict<work::Values>;
+
+/// [`work::Tag`] as an object.
+pub type Tag = Strict<work::Tag>;
+
+/// [`work::JoinList`] as an object.
+pub type JoinList = Strict<work::JoinList>;
+
+/// [`work::JoinSingle`] as an object.
+pub type JoinSingle = Strict<work::JoinSingle>;
+
+/// [`work::JoinLookup`] as an object.
+pub type JoinLookup = Strict<work::JoinLookup>;
 
 /// [`work::Dedupe`] as an object.
 pub type Dedupe = Strict<work::Dedupe>;
