@@ -1,24 +1,24 @@
 ghost use Rattle.std.specs.Prelude.{◌≡◌, ◌++◌, List as ListOf, map, IfOk, OnOk};
 ghost use Rattle.std.specs.List.{flat_map};
 ghost use Rattle.beam_values.specs.declared.plan.FnKind.TheVariants as kinds;
-ghost use Rattle.beam_model.specs.Functions.{ascending, found_in, joined_value, main_values, valued};
+ghost use Rattle.beam_model.specs.Functions.{ascending, found_in, main_values, valued};
 ghost use Rattle.beam_model.specs.Functions.{view_values};
 ghost use Rattle.beam_model.specs.Values.{pair, seq};
-ghost use Rattle.dofn_library.specs.Sides.{at_most_one, joined};
+ghost use Rattle.dofn_library.specs.Sides.{looked_up};
 
 use crate::arguments::number_of;
 use crate::batches::sorted;
 use crate::kept::is_same;
 use crate::shapes::{pair_of, push_pair};
 use crate::sides::{
-    MAIN, VIEW, are_pairs, copy_views, has_mains, marked, only_view, push_mains, sides_of,
+    MAIN, VIEW, are_pairs, copy_views, has_mains, only_view, push_mains, sides_of, tagged,
 };
 use crate::{ElementWork, SharedKeys};
 use beam_values::{Args, Boxed, Element, FnKind, List, NoMemory, Value};
 use dofn_traits::CallRefusal;
 use std::alloc::Global;
 
-/// Any value with a mark, below the key `Null`, so that all values of a window come into one pane.
+/// Any value with a tag, below the key `Null`, so that all values of a window come into one pane.
 #[derive(Drop)]
 pub struct Tag;
 
@@ -36,10 +36,10 @@ impl ElementWork for Tag {
         e: &Element,
         out: &mut List<Element>,
     ) -> Result<(), CallRefusal> {
-        let mark = Boxed::new(alloc, Value::Int(number_of(args)))?;
+        let tag = Boxed::new(alloc, Value::Int(number_of(args)))?;
         let value = Boxed::new(alloc, e.value.copy(alloc)?)?;
         let null = Boxed::new(alloc, Value::Null)?;
-        push_pair(alloc, e, &null, Value::Pair(mark, value), out)?;
+        push_pair(alloc, e, &null, Value::Pair(tag, value), out)?;
         Ok(())
     }
 }
@@ -144,11 +144,11 @@ fn look_up(
     out: &mut List<Element>,
 ) -> Result<(), NoMemory>
     ensures { OnOk result (out.new ≡ out.old ++ map (valued e.now)
-        (joined kinds.JoinLookup (view_values parts.now) (main_values parts.now))) }
+        (flat_map (looked_up (view_values parts.now)) (main_values parts.now))) }
 {
     let views = sorted(copy_views(alloc, parts)?)?;
     for part in parts {
-        if let Some(main) = marked(part, MAIN) {
+        if let Some(main) = tagged(part, MAIN) {
             push_found(alloc, e, main, views.as_slice(), out)?;
         }
     }
@@ -164,8 +164,7 @@ fn push_found(
     out: &mut List<Element>,
 ) -> Result<(), NoMemory>
     ensures { OnOk result ((all : ListOf Value) → views.now ≡ ascending all
-        → out.new ≡ out.old ++ map (valued e.now)
-        (at_most_one (joined_value kinds.JoinLookup all main.now))) }
+        → out.new ≡ out.old ++ map (valued e.now) (looked_up all main.now)) }
 {
     let Some(pair) = pair_of(main.get()) else {
         return Ok(());
