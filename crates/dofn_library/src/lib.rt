@@ -87,5 +87,31 @@ pub type BatchUntil = Strict<work::BatchUntil>;
 /// [`work::LatestThenEmit`] as an object.
 pub type LatestThenEmit = Strict<work::LatestThenEmit>;
 
+/// Adds to a list of boxes one of each function of elements, a few in each closure, so that each is proved soon. It is
+/// a macro, since a function may not hand out such boxes. Where it stands, `NoMemory` is in scope.
+#[macro_export]
+macro_rules! add_functions {
+    ($alloc:expr, $boxes:ident) => {
+        $crate::add_functions!($alloc, $boxes;
+            [KeyField, Words, Field, KeepPrefix]
+            [FieldInt, Swap, Shift, SumSeq]
+            [CountSeq, MaxSeq, Unseq, Values]
+            [Tag, JoinList, JoinSingle, JoinLookup])
+    };
+    ($alloc:expr, $boxes:ident; $([$($object:ident),*])*) => {{
+        let mut added: Result<(), NoMemory> = Ok(());
+        $(
+            if added.is_ok() {
+                let mut add = || -> Result<(), NoMemory> {
+                    $($boxes.push(Box::new($alloc, $crate::$object::new($alloc))?)?;)*
+                    Ok(())
+                };
+                added = add();
+            }
+        )*
+        added
+    }};
+}
+
 #[cfg(test)]
 mod tests;

@@ -2,7 +2,7 @@
 use denote.Param.Send.{sendable}
 use denote.Param.Sent.{Sends}
 use Rattle.dofn_library.proofs.Crossing.{Strict-send}
-use Rattle.worked_cases.proofs.commands.fn.run_all.add+m5.Hides as hides
+use Rattle.worked_cases.proofs.commands.fn.run_all.add+4+m.Hides as hides
 
 pub sends-part-1-1 : Sends hides.part-1-1
 sends-part-1-1 = search (Strict-send, sendable) depth 40

@@ -2,7 +2,7 @@
 use denote.Param.Send.{sendable}
 use denote.Param.Sent.{Sends}
 use Rattle.dofn_library.proofs.Crossing.{Strict-send}
-use Rattle.beam_run.proofs.tests.fn.functions_are_told_of_each_bundle.add+m2.Hides as hides
+use Rattle.beam_run.proofs.fn.run_over.add+3+m.Hides as hides
 
 pub sends-part-1-1 : Sends hides.part-1-1
 sends-part-1-1 = search (Strict-send, sendable) depth 40
