@@ -2,7 +2,7 @@
 # Checks the documents against the repository, and prints each failure as FILE:LINE: WHAT; the status is then 1.
 # Needs no network, and takes a few seconds. It looks for
 # - links, files and names that are nowhere, and names that aren't in the file that is told with them;
-# - a block headed ```case FILE```, which stands word for word in crates/worked_cases/data/FILE;
+# - a block headed ```case FILE```, which stands word for word in FILE, of data/ in one of the programs of cases;
 # - a line `$ ./beam_run ..` in a block with its output below, which is a case of commands.cases over the same files
 #   (a last line `..` leaves the rest of the output out), and so are the outputs of examples/ but those of examples/scores.
 #   Pages whose commands are for people's own files are only run;
@@ -29,7 +29,7 @@ esac
 
 work=$(mktemp -d) || exit 2
 trap 'rm -rf "$work"' EXIT
-data=crates/worked_cases/data
+commands=crates/command_cases/data/commands.cases
 mkdir "$work/shown" "$work/cases"
 : >"$work/failures"
 
@@ -209,10 +209,11 @@ stands_in() {
 check_blocks() {
     [ -f "$work/blocks" ] || return
     while IFS=$'\t' read -r place file number; do
-        if [ ! -f "$data/$file" ]; then
-            echo "$place: there is no file $data/$file"
-        elif [ ! -s "$work/block.$number" ] || ! stands_in "$work/block.$number" "$data/$file"; then
-            echo "$place: this is no case of $data/$file"
+        data=$(find crates/*_cases/data -name "$file")
+        if [ ! -f "$data" ]; then
+            echo "$place: no program of cases has the file $file"
+        elif [ ! -s "$work/block.$number" ] || ! stands_in "$work/block.$number" "$data"; then
+            echo "$place: this is no case of $data"
         fi
     done <"$work/blocks"
 } >>"$work/failures"
@@ -227,7 +228,7 @@ read_cases() {
             note\ *) printf '%b' "${line#note }" >>"$work/cases/$number.out" ;;
             file\ *) printf '%s\n' "${line#file }" >>"$work/cases/$number.files" ;;
         esac
-    done <"$data/commands.cases"
+    done <"$commands"
     count=$number
 }
 
@@ -270,9 +271,9 @@ check_command() {
         fi
     done
     if [ -z "$found" ]; then
-        echo "$place: no case of $data/commands.cases is ./beam_run $words"
+        echo "$place: no case of $commands is ./beam_run $words"
     else
-        echo "$place: ./beam_run $words has another output in $data/commands.cases"
+        echo "$place: ./beam_run $words has another output in $commands"
     fi
 }
 
@@ -302,7 +303,7 @@ check_example() {
             other=$(has_its_files "$at") || { echo "$1:1: a case of $2 that writes this has another $other"; return; }
         fi
     done
-    [ -n "$found" ] || echo "$1:1: no case of $data/commands.cases with $2 writes this"
+    [ -n "$found" ] || echo "$1:1: no case of $commands with $2 writes this"
 }
 
 check_examples() {

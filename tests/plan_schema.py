@@ -59,7 +59,7 @@ def document_bytes(text):
 
 def documents():
     """Each document of the cases that Python reads as JSON, and the reader's answer."""
-    for line in (ROOT / "crates/worked_cases/data/documents.cases").read_text("ascii").splitlines():
+    for line in (ROOT / "crates/plan_cases/data/documents.cases").read_text("ascii").splitlines():
         if line.startswith("document "):
             text, answer = line[len("document "):].rsplit(" => ", 1)
             try:
