@@ -15,7 +15,6 @@ import tempfile
 
 ROOT = pathlib.Path(__file__).resolve().parent.parent
 RECIPES = ROOT / "examples/recipes"
-DATA = ROOT / "crates/worked_cases/data"
 
 MINUTE = '"start":0,"end":60000,"from":"1970-01-01T00:00:00Z","to":"1970-01-01T00:01:00Z"'
 FIRST = MINUTE + ',"timing":"ON_TIME","index":0'
@@ -217,7 +216,7 @@ def printed_texts():
     """Each text of the worked cases that the program prints, as bytes."""
     for name, first in (("commands.cases", "command"), ("texts.cases", "outcome")):
         text = ""
-        for line in (DATA / name).read_text("ascii").splitlines():
+        for line in next(ROOT.glob(f"crates/*/data/{name}")).read_text("ascii").splitlines():
             if line.startswith(first):
                 text = ""
             elif line.startswith("out "):
