@@ -7,6 +7,7 @@ mod Branches
 pub mod Coverings
 pub mod DeadPositions
 mod Flows
+pub mod Folds
 mod Groupings
 mod LegalRuns
 mod Lists

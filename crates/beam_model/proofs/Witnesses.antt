@@ -40,7 +40,7 @@ use Rattle.beam_model.specs.Chains.{Arrives}
 use Rattle.beam_model.specs.Covers.{IsCovered}
 use Rattle.beam_model.specs.Dead.{items_without}
 use Rattle.beam_model.specs.Flow.{flow}
-use Rattle.beam_model.specs.Holds.{timer_hold}
+use Rattle.beam_model.specs.Holds.{HeldTimer, timer_after}
 use Rattle.beam_model.specs.Plain.{IsPlainRun, ArePlainlyWritten}
 use Rattle.beam_model.specs.Plans.{node, default_trigger, panes_plan}
 use Rattle.beam_model.specs.Positions.{SourceItem, items, emission, nothing}
@@ -255,18 +255,21 @@ a_dead_position_brings_nothing : spread_all counted (items_without (dead_at 1 �
 unfolding offsets
 a_dead_position_brings_nothing = refl
 
--- ---- holds of timers, after a commit before which the mark behind the node was 2000
+-- ---- timers and their holds, after a commit
 
-a_timer_holds_at_the_mark : timer_hold (pos 2000) None None (Some (pos 1500)) ≡ Some (pos 2000)
+abbrev timer : ℤ → ℤ → HeldTimer
+timer time hold = record { time = time; hold = hold }
+
+a_timer_holds_at_the_mark : timer_after (pos 2000) None (Some (pos 1500)) ≡ Some (timer (pos 1500) (pos 2000))
 a_timer_holds_at_the_mark = refl
 
-a_timer_that_stays_keeps_its_hold : timer_hold (pos 3000) (Some (pos 2000)) (Some (pos 1500)) (Some (pos 1500)) ≡ Some (pos 2000)
+a_timer_that_stays_keeps_its_hold : timer_after (pos 3000) (Some (timer (pos 1500) (pos 2000))) (Some (pos 1500)) ≡ Some (timer (pos 1500) (pos 2000))
 a_timer_that_stays_keeps_its_hold = refl
 
-a_timer_that_is_set_anew_holds_anew : timer_hold (pos 3000) (Some (pos 2000)) (Some (pos 1500)) (Some (pos 4000)) ≡ Some (pos 4000)
+a_timer_that_is_set_anew_holds_anew : timer_after (pos 3000) (Some (timer (pos 1500) (pos 2000))) (Some (pos 4000)) ≡ Some (timer (pos 4000) (pos 4000))
 a_timer_that_is_set_anew_holds_anew = refl
 
-a_timer_that_is_cleared_holds_nothing : timer_hold (pos 3000) (Some (pos 2000)) (Some (pos 1500)) None ≡ None
+a_timer_that_is_cleared_holds_nothing : timer_after (pos 3000) (Some (timer (pos 1500) (pos 2000))) None ≡ None
 a_timer_that_is_cleared_holds_nothing = refl
 
 -- ---- the end of an item

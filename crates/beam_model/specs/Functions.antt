@@ -100,7 +100,7 @@ abbrev pub kept_prefix : List ℕ → Element → Option (List ℕ) → List Ele
 kept_prefix prefix e (Some text) = if begins_with prefix text then e ∷ [] else []
 kept_prefix prefix e None = []
 
--- The fold of the parts of a key and window: what a function of sequences gives of a pane with these parts. None where it gives nothing, and of other
+-- The fold of the parts of a key and window: what a function of sequences makes of a pane with these parts. None where such a pane is poison, and of other
 -- functions.
 abbrev pub fold_of : FnKind → List Value → Option Value
 fold_of SumSeq parts = sum_in (seq parts)
@@ -108,31 +108,38 @@ fold_of CountSeq parts = count_in (seq parts)
 fold_of MaxSeq parts = greatest_in (seq parts)
 fold_of _ parts = None
 
--- ---- side inputs (Beam Programming Guide, Side inputs): a part is marked 1, of the main input, or 0, of the view
+-- the functions that fold a sequence
+abbrev pub folds : FnKind → Bool
+folds SumSeq = true
+folds CountSeq = true
+folds MaxSeq = true
+folds _ = false
 
-abbrev pub is_marked : ℤ → Value → Bool
-is_marked mark key = unwrap_or (option_map (int_eq mark) (as_int key)) false
+-- ---- side inputs (Beam Programming Guide, Side inputs): a part is tagged 1, of the main input, or 0, of the view
 
-abbrev pub marked_as : ℤ → KeyedValue → List Value
-marked_as mark keyed = if is_marked mark keyed.key then keyed.part ∷ [] else []
+abbrev pub is_tagged : ℤ → Value → Bool
+is_tagged mark key = unwrap_or (option_map (int_eq mark) (as_int key)) false
 
--- the value of a part that has this mark; of another part none
-abbrev pub value_marked : ℤ → Value → List Value
-value_marked mark part = unwrap_or (option_map (marked_as mark) (as_pair part)) []
+abbrev pub tagged_as : ℤ → KeyedValue → List Value
+tagged_as mark keyed = if is_tagged mark keyed.key then keyed.part ∷ [] else []
+
+-- the value of a part that has this tag; of another part none
+abbrev pub value_tagged : ℤ → Value → List Value
+value_tagged mark part = unwrap_or (option_map (tagged_as mark) (as_pair part)) []
 
 abbrev pub is_of_side : KeyedValue → Bool
-is_of_side keyed = is_marked (pos 1) keyed.key || is_marked (pos 0) keyed.key
+is_of_side keyed = is_tagged (pos 1) keyed.key || is_tagged (pos 0) keyed.key
 
--- a value with one of the two marks
+-- a value with one of the two tags
 abbrev pub is_side_part : Value → Bool
 is_side_part part = unwrap_or (option_map is_of_side (as_pair part)) false
 
 -- the values of the main input, and those of the view, in order
 abbrev pub main_values : List Value → List Value
-main_values parts = flat_map (value_marked (pos 1)) parts
+main_values parts = flat_map (value_tagged (pos 1)) parts
 
 abbrev pub view_values : List Value → List Value
-view_values parts = flat_map (value_marked (pos 0)) parts
+view_values parts = flat_map (value_tagged (pos 0)) parts
 
 abbrev pub is_pair : Value → Bool
 is_pair v = unwrap_or (option_map (λ keyed. true) (as_pair v)) false
@@ -150,17 +157,18 @@ only_one (v ∷ []) = Some v
 only_one _ = None
 
 -- What a main value is joined with: all values of the view, ascending; its only value; or, of its key, what belongs to that key in the view, ascending. None
--- where there is no only one, where the main value has no key, and of other functions.
+-- where there is no only one, where the main value or one of the view has no key, and of other functions.
 abbrev pub joined_with : FnKind → List Value → Value → Option Value
 joined_with JoinList views main = Some (seq (ascending views))
 joined_with JoinSingle views main = only_one views
-joined_with JoinLookup views main = option_map (λ keyed. seq (ascending (flat_map (found_in keyed.key) views))) (as_pair main)
+joined_with JoinLookup views main =
+    if list_all is_pair views then option_map (λ keyed. seq (ascending (flat_map (found_in keyed.key) views))) (as_pair main) else None
 joined_with _ views main = None
 
 abbrev pub joined_value : FnKind → List Value → Value → Option Value
 joined_value work views main = option_map (pair main) (joined_with work views main)
 
--- a join by keys takes values of the view that have one
+-- A join by keys takes values of the view that have one, also where no main value asks.
 abbrev pub takes_views : FnKind → List Value → Bool
 takes_views JoinLookup views = list_all is_pair views
 takes_views _ views = true
@@ -205,9 +213,9 @@ emits MaxSeq args e = from_pair e (λ keyed. option_map (one e) (on_part greates
 emits Unseq args e = from_pair e (λ keyed. option_map (map (λ item. valued e (pair keyed.key item))) (as_seq keyed.part))
 -- the part of a pair
 emits Values args e = from_pair e (λ keyed. Some (one e keyed.part))
--- any value, with a mark, below the key Null
+-- any value, with a tag, below the key Null
 emits Tag args e = Some (one e (pair null (pair (int (number_arg args)) e.value)))
--- of a pair of Null and a sequence of marked values: each main value with what it is joined with
+-- of a pair of Null and a sequence of tagged values: each main value with what it is joined with
 emits JoinList args e = joins JoinList e
 emits JoinSingle args e = joins JoinSingle e
 emits JoinLookup args e = joins JoinLookup e

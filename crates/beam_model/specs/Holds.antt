@@ -1,5 +1,5 @@
 -- Holds: what keeps the watermarks of a run back (The Dataflow Model, watermarks; which holds there are is this profile's).
-use Rattle.std.specs.Prelude.{ℕ, ℤ, ◌==◌, Bool, false, if◌then◌else◌, Option, Some, None, List, ◌++◌, map, slice_get, unwrap_or}
+use Rattle.std.specs.Prelude.{ℕ, ℤ, ◌==◌, if◌then◌else◌, Option, Some, None, List, ◌++◌, map, slice_get, unwrap_or}
 use Rattle.std.specs.Int.{int_max}
 use Rattle.std.specs.Ordering.{int_eq}
 use Rattle.std.specs.List.{filter}
@@ -42,16 +42,21 @@ pane_hold before pane = record { node = pane.node; mark = int_max pane.element.t
 abbrev pub arrival_hold : List StageMarks → Arrival → Hold
 arrival_hold before arrival = record { node = arrival.node; mark = int_max arrival.element.time (marks_at before arrival.node).mark_out }
 
-abbrev pub is_same_time : ℤ → Option ℤ → Bool
-is_same_time time None = false
-is_same_time time (Some old) = int_eq old time
+-- a timer that is set: its time, and the mark at which it holds its node back
+pub record HeldTimer : Type 0 where
+  pub time : ℤ
+  pub hold : ℤ
 
--- The hold of a timer after a commit, where `mark` was the mark after its node before that commit, `hold` its hold and `old` its time: a timer that isn't
--- set holds nothing; one that has the time that it had keeps its hold, also where it was set again; another holds at the greater of its time and the mark.
--- At the mark 2000 a timer that is set to 1500 holds at 2000, and still does so once the mark is 3000; set anew to 4000 it holds at 4000.
-abbrev pub timer_hold : ℤ → Option ℤ → Option ℤ → Option ℤ → Option ℤ
-timer_hold mark hold old None = None
-timer_hold mark hold old (Some time) = if is_same_time time old then hold else Some (int_max time mark)
+abbrev pub hold_of_timer : ℤ → ℤ → Option HeldTimer → ℤ
+hold_of_timer mark time None = int_max time mark
+hold_of_timer mark time (Some old) = if int_eq old.time time then old.hold else int_max time mark
+
+-- A timer after a commit that leaves it set to `time`, where `mark` was the mark after its node before that commit and `old` the timer: one that has the
+-- time that it had keeps its hold, also where it was set again; another holds at the greater of its time and the mark. At the mark 2000 a timer that is set
+-- to 1500 holds at 2000, and still does so once the mark is 3000; set anew to 4000 it holds at 4000.
+abbrev pub timer_after : ℤ → Option HeldTimer → Option ℤ → Option HeldTimer
+timer_after mark old None = None
+timer_after mark old (Some time) = Some (record { time = time; hold = hold_of_timer mark time old })
 
 abbrev pub marks_held : List Hold → ℕ → List ℤ
 marks_held holds node = map (λ hold. hold.mark) (filter (λ hold. hold.node == node) holds)

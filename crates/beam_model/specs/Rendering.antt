@@ -1,4 +1,4 @@
--- The text of an outcome: what its Writes took, and the calls of its logged stateful nodes.
+-- The text of an outcome: what its Writes took, the calls of its logged stateful nodes, and its dead positions.
 use Rattle.std.specs.Prelude.{◌≡◌, ℕ, ℤ, pos, ◌+◌, sum_by, map, Bool, false, if◌then◌else◌, nat_lt, List, [], ◌∷◌, ◌++◌, length, slice_get, unwrap_or, codes, decimal}
 use Rattle.std.specs.declared.cmp.Ordering.{Ordering}
 use Rattle.std.specs.Fmt.{signed_decimal}
@@ -17,6 +17,7 @@ use Rattle.beam_values.specs.declared.log.LogEntry.{LogEntry}
 use Rattle.beam_values.specs.declared.log.LogInput.{LogInput}
 use Rattle.beam_values.specs.declared.log.LogInput.TheVariants.{Arrived, Fired}
 use Rattle.beam_values.specs.declared.outcome.Outcome.{Outcome}
+use Rattle.beam_values.specs.declared.piece.Dead.{Dead}
 use Rattle.beam_values.specs.declared.plan.Node.{Node}
 use Rattle.beam_values.specs.declared.plan.NodeKind.{NodeKind}
 use Rattle.beam_values.specs.declared.plan.NodeKind.TheVariants.{Stateful, Write}
@@ -95,11 +96,16 @@ pub record IsLogged (plan : Plan) (logs : List KeyLog) (text : List ℕ) : Type 
   pub ascending : IsSorted log_cmp sorted
   pub printed : text ≡ flat_map log_lines sorted
 
--- the Writes, with their labels where there is more than one, and then the logs
+-- the line of a dead position: its node, its item, the position, and the node at which it failed, with TABs between
+abbrev pub dead_line : Dead → List ℕ
+dead_line dead =
+    codes "dead" ++ 9 ∷ (decimal dead.node ++ 9 ∷ (decimal dead.item ++ 9 ∷ (decimal dead.at ++ 9 ∷ (decimal dead.note.at ++ 10 ∷ []))))
+
+-- the Writes, with their labels where there is more than one, then the logs, and then the dead positions in their order
 abbrev pub IsRendering : Outcome → List ℕ → Type 0
 IsRendering o text =
     (front : List ℕ) × (back : List ℕ) × IsWritten (nat_lt 1 (length (writes o.plan))) o.written (writes o.plan) front
-    × IsLogged o.plan o.logs back × (text ≡ front ++ back)
+    × IsLogged o.plan o.logs back × (text ≡ (front ++ back) ++ flat_map dead_line o.dead)
 
 -- The summary of an outcome: how many positions its source items have, how many elements were written, how many items the sequences of these have,
 -- and the sum of the whole numbers among them. An element that is no key with a sequence counts no item.

@@ -9,6 +9,7 @@ use Rattle.beam_values.specs.declared.value.Value.TheFolds.{fold-roll-Value}
 use Rattle.beam_values.specs.Spelling.{groups}
 use Rattle.beam_values.specs.declared.element.Element.{Element}
 use Rattle.beam_values.specs.declared.element.Timing.TheVariants.{OnTime, Unknown}
+use Rattle.beam_values.specs.declared.fault.Cause.TheVariants.{Call}
 use Rattle.beam_values.specs.declared.graph_refusal.GraphRefusal.TheVariants as refusal
 use Rattle.beam_values.specs.declared.log.LogInput.TheVariants.{Arrived, Fired}
 use Rattle.beam_values.specs.declared.outcome.Outcome.{Outcome}
@@ -22,7 +23,7 @@ use Rattle.beam_model.specs.Values.{null, int, blob, pair, seq}
 use Rattle.beam_model.specs.Functions.{emits, fold_of}
 use Rattle.beam_values.specs.States.{KeptState}
 use Rattle.beam_model.specs.Plans.{panes_plan}
-use Rattle.beam_model.specs.Rendering.{summary}
+use Rattle.beam_model.specs.Rendering.{dead_line, summary}
 use Rattle.beam_model.specs.Steps.{Stepped, steps}
 use Rattle.beam_model.specs.Positions.{Poison, nothing, Emits, emission, emits_one, next_position, made_line}
 
@@ -164,7 +165,7 @@ fold_of_a_count = simp out-roll-Value refl
 fold_of_another_function : fold_of Unseq (null ∷ []) ≡ None
 fold_of_another_function = refl
 
--- Side inputs: parts marked 1 of the main input, and 0 of the view.
+-- Side inputs: parts tagged 1 of the main input, and 0 of the view.
 
 abbrev main : Value → Value
 main v = pair (int (pos 1)) v
@@ -186,8 +187,8 @@ join_list = simp (out-roll-Value, fold-roll-Value) refl
 join_list_without_a_view : emits JoinList Nothing (sides (main null ∷ [])) ≡ Some (with (pair null (seq [])) ∷ [])
 join_list_without_a_view = simp out-roll-Value refl
 
-join_list_of_a_mark_of_two : emits JoinList Nothing (sides (pair (int (pos 2)) null ∷ [])) ≡ None
-join_list_of_a_mark_of_two = simp out-roll-Value refl
+join_list_of_a_tag_of_two : emits JoinList Nothing (sides (pair (int (pos 2)) null ∷ [])) ≡ None
+join_list_of_a_tag_of_two = simp out-roll-Value refl
 
 join_list_of_another_key : emits JoinList Nothing (with (pair (text (codes "a")) (seq []))) ≡ None
 join_list_of_another_key = simp out-roll-Value refl
@@ -374,6 +375,12 @@ summed = record {
 
 abbrev ended : List ℕ → List ℕ
 ended line = line ++ 10 ∷ []
+
+-- the line of the position 9 of the first item, set aside since the source itself failed there
+line_of_a_dead_position : dead_line (record { node = 0; item = 0; at = 9; note = record { node = 0; item = 0; at = 0; attempt = 3; cause = Call } })
+    ≡ ended (tabbed (codes "dead") (tabbed (codes "0") (tabbed (codes "0") (tabbed (codes "9") (codes "0")))))
+unfolding digits
+line_of_a_dead_position = refl
 
 summary_of_one_pane : summary summed ≡ ended (codes "lines 5") ++ (ended (codes "panes 1") ++ (ended (codes "values 2") ++ ended (codes "sum 4")))
 unfolding digits

@@ -2,6 +2,7 @@
 
 ghost use Rattle.std.specs.Prelude.{◌≡◌, ◌⊎◌, ℕ, ◌+◌, ◌<◌, ◌≤◌, ◌≤ℤ◌, ◌==◌, ◌||◌, true, List, []};
 ghost use Rattle.std.specs.Prelude.{◌∷◌, ◌++◌, Some, length, slice_get};
+ghost use Rattle.std.specs.Option.{option_map};
 ghost use Rattle.std.specs.List.{All, AllPairs, count_by, list_any};
 ghost use Rattle.std.specs.List.Sorted.{IsSorted};
 ghost use Rattle.beam_values.specs.Bags.{IsSameBag};
@@ -28,7 +29,8 @@ ghost use Rattle.beam_values.specs.declared.plan.StateKind.{StateKind};
 ghost use Rattle.beam_values.specs.declared.value.Value.{Value};
 ghost use Rattle.beam_model.specs.Chains.{chain};
 ghost use Rattle.beam_model.specs.Flow.{elements_at, pane_chains, log_chains, flow};
-ghost use Rattle.beam_model.specs.Functions.{emits};
+ghost use Rattle.beam_model.specs.Functions.{emits, fold_of, folds, one};
+ghost use Rattle.beam_model.specs.Values.{pair, seq};
 ghost use Rattle.beam_values.specs.Sessions.{IsNonEmpty};
 ghost use Rattle.beam_model.specs.Premises.{EndsAfter, done_range, KeepsPlace, IsForward, IsOfCall};
 ghost use Rattle.beam_model.specs.Premises.{AreOneOrApart};
@@ -116,6 +118,15 @@ pub fn functions_keep_window_and_pane()
     ensures { (kind : FnKind) (args : Args) (e : Element) (outputs : List Element)
         → e.time ≤ℤ greatest_time → IsForward kind args → emits kind args e ≡ Some outputs
         → All (KeepsPlace e) outputs }
+{}
+
+/// What a function of sequences gives of a pane is the fold of the pane's parts under its key, and it is
+/// poison exactly where there is no fold.
+#[tactic(auto, using(crate::proofs::Folds::folded))]
+pub fn panes_are_folded()
+    ensures { (kind : FnKind) (args : Args) (e : Element) (key : Value) (parts : List Value)
+        → folds kind ≡ true → e.value ≡ pair key (seq parts)
+        → emits kind args e ≡ option_map (λ v. one e (pair key v)) (fold_of kind parts) }
 {}
 
 /// What a stateful call gives is in the window and at the time of the element or the timer that it is on.

@@ -22,8 +22,9 @@ pub use laws::{
     a_cut_range_covers_the_same, a_spread_steps_over_positions, ascending_is_sorted,
     chains_end_at_barriers, covers_append, flows_add, functions_keep_window_and_pane,
     merged_windows_are_apart, mergings_agree, next_positions_rise, nodes_stand_above_by_inputs,
-    outputs_end_below_their_node, outputs_reach_barriers, plain_grouping_at_a_barrier_is_one_bag,
-    plain_groupings_agree, plain_groupings_have_each_cell_once, plain_runs_agree,
-    positions_between_give_nothing, positions_past_the_end_give_nothing, sessions_are_apart,
-    spreads_join, stateful_outputs_keep_their_window,
+    outputs_end_below_their_node, outputs_reach_barriers, panes_are_folded,
+    plain_grouping_at_a_barrier_is_one_bag, plain_groupings_agree,
+    plain_groupings_have_each_cell_once, plain_runs_agree, positions_between_give_nothing,
+    positions_past_the_end_give_nothing, sessions_are_apart, spreads_join,
+    stateful_outputs_keep_their_window,
 };

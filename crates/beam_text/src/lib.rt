@@ -10,6 +10,7 @@
 //! `rendering.rt` first.
 #![tactic(auto)]
 
+mod dead;
 mod element;
 mod logs;
 mod ranks;

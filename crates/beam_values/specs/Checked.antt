@@ -169,7 +169,11 @@ abbrev pub file_count : List Node → ℕ
 file_count [] = 0
 file_count (node ∷ nodes) = files_of_kind node.kind + file_count nodes
 
--- What a node asks of its settings, where `before` are the nodes before it. Keyed state isn't taken yet, so a Stateful node is never allowed.
+-- whether pipelines may have Stateful nodes; they aren't run yet
+abbrev pub takes_state : Bool
+takes_state = false
+
+-- what a node asks of its settings, where `before` are the nodes before it
 abbrev pub is_set : List Node → NodeKind → List ℕ → Bool
 is_set before (Source work args files estimator) inputs =
     is_source_allowed (file_count before) work args files && is_estimator_allowed estimator
@@ -177,7 +181,7 @@ is_set before (ParDo work args) inputs = is_function_allowed work args
 is_set before Flatten inputs = agrees before inputs
 is_set before (WindowInto strategy) inputs = is_allowed strategy && not (is_kept strategy)
 is_set before (Group trigger) inputs = is_trigger_allowed trigger
-is_set before (Stateful work args log) inputs = false
+is_set before (Stateful work args log) inputs = takes_state && is_state_allowed work args
 is_set before (Write label) inputs = true
 
 -- the number of inputs of a node: one, of a Flatten 1 to 8; that of a source is another rule's

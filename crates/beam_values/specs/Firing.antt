@@ -25,9 +25,9 @@ is_bar_met unseen past bar = nat_le bar.count unseen && is_past bar.delay past
 abbrev pub met : List Bar → ℕ → ℤ → Bool
 met bars unseen past = list_any (is_bar_met unseen past) bars
 
-abbrev pub has_none : List Bar → Bool
-has_none [] = true
-has_none (bar ∷ bars) = false
+abbrev pub has_no_bars : List Bar → Bool
+has_no_bars [] = true
+has_no_bars (bar ∷ bars) = false
 
 -- The mark is at least the window's end plus the lateness: an element of the window is dropped, and its cell takes no part in merging.
 abbrev pub is_expired : Trigger → ℤ → ℤ → Bool
@@ -37,18 +37,19 @@ is_expired trigger end mark = int_le (end +ℤ trigger.lateness) mark
 abbrev pub is_early_due : Trigger → ℤ → ℤ → ℕ → Bool
 is_early_due trigger end mark unseen = is_enough trigger.early unseen || (met trigger.early_bars unseen (mark -ℤ end) && nat_le 1 unseen)
 
--- the late bars, or where there is none the late count, ask for a pane now
+-- a late bar is met, or, where there are no late bars, as many are unseen as the late count
 abbrev pub is_late_enough : Trigger → ℤ → ℕ → Bool
-is_late_enough trigger past unseen = met trigger.late_bars unseen past || (has_none trigger.late_bars && nat_le trigger.late unseen)
+is_late_enough trigger past unseen = met trigger.late_bars unseen past || (has_no_bars trigger.late_bars && nat_le trigger.late unseen)
 
--- a late pane, after the on-time one: as soon as that asks for it, or once the window expires
+-- a late pane, after the on-time one: where something is unseen, and that is enough or the window expires
 abbrev pub is_late_due : Trigger → ℤ → ℤ → ℕ → Bool
 is_late_due trigger end mark unseen = nat_le 1 unseen && (is_late_enough trigger (mark -ℤ end) unseen || is_expired trigger end mark)
 
 -- The pane that a cell fires, if any, by the first line that fits: on time, once the mark has reached the window's end, also with nothing unseen;
 -- early, before that, where enough is unseen; late, after the on-time pane, which an earlier commit fired.
 -- By the default trigger a window that ends at 60000 fires nothing at 59999 and is on time at 60000, also with nothing unseen; with early 2 and two
--- unseen it is early at 0; with the early bar (2, -5000) and two unseen it is early at 55000, and not at 54999; with late 3, lateness 100 and one unseen after its on-time pane it fires nothing at 60050 and is late at 60100.
+-- unseen it is early at 0; with the early bar (2, -5000) and two unseen it is early at 55000, and not at 54999; with late 3, lateness 100 and one unseen
+-- after its on-time pane it fires nothing at 60050 and is late at 60100.
 abbrev pub firing : Trigger → ℤ → ℤ → Bool → ℕ → Option Timing
 firing trigger end mark false unseen =
     if int_le end mark then Some OnTime else (if is_early_due trigger end mark unseen then Some Early else None)

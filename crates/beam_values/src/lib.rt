@@ -57,7 +57,8 @@ pub use options::Options;
 pub use outcome::{Outcome, StopCause};
 pub use piece::{Dead, Done, FileLen, Piece};
 pub use plan::{
-    Args, Bar, Estimator, FnKind, Mode, Node, NodeKind, Plan, SourceKind, StateKind, Strategy, Trigger,
+    Args, Bar, Estimator, FnKind, Mode, Node, NodeKind, Plan, SourceKind, StateKind, Strategy,
+    Trigger,
 };
 pub use range::Range;
 pub use span::Span;

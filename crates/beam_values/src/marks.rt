@@ -1,5 +1,6 @@
 use crate::Mark;
-use beam_containers::List;
+use beam_containers::{Duplicate, List, NoMemory};
+use std::alloc::Global;
 
 /// The watermarks of a node: before it and after it.
 #[derive(Clone, Copy, Debug, PartialEq, Eq)]
@@ -8,8 +9,22 @@ pub struct StageMarks {
     pub mark_out: Mark,
 }
 
+impl Duplicate for StageMarks {
+    fn duplicate(&self, _alloc: Global) -> Result<StageMarks, NoMemory> {
+        Ok(*self)
+    }
+}
+
 /// The watermarks of all nodes after a commit.
 #[derive(Debug, Drop)]
 pub struct CommitMarks {
     pub marks: List<StageMarks>,
+}
+
+impl Duplicate for CommitMarks {
+    fn duplicate(&self, alloc: Global) -> Result<CommitMarks, NoMemory> {
+        Ok(CommitMarks {
+            marks: self.marks.duplicate(alloc)?,
+        })
+    }
 }

@@ -27,6 +27,7 @@ pub struct Piece {
 pub struct Dead {
     pub node: u32,
     pub item: u32,
+    /// The position, an offset in the item.
     pub at: u64,
     /// The last of these failures.
     pub note: FaultNote,

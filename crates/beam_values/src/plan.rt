@@ -55,10 +55,11 @@ pub struct Trigger {
     /// How long after its end a window still takes elements, in milliseconds.
     pub lateness: i64,
     pub mode: Mode,
-    /// Before the watermark passes the window's end, beside `early`: as soon as one of these is met. Of the bars of a
-    /// checked plan each asks for more elements than the one before it, and for less delay.
+    /// Before the watermark passes the window's end, beside `early`: as soon as something is unseen and one of these is
+    /// met. Of the bars of a checked plan each asks for more elements than the one before it, and for less delay.
     pub early_bars: List<Bar>,
-    /// After the on-time pane, in place of `late` where there is one.
+    /// After the on-time pane: as soon as one of these is met. Where there are any, `late` has no say. A window that
+    /// expires shows what is unseen all the same.
     pub late_bars: List<Bar>,
 }
 
@@ -99,11 +100,13 @@ pub enum FnKind {
     MaxSeq,
     Unseq,
     Values,
-    /// Of a side input, before the grouping: marks a value as one of the main input, 1, or of the view, 0.
+    /// `Number(n)`: tags a value of a side input before it is grouped, 1 in the main input and 0 in the view.
     Tag,
-    /// After it: each main value with all values of the view, with its only one, or with those of its key.
+    /// Each main value of such a group with all values of the view.
     JoinList,
+    /// Each main value with the only value of the view.
     JoinSingle,
+    /// Each main value with what the view has under its key.
     JoinLookup,
 }
 
