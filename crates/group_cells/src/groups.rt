@@ -185,7 +185,7 @@ impl Groups {
         if self.indexed {
             return self.draft.due.next(node);
         }
-        next_due(self.plan.plan(), node, self.draft.cells.as_slice())
+        next_due(&self.plan, node, self.draft.cells.as_slice())
     }
 
     /// Gives both lists away. Takes no memory.

@@ -182,7 +182,7 @@ fn next_groups(
     let facts = facts_of(alloc, plan.nodes.as_slice())?;
     let facts = facts.as_slice();
     let mut all_dropped = dropped.duplicate(alloc)?;
-    all_dropped.append(dropped_of(alloc, plan, facts, before, commit, arrivals)?)?;
+    all_dropped.append(dropped_of(alloc, plan, before, commit, arrivals)?)?;
     let others = others_of(alloc, plan, arrivals)?;
     let mut next = cells.duplicate(alloc)?.into_vec();
     let mut marks = Vec::from_slice(alloc, before)?;
@@ -217,7 +217,7 @@ fn next_cells(
     ensures { IfOk result (AreCellsNext plan.now before.now
         (hold_at holds.now) commit arrivals.now cells.old.items cells.new.items marks.new.items) }
 {
-    let taken = taken_of(alloc, plan, facts, before, arrivals)?;
+    let taken = taken_of(alloc, plan, before, arrivals)?;
     place_all(alloc, plan, facts, before, commit, taken, cells)?;
     fire_all(alloc, plan, facts, before, holds, commit, cells, marks)
 }

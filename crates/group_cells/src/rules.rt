@@ -1,9 +1,10 @@
-ghost use Rattle.std.specs.Prelude.{◌≡◌};
+ghost use Rattle.std.specs.Prelude.{◌≡◌, IfOk};
 ghost use Rattle.beam_values.specs.Nodes.{facts_of, is_group, is_group_kind};
 ghost use Rattle.beam_model.specs.Panes.{is_sessions, rules_of, trigger_in, trigger_of};
 ghost use Rattle.beam_model.specs.Plans.{default_trigger};
 
-use beam_values::{Mode, Node, NodeKind, Plan, Strategy, Trigger};
+use beam_values::{Duplicate, List, Mode, NoMemory, Node, NodeKind, Plan, Strategy, Trigger};
+use std::alloc::Global;
 use std::marker::Model;
 use windowing::{NodeFacts, facts_at};
 
@@ -24,15 +25,21 @@ impl Model for Rules {
     ghost inverse = { λ r. record { merges = r.merges; trigger = r.trigger } };
 }
 
-/// The rules of a node, where `facts` is known of all nodes. Takes no memory.
-pub fn rules_of(plan: &Plan, facts: &[NodeFacts], node: u32) -> Rules
+/// The rules of a node, where `facts` is known of all nodes, with a copy of its trigger.
+pub fn rules_of(
+    alloc: Global,
+    plan: &Plan,
+    facts: &[NodeFacts],
+    node: u32,
+) -> Result<Rules, NoMemory>
     requires { facts.now ≡ facts_of plan.now.nodes }
-    ensures { result ≡ rules_of plan.now node }
+    ensures { IfOk result (λ rules. rules ≡ rules_of plan.now node) }
 {
-    Rules {
+    let other = default_trigger(alloc);
+    Ok(Rules {
         merges: is_sessions(facts_at(facts, node).strategy),
-        trigger: trigger_of(plan, node),
-    }
+        trigger: trigger_at(plan, node, &other).duplicate(alloc)?,
+    })
 }
 
 /// Whether a node is a Group.
@@ -57,32 +64,29 @@ fn is_sessions(strategy: Strategy) -> bool
     matches!(strategy, Strategy::Sessions { .. })
 }
 
-/// The trigger of a Group. Another node counts as one with the default trigger.
-pub fn trigger_of(plan: &Plan, node: u32) -> Trigger
-    ensures { result ≡ trigger_of plan.now node }
+/// The trigger of a Group. Another node counts as one with the default trigger, `other`.
+pub fn trigger_at<'a>(plan: &'a Plan, node: u32, other: &'a Trigger) -> &'a Trigger
+    requires { other.now ≡ default_trigger }
+    ensures { result.now ≡ trigger_of plan.now node }
 {
     match plan.nodes.get(node as usize) {
-        None => default_trigger(),
-        Some(found) => trigger_in(&found.kind),
+        None => other,
+        Some(found) => trigger_in(&found.kind, other),
     }
 }
 
-fn trigger_in(kind: &NodeKind) -> Trigger
-    ensures { result ≡ trigger_in kind.now }
+fn trigger_in<'a>(kind: &'a NodeKind, other: &'a Trigger) -> &'a Trigger
+    requires { other.now ≡ default_trigger }
+    ensures { result.now ≡ trigger_in kind.now }
 {
     match kind {
-        NodeKind::Group { trigger } => Trigger {
-            early: trigger.early,
-            late: trigger.late,
-            lateness: trigger.lateness,
-            mode: trigger.mode,
-        },
-        _ => default_trigger(),
+        NodeKind::Group { trigger } => trigger,
+        _ => other,
     }
 }
 
-/// The trigger of what isn't a Group.
-pub fn default_trigger() -> Trigger
+/// The trigger of what isn't a Group. Takes no memory.
+pub fn default_trigger(alloc: Global) -> Trigger
     ensures { result ≡ default_trigger }
 {
     Trigger {
@@ -90,5 +94,7 @@ pub fn default_trigger() -> Trigger
         late: 1,
         lateness: 0,
         mode: Mode::Discarding,
+        early_bars: List::new(alloc),
+        late_bars: List::new(alloc),
     }
 }

@@ -1,9 +1,10 @@
-ghost use Rattle.std.specs.Prelude.{◌≡◌, ◌+ℤ◌};
-ghost use Rattle.beam_values.specs.Firing.{firing, is_enough, is_late_due, is_expired};
+ghost use Rattle.std.specs.Prelude.{◌≡◌, ◌+ℤ◌, ◌-ℤ◌};
+ghost use Rattle.beam_values.specs.Firing.{firing, is_early_due, is_enough, is_expired};
+ghost use Rattle.beam_values.specs.Firing.{is_late_due, is_late_enough};
 ghost use Rattle.pane_triggers.specs.Fires.{timing_of};
 
 use crate::answer::Fire;
-use beam_values::{Mark, Trigger};
+use beam_values::{Mark, Trigger, met_after};
 
 /// Which pane a cell fires at a mark (The Dataflow Model, triggers). `end` is that of its window,
 /// `on_time` says whether an earlier commit fired its on-time pane, and `unseen` counts the entries that
@@ -19,7 +20,7 @@ pub fn fire(t: &Trigger, end: i64, m: Mark, on_time: bool, unseen: u64) -> Fire
         }
     } else if end <= m.ms() {
         Fire::OnTime
-    } else if is_enough(t.early, unseen) {
+    } else if is_early_due(t, end, m, unseen) {
         Fire::Early
     } else {
         Fire::Nothing
@@ -51,8 +52,31 @@ pub fn expiry(t: &Trigger, end: i64) -> i128
     i128::from(end) + i128::from(t.lateness)
 }
 
+fn is_early_due(t: &Trigger, end: i64, m: Mark, unseen: u64) -> bool
+    ensures { result ≡ is_early_due t.now end m unseen }
+{
+    is_enough(t.early, unseen) || (1 <= unseen && met_after(&t.early_bars, unseen, past(end, m)))
+}
+
 fn is_late_due(t: &Trigger, end: i64, m: Mark, unseen: u64) -> bool
     ensures { result ≡ is_late_due t.now end m unseen }
 {
-    1 <= unseen && (u64::from(t.late) <= unseen || is_dropped(t, end, m))
+    1 <= unseen && (is_late_enough(t, end, m, unseen) || is_dropped(t, end, m))
+}
+
+fn is_late_enough(t: &Trigger, end: i64, m: Mark, unseen: u64) -> bool
+    ensures { result ≡ is_late_enough t.now (m -ℤ end) unseen }
+{
+    if t.late_bars.is_empty() {
+        u64::from(t.late) <= unseen
+    } else {
+        met_after(&t.late_bars, unseen, past(end, m))
+    }
+}
+
+/// How far a mark is past the window's end, which 64 bits may not hold.
+fn past(end: i64, m: Mark) -> i128
+    ensures { result ≡ m -ℤ end }
+{
+    i128::from(m.ms()) - i128::from(end)
 }

@@ -2,7 +2,7 @@
 //! nothing: its contract is the law.
 
 ghost use Rattle.std.specs.Prelude.{◌≡◌, ◌↔◌, ℕ, ℤ, ◌≤ℤ◌, Bool, true, false, Some, IsSome};
-ghost use Rattle.std.specs.Prelude.{IsSomeAnd, MatchOption, None};
+ghost use Rattle.std.specs.Prelude.{[], IsSomeAnd, MatchOption, None};
 ghost use Rattle.beam_values.specs.Firing.{firing, is_expired};
 ghost use Rattle.beam_values.specs.Times.{least_time, final_mark};
 ghost use Rattle.beam_values.specs.declared.element.Timing.TheVariants.{OnTime, Late};
@@ -38,9 +38,9 @@ pub fn the_next_mark_is_the_least()
         (IsNeverDue t end on_time unseen) (IsNextMark t end on_time unseen) }
 {}
 
-/// Where a trigger has no early count, the next mark of a cell whose on-time pane is yet to fire is one,
-/// however many entries are unseen.
+/// Where a trigger has no early count and no early bar, the next mark of a cell whose on-time pane is yet to
+/// fire is one, however many entries are unseen.
 pub fn unseen_entries_move_no_next_mark_without_an_early_count()
-    ensures { (t : Trigger) (end : ℤ) (few more : ℕ) → t.early ≡ None
+    ensures { (t : Trigger) (end : ℤ) (few more : ℕ) → t.early ≡ None → t.early_bars ≡ []
         → next_mark t end false few ≡ next_mark t end false more }
 {}

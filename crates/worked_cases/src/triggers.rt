@@ -78,6 +78,8 @@ pub fn read_trigger(case: &mut Case<'_>) -> Trigger {
         late: 1,
         lateness: 0,
         mode: Mode::Discarding,
+        early_bars: List::new(case.alloc()),
+        late_bars: List::new(case.alloc()),
     };
     for _ in 0..case.left() {
         if case.is_over() {

@@ -1,5 +1,5 @@
 ghost use Rattle.std.specs.Prelude.{◌≡◌, ◌+◌, ◌<◌, ◌^◌, ◌≤ℤ◌, ◌∷◌, [], ◌++◌, ℤ, true, false};
-ghost use Rattle.std.specs.Prelude.{Contains, List as ListOf, Some, length, map, if◌then◌else◌};
+ghost use Rattle.std.specs.Prelude.{Contains, List as ListOf, None, Some, length, map, if◌then◌else◌};
 ghost use Rattle.std.specs.Prelude.{slice_get, slice_set, IfOk, OnOk};
 ghost use Rattle.std.specs.BTreeSet.{contains, keys_between};
 ghost use Rattle.std.specs.Option.{option_map};
@@ -22,7 +22,7 @@ ghost use Rattle.group_cells.specs.declared.groups.due.DueKey.{DueKey as DueKeyO
 
 use crate::firing::unseen;
 use crate::groups::group_plan::GroupPlan;
-use beam_values::{Cell, Mark, NoMemory, Time};
+use beam_values::{Cell, Mark, NoMemory, Time, Trigger};
 use pane_triggers::laws::{
     the_next_mark_is_the_least, unseen_entries_move_no_next_mark_without_an_early_count,
 };
@@ -338,13 +338,19 @@ fn moment_in(key: Option<DueKey>) -> Option<i64>
 }
 
 /// Whether a cell stays due at its moment whatever it takes: its on-time pane is yet to fire, and its
-/// trigger has no early count.
+/// trigger has no early count and no early bar.
 pub fn is_due_regardless(plan: &GroupPlan, cell: &Cell) -> bool
     ensures { result ≡ true → (entry : EntryOf)
         → own_moment plan.now cell.now ≡ own_moment plan.now (with_entry entry cell.now) }
 {
     unseen_entries_move_no_next_mark_without_an_early_count();
-    !cell.on_time && plan.trigger(cell.node).early.is_none()
+    !cell.on_time && has_no_early_panes(plan.trigger(cell.node))
+}
+
+fn has_no_early_panes(trigger: &Trigger) -> bool
+    ensures { result ≡ true → (trigger.now.early ≡ None) × (trigger.now.early_bars ≡ []) }
+{
+    trigger.early.is_none() && trigger.early_bars.is_empty()
 }
 
 fn moment_with(plan: &GroupPlan, cell: &Cell, count: u64) -> Option<i64>

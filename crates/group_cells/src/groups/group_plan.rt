@@ -45,7 +45,7 @@ impl GroupPlan {
             plan: plan.copy(alloc)?,
             groups,
             merges,
-            other: default_trigger(),
+            other: default_trigger(alloc),
         })
     }
 
@@ -98,19 +98,24 @@ fn all_group_rules(
     let mut groups = Vec::new(alloc);
     for node in 0..plan.nodes.len() {
         let node = u32::try_from(node).map_err(|_| NoMemory)?;
-        groups.push(group_rules(plan, facts, node))?;
+        groups.push(group_rules(alloc, plan, facts, node)?)?;
     }
     Ok(groups)
 }
 
-fn group_rules(plan: &Plan, facts: &[NodeFacts], node: u32) -> Option<Rules>
+fn group_rules(
+    alloc: Global,
+    plan: &Plan,
+    facts: &[NodeFacts],
+    node: u32,
+) -> Result<Option<Rules>, NoMemory>
     requires { facts.now ≡ facts_of plan.now.nodes }
-    ensures { result ≡ group_rules plan.now node }
+    ensures { IfOk result (λ rules. rules ≡ group_rules plan.now node) }
 {
     if is_group(plan, node) {
-        Some(rules_of(plan, facts, node))
+        Ok(Some(rules_of(alloc, plan, facts, node)?))
     } else {
-        None
+        Ok(None)
     }
 }
 

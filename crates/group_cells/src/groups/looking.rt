@@ -1,13 +1,12 @@
 ghost use Rattle.std.specs.Prelude.{◌≡◌, ◌<◌, ◌^◌, length};
-ghost use Rattle.beam_model.specs.Panes.{trigger_of};
 ghost use Rattle.group_cells.specs.Looking.{is_cell_of, IsNextDue, moment_of, place_of};
 ghost use Rattle.group_cells.specs.NextDue.{lesser_moment, with_moment};
 
 use crate::firing::unseen;
+use crate::groups::group_plan::GroupPlan;
 use crate::plain::placing::is_same_span;
-use crate::rules::trigger_of;
 use crate::windows::is_cell_at_key;
-use beam_values::{Cell, Plan, Span, Trigger, Value};
+use beam_values::{Cell, Span, Trigger, Value};
 use pane_triggers::next_mark;
 
 /// The place of the cell of a node, key and window, where the index can't say it.
@@ -31,13 +30,13 @@ pub fn is_cell_of(node: u32, key: &Value, span: Span, cell: &Cell) -> bool
 }
 
 /// The least moment of the cells of a node.
-pub fn next_due(plan: &Plan, node: u32, cells: &[Cell]) -> Option<i64>
+pub fn next_due(plan: &GroupPlan, node: u32, cells: &[Cell]) -> Option<i64>
     ensures { IsNextDue plan.now node cells.now result }
 {
-    let trigger = trigger_of(plan, node);
+    let trigger = plan.trigger(node);
     let mut least = None;
     for cell in cells {
-        least = with_moment(&trigger, node, least, cell);
+        least = with_moment(trigger, node, least, cell);
     }
     least
 }

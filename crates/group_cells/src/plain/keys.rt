@@ -94,7 +94,7 @@ fn place_next(
         (λ others. length cells.new.items + length others ≤ length cells.old.items + length left) }
 {
     let split = split_off(alloc, &place, left)?;
-    let rules = rules_of(plan, facts, place.node);
+    let rules = rules_of(alloc, plan, facts, place.node)?;
     let mark = mark_into(before, place.node);
     let Split { own, others } = split;
     place_key(

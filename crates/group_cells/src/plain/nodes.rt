@@ -98,7 +98,7 @@ fn fire_if_group(
     if !is_group(plan, n) {
         return Ok(List::new(alloc));
     }
-    let rules = rules_of(plan, facts, n);
+    let rules = rules_of(alloc, plan, facts, n)?;
     fire_group(alloc, &rules, n, commit, mark, cells)
 }
 

@@ -1,6 +1,5 @@
 use Rattle.std.proofs.Common.{List, subst}
 use Rattle.beam_values.specs.declared.cell.Cell.{Cell}
-use Rattle.beam_values.specs.declared.plan.Plan.{Plan}
 use Rattle.group_cells.specs.Commits.{SeenGroups}
 use Rattle.group_cells.specs.Looking.{IsNextDue}
 use Rattle.group_cells.proofs.groups.Groups.next_due.Goals as goal
@@ -8,8 +7,7 @@ use Rattle.group_cells.proofs.groups.Groups.next_due.Goals as goal
 pub returns : goal.returns
 returns c =
     subst (λ (g : SeenGroups). IsNextDue g.plan c.args.node g.cells c.next_due.result) c.self.view_is
-    (subst (λ (l : List Cell). IsNextDue c.self.inside.plan c.args.node l c.next_due.result) c.as_slice.ensures.value
-    (subst (λ (p : Plan). IsNextDue p c.args.node c.as_slice.result.now c.next_due.result) c.plan.ensures c.next_due.ensures))
+    (subst (λ (l : List Cell). IsNextDue c.self.inside.plan c.args.node l c.next_due.result) c.as_slice.ensures.value c.next_due.ensures)
 
 pub returns-then-self : goal.returns-then-self
 returns-then-self c =

@@ -16,7 +16,7 @@ loop-cell-preserved c =
     let i = c.loop-cell.cell-index in
     let cell = c.cell-item.result in
     let next : c.with_moment-least.result ≡ with_moment (trigger_of plan node) node c.loop-cell.least cell =
-    c.with_moment-least.ensures ∙ ap (λ (t : Trigger). with_moment t node c.loop-cell.least cell) c.trigger_of-trigger.ensures in
+    c.with_moment-least.ensures ∙ ap (λ (t : Trigger). with_moment t node c.loop-cell.least cell) c.trigger-trigger.ensures in
     let longer : take i cells ++ cell ∷ [] ≡ take (i + 1) cells = ap (λ (x : Cell). take i cells ++ x ∷ []) c.cell-item.is ∙ sym (take_more cells i cell c.loop-cell-test.true) in
     subst (λ (l : List Cell). IsNextDue plan node l c.with_moment-least.result) longer
     (subst (λ (o : Option ℤ). IsNextDue plan node (take i cells ++ cell ∷ []) o) (sym next) (due_step plan node (take i cells) cell c.loop-cell.least c.loop-cell.invariant))

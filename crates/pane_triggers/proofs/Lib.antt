@@ -1,0 +1,2 @@
+pub mod DueMarks
+mod NextMarkRows
