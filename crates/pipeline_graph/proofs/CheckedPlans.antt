@@ -1,21 +1,20 @@
 -- What each node of a checked plan has.
 use Rattle.std.proofs.Common.{◌≡◌, ◌≢◌, ℕ, zero, suc, ◌<◌, ◌≤◌, ◌==◌, ◌&&◌, nat_lt, Bool, true, false, cond, List, [], ◌∷◌, ◌++◌, length, get_or, take, Option, Some, None, slice_get, refl, sym, ap, subst, ◌∙◌, append-nil, append_assoc, arith}
-use Rattle.std.specs.Prelude.{ℤ, pos, ◌≤ℤ◌, int_le, IfSome, unwrap_or}
+use Rattle.std.specs.Prelude.{ℤ, pos, negsuc, ◌-ℤ◌, int_le, IfSome, unwrap_or}
 use Rattle.std.specs.Option.{option_map}
 use Rattle.std.specs.List.{All, Any, list_all, list_any}
-use Rattle.std.proofs.lemmas.Bool.{and_parts, both_ways, leb-true, ltb-true, ltb-false, eqb-true, not-true, true_from_ne_false, false_from_ne_true}
-use Rattle.std.proofs.lemmas.Int.{ints}
+use Rattle.std.proofs.lemmas.Bool.{and_parts, both_ways, leb-true, ltb-true, ltb-false, eqb-true, not-true, false_from_ne_true}
 use Rattle.std.proofs.lemmas.List.{length-take-le}
-use Rattle.std.proofs.lemmas.List.Folds.{list_all_at, list_any_at, Any-from_list_any}
+use Rattle.std.proofs.lemmas.List.Folds.{list_any_at, Any-from_list_any}
 use Rattle.std.proofs.lemmas.Option.{slice_get_within, slice_get-get_or}
-use Rattle.beam_values.specs.Checked.{IsChecked, has_arity, has_input, file_count, is_count, is_early_allowed, is_estimator_allowed, is_file_name, is_function_allowed, is_kept, is_set, is_source_allowed, is_trigger_allowed, is_write_in, node_refusal, nodes_refusal, write_refusal, is_source_argument}
+use Rattle.beam_values.specs.Checked.{IsChecked, has_arity, has_input, file_count, are_early_bars, is_count, is_early_allowed, is_estimator_allowed, is_file_name, is_function_allowed, is_kept, is_set, is_source_allowed, is_trigger_allowed, is_write_in, node_refusal, nodes_refusal, write_refusal, is_source_argument}
 use Rattle.beam_values.specs.Nodes.{is_source_kind, is_stateful_kind, is_write_kind, is_stateful, is_write}
-use Rattle.beam_values.specs.Strategies.{IsAllowed, IsLength, is_allowed, is_length}
+use Rattle.beam_values.specs.Strategies.{IsAllowed, IsLength, greatest_length, is_allowed, is_length}
 use Rattle.beam_values.specs.declared.graph_refusal.GraphRefusal.TheVariants.{NoWrite}
 use Rattle.beam_values.specs.declared.plan.Args.{Args}
 use Rattle.beam_values.specs.declared.plan.Args.TheVariants.{Nothing, Text, Number, Two}
 use Rattle.beam_values.specs.declared.plan.FnKind.{FnKind}
-use Rattle.beam_values.specs.declared.plan.FnKind.TheVariants.{KeyField, Words, Field, KeepPrefix, FieldInt, Swap, Shift, SumSeq, CountSeq, MaxSeq, Unseq, Values}
+use Rattle.beam_values.specs.declared.plan.FnKind.TheVariants.{KeyField, Words, Field, KeepPrefix, FieldInt, Swap, Shift, SumSeq, CountSeq, MaxSeq, Unseq, Values, Tag, JoinList, JoinSingle, JoinLookup}
 use Rattle.beam_values.specs.declared.plan.Estimator.{Estimator}
 use Rattle.beam_values.specs.declared.plan.Estimator.TheVariants as estimator
 use Rattle.beam_values.specs.declared.plan.Node.{Node}
@@ -29,12 +28,11 @@ use Rattle.beam_values.specs.declared.plan.Strategy.TheVariants.{Global, Fixed, 
 use Rattle.beam_values.specs.declared.plan.Trigger.{Trigger}
 use Rattle.beam_model.specs.Premises.{IsForward}
 use Rattle.pipeline_graph.specs.Rules.{HasFiles, HasInputs, HasLag, HasSettings, IsCount, IsFileName, IsTriggerSet}
+use Rattle.pipeline_graph.specs.Settings.{takes_state}
+use Rattle.pipeline_graph.proofs.BarStairs.{All-from_list_all, bars_set, counted, int_le_true}
 use Rattle.pipeline_graph.proofs.Unrefused.{IsUnrefused, file_count-push, neither, set_files, unbroken, unrefused}
 
 -- ---- tests of lists
-
-pub All-from_list_all : {X : Type 0} (p : X → Bool) (xs : List X) → list_all p xs ≡ true → All (λ x. p x ≡ true) xs
-All-from_list_all p xs all k d inside = true_from_ne_false _ (λ fails. both_ways _ (list_all_at p xs k d inside fails) all)
 
 pub All-from_list_any : {X : Type 0} (p : X → Bool) (xs : List X) → list_any p xs ≡ false → All (λ x. p x ≡ false) xs
 All-from_list_any p xs none k d inside = false_from_ne_true _ (λ passes. both_ways _ none (list_any_at p xs k d inside passes))
@@ -138,9 +136,6 @@ counted_inputs plan n node checked here = let rules = checked_at plan checked n 
 
 -- ---- settings
 
-int_le_true : (a b : ℤ) → int_le a b ≡ true → a ≤ℤ b
-int_le_true a b test = grind (arith, ints)
-
 allowed_length : (ms : ℤ) → is_length ms ≡ true → IsLength ms
 allowed_length ms test = let parts = and_parts _ _ test in (int_le_true _ _ parts.0, int_le_true _ _ parts.1)
 
@@ -163,19 +158,24 @@ lag_set estimator.Monotonic test = tt
 lag_set (estimator.Lag delay) test = let parts = and_parts _ _ test in (int_le_true _ _ parts.0, int_le_true _ _ parts.1)
 lag_set estimator.Declared test = tt
 
-counted : (n : ℕ) → is_count n ≡ true → IsCount n
-counted n test = let parts = and_parts _ _ test in (leb-true _ _ parts.0, leb-true _ _ parts.1)
-
 early_set : (early : Option ℕ) → is_early_allowed early ≡ true → IfSome early IsCount
 early_set None test = tt
 early_set (Some count) test = counted count test
 
 trigger_set : (trigger : Trigger) → is_trigger_allowed trigger ≡ true → IsTriggerSet trigger
 trigger_set trigger test =
-    let most = and_parts (is_early_allowed trigger.early && is_count trigger.late && int_le (pos 0) trigger.lateness) _ test in
+    let late_bars = and_parts (is_early_allowed trigger.early && is_count trigger.late && int_le (pos 0) trigger.lateness && int_le trigger.lateness greatest_length && are_early_bars trigger.early_bars) _ test in
+    let early_bars = and_parts (is_early_allowed trigger.early && is_count trigger.late && int_le (pos 0) trigger.lateness && int_le trigger.lateness greatest_length) _ late_bars.0 in
+    let most = and_parts (is_early_allowed trigger.early && is_count trigger.late && int_le (pos 0) trigger.lateness) _ early_bars.0 in
     let least = and_parts (is_early_allowed trigger.early && is_count trigger.late) _ most.0 in
     let counts = and_parts (is_early_allowed trigger.early) (is_count trigger.late) least.0 in
-    record { early = early_set trigger.early counts.0; late = counted trigger.late counts.1; lateness = (int_le_true _ _ least.1, int_le_true _ _ most.1) }
+    record {
+      early = early_set trigger.early counts.0;
+      late = counted trigger.late counts.1;
+      lateness = (int_le_true _ _ least.1, int_le_true _ _ most.1);
+      early_bars = bars_set (pos 0 -ℤ greatest_length) (negsuc 0) trigger.early_bars early_bars.1;
+      late_bars = bars_set (pos 0) greatest_length trigger.late_bars late_bars.1;
+    }
 
 file_names : (files : List (List ℕ)) → list_all is_file_name files ≡ true → All IsFileName files
 file_names files test k d inside = let parts = and_parts _ _ (All-from_list_all is_file_name files test k d inside) in (leb-true _ _ parts.0, leb-true _ _ parts.1)
@@ -204,11 +204,14 @@ settings before (ParDo work args) inputs test = test
 settings before Flatten inputs test = tt
 settings before (WindowInto strategy) inputs test = let parts = and_parts _ _ test in (allowed_strategy strategy parts.0, not_kept strategy (not-true _ parts.1))
 settings before (Group trigger) inputs test = trigger_set trigger test
-settings before (Stateful work args log) inputs test = cc
+settings before (Stateful work args log) inputs test = test
 settings before (Write label) inputs test = tt
 
 pub node_settings : (plan : Plan) (n : ℕ) (node : Node) → IsChecked plan → slice_get plan.nodes n ≡ Some node → HasSettings node.kind
 node_settings plan n node checked here = settings (take n plan.nodes) node.kind node.inputs (checked_at plan checked n node here).settings
+
+none_taken : takes_state ≡ false
+none_taken = refl
 
 pub no_stateful : (plan : Plan) (n : ℕ) → IsChecked plan → is_stateful plan n ≡ false
 no_stateful plan n checked = by_node (slice_get plan.nodes n) refl
@@ -219,7 +222,7 @@ no_stateful plan n checked = by_node (slice_get plan.nodes n) refl
     by_kind Flatten set = refl
     by_kind (WindowInto strategy) set = refl
     by_kind (Group trigger) set = refl
-    by_kind (Stateful work args log) set = absurd set
+    by_kind (Stateful work args log) set = absurd (both_ways takes_state none_taken set)
     by_kind (Write label) set = refl
 
     by_node : (found : Option Node) → slice_get plan.nodes n ≡ found → unwrap_or (option_map (λ node. is_stateful_kind node.kind) found) false ≡ false
@@ -243,6 +246,10 @@ goes_forward CountSeq args test = tt
 goes_forward MaxSeq args test = tt
 goes_forward Unseq args test = tt
 goes_forward Values args test = tt
+goes_forward Tag args test = tt
+goes_forward JoinList args test = tt
+goes_forward JoinSingle args test = tt
+goes_forward JoinLookup args test = tt
 
 -- ---- files
 

@@ -1,3 +1,4 @@
+pub mod BarStairs
 pub mod CheckedPlans
 pub mod FollowerChains
 mod FollowerLists

@@ -19,7 +19,8 @@ use Rattle.beam_values.specs.declared.plan.Plan.{Plan}
 use Rattle.beam_values.specs.declared.plan.Strategy.{Strategy}
 use Rattle.beam_values.specs.declared.plan.Strategy.TheVariants.{Global, Fixed, Sliding, Sessions, Kept}
 use Rattle.pipeline_graph.specs.Rules.{HasInputs, HasOwnStrategy, HasSettings, is_window_into_kind}
-use Rattle.pipeline_graph.proofs.CheckedPlans.{All-from_list_all, checked_at, counted_inputs, inputs_lower, length-before, settings, unrefused_plan}
+use Rattle.pipeline_graph.proofs.BarStairs.{All-from_list_all}
+use Rattle.pipeline_graph.proofs.CheckedPlans.{checked_at, counted_inputs, inputs_lower, length-before, settings, unrefused_plan}
 use Rattle.pipeline_graph.proofs.Unrefused.{facts_of-push, neither, unrefused}
 
 -- ---- what is known of each node

@@ -11,6 +11,10 @@ use Rattle.beam_values.specs.declared.plan.NodeKind.TheVariants.{Source, ParDo, 
 abbrev pub agrees_in : List NodeFacts → List ℕ → Bool
 agrees_in facts inputs = list_all (λ input. is_same_strategy (facts_at facts input).onward (first_strategy facts inputs)) inputs
 
+-- Keyed state isn't taken yet: no Stateful node is allowed.
+abbrev pub takes_state : Bool
+takes_state = false
+
 -- what a node asks of its settings, where the sources before it read `earlier` files
 abbrev pub is_set_after : List NodeFacts → ℕ → NodeKind → List ℕ → Bool
 is_set_after facts earlier (Source work args files estimator) inputs = is_source_allowed earlier work args files && is_estimator_allowed estimator
@@ -18,5 +22,5 @@ is_set_after facts earlier (ParDo work args) inputs = is_function_allowed work a
 is_set_after facts earlier Flatten inputs = agrees_in facts inputs
 is_set_after facts earlier (WindowInto strategy) inputs = is_allowed strategy && not (is_kept strategy)
 is_set_after facts earlier (Group trigger) inputs = is_trigger_allowed trigger
-is_set_after facts earlier (Stateful work args log) inputs = false
+is_set_after facts earlier (Stateful work args log) inputs = takes_state
 is_set_after facts earlier (Write label) inputs = true

@@ -9,6 +9,7 @@
 //! first, then `checking.rt`.
 #![tactic(auto)]
 
+mod bars;
 mod checking;
 mod followers;
 mod graph;
@@ -24,7 +25,7 @@ pub use graph::Graph;
 pub use kinds::MOST_INPUTS;
 pub use refusal::{CheckRefusal, refusal_number};
 pub use settings::{
-    GREATEST_COUNT, GREATEST_FIELD, GREATEST_MADE, GREATEST_STEP, LONGEST_FILE_NAME,
+    GREATEST_COUNT, GREATEST_FIELD, GREATEST_MADE, GREATEST_STEP, GREATEST_TAG, LONGEST_FILE_NAME,
     LONGEST_PREFIX, MOST_FILES,
 };
 

@@ -6,8 +6,12 @@ ghost use Rattle.beam_values.specs.Checked.{is_nothing, is_number_upto, is_sourc
 ghost use Rattle.beam_values.specs.Checked.{is_text_upto, is_trigger_allowed, is_two_upto};
 ghost use Rattle.beam_values.specs.Strategies.{is_allowed};
 
+use crate::bars::{are_early_bars, are_late_bars};
 use beam_values::{Args, Bytes, Estimator, FnKind, SourceKind, Strategy, Trigger};
 use windowing::{GREATEST_LENGTH, check_strategy};
+
+/// Whether a Stateful node is allowed: keyed state isn't taken yet.
+pub(crate) const TAKES_STATE: bool = false;
 
 /// The greatest number of files of all sources of a plan together.
 pub const MOST_FILES: usize = 256;
@@ -20,6 +24,9 @@ pub const LONGEST_PREFIX: usize = 4096;
 
 /// The greatest number of the field that a function takes.
 pub const GREATEST_FIELD: i64 = 1000;
+
+/// The tag of a value of the main input; that of a value of the view is 0.
+pub const GREATEST_TAG: i64 = 1;
 
 /// The greatest count of a source of numbers.
 pub const GREATEST_COUNT: u64 = 1_000_000_000;
@@ -88,6 +95,7 @@ pub(crate) fn is_function_allowed(work: &FnKind, args: &Args) -> bool
         FnKind::Field => is_number_up_to(GREATEST_FIELD, args),
         FnKind::KeepPrefix => is_text_up_to(LONGEST_PREFIX, args),
         FnKind::Shift => is_number_up_to(GREATEST_LENGTH, args),
+        FnKind::Tag => is_number_up_to(GREATEST_TAG, args),
         _ => is_nothing(args),
     }
 }
@@ -105,6 +113,8 @@ pub(crate) fn is_trigger_allowed(trigger: &Trigger) -> bool
         && 1 <= trigger.late
         && 0 <= trigger.lateness
         && trigger.lateness <= GREATEST_LENGTH
+        && are_early_bars(trigger.early_bars.as_slice())
+        && are_late_bars(trigger.late_bars.as_slice())
 }
 
 fn is_early_allowed(early: Option<u32>) -> bool

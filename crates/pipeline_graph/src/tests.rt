@@ -64,6 +64,8 @@ fn kind_of(alloc: Global, step: Step) -> Result<NodeKind, NoMemory> {
                 late: 1,
                 lateness: 0,
                 mode: Mode::Discarding,
+                early_bars: List::new(alloc),
+                late_bars: List::new(alloc),
             },
         }),
         Step::Dedupe => Ok(NodeKind::Stateful {
