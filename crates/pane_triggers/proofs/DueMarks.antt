@@ -4,7 +4,7 @@ use Rattle.std.specs.Prelude.{◌↔◌, IsSome, IsSomeAnd, MatchOption}
 use Rattle.std.specs.Int.{int_max, int_min}
 use Rattle.std.proofs.lemmas.Bool.{false≢true, and_parts, and_from, or_left, or_right}
 use Rattle.std.proofs.lemmas.Int.{ints, clamps}
-use Rattle.beam_values.specs.Firing.{firing, has_none, is_bar_met, is_early_due, is_enough, is_expired, is_late_due, is_late_enough, is_past, met}
+use Rattle.beam_values.specs.Firing.{firing, has_no_bars, is_bar_met, is_early_due, is_enough, is_expired, is_late_due, is_late_enough, is_past, met}
 use Rattle.beam_values.specs.Times.{least_time, final_mark}
 use Rattle.beam_values.specs.declared.element.Timing.TheVariants.{Early, OnTime, Late}
 use Rattle.beam_values.specs.declared.plan.Bar.{Bar}
@@ -138,15 +138,15 @@ next_is trigger end false unseen = by (is_enough trigger.early unseen) refl
         due false e mark
         ∙ ap (λ (t : Bool). int_le end mark || t) (and_swap (met trigger.early_bars unseen (mark -ℤ end)) (nat_le 1 unseen))
         ∙ sym (earliest_reached trigger.early_bars end unseen end mark low))
-next_is trigger end true unseen = by (nat_le 1 unseen) refl (has_none trigger.late_bars && nat_le trigger.late unseen) refl
+next_is trigger end true unseen = by (nat_le 1 unseen) refl (has_no_bars trigger.late_bars && nat_le trigger.late unseen) refl
   where
-    due : (some counted : Bool) → nat_le 1 unseen ≡ some → (has_none trigger.late_bars && nat_le trigger.late unseen) ≡ counted → (mark : ℤ)
+    due : (some counted : Bool) → nat_le 1 unseen ≡ some → (has_no_bars trigger.late_bars && nat_le trigger.late unseen) ≡ counted → (mark : ℤ)
         → is_some (firing trigger end mark true unseen) ≡ (some && ((met trigger.late_bars unseen (mark -ℤ end) || counted) || int_le (end +ℤ trigger.lateness) mark))
     due some counted e f mark =
         some_if (is_late_due trigger end mark unseen) Late
         ∙ (λ i. e i && ((met trigger.late_bars unseen (mark -ℤ end) || f i) || int_le (end +ℤ trigger.lateness) mark))
 
-    by : (some : Bool) → nat_le 1 unseen ≡ some → (counted : Bool) → (has_none trigger.late_bars && nat_le trigger.late unseen) ≡ counted
+    by : (some : Bool) → nat_le 1 unseen ≡ some → (counted : Bool) → (has_no_bars trigger.late_bars && nat_le trigger.late unseen) ≡ counted
         → IsLeast trigger end true unseen (cond some (cond counted (Some least_time) (mark_from (earliest trigger.late_bars end unseen (end +ℤ trigger.lateness)))) None)
         × Due trigger end true unseen (cond some (cond counted (Some least_time) (mark_from (earliest trigger.late_bars end unseen (end +ℤ trigger.lateness)))) None)
     by false e counted f = never trigger end true unseen (λ mark. due false counted e f mark)
@@ -194,7 +194,7 @@ upto_more end mark later h is = grind (arith, ints)
 late_rises : (trigger : Trigger) (end mark later : ℤ) (unseen : ℕ) → mark ≤ℤ later
     → is_late_due trigger end mark unseen ≡ true → is_late_due trigger end later unseen ≡ true
 late_rises trigger end mark later unseen h =
-    let counted : Bool = has_none trigger.late_bars && nat_le trigger.late unseen in
+    let counted : Bool = has_no_bars trigger.late_bars && nat_le trigger.late unseen in
     and_rises (nat_le 1 unseen) (is_late_enough trigger (mark -ℤ end) unseen || is_expired trigger end mark) (is_late_enough trigger (later -ℤ end) unseen || is_expired trigger end later)
     (or_rises (is_late_enough trigger (mark -ℤ end) unseen) (is_expired trigger end mark) (is_late_enough trigger (later -ℤ end) unseen) (is_expired trigger end later)
     (or_rises (met trigger.late_bars unseen (mark -ℤ end)) counted (met trigger.late_bars unseen (later -ℤ end)) counted

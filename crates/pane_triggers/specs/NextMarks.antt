@@ -2,7 +2,7 @@
 use Rattle.std.specs.Prelude.{◌≡◌, ℕ, ℤ, ◌+ℤ◌, ◌≤ℤ◌, ◌<ℤ◌, Bool, true, false, ◌&&◌, if◌then◌else◌, nat_le, int_le, List, Option, Some, None, IsSome}
 use Rattle.std.specs.Int.{int_max, int_min}
 use Rattle.std.specs.List.{fold}
-use Rattle.beam_values.specs.Firing.{has_none, is_enough, firing}
+use Rattle.beam_values.specs.Firing.{has_no_bars, is_enough, firing}
 use Rattle.beam_values.specs.Times.{least_time, final_mark}
 use Rattle.beam_values.specs.declared.plan.Bar.{Bar}
 use Rattle.beam_values.specs.declared.plan.Trigger.{Trigger}
@@ -42,5 +42,5 @@ earliest bars end unseen time = fold (earlier_by end unseen) time bars
 abbrev pub next_mark : Trigger → ℤ → Bool → ℕ → Option ℤ
 next_mark trigger end false unseen = if is_enough trigger.early unseen then Some least_time else mark_from (earliest trigger.early_bars end unseen end)
 next_mark trigger end true unseen =
-    if nat_le 1 unseen then (if has_none trigger.late_bars && nat_le trigger.late unseen then Some least_time
+    if nat_le 1 unseen then (if has_no_bars trigger.late_bars && nat_le trigger.late unseen then Some least_time
     else mark_from (earliest trigger.late_bars end unseen (end +ℤ trigger.lateness))) else None
