@@ -17,15 +17,15 @@ use Rattle.beam_values.specs.declared.marks.StageMarks.{StageMarks}
 use Rattle.beam_values.specs.declared.plan.Plan.{Plan}
 use Rattle.beam_values.specs.declared.value.Value.{Value}
 use Rattle.beam_model.specs.Panes.{GroupRules, rules_of, is_cell_at_key}
+use Rattle.cell_index.specs.Indexes.{IsIndexOf}
+use Rattle.cell_index.specs.declared.index.CellIndex.{CellIndex}
+use Rattle.cell_index.proofs.Indexing.{position_yes, position_no}
 use Rattle.group_cells.specs.Arrivals.{AreOwn, UnmergedStand, merging}
 use Rattle.group_cells.specs.Cells.{after_firing, firing_of, once_fired}
 use Rattle.group_cells.specs.Commits.{CellPlace, cell_place, is_taken, is_at_group, arrives_in_time}
-use Rattle.group_cells.specs.Indexes.{IsIndexOf}
 use Rattle.group_cells.specs.Placing.{is_standing}
 use Rattle.group_cells.specs.Plain.{AreAllPlaced, AreNodesFired}
-use Rattle.group_cells.specs.declared.groups.index.CellIndex.{CellIndex}
 use Rattle.group_cells.proofs.Alike.{and_parts}
-use Rattle.group_cells.proofs.Indexing.{position_yes, position_no}
 use Rattle.group_cells.proofs.PlacedInTurn.{placed_none}
 
 -- where nothing comes, all is placed

@@ -21,9 +21,9 @@ use Rattle.beam_values.specs.declared.plan.Plan.{Plan}
 use Rattle.beam_values.specs.declared.value.Value.{Value}
 use Rattle.beam_model.specs.Panes.{GroupRules, rules_of, is_cell_at_key}
 use Rattle.beam_model.specs.Sessions.{is_keyed}
+use Rattle.cell_index.specs.Places.{is_cell_of}
 use Rattle.group_cells.specs.Arrivals.{arrived, with_arrival, with_arrivals, merging, UnmergedStand, AreOwn}
 use Rattle.group_cells.specs.Commits.{CellPlace, cell_place, elements_keyed, is_taken, is_at_group, arrives_in_time}
-use Rattle.group_cells.specs.Looking.{is_cell_of}
 use Rattle.group_cells.specs.Placing.{Opening, is_same_key, fresh_cell, with_entry, opened_all}
 use Rattle.group_cells.specs.Plain.{AreAllPlaced, ArePlaced, IsFit, is_arrival_at}
 use Rattle.group_cells.specs.Rounds.{AreWindowsFor, entry_of, open_windows}

@@ -7,8 +7,8 @@ use Rattle.beam_values.specs.declared.cell.Cell.{Cell}
 use Rattle.beam_values.specs.declared.cell.Entry.{Entry}
 use Rattle.beam_values.specs.declared.value.Value.{Value}
 use Rattle.beam_model.specs.Panes.{is_cell_at_key}
+use Rattle.cell_index.specs.Places.{is_cell_of}
 use Rattle.group_cells.specs.Arrivals.{arrived}
-use Rattle.group_cells.specs.Looking.{is_cell_of}
 use Rattle.group_cells.specs.Placing.{with_entry, fresh_cell}
 use Rattle.group_cells.proofs.Alike.{and_parts, same_group, group_through}
 

@@ -12,11 +12,11 @@ use Rattle.std.proofs.lemmas.List.{map-append, get_or-map, get_or-set_other, get
 use Rattle.std.proofs.lemmas.Option.{slice_get_past, slice_get_within, slice_get-get_or, get_or_from_slice_get}
 use Rattle.beam_values.specs.declared.cell.Cell.{Cell}
 use Rattle.beam_values.specs.declared.plan.Plan.{Plan}
+use Rattle.cell_index.proofs.Indexing.{int_tied, nat_tied}
 use Rattle.group_cells.specs.Cells.{unseen_in}
 use Rattle.group_cells.specs.Due.{IsDueOf, due_cmp, has_moment, is_due_as, is_key_of, own_moment}
 use Rattle.group_cells.specs.declared.groups.due.DueCells.{DueCells}
 use Rattle.group_cells.specs.declared.groups.due.DueKey.{DueKey}
-use Rattle.group_cells.proofs.Indexing.{int_tied, nat_tied}
 use Rattle.group_cells.proofs.Undoing.{read_written}
 
 and_turned : (n m p : Bool) → (n && (m && p)) ≡ ((n && p) && m)

@@ -17,10 +17,10 @@ use Rattle.beam_values.specs.declared.marks.StageMarks.{StageMarks}
 use Rattle.beam_values.specs.declared.plan.Plan.{Plan}
 use Rattle.beam_values.specs.declared.value.Value.{Value}
 use Rattle.beam_model.specs.Panes.{GroupRules, Taken, IsFiredAs, rules_of, taken_entry}
+use Rattle.cell_index.specs.Places.{is_cell_of}
 use Rattle.group_cells.specs.Arrivals.{arrived, merging, with_arrival, with_arrivals}
 use Rattle.group_cells.specs.Cells.{entries_held, firing_of}
 use Rattle.group_cells.specs.Commits.{CellPlace, cell_place, elements_keyed, is_taken}
-use Rattle.group_cells.specs.Looking.{is_cell_of}
 use Rattle.group_cells.specs.Placing.{Opening, fresh_cell, with_entry}
 use Rattle.group_cells.specs.Plain.{AreFired, AreNodesFired, handed_over_at, is_arrival_at, once_opened_at, opened_all_at, opened_at, put_all_at, put_at, stands_at, takes_at}
 use Rattle.group_cells.specs.Rounds.{entry_of}

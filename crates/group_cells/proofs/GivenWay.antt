@@ -13,18 +13,18 @@ use Rattle.beam_values.specs.declared.cell.Entry.{Entry}
 use Rattle.beam_values.specs.declared.plan.Plan.{Plan}
 use Rattle.beam_values.specs.declared.value.Value.{Value}
 use Rattle.beam_model.specs.Panes.{GroupRules}
+use Rattle.cell_index.specs.Indexes.{IsIndexOf}
+use Rattle.cell_index.specs.declared.index.CellIndex.{CellIndex}
 use Rattle.group_cells.specs.AtPlaces.{at_place, changed_at, given_all}
 use Rattle.group_cells.specs.Cells.{unseen_in}
 use Rattle.group_cells.specs.Due.{IsDueOf, own_moment}
 use Rattle.group_cells.specs.Handing.{given_entries, given_way, handed_back, kept_entries, standing_with, with_entries, without_given, HasGivenWay}
-use Rattle.group_cells.specs.Indexes.{IsIndexOf}
 use Rattle.group_cells.specs.Placing.{fresh_cell, gives_way, handed_over, is_absorbed, is_standing, once_opened}
 use Rattle.group_cells.specs.Undoing.{undone_all}
 use Rattle.group_cells.specs.declared.groups.draft.Change.{Change}
 use Rattle.group_cells.specs.declared.groups.draft.Change.TheVariants.{GaveWay}
 use Rattle.group_cells.specs.declared.groups.due.DueCells.{DueCells}
 use Rattle.group_cells.specs.declared.groups.handing.Given.{Given}
-use Rattle.group_cells.specs.declared.groups.index.CellIndex.{CellIndex}
 use Rattle.group_cells.proofs.DueSteps.{counts_length, unseen_both, IsChanged, IsMomentAt}
 use Rattle.group_cells.proofs.FireSteps.{read_is}
 use Rattle.group_cells.proofs.Handing.{goes_there, none_there, stays_there}

@@ -29,13 +29,13 @@ use Rattle.beam_values.specs.declared.cell.Cell.{Cell}
 use Rattle.beam_values.specs.declared.element.Element.{Element}
 use Rattle.beam_values.specs.declared.plan.Plan.{Plan}
 use Rattle.beam_model.specs.Panes.{is_cell_at_key, rules_of}
+use Rattle.cell_index.proofs.Indexing.{nat_tied}
 use Rattle.group_cells.specs.Commits.{cell_place, elements_keyed}
 use Rattle.group_cells.specs.KeyLists.{all_listed, group_key_cmp, listed, places_of, stands, stands_here, standing_places, AreReached, AreStanding, IsOverBy}
 use Rattle.group_cells.specs.Placing.{is_standing}
 use Rattle.group_cells.specs.Plain.{is_arrival_at}
 use Rattle.group_cells.specs.declared.groups.keyed.GroupKey.{GroupKey}
 use Rattle.group_cells.specs.declared.groups.standing.Standing.{Standing}
-use Rattle.group_cells.proofs.Indexing.{nat_tied}
 use Rattle.group_cells.proofs.PlacedKeys.{at_itself, is_at as is_here}
 use Rattle.group_cells.proofs.NearPlaces.{reached_on}
 use Rattle.group_cells.proofs.PlacedCells.{GoesOn}

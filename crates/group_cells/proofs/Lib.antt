@@ -1,5 +1,4 @@
 mod Alike
-mod Leading
 mod Arriving
 pub mod Counting
 pub mod WindowTests
@@ -50,7 +49,6 @@ mod Handing
 mod GivenWay
 mod SessionsInTurn
 mod AllArrived
-mod Indexing
 mod Looking
 mod LoopSteps
 mod Projecting

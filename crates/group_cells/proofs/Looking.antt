@@ -13,9 +13,9 @@ use Rattle.beam_values.specs.declared.cell.Cell.{Cell}
 use Rattle.beam_values.specs.declared.plan.Plan.{Plan}
 use Rattle.beam_values.specs.declared.plan.Trigger.{Trigger}
 use Rattle.beam_model.specs.Panes.{trigger_of}
+use Rattle.cell_index.proofs.Indexing.{place_pushed, position_yes, position_no}
 use Rattle.group_cells.specs.Looking.{IsDueAt, IsNextDue, IsNotDueBefore, moment_of}
 use Rattle.group_cells.specs.NextDue.{lesser_moment, with_moment}
-use Rattle.group_cells.proofs.Indexing.{place_pushed, position_yes, position_no}
 
 -- ---- places
 

@@ -15,14 +15,14 @@ use Rattle.beam_values.specs.declared.cell.Cell.{Cell}
 use Rattle.beam_values.specs.declared.cell.Entry.{Entry}
 use Rattle.beam_values.specs.declared.value.Value.{Value}
 use Rattle.beam_model.specs.Panes.{GroupRules}
+use Rattle.cell_index.specs.Indexes.{IsIndexOf}
+use Rattle.cell_index.specs.Places.{is_cell_of, place_of}
+use Rattle.cell_index.specs.declared.index.CellIndex.{CellIndex}
+use Rattle.cell_index.specs.declared.index_key.CellKey.{CellKey}
+use Rattle.cell_index.proofs.Indexing.{position_yes, position_no}
 use Rattle.group_cells.specs.Arrivals.{arrived}
 use Rattle.group_cells.specs.Plain.{put_at}
-use Rattle.group_cells.specs.Indexes.{IsIndexOf}
-use Rattle.group_cells.specs.Looking.{is_cell_of, place_of}
 use Rattle.group_cells.specs.Placing.{with_entry, fresh_cell}
-use Rattle.group_cells.specs.declared.groups.index.CellIndex.{CellIndex}
-use Rattle.group_cells.specs.declared.groups.index_key.CellKey.{CellKey}
-use Rattle.group_cells.proofs.Indexing.{position_yes, position_no}
 use Rattle.group_cells.proofs.Undoing.{none_within}
 
 mapped : (o : Option ℕ) (i : ℕ) → option_map suc o ≡ Some i → (j : ℕ) × (o ≡ Some j) × (i ≡ suc j)

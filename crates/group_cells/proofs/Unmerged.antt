@@ -11,8 +11,8 @@ use Rattle.beam_values.specs.declared.cell.Entry.{Entry}
 use Rattle.beam_values.specs.declared.element.Element.{Element}
 use Rattle.beam_values.specs.declared.value.Value.{Value}
 use Rattle.beam_model.specs.Panes.{GroupRules, is_cell_at_key}
+use Rattle.cell_index.specs.Places.{is_cell_of}
 use Rattle.group_cells.specs.Arrivals.{arrived, AreOwn}
-use Rattle.group_cells.specs.Looking.{is_cell_of}
 use Rattle.group_cells.specs.Placing.{Opening, takes, with_entry, fresh_cell, put, put_all, opened, opened_all, stands_as, once_opened, handed_over, gives_way, is_absorbed, is_standing}
 use Rattle.group_cells.specs.Rounds.{entry_of}
 use Rattle.group_cells.proofs.Alike.{same_group, group_asked, span_back, span_itself}

@@ -11,8 +11,8 @@ use Rattle.beam_values.specs.declared.marks.StageMarks.{StageMarks}
 use Rattle.beam_values.specs.declared.plan.Plan.{Plan}
 use Rattle.beam_values.specs.declared.value.Value.{Value}
 use Rattle.beam_model.specs.Panes.{rules_of, is_cell_at_key}
+use Rattle.cell_index.specs.Places.{is_cell_of}
 use Rattle.group_cells.specs.Commits.{is_taken}
-use Rattle.group_cells.specs.Looking.{is_cell_of}
 use Rattle.group_cells.specs.Placing.{with_entry, fresh_cell, is_standing}
 use Rattle.group_cells.specs.Rounds.{entry_of}
 

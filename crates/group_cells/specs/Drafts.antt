@@ -2,9 +2,9 @@
 use Rattle.std.specs.Prelude.{◌≡◌, ◌<◌, ◌^◌, Bool, true, List, [], length}
 use Rattle.std.specs.BTreeMap.{BTreeMap}
 use Rattle.beam_values.specs.declared.plan.Plan.{Plan}
+use Rattle.cell_index.specs.Indexes.{IsIndexOf}
 use Rattle.group_cells.specs.Arrivals.{UnmergedStand}
 use Rattle.group_cells.specs.Due.{IsDueOf}
-use Rattle.group_cells.specs.Indexes.{IsIndexOf}
 use Rattle.group_cells.specs.KeyLists.{AreStanding}
 use Rattle.group_cells.specs.Plain.{AreCells}
 use Rattle.group_cells.specs.declared.groups.draft.Draft.{Draft}

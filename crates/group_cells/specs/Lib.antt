@@ -5,8 +5,6 @@ pub mod Rounds
 pub mod Commits
 pub mod Due
 pub mod Looking
-pub mod Leads
-pub mod Indexes
 pub mod Arrivals
 pub mod Unfiring
 pub mod AtPlaces

@@ -1,24 +1,13 @@
--- What is found in the cells: the place of a cell, and the least moment at which a cell of a node is due.
-use Rattle.std.specs.Prelude.{◌≡◌, ℕ, ℤ, ◌≤ℤ◌, Bool, ◌&&◌, List, if◌then◌else◌, position, Option, Some, None, MatchOption}
+-- The least moment at which a cell of a node is due.
+use Rattle.std.specs.Prelude.{◌≡◌, ℕ, ℤ, ◌≤ℤ◌, List, if◌then◌else◌, Option, Some, None, MatchOption}
 use Rattle.std.specs.List.{All, Any}
-use Rattle.beam_values.specs.Intervals.{Interval}
-use Rattle.beam_values.specs.Spans.{same_span}
 use Rattle.beam_values.specs.declared.cell.Cell.{Cell}
 use Rattle.beam_values.specs.declared.plan.Plan.{Plan}
 use Rattle.beam_values.specs.declared.plan.Trigger.{Trigger}
-use Rattle.beam_values.specs.declared.value.Value.{Value}
-use Rattle.beam_model.specs.Panes.{is_cell_at_key, trigger_of}
+use Rattle.beam_model.specs.Panes.{trigger_of}
 use Rattle.pane_triggers.specs.NextMarks.{next_mark}
 use Rattle.group_cells.specs.Placing.{is_standing}
 use Rattle.group_cells.specs.Cells.{unseen_in}
-
--- the cell of a node, key and window
-abbrev pub is_cell_of : ℕ → Value → Interval → Cell → Bool
-is_cell_of node key span cell = is_cell_at_key node key cell && same_span cell.span span
-
--- the place of that cell, if there is one, also of one that was merged
-abbrev pub place_of : ℕ → Value → Interval → List Cell → Option ℕ
-place_of node key span cells = position (is_cell_of node key span) cells
 
 -- the least mark at which a cell fires a pane, as long as nothing else changes; one that was merged fires none
 abbrev pub moment_of : Trigger → Cell → Option ℤ

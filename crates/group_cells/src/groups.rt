@@ -3,8 +3,9 @@
 ghost use Rattle.std.specs.Prelude.{◌≡◌, ◌+◌, ◌≤◌, ℕ, ℤ, [], length, All, IfOk, OnOk, OnErr};
 ghost use Rattle.beam_values.specs.Checked.{IsChecked};
 ghost use Rattle.beam_values.specs.Marks.{AreMarks};
+ghost use Rattle.cell_index.specs.Places.{place_of};
 ghost use Rattle.group_cells.specs.Commits.{HasGap, IsCommitted, KeepsLegal, NoneFalls, RisesFrom};
-ghost use Rattle.group_cells.specs.Looking.{IsNextDue, place_of};
+ghost use Rattle.group_cells.specs.Looking.{IsNextDue};
 ghost use Rattle.watermarks.specs.Holds.{hold_at};
 
 mod advance;
@@ -13,10 +14,7 @@ mod due;
 mod fired;
 mod firing;
 mod group_plan;
-mod guesses;
 mod handing;
-mod index;
-mod index_key;
 mod keyed;
 mod looking;
 mod placing;
@@ -29,14 +27,13 @@ use crate::groups::advance::Next;
 use crate::groups::draft::Draft;
 use crate::groups::due::DueCells;
 use crate::groups::group_plan::GroupPlan;
-use crate::groups::index::CellIndex;
-use crate::groups::index_key::{CellKey, IndexKey};
 use crate::groups::keyed::GroupKey;
 use crate::groups::looking::{next_due, place_among};
 use crate::groups::standing::Standing;
 use beam_values::{
     Arrival, Cell, Dropped, List, Mark, NoMemory, Pane, Plan, Span, StageMarks, Value,
 };
+use cell_index::{CellIndex, CellKey, IndexKey};
 use std::alloc::Global;
 use std::collections::BTreeMap;
 use std::marker::Model;

@@ -52,6 +52,8 @@ fn grouped(alloc: Global) -> Result<Plan, NoMemory>
                 late: 1,
                 lateness: 0,
                 mode: Mode::Discarding,
+                early_bars: List::new(alloc),
+                late_bars: List::new(alloc),
             },
         },
         inputs: List::from_slice(alloc, &[0])?,

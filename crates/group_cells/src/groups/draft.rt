@@ -2,10 +2,10 @@ ghost use Rattle.std.specs.Prelude.{◌≡◌, ◌<◌, ◌∷◌, [], ◌++◌,
 ghost use Rattle.std.specs.Prelude.{OnOk, OnErr, IfOk, IfSome, None, false, take};
 ghost use Rattle.beam_values.specs.Grouping.{key_of};
 ghost use Rattle.beam_values.specs.declared.cell.Cell.{Cell as CellOf};
+ghost use Rattle.cell_index.specs.Indexes.{IsIndexOf};
+ghost use Rattle.cell_index.specs.Places.{place_of};
 ghost use Rattle.group_cells.specs.Arrivals.{arrived};
 ghost use Rattle.group_cells.specs.Due.{IsDueOf};
-ghost use Rattle.group_cells.specs.Indexes.{IsIndexOf};
-ghost use Rattle.group_cells.specs.Looking.{place_of};
 ghost use Rattle.group_cells.specs.Placing.{fresh_cell, with_entry};
 ghost use Rattle.group_cells.specs.Undoing.{undone, undone_all, without_last};
 ghost use Rattle.group_cells.specs.Unfiring.{unfired};
@@ -14,12 +14,11 @@ use crate::groups::due::{DueCells, is_due_regardless};
 use crate::groups::fired::{Unfired, unfire};
 use crate::groups::group_plan::GroupPlan;
 use crate::groups::handing::{Given, hand_back};
-use crate::groups::index::CellIndex;
-use crate::groups::index_key::{CellKey, IndexKey};
 use crate::groups::looking::is_cell_of;
 use beam_values::{
     Boxed, Cell, Dropped, Element, Entry, List, NoMemory, Value, cmp_values, copy_key, key_or,
 };
+use cell_index::{CellIndex, CellKey, IndexKey};
 use std::alloc::Global;
 use std::cmp::Ordering;
 

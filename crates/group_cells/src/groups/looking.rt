@@ -1,5 +1,6 @@
 ghost use Rattle.std.specs.Prelude.{◌≡◌, ◌<◌, ◌^◌, length};
-ghost use Rattle.group_cells.specs.Looking.{is_cell_of, IsNextDue, moment_of, place_of};
+ghost use Rattle.cell_index.specs.Places.{is_cell_of, place_of};
+ghost use Rattle.group_cells.specs.Looking.{IsNextDue, moment_of};
 ghost use Rattle.group_cells.specs.NextDue.{lesser_moment, with_moment};
 
 use crate::firing::unseen;

@@ -3,10 +3,10 @@ ghost use Rattle.std.specs.Prelude.{if◌then◌else◌};
 ghost use Rattle.std.specs.List.{filter};
 ghost use Rattle.beam_values.specs.Grouping.{key_of};
 ghost use Rattle.beam_values.specs.Marks.{marks_at};
+ghost use Rattle.cell_index.specs.Indexes.{IsIndexOf};
 ghost use Rattle.group_cells.specs.Arrivals.{arrived, with_arrival, with_arrivals};
 ghost use Rattle.group_cells.specs.Commits.{dropped_arrival, is_dropped};
 ghost use Rattle.group_cells.specs.Due.{IsDueOf};
-ghost use Rattle.group_cells.specs.Indexes.{IsIndexOf};
 ghost use Rattle.group_cells.specs.Rounds.{entry_of};
 ghost use Rattle.group_cells.specs.Undoing.{undone_all};
 

@@ -3,9 +3,9 @@ use Rattle.std.proofs.lemmas.List.Elements.{All-nil}
 use Rattle.beam_values.specs.Nodes.{is_group}
 use Rattle.beam_values.specs.declared.cell.Cell.{Cell}
 use Rattle.beam_model.specs.Panes.{IsKeyed}
+use Rattle.cell_index.specs.Indexes.{IsIndexOf}
 use Rattle.group_cells.specs.Arrivals.{UnmergedStand}
 use Rattle.group_cells.specs.Due.{IsDueOf}
-use Rattle.group_cells.specs.Indexes.{IsIndexOf}
 use Rattle.group_cells.specs.Plain.{AreCells}
 use Rattle.group_cells.specs.KeyLists.{group_key_cmp, listed, places_of, AreReached, AreStanding}
 use Rattle.group_cells.specs.declared.groups.keyed.GroupKey.{GroupKey}

@@ -1,6 +1,6 @@
 use Rattle.std.proofs.Common.{ap, ◌∙◌}
+use Rattle.cell_index.specs.Places.{place_of}
 use Rattle.group_cells.specs.Commits.{SeenGroups}
-use Rattle.group_cells.specs.Looking.{place_of}
 use Rattle.group_cells.proofs.groups.Groups.place.Goals as goal
 
 pub returns : goal.returns

@@ -1,4 +1,4 @@
-use Rattle.group_cells.specs.Looking.{is_cell_of}
+use Rattle.cell_index.specs.Places.{is_cell_of}
 use Rattle.std.proofs.Common.{sym, ◌∙◌}
 use Rattle.group_cells.proofs.Looking.{found_now}
 use Rattle.group_cells.proofs.groups.looking.place_among.Goals as goal

@@ -1,5 +1,5 @@
 use Rattle.std.proofs.Common.{◌≡◌, None, take}
-use Rattle.group_cells.specs.Looking.{place_of}
+use Rattle.cell_index.specs.Places.{place_of}
 use Rattle.group_cells.proofs.groups.looking.place_among.Given as goal
 
 abbrev pub invariant-loop-at : goal.invariant-loop-at

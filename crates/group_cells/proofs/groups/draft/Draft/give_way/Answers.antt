@@ -1,8 +1,8 @@
 use Rattle.std.proofs.Common.{arith, subst, sym}
 use Rattle.std.proofs.lemmas.Result.{on_ok_weaker}
-use Rattle.group_cells.specs.Indexes.{IsIndexOf}
+use Rattle.cell_index.specs.Indexes.{IsIndexOf}
+use Rattle.cell_index.specs.declared.index.CellIndex.{CellIndex}
 use Rattle.group_cells.specs.declared.groups.due.DueCells.{DueCells}
-use Rattle.group_cells.specs.declared.groups.index.CellIndex.{CellIndex}
 use Rattle.group_cells.proofs.DueSteps.{IsChanged}
 use Rattle.group_cells.proofs.GivenWay.{given_due, given_index, given_length, once_counted}
 use Rattle.group_cells.proofs.groups.draft.Draft.give_way.Goals as goal

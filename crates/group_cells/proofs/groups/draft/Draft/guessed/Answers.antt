@@ -2,8 +2,8 @@ use Rattle.std.proofs.Common.{◌≡◌, Some, ap, length, refl, sym, ◌∙◌}
 use Rattle.std.specs.List.{slice_get}
 use Rattle.std.proofs.lemmas.Option.{slice_get_read}
 use Rattle.beam_values.specs.Grouping.{key_of}
-use Rattle.group_cells.specs.Looking.{is_cell_of}
-use Rattle.group_cells.proofs.Indexing.{found_own}
+use Rattle.cell_index.specs.Places.{is_cell_of}
+use Rattle.cell_index.proofs.Indexing.{found_own}
 use Rattle.group_cells.proofs.groups.draft.Draft.guessed.Goals as goal
 
 pub returns-then-is_cell_of : goal.returns-then-is_cell_of

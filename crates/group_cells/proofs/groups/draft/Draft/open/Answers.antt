@@ -1,7 +1,7 @@
 use Rattle.std.proofs.Common.{◌≡◌, length, rules, subst, sym}
 use Rattle.std.proofs.lemmas.Result.{on_ok_weaker}
-use Rattle.group_cells.specs.Indexes.{IsIndexOf}
-use Rattle.group_cells.specs.declared.groups.index.CellIndex.{CellIndex}
+use Rattle.cell_index.specs.Indexes.{IsIndexOf}
+use Rattle.cell_index.specs.declared.index.CellIndex.{CellIndex}
 use Rattle.group_cells.proofs.groups.draft.Draft.open.Goals as goal
 
 pub returns-clause-indexed : goal.returns-clause-indexed

@@ -1,6 +1,6 @@
 use Rattle.std.proofs.Common.{◌≡◌, map, take}
+use Rattle.cell_index.specs.Indexes.{IsIndexOf}
 use Rattle.group_cells.specs.Due.{IsDueOf}
-use Rattle.group_cells.specs.Indexes.{IsIndexOf}
 use Rattle.group_cells.specs.KeyLists.{ArePlaces}
 use Rattle.group_cells.specs.Plain.{opened_all_at, opening_of}
 use Rattle.group_cells.specs.Undoing.{undone_all}

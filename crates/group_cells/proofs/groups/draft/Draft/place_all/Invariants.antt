@@ -1,9 +1,9 @@
 use Rattle.std.proofs.Common.{◌≡◌, ◌++◌, length, take, drop, map}
 use Rattle.std.specs.List.{filter}
+use Rattle.cell_index.specs.Indexes.{IsIndexOf}
 use Rattle.group_cells.specs.Arrivals.{with_arrivals}
 use Rattle.group_cells.specs.Commits.{dropped_arrival, is_dropped}
 use Rattle.group_cells.specs.Due.{IsDueOf}
-use Rattle.group_cells.specs.Indexes.{IsIndexOf}
 use Rattle.group_cells.specs.Undoing.{undone_all}
 use Rattle.group_cells.proofs.groups.draft.Draft.place_all.Given as goal
 

@@ -1,7 +1,7 @@
 use Rattle.std.proofs.Common.{◌≡◌, ◌+◌, ◌≤◌, length}
 use Rattle.std.specs.BTreeMap.{btree_map_len}
+use Rattle.cell_index.specs.Indexes.{IsIndexOf}
 use Rattle.group_cells.specs.Due.{IsDueOf}
-use Rattle.group_cells.specs.Indexes.{IsIndexOf}
 use Rattle.group_cells.specs.KeyLists.{all_listed, AreStanding}
 use Rattle.group_cells.specs.Undoing.{undone_all}
 use Rattle.group_cells.proofs.SessionsInTurn.{ArePlacedYet}

@@ -1,10 +1,10 @@
 use Rattle.std.proofs.Common.{◌≡◌, ◌∙◌, sym, subst}
 use Rattle.std.proofs.lemmas.Result.{on_ok_weaker}
 use Rattle.beam_values.specs.declared.cell.Cell.{Cell}
-use Rattle.group_cells.specs.Indexes.{IsIndexOf}
-use Rattle.group_cells.specs.declared.groups.index.CellIndex.{CellIndex}
-use Rattle.group_cells.specs.declared.groups.index_key.CellKey.{CellKey}
-use Rattle.group_cells.proofs.Indexing.{index_again}
+use Rattle.cell_index.specs.Indexes.{IsIndexOf}
+use Rattle.cell_index.specs.declared.index.CellIndex.{CellIndex}
+use Rattle.cell_index.specs.declared.index_key.CellKey.{CellKey}
+use Rattle.cell_index.proofs.Indexing.{index_again}
 use Rattle.group_cells.proofs.groups.draft.Draft.push_session.Goals as goal
 
 pub returns-in-Some-clause-indexed : goal.returns-in-Some-clause-indexed

@@ -1,7 +1,7 @@
 use Rattle.std.proofs.Common.{◌≡◌, ◌++◌, map}
 use Rattle.std.specs.Vec.Iter.{into_iter_items}
+use Rattle.cell_index.specs.Indexes.{IsIndexOf}
 use Rattle.group_cells.specs.Due.{IsDueOf}
-use Rattle.group_cells.specs.Indexes.{IsIndexOf}
 use Rattle.group_cells.specs.KeyLists.{ArePlaces}
 use Rattle.group_cells.specs.Plain.{put_all_at}
 use Rattle.group_cells.specs.Rounds.{entry_of}

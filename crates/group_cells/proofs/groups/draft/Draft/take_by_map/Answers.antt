@@ -3,9 +3,9 @@ use Rattle.std.proofs.lemmas.Result.{on_ok_weaker}
 use Rattle.std.specs.Prelude.{IsNone, IsSome}
 use Rattle.beam_values.specs.Grouping.{key_of}
 use Rattle.beam_values.specs.declared.cell.Cell.{Cell}
-use Rattle.group_cells.specs.Indexes.{IsIndexOf}
-use Rattle.group_cells.specs.Looking.{place_of}
-use Rattle.group_cells.specs.declared.groups.index.CellIndex.{CellIndex}
+use Rattle.cell_index.specs.Indexes.{IsIndexOf}
+use Rattle.cell_index.specs.Places.{place_of}
+use Rattle.cell_index.specs.declared.index.CellIndex.{CellIndex}
 use Rattle.group_cells.proofs.Taking.{taken_at, index_taken, first_taken}
 use Rattle.group_cells.proofs.groups.draft.Draft.take_by_map.Goals as goal
 

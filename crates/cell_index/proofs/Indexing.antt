@@ -1,0 +1,240 @@
+-- How the index follows the cells.
+use Rattle.std.proofs.Common.{◌≡◌, ℕ, suc, not, ◌==◌, ◌&&◌, ℤ, Bool, true, false, cond, List, [], ◌∷◌, ◌++◌, length, Option, Some, None, refl, sym, ap, subst, ◌∙◌, ◌<◌, arith, length-append, replicate, take}
+use Rattle.std.specs.List.{All, Contains, position, position_or_len, slice_get}
+use Rattle.std.specs.Option.{option_or, option_map}
+use Rattle.std.specs.Ordering.{is_eq, nat_cmp, int_cmp, int_eq, ordering_then}
+use Rattle.std.specs.Str.{bytes_eq}
+use Rattle.std.specs.BTreeMap as tree
+use Rattle.std.specs.BTreeMap.{BTreeMap}
+use Rattle.std.specs.Cmp.{tied_then}
+use Rattle.std.proofs.lemmas.Bool.{false≢true}
+use Rattle.std.proofs.lemmas.Bool.Decides.{Decides-int_eq, nat_tests, Decides-eqb}
+use Rattle.std.proofs.lemmas.Grind.{common_steps}
+use Rattle.std.proofs.lemmas.List.Elements.{All-append, All-contains, All-replicate, All-take, All-weaker}
+use Rattle.std.proofs.lemmas.List.Folds.{position_or_len_push}
+use Rattle.std.proofs.lemmas.List.Quantifiers.{position-Some}
+use Rattle.std.proofs.lemmas.List.Sums.{prefix_len-le-length}
+use Rattle.std.proofs.lemmas.Map.Text.{is_eq-slice_cmp}
+use Rattle.std.proofs.lemmas.Option.{get_or_from_slice_get}
+use Rattle.std.proofs.lemmas.Slice.Eq.{bytes_eq-Decides}
+use Rattle.beam_values.specs.Cells.{span_cmp}
+use Rattle.beam_values.specs.Orders.{value_cmp}
+use Rattle.beam_values.specs.Spans.{same_span}
+use Rattle.beam_values.specs.Spelling.{spelling}
+use Rattle.beam_values.specs.Intervals.{Interval}
+use Rattle.beam_values.specs.declared.cell.Cell.{Cell}
+use Rattle.beam_values.specs.declared.value.Value.{Value}
+use Rattle.cell_index.specs.Places.{is_cell_of, place_of}
+use Rattle.cell_index.specs.Indexes.{cell_key_cmp, place_cmp, IsFoundPlace, IsIndexOf, IsOfKey}
+use Rattle.cell_index.specs.Leads.{lead_of}
+use Rattle.cell_index.proofs.Leading.{one_lead}
+use Rattle.cell_index.specs.declared.guesses.Guess.{Guess}
+use Rattle.cell_index.specs.declared.guesses.Guesses.{Guesses}
+use Rattle.cell_index.specs.declared.index.CellIndex.{CellIndex}
+use Rattle.cell_index.specs.declared.index_key.CellKey.{CellKey}
+
+pushed_at : {X : Type 0} (p : X → Bool) (xs : List X) (y : X) (i : ℕ) → position_or_len p xs ≡ i
+    → position p (xs ++ y ∷ []) ≡ option_or (position p xs) (cond (p y) (Some (length xs)) None)
+pushed_at p xs y i e = grind (arith, common_steps, position_or_len_push p xs y, length-append, prefix_len-le-length {X = _} (λ x. not (p x)) xs)
+
+pub place_pushed : {X : Type 0} (p : X → Bool) (xs : List X) (y : X) → position p (xs ++ y ∷ []) ≡ option_or (position p xs) (cond (p y) (Some (length xs)) None)
+place_pushed p xs y = pushed_at p xs y (position_or_len p xs) refl
+
+pub nat_tied : (a b : ℕ) → is_eq (nat_cmp a b) ≡ (a == b)
+nat_tied a b = grind (arith, nat_tests)
+
+pub int_tied : (a b : ℤ) → is_eq (int_cmp a b) ≡ int_eq a b
+int_tied a b = refl
+
+and_false : (b : Bool) → (b && false) ≡ false
+and_false true = refl
+and_false false = refl
+
+and_parts : (a b : Bool) → (a && b) ≡ true → (a ≡ true) × (b ≡ true)
+and_parts true b e = (refl, e)
+and_parts false b e = absurd (false≢true e)
+
+and_swapped : (n k s e : Bool) → (n && ((s && e) && k)) ≡ ((n && k) && (s && e))
+and_swapped true true true true = refl
+and_swapped true true true false = refl
+and_swapped true true false e = refl
+and_swapped true false true true = refl
+and_swapped true false true false = refl
+and_swapped true false false e = refl
+and_swapped false k s e = refl
+
+place_tied : (a q : CellKey) → is_eq (place_cmp a q) ≡ ((a.node == q.node && bytes_eq (spelling a.key) (spelling q.key)) && same_span a.span q.span)
+place_tied a q =
+    sym (tied_then (nat_cmp a.node q.node) (ordering_then (span_cmp a.span q.span) (value_cmp a.key q.key)))
+    ∙ ap (λ b. is_eq (nat_cmp a.node q.node) && b)
+    (sym (tied_then (span_cmp a.span q.span) (value_cmp a.key q.key))
+    ∙ ap (λ b. b && is_eq (value_cmp a.key q.key)) (sym (tied_then (int_cmp a.span.start q.span.start) (int_cmp a.span.end q.span.end))))
+    ∙ and_swapped (is_eq (nat_cmp a.node q.node)) (is_eq (value_cmp a.key q.key)) (is_eq (int_cmp a.span.start q.span.start)) (is_eq (int_cmp a.span.end q.span.end))
+    ∙ ap (λ b. (b && is_eq (value_cmp a.key q.key)) && (is_eq (int_cmp a.span.start q.span.start) && is_eq (int_cmp a.span.end q.span.end))) (nat_tied a.node q.node)
+    ∙ ap (λ b. (a.node == q.node && b) && (is_eq (int_cmp a.span.start q.span.start) && is_eq (int_cmp a.span.end q.span.end))) (is_eq-slice_cmp (spelling a.key) (spelling q.key))
+    ∙ ap (λ b. (a.node == q.node && bytes_eq (spelling a.key) (spelling q.key)) && (b && is_eq (int_cmp a.span.end q.span.end))) (int_tied a.span.start q.span.start)
+    ∙ ap (λ b. (a.node == q.node && bytes_eq (spelling a.key) (spelling q.key)) && (int_eq a.span.start q.span.start && b)) (int_tied a.span.end q.span.end)
+
+-- what is of one place has one lead
+led_alike : (a q : CellKey) → (t : Bool) → ((a.node == q.node && bytes_eq (spelling a.key) (spelling q.key)) && same_span a.span q.span) ≡ t
+    → (is_eq (nat_cmp (lead_of a.key a.span) (lead_of q.key q.span)) && t) ≡ t
+led_alike a q false e = and_false (is_eq (nat_cmp (lead_of a.key a.span) (lead_of q.key q.span)))
+led_alike a q true e =
+    let all = and_parts (a.node == q.node && bytes_eq (spelling a.key) (spelling q.key)) (same_span a.span q.span) e in
+    let keyed = and_parts (a.node == q.node) (bytes_eq (spelling a.key) (spelling q.key)) all.0 in
+    let starts = and_parts (int_eq a.span.start q.span.start) (int_eq a.span.end q.span.end) all.1 in
+    let one : lead_of a.key a.span ≡ lead_of q.key q.span =
+    one_lead a.key q.key a.span q.span ((bytes_eq-Decides (spelling a.key) (spelling q.key)).0 keyed.1) ((Decides-int_eq a.span.start q.span.start).0 starts.0) in
+    ap (λ b. b && true) (nat_tied (lead_of a.key a.span) (lead_of q.key q.span) ∙ (Decides-eqb (lead_of a.key a.span) (lead_of q.key q.span)).1 one)
+
+-- keys of the index compare as equal exactly where they are of one node, key and window
+pub same_place : (a q : CellKey) → is_eq (cell_key_cmp a q) ≡ ((a.node == q.node && bytes_eq (spelling a.key) (spelling q.key)) && same_span a.span q.span)
+same_place a q =
+    sym (tied_then (nat_cmp (lead_of a.key a.span) (lead_of q.key q.span)) (place_cmp a q))
+    ∙ ap (λ b. is_eq (nat_cmp (lead_of a.key a.span) (lead_of q.key q.span)) && b) (place_tied a q)
+    ∙ led_alike a q ((a.node == q.node && bytes_eq (spelling a.key) (spelling q.key)) && same_span a.span q.span) refl
+
+-- the place of the cell of a node, a spelling and the ends of a window
+abbrev place_by : ℕ → List ℕ → ℤ → ℤ → List Cell → Option ℕ
+place_by node spelled start end cells =
+    position (λ cell. (cell.node == node && bytes_eq (spelling cell.key) spelled) && (int_eq cell.span.start start && int_eq cell.span.end end)) cells
+
+-- what is of one place is found as one
+found_alike : (a q : CellKey) (cells : List Cell) → is_eq (cell_key_cmp a q) ≡ true → place_of a.node a.key a.span cells ≡ place_of q.node q.key q.span cells
+found_alike a q cells e =
+    let all = and_parts (a.node == q.node && bytes_eq (spelling a.key) (spelling q.key)) (same_span a.span q.span) (sym (same_place a q) ∙ e) in
+    let keyed = and_parts (a.node == q.node) (bytes_eq (spelling a.key) (spelling q.key)) all.0 in
+    let ends = and_parts (int_eq a.span.start q.span.start) (int_eq a.span.end q.span.end) all.1 in
+    ap (λ n. place_by n (spelling a.key) a.span.start a.span.end cells) ((Decides-eqb a.node q.node).0 keyed.0)
+    ∙ ap (λ s. place_by q.node s a.span.start a.span.end cells) ((bytes_eq-Decides (spelling a.key) (spelling q.key)).0 keyed.1)
+    ∙ ap (λ t. place_by q.node (spelling q.key) t a.span.end cells) ((Decides-int_eq a.span.start q.span.start).0 ends.0)
+    ∙ ap (λ t. place_by q.node (spelling q.key) q.span.start t cells) ((Decides-int_eq a.span.end q.span.end).0 ends.1)
+
+or_none : {X : Type 0} (o : Option X) → o ≡ option_or o None
+or_none None = refl
+or_none (Some x) = refl
+
+-- notes of places of a map keep to it
+abbrev pub KeepsTo : Guesses → Guesses → Guess → Type 0
+KeepsTo old new guess = (places : BTreeMap CellKey ℕ) → All (IsOfKey places) old.slots.items → IsOfKey places guess → All (IsOfKey places) new.slots.items
+
+pub index_more : (old new : CellIndex) (key : CellKey) (hash place : ℕ) → tree.Updates cell_key_cmp old.places new.places key (Some place)
+    → KeepsTo old.guesses new.guesses (record { hash = hash; place = place })
+    → (cells : List Cell) (cell : Cell) → IsIndexOf old cells → place ≡ length cells
+    → cell.node ≡ key.node → cell.key ≡ key.key → cell.span ≡ key.span
+    → place_of key.node key.key key.span cells ≡ None → IsIndexOf new (cells ++ cell ∷ [])
+index_more old new key hash place updates keeps cells cell index at nodes keys spans absent = record {
+  finds = λ q. updates.0 q ∙ by_test q (is_eq (cell_key_cmp key q)) refl ∙ sym (place_pushed (is_cell_of q.node q.key q.span) cells cell);
+  guesses = keeps new.places
+      (All-weaker (IsOfKey old.places) (IsOfKey new.places) (λ guess h hashed. let f = h hashed in (f.0, still f.0 guess.place f.1 (is_eq (cell_key_cmp key f.0)) refl)) old.guesses.slots.items index.guesses)
+      (λ hashed. (key, updates.1));
+}
+  where
+    -- a key that was found isn't the new one
+    still : (q : CellKey) (p : ℕ) → tree.get cell_key_cmp old.places q ≡ Some p → (t : Bool) → is_eq (cell_key_cmp key q) ≡ t → tree.get cell_key_cmp new.places q ≡ Some p
+    still q p found true e =
+        let none : Some p ≡ None = sym found ∙ index.finds q ∙ sym (found_alike key q cells e) ∙ absent in absurd cc
+    still q p found false e = updates.0 q ∙ ap (λ b. cond {A = Option ℕ} b (Some place) (tree.get cell_key_cmp old.places q)) e ∙ found
+
+    is_it : (q : CellKey) → is_cell_of q.node q.key q.span cell ≡ is_eq (cell_key_cmp key q)
+    is_it q =
+        ap (λ n. (n == q.node && bytes_eq (spelling cell.key) (spelling q.key)) && same_span cell.span q.span) nodes
+        ∙ ap (λ k. (key.node == q.node && bytes_eq (spelling k) (spelling q.key)) && same_span cell.span q.span) keys
+        ∙ ap (λ s. (key.node == q.node && bytes_eq (spelling key.key) (spelling q.key)) && same_span s q.span) spans
+        ∙ sym (same_place key q)
+
+    by_test : (q : CellKey) (t : Bool) → is_eq (cell_key_cmp key q) ≡ t
+        → cond (is_eq (cell_key_cmp key q)) (Some place) (tree.get cell_key_cmp old.places q)
+        ≡ option_or (place_of q.node q.key q.span cells) (cond (is_cell_of q.node q.key q.span cell) (Some (length cells)) None)
+    by_test q true e =
+        let here : is_cell_of q.node q.key q.span cell ≡ true = is_it q ∙ e in
+        let none : place_of q.node q.key q.span cells ≡ None = sym (found_alike key q cells e) ∙ absent in
+        ap (λ b. cond {A = Option ℕ} b (Some place) (tree.get cell_key_cmp old.places q)) e
+        ∙ ap (λ n. Some n) at
+        ∙ sym (ap (λ b. cond {A = Option ℕ} b (Some (length cells)) None) here)
+        ∙ sym (ap (λ o. option_or o (cond (is_cell_of q.node q.key q.span cell) (Some (length cells)) None)) none)
+    by_test q false e =
+        let away : is_cell_of q.node q.key q.span cell ≡ false = is_it q ∙ e in
+        ap (λ b. cond {A = Option ℕ} b (Some place) (tree.get cell_key_cmp old.places q)) e
+        ∙ index.finds q
+        ∙ or_none (place_of q.node q.key q.span cells)
+        ∙ sym (ap (λ b. option_or (place_of q.node q.key q.span cells) (cond {A = Option ℕ} b (Some (length cells)) None)) away)
+
+pub position_yes : {X : Type 0} (p : X → Bool) (x : X) (xs : List X) → p x ≡ true → position p (x ∷ xs) ≡ Some 0
+position_yes p x xs e = grind (arith, common_steps)
+
+pub position_no : {X : Type 0} (p : X → Bool) (x : X) (xs : List X) → p x ≡ false → position p (x ∷ xs) ≡ option_map suc (position p xs)
+position_no p x xs e = grind (arith, common_steps, nat_tests)
+
+-- a cell of a window that has one already changes nothing
+pub index_again : (index : CellIndex) (cells : List Cell) (cell : Cell) (key : CellKey) (place : ℕ) → key ≡ record { node = cell.node; span = cell.span; key = cell.key }
+    → Some place ≡ place_of key.node key.key key.span cells → IsIndexOf index cells → IsIndexOf index (cells ++ cell ∷ [])
+index_again index cells cell key place keyed there h = record {
+  finds = λ q. h.finds q ∙ by_test q (is_eq (cell_key_cmp own q)) refl ∙ sym (place_pushed (is_cell_of q.node q.key q.span) cells cell);
+  guesses = h.guesses;
+}
+  where
+    own : CellKey
+    own = record { node = cell.node; span = cell.span; key = cell.key }
+
+    by_test : (q : CellKey) (t : Bool) → is_eq (cell_key_cmp (record { node = cell.node; span = cell.span; key = cell.key }) q) ≡ t
+        → place_of q.node q.key q.span cells ≡ option_or (place_of q.node q.key q.span cells) (cond (is_cell_of q.node q.key q.span cell) (Some (length cells)) None)
+    by_test q true e =
+        let mine : CellKey = record { node = cell.node; span = cell.span; key = cell.key } in
+        let at : place_of q.node q.key q.span cells ≡ Some place =
+        sym (found_alike mine q cells e) ∙ sym (ap (λ (k : CellKey). place_of k.node k.key k.span cells) keyed) ∙ sym there in
+        at ∙ sym (ap (λ o. option_or o (cond (is_cell_of q.node q.key q.span cell) (Some (length cells)) None)) at)
+    by_test q false e =
+        let mine : CellKey = record { node = cell.node; span = cell.span; key = cell.key } in
+        let away : is_cell_of q.node q.key q.span cell ≡ false = sym (same_place mine q) ∙ e in
+        or_none (place_of q.node q.key q.span cells)
+        ∙ sym (ap (λ b. option_or (place_of q.node q.key q.span cells) (cond {A = Option ℕ} b (Some (length cells)) None)) away)
+
+-- ---- guesses
+
+-- a place that was written over is put back, and noted for the key that was found there
+pub index_put_back : (old new : CellIndex) (over : BTreeMap CellKey ℕ) (key : CellKey) (hash place next : ℕ) → Some place ≡ tree.get cell_key_cmp old.places key
+    → tree.Updates cell_key_cmp old.places over key (Some next) → tree.Updates cell_key_cmp over new.places key (Some place)
+    → KeepsTo old.guesses new.guesses (record { hash = hash; place = place })
+    → (cells : List Cell) → IsIndexOf old cells → IsIndexOf new cells
+index_put_back old new over key hash place next known written back keeps cells index = record {
+  finds = λ q. same q (is_eq (cell_key_cmp key q)) refl ∙ index.finds q;
+  guesses = keeps new.places
+      (All-weaker (IsOfKey old.places) (IsOfKey new.places) (λ guess h hashed. let f = h hashed in (f.0, same f.0 (is_eq (cell_key_cmp key f.0)) refl ∙ f.1)) old.guesses.slots.items index.guesses)
+      (λ hashed. (key, back.1));
+}
+  where
+    -- the map has what it had
+    same : (q : CellKey) (t : Bool) → is_eq (cell_key_cmp key q) ≡ t → tree.get cell_key_cmp new.places q ≡ tree.get cell_key_cmp old.places q
+    same q true e =
+        back.0 q ∙ ap (λ b. cond {A = Option ℕ} b (Some place) (tree.get cell_key_cmp over q)) e
+        ∙ known ∙ index.finds key ∙ found_alike key q cells e ∙ sym (index.finds q)
+    same q false e =
+        back.0 q ∙ ap (λ b. cond {A = Option ℕ} b (Some place) (tree.get cell_key_cmp over q)) e
+        ∙ written.0 q ∙ ap (λ b. cond {A = Option ℕ} b (Some next) (tree.get cell_key_cmp old.places q)) e
+
+-- an empty slot has no place
+pub no_key : (places : BTreeMap CellKey ℕ) → IsOfKey places (record { hash = 0; place = 0 })
+no_key places = λ hashed. absurd (omega (arith, hashed))
+
+pub resized : {X : Type 0} (P : X → Type 0) (ok : Bool) (xs ys : List X) (n k : ℕ) (x : X) → ys ≡ cond ok (take n xs ++ replicate k x) xs → P x → All P xs → All P ys
+resized P true xs ys n k x is own all = subst (All P) (sym is) (All-append P (take n xs) (replicate k x) (All-take P n xs all) (All-replicate P k x own))
+resized P false xs ys n k x is own all = subst (All P) (sym is) all
+
+pub guess_found : (index : CellIndex) (hash place : ℕ) → 0 < hash → Contains index.guesses.slots.items (record { hash = hash; place = place })
+    → (cells : List Cell) → IsIndexOf index cells → IsFoundPlace cells place
+guess_found index hash place hashed there cells h =
+    let guess : Guess = record { hash = hash; place = place } in
+    let found = All-contains (IsOfKey index.places) index.guesses.slots.items guess h.guesses there hashed in
+    (found.0, sym (h.finds found.0) ∙ found.1)
+
+-- a place at which some key finds its cell is the one at which that cell's own key does
+pub found_own : (node : ℕ) (key : Value) (span : Interval) (cells : List Cell) (place : ℕ) (cell : Cell) → IsFoundPlace cells place → slice_get cells place ≡ Some cell
+    → is_cell_of node key span cell ≡ true → Some place ≡ place_of node key span cells
+found_own node key span cells place cell found there is =
+    let q : CellKey = found.0 in
+    let mine : CellKey = record { node = node; span = span; key = key } in
+    let own : CellKey = record { node = cell.node; span = cell.span; key = cell.key } in
+    let of_q : is_cell_of q.node q.key q.span cell ≡ true =
+    ap (is_cell_of q.node q.key q.span) (sym (get_or_from_slice_get cells place cell cell there)) ∙ (position-Some (is_cell_of q.node q.key q.span) cells place cell found.1).1 in
+    sym found.1 ∙ sym (found_alike own q cells (same_place own q ∙ of_q)) ∙ found_alike own mine cells (same_place own mine ∙ is)

@@ -1,4 +1,0 @@
-use Rattle.group_cells.proofs.groups.guesses.Guesses.note_missed.Goals as goal
-
-pub returns : goal.returns
-returns c = λ places all own. c.note.ensures places (c.make_room.ensures places all) own
