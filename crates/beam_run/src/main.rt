@@ -10,10 +10,7 @@
 use beam_command::beam_main;
 use beam_ports::{Gate, OpenGate, Sink, Store};
 use beam_values::{List, NoMemory};
-use dofn_library::{
-    BatchUntil, CountSeq, Dedupe, Field, FieldInt, KeepPrefix, KeyField, LatestThenEmit, MaxSeq,
-    RunningSum, Shift, SumSeq, Swap, Unseq, Values, Words,
-};
+use dofn_library::{BatchUntil, Dedupe, LatestThenEmit, RunningSum, add_functions};
 use dofn_traits::{BoxShelf, DoFn, ShelfRefusal, SplittableFn, StatefulFn};
 use run_engine::{Kit, RunEnd, Status, put};
 use sdf_library::{Count, Lines, Made, TimedLines};
@@ -102,9 +99,7 @@ where
         let mut fns: List<Box<dyn DoFn>> = List::new(alloc);
         let mut splits: List<Box<dyn SplittableFn>> = List::new(alloc);
         let mut states: List<Box<dyn StatefulFn>> = List::new(alloc);
-        let added = add_boxes!(alloc, fns; KeyField, Words, Field, KeepPrefix).is_ok()
-            && add_boxes!(alloc, fns; FieldInt, Swap, Shift, SumSeq).is_ok()
-            && add_boxes!(alloc, fns; CountSeq, MaxSeq, Unseq, Values).is_ok()
+        let added = add_functions!(alloc, fns).is_ok()
             && add_boxes!(alloc, splits; Lines, TimedLines, Count, Made).is_ok()
             && add_boxes!(alloc, states; Dedupe, RunningSum, BatchUntil, LatestThenEmit).is_ok();
         let own = Parts {

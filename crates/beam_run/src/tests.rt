@@ -3,10 +3,7 @@
 use crate::{Parts, command, run_over};
 use beam_ports::{FileText, Gate, GatePoint, MemorySink, MemoryStore, OpenGate};
 use beam_values::{Args, Bytes, Element, FnKind, List, NoMemory};
-use dofn_library::{
-    BatchUntil, CountSeq, Dedupe, Field, FieldInt, KeepPrefix, KeyField, LatestThenEmit, MaxSeq,
-    RunningSum, Shift, SumSeq, Swap, Unseq, Values, Words,
-};
+use dofn_library::{BatchUntil, Dedupe, LatestThenEmit, RunningSum, add_functions};
 use dofn_traits::{CallRefusal, DoFn, SplittableFn, StatefulFn};
 use sdf_library::{Count, Lines, Made, TimedLines};
 use std::alloc::Global;
@@ -125,9 +122,7 @@ fn functions_are_told_of_each_bundle(rt: HostRuntime) -> Result<(), Fail> {
     let mut fns: List<Box<dyn DoFn>> = List::new(alloc);
     let mut splits: List<Box<dyn SplittableFn>> = List::new(alloc);
     let mut states: List<Box<dyn StatefulFn>> = List::new(alloc);
-    add_boxes!(alloc, fns; KeyField, Words, Field, KeepPrefix)?;
-    add_boxes!(alloc, fns; FieldInt, Swap, Shift, SumSeq)?;
-    add_boxes!(alloc, fns; CountSeq, MaxSeq, Unseq, Values)?;
+    add_functions!(alloc, fns)?;
     add_boxes!(alloc, splits; Lines, TimedLines, Count, Made)?;
     add_boxes!(alloc, states; Dedupe, RunningSum, BatchUntil, LatestThenEmit)?;
     let mut bundled = List::new(alloc);

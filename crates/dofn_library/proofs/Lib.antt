@@ -2,6 +2,8 @@ pub mod Cells
 pub mod Crossing
 pub mod Digits
 pub mod Fields
+pub mod JoinedParts
+pub mod Lookups
 pub mod NumbersIn
 pub mod SameValues
 pub mod StableSorts

@@ -54,7 +54,7 @@ module _ {X : Type 0} (lt : X → X → Bool) (order : IsStrictWeakOrder lt) whe
       let apart = both_ways (lt z (get_or (x ∷ xs) at.0 z)) (lt (get_or (x ∷ xs) at.0 z) z) at.2 in
       order.chain z (get_or (x ∷ xs) at.0 z) x apart.0 (sorted_far lt order (x ∷ xs) up 0 at.0 z (omega arith) at.1)
 
-  sorted_rest : (x : X) (xs : List X) → IsSortedBy lt (x ∷ xs) → IsSortedBy lt xs
+  pub sorted_rest : (x : X) (xs : List X) → IsSortedBy lt (x ∷ xs) → IsSortedBy lt xs
   sorted_rest x xs up k d from within =
       let later : suc k + 1 ≡ suc (k + 1) = omega arith in
       rw later at (up (suc k) d (omega arith) (omega arith))
@@ -85,10 +85,10 @@ module _ {X : Type 0} (lt : X → X → Bool) (order : IsStrictWeakOrder lt) whe
       same_rest z x a b true e = cc
       same_rest z x a b false e = e
 
-abbrev less : Value → Value → Bool
+abbrev pub less : Value → Value → Bool
 less v w = is_lt (value_cmp v w)
 
-less_order : IsStrictWeakOrder less
+pub less_order : IsStrictWeakOrder less
 less_order = ranks_by value_total (λ v. v)
 
 -- the insertion sort is stable

@@ -8,9 +8,16 @@ use std::alloc::Global;
 pub fn ascending(alloc: Global, values: &[Value]) -> Result<List<Value>, NoMemory>
     ensures { IfOk result (λ sorted. sorted ≡ ascending values.now) }
 {
-    let mut sorted = copy_all(alloc, values)?;
-    sorted.sort_by(|a, b| cmp_values(a, b))?;
-    Ok(List::from_vec(sorted))
+    sorted(copy_all(alloc, values)?)
+}
+
+/// The values in ascending order.
+pub fn sorted(values: Vec<Value>) -> Result<List<Value>, NoMemory>
+    ensures { IfOk result (λ sorted. sorted ≡ ascending values.items) }
+{
+    let mut values = values;
+    values.sort_by(|a, b| cmp_values(a, b))?;
+    Ok(List::from_vec(values))
 }
 
 fn copy_all(alloc: Global, values: &[Value]) -> Result<Vec<Value>, NoMemory>

@@ -30,8 +30,9 @@ pub fn holds_value(values: &[Value], value: &Value) -> bool
     values.iter().any(|held| is_same(held, value))
 }
 
+/// Whether values are spelled alike.
 #[tactic(auto, using(crate::proofs::SameValues::same_spellings))]
-fn is_same(a: &Value, b: &Value) -> bool
+pub fn is_same(a: &Value, b: &Value) -> bool
     ensures { result ≡ bytes_eq (spelling a.now) (spelling b.now) }
 {
     cmp_values(a, b).is_eq()

@@ -16,6 +16,7 @@ mod kept;
 mod numbers;
 mod shapes;
 mod shared_keys;
+mod sides;
 mod state_work;
 mod strict;
 mod texts;
@@ -62,6 +63,18 @@ pub type Unseq = Strict<work::Unseq>;
 /// [`work::Values`] as an object.
 pub type Values = Strict<work::Values>;
 
+/// [`work::Tag`] as an object.
+pub type Tag = Strict<work::Tag>;
+
+/// [`work::JoinList`] as an object.
+pub type JoinList = Strict<work::JoinList>;
+
+/// [`work::JoinSingle`] as an object.
+pub type JoinSingle = Strict<work::JoinSingle>;
+
+/// [`work::JoinLookup`] as an object.
+pub type JoinLookup = Strict<work::JoinLookup>;
+
 /// [`work::Dedupe`] as an object.
 pub type Dedupe = Strict<work::Dedupe>;
 
@@ -73,6 +86,32 @@ pub type BatchUntil = Strict<work::BatchUntil>;
 
 /// [`work::LatestThenEmit`] as an object.
 pub type LatestThenEmit = Strict<work::LatestThenEmit>;
+
+/// Adds to a list of boxes one of each function of elements, a few in each closure, so that each is proved soon. It is
+/// a macro, since a function may not hand out such boxes. Where it stands, `NoMemory` is in scope.
+#[macro_export]
+macro_rules! add_functions {
+    ($alloc:expr, $boxes:ident) => {
+        $crate::add_functions!($alloc, $boxes;
+            [KeyField, Words, Field, KeepPrefix]
+            [FieldInt, Swap, Shift, SumSeq]
+            [CountSeq, MaxSeq, Unseq, Values]
+            [Tag, JoinList, JoinSingle, JoinLookup])
+    };
+    ($alloc:expr, $boxes:ident; $([$($object:ident),*])*) => {{
+        let mut added: Result<(), NoMemory> = Ok(());
+        $(
+            if added.is_ok() {
+                let mut add = || -> Result<(), NoMemory> {
+                    $($boxes.push(Box::new($alloc, $crate::$object::new($alloc))?)?;)*
+                    Ok(())
+                };
+                added = add();
+            }
+        )*
+        added
+    }};
+}
 
 #[cfg(test)]
 mod tests;

@@ -3,8 +3,8 @@ ghost use Rattle.std.specs.Prelude.{◌≡◌, true};
 ghost use Rattle.beam_values.specs.Checked.{is_function_allowed, is_state_allowed};
 
 use crate::{
-    BatchUntil, CountSeq, Dedupe, Field, FieldInt, KeepPrefix, KeyField, LatestThenEmit, MaxSeq,
-    RunningSum, Shift, SumSeq, Swap, Unseq, Values, Words,
+    BatchUntil, CountSeq, Dedupe, Field, FieldInt, JoinList, JoinLookup, JoinSingle, KeepPrefix,
+    KeyField, LatestThenEmit, MaxSeq, RunningSum, Shift, SumSeq, Swap, Tag, Unseq, Values, Words,
 };
 use beam_values::{
     Args, Boxed, Bytes, Element, List, LogInput, NoMemory, PaneTag, Span, Time, Timer, Timing,
@@ -202,6 +202,59 @@ fn functions_of_sequences(rt: HostRuntime) -> Result<(), Fail> {
     let items = keyed(alloc, Value::Seq(ints(alloc, &[4, 2])?))?;
     let each = [keyed(alloc, Value::Int(4))?, keyed(alloc, Value::Int(2))?];
     assert!(rt; is_same(given(alloc, Unseq::new(alloc), Args::Nothing, items), &each));
+    Ok(())
+}
+
+// A pane of a side input: a main value, after the values of the view.
+fn sides(alloc: Global, views: List<Value>, main: Value) -> Result<Value, NoMemory> {
+    let mut parts = List::new(alloc);
+    for view in views.into_vec() {
+        parts.push(pair(alloc, Value::Int(0), view)?)?;
+    }
+    parts.push(pair(alloc, Value::Int(1), main)?)?;
+    pair(alloc, Value::Null, Value::Seq(parts))
+}
+
+#[test]
+fn functions_of_sides(rt: HostRuntime) -> Result<(), Fail> {
+    let alloc = rt.alloc();
+    let tagged = [pair(
+        alloc,
+        Value::Null,
+        pair(alloc, Value::Int(1), Value::Int(7))?,
+    )?];
+    let one = Args::Number(1);
+    assert!(rt; is_same(given(alloc, Tag::new(alloc), one, Value::Int(7)), &tagged));
+    let pane = sides(alloc, ints(alloc, &[7, 5])?, Value::Int(3))?;
+    let all = [pair(alloc, Value::Int(3), Value::Seq(ints(alloc, &[5, 7])?))?];
+    assert!(rt;
+        is_same(
+            given(alloc, JoinList::new(alloc), Args::Nothing, pane),
+            &all
+        )
+    );
+    let pane = sides(alloc, ints(alloc, &[5])?, Value::Int(3))?;
+    let single = [pair(alloc, Value::Int(3), Value::Int(5))?];
+    assert!(rt;
+        is_same(
+            given(alloc, JoinSingle::new(alloc), Args::Nothing, pane),
+            &single
+        )
+    );
+    let mut views = List::new(alloc);
+    for number in [7, 5] {
+        views.push(keyed(alloc, Value::Int(number))?)?;
+    }
+    views.push(pair(alloc, Value::Null, Value::Int(6))?)?;
+    let pane = sides(alloc, views, keyed(alloc, Value::Int(3))?)?;
+    let found = Value::Seq(ints(alloc, &[5, 7])?);
+    let looked_up = [pair(alloc, keyed(alloc, Value::Int(3))?, found)?];
+    assert!(rt;
+        is_same(
+            given(alloc, JoinLookup::new(alloc), Args::Nothing, pane),
+            &looked_up
+        )
+    );
     Ok(())
 }
 

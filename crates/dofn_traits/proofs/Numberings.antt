@@ -2,9 +2,11 @@
 use Rattle.std.proofs.Common.{◌≡◌, ℕ, zero, suc, ◌==◌, ◌<◌, Bool, true, false, ◌&&◌, List, length, get_or, refl, subst, inl, inr, eqb-true, arith, rules}
 use Rattle.std.proofs.lemmas.Bool.{cases_lt}
 use Rattle.beam_values.specs.declared.plan.FnKind.{FnKind}
-use Rattle.beam_values.specs.declared.plan.FnKind.TheVariants.{KeyField, Words, Field, KeepPrefix, FieldInt, Swap, Shift, SumSeq, CountSeq, MaxSeq, Unseq, Values}
-use Rattle.beam_values.specs.declared.plan.SourceKind.TheVariants.{Lines, TimedLines, Count, Made}
-use Rattle.beam_values.specs.declared.plan.StateKind.TheVariants.{Dedupe, RunningSum, BatchUntil, LatestThenEmit}
+use Rattle.beam_values.specs.declared.plan.FnKind.TheVariants.{KeyField}
+use Rattle.beam_values.specs.declared.plan.SourceKind.{SourceKind}
+use Rattle.beam_values.specs.declared.plan.SourceKind.TheVariants.{Lines}
+use Rattle.beam_values.specs.declared.plan.StateKind.{StateKind}
+use Rattle.beam_values.specs.declared.plan.StateKind.TheVariants.{Dedupe}
 use Rattle.dofn_traits.specs.Shelves.{fn_kinds, fn_number, source_kinds, source_number, state_kinds, state_number}
 
 -- the number of a kind is its place among all kinds, and each place is a number
@@ -33,52 +35,49 @@ all_below_at test (suc n) k all below =
           subst (λ m. test m ≡ true) same parts.0
     ]
 
+-- in a list of all, each stands at its number
+
 fn_listed : (kind : FnKind) → get_or fn_kinds (fn_number kind) KeyField ≡ kind
-fn_listed = elim [
-  | KeyField ↦ refl
-  | Words ↦ refl
-  | Field ↦ refl
-  | KeepPrefix ↦ refl
-  | FieldInt ↦ refl
-  | Swap ↦ refl
-  | Shift ↦ refl
-  | SumSeq ↦ refl
-  | CountSeq ↦ refl
-  | MaxSeq ↦ refl
-  | Unseq ↦ refl
-  | Values ↦ refl
-]
+fn_listed KeyField = refl
+fn_listed _ = refl
+
+fn_within : (kind : FnKind) → fn_number kind < length fn_kinds
+fn_within KeyField = search rules
+fn_within _ = search rules
 
 pub fn_numbering : IsNumbering fn_number fn_kinds KeyField
 fn_numbering = record {
   listed = fn_listed;
-  within = elim [
-    | KeyField ↦ search rules
-    | Words ↦ search rules
-    | Field ↦ search rules
-    | KeepPrefix ↦ search rules
-    | FieldInt ↦ search rules
-    | Swap ↦ search rules
-    | Shift ↦ search rules
-    | SumSeq ↦ search rules
-    | CountSeq ↦ search rules
-    | MaxSeq ↦ search rules
-    | Unseq ↦ search rules
-    | Values ↦ search rules
-  ];
-  numbered = λ n below. eqb-true _ _ (all_below_at (λ n. fn_number (get_or fn_kinds n KeyField) == n) 12 n refl below);
+  within = fn_within;
+  numbered = λ n below. eqb-true _ _ (all_below_at (λ n. fn_number (get_or fn_kinds n KeyField) == n) (length fn_kinds) n refl below);
 }
+
+source_listed : (kind : SourceKind) → get_or source_kinds (source_number kind) Lines ≡ kind
+source_listed Lines = refl
+source_listed _ = refl
+
+source_within : (kind : SourceKind) → source_number kind < length source_kinds
+source_within Lines = search rules
+source_within _ = search rules
 
 pub source_numbering : IsNumbering source_number source_kinds Lines
 source_numbering = record {
-  listed = elim [ Lines ↦ refl | TimedLines ↦ refl | Count ↦ refl | Made ↦ refl ];
-  within = elim [ Lines ↦ search rules | TimedLines ↦ search rules | Count ↦ search rules | Made ↦ search rules ];
-  numbered = λ n below. eqb-true _ _ (all_below_at (λ n. source_number (get_or source_kinds n Lines) == n) 4 n refl below);
+  listed = source_listed;
+  within = source_within;
+  numbered = λ n below. eqb-true _ _ (all_below_at (λ n. source_number (get_or source_kinds n Lines) == n) (length source_kinds) n refl below);
 }
+
+state_listed : (kind : StateKind) → get_or state_kinds (state_number kind) Dedupe ≡ kind
+state_listed Dedupe = refl
+state_listed _ = refl
+
+state_within : (kind : StateKind) → state_number kind < length state_kinds
+state_within Dedupe = search rules
+state_within _ = search rules
 
 pub state_numbering : IsNumbering state_number state_kinds Dedupe
 state_numbering = record {
-  listed = elim [ Dedupe ↦ refl | RunningSum ↦ refl | BatchUntil ↦ refl | LatestThenEmit ↦ refl ];
-  within = elim [ Dedupe ↦ search rules | RunningSum ↦ search rules | BatchUntil ↦ search rules | LatestThenEmit ↦ search rules ];
-  numbered = λ n below. eqb-true _ _ (all_below_at (λ n. state_number (get_or state_kinds n Dedupe) == n) 4 n refl below);
+  listed = state_listed;
+  within = state_within;
+  numbered = λ n below. eqb-true _ _ (all_below_at (λ n. state_number (get_or state_kinds n Dedupe) == n) (length state_kinds) n refl below);
 }

@@ -1,14 +1,16 @@
 -- A shelf of boxes: which of them it uses, and what their counts and strictness amount to.
-use Rattle.std.specs.Prelude.{◌≡◌, ◌≢◌, ℕ, ◌+◌, ◌<◌, min, Bool, true, ◌&&◌, ◌==◌, List, [], ◌∷◌, length, find, position, unwrap_or, slice_index_or, Some}
+use Rattle.std.specs.Prelude.{◌≡◌, ◌≢◌, ℕ, ◌+◌, ◌<◌, min, Bool, true, ◌&&◌, ◌==◌, List, length, find, position, unwrap_or, slice_index_or, Some}
 use Rattle.std.specs.List.{All, Any, list_all, sum_by}
 use Rattle.std.specs.Option.{option_map}
+use denote.Enum.Declared.{tag_of}
 use Rattle.beam_ports.specs.Counts.{greatest_count}
+use Rattle.beam_values.specs.contracts.plan.FnKind as FnKindType
+use Rattle.beam_values.specs.contracts.plan.SourceKind as SourceKindType
+use Rattle.beam_values.specs.contracts.plan.StateKind as StateKindType
 use Rattle.beam_values.specs.declared.plan.FnKind.{FnKind}
-use Rattle.beam_values.specs.declared.plan.FnKind.TheVariants.{KeyField, Words, Field, KeepPrefix, FieldInt, Swap, Shift, SumSeq, CountSeq, MaxSeq, Unseq, Values}
 use Rattle.beam_values.specs.declared.plan.SourceKind.{SourceKind}
-use Rattle.beam_values.specs.declared.plan.SourceKind.TheVariants.{Lines, TimedLines, Count, Made}
 use Rattle.beam_values.specs.declared.plan.StateKind.{StateKind}
-use Rattle.beam_values.specs.declared.plan.StateKind.TheVariants.{Dedupe, RunningSum, BatchUntil, LatestThenEmit}
+use Rattle.dofn_traits.specs.declared.kinds.TheConstants.{FN_KINDS, SOURCE_KINDS, STATE_KINDS}
 
 -- the boxes of functions, of sources and of functions with state
 pub record Boxes (D S T : Type 0) : Type 0 where
@@ -16,41 +18,24 @@ pub record Boxes (D S T : Type 0) : Type 0 where
   pub splits : List S
   pub states : List T
 
--- all kinds, and the number of each, from 0
+-- all kinds in the order in which they are declared, and the number of each, from 0
 abbrev pub fn_kinds : List FnKind
-fn_kinds = KeyField ∷ Words ∷ Field ∷ KeepPrefix ∷ FieldInt ∷ Swap ∷ Shift ∷ SumSeq ∷ CountSeq ∷ MaxSeq ∷ Unseq ∷ Values ∷ []
+fn_kinds = FN_KINDS.now
 
 abbrev pub fn_number : FnKind → ℕ
-fn_number KeyField = 0
-fn_number Words = 1
-fn_number Field = 2
-fn_number KeepPrefix = 3
-fn_number FieldInt = 4
-fn_number Swap = 5
-fn_number Shift = 6
-fn_number SumSeq = 7
-fn_number CountSeq = 8
-fn_number MaxSeq = 9
-fn_number Unseq = 10
-fn_number Values = 11
+fn_number kind = tag_of FnKindType.the_type kind
 
 abbrev pub source_kinds : List SourceKind
-source_kinds = Lines ∷ TimedLines ∷ Count ∷ Made ∷ []
+source_kinds = SOURCE_KINDS.now
 
 abbrev pub source_number : SourceKind → ℕ
-source_number Lines = 0
-source_number TimedLines = 1
-source_number Count = 2
-source_number Made = 3
+source_number kind = tag_of SourceKindType.the_type kind
 
 abbrev pub state_kinds : List StateKind
-state_kinds = Dedupe ∷ RunningSum ∷ BatchUntil ∷ LatestThenEmit ∷ []
+state_kinds = STATE_KINDS.now
 
 abbrev pub state_number : StateKind → ℕ
-state_number Dedupe = 0
-state_number RunningSum = 1
-state_number BatchUntil = 2
-state_number LatestThenEmit = 3
+state_number kind = tag_of StateKindType.the_type kind
 
 -- each kind has a box, or one has none
 abbrev pub HasEach : {K X : Type 0} → (X → K) → List X → Type 0

@@ -4,6 +4,7 @@ ghost use Rattle.dofn_traits.specs.Shelves.{fn_number, source_number, state_numb
 ghost use Rattle.dofn_traits.specs.Shelves.{is_shelf_strict, shelf_faults, HasEach, LacksOne};
 ghost use Rattle.dofn_traits.specs.Shelves.{IsPlaced};
 
+use crate::kinds::{FN_KINDS, SOURCE_KINDS, STATE_KINDS, fn_number, source_number, state_number};
 use crate::{CallRefusal, DoFn, Emission, Found, Shelf, SplittableFn, StatefulFn};
 use beam_values::{Args, Element, FnKind, List, LogInput, SourceKind, Span, StateKind, Value};
 use keyed_state::KeyState;
@@ -12,11 +13,11 @@ use std::fmt;
 use std::marker::Model;
 use timer_core::Timers;
 
-const FNS: usize = 12;
+const FNS: usize = FN_KINDS.len();
 
-const SOURCES: usize = 4;
+const SOURCES: usize = SOURCE_KINDS.len();
 
-const STATES: usize = 4;
+const STATES: usize = STATE_KINDS.len();
 
 /// Why boxes make no shelf.
 #[derive(Clone, Copy, Debug, PartialEq, Eq)]
@@ -104,51 +105,7 @@ impl<D: DoFn, S: SplittableFn, T: StatefulFn> BoxShelf<D, S, T> {
     }
 }
 
-fn fn_number(kind: FnKind) -> usize
-    ensures value { result ≡ fn_number kind }
-    ensures within { result < FNS }
-{
-    match kind {
-        FnKind::KeyField => 0,
-        FnKind::Words => 1,
-        FnKind::Field => 2,
-        FnKind::KeepPrefix => 3,
-        FnKind::FieldInt => 4,
-        FnKind::Swap => 5,
-        FnKind::Shift => 6,
-        FnKind::SumSeq => 7,
-        FnKind::CountSeq => 8,
-        FnKind::MaxSeq => 9,
-        FnKind::Unseq => 10,
-        FnKind::Values => 11,
-    }
-}
-
-fn source_number(kind: SourceKind) -> usize
-    ensures value { result ≡ source_number kind }
-    ensures within { result < SOURCES }
-{
-    match kind {
-        SourceKind::Lines => 0,
-        SourceKind::TimedLines => 1,
-        SourceKind::Count => 2,
-        SourceKind::Made => 3,
-    }
-}
-
-fn state_number(kind: StateKind) -> usize
-    ensures value { result ≡ state_number kind }
-    ensures within { result < STATES }
-{
-    match kind {
-        StateKind::Dedupe => 0,
-        StateKind::RunningSum => 1,
-        StateKind::BatchUntil => 2,
-        StateKind::LatestThenEmit => 3,
-    }
-}
-
-// The place of the first box of each kind.
+// The place of the first box of each kind, by the kind's number.
 fn fn_places<D: DoFn>(fns: &[D]) -> Option<[usize; FNS]>
     ensures placed { IfSome result (IsPlaced (λ box. fn_number (D.work box)) FNS fns.now) }
     ensures complete { OnSome result (HasEach D.work fns.now) }

@@ -11,6 +11,7 @@ mod box_shelf;
 mod boxes;
 mod calls;
 mod dofn;
+mod kinds;
 mod shelf;
 mod splittable;
 mod stateful;

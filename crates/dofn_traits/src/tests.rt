@@ -1,6 +1,7 @@
 //! A shelf of boxes: that it wants one of each kind, and which one it calls.
 ghost use Rattle.std.specs.Prelude.{◌≡◌, true, false};
 
+use crate::kinds::{FN_KINDS, SOURCE_KINDS, STATE_KINDS};
 use crate::{
     BoxShelf, CallRefusal, DoFn, Emission, Found, Shelf, ShelfRefusal, SplittableFn, StatefulFn,
 };
@@ -126,21 +127,6 @@ impl DoFn for Failing {
     }
 }
 
-const FNS: [FnKind; 12] = [
-    FnKind::KeyField,
-    FnKind::Words,
-    FnKind::Field,
-    FnKind::KeepPrefix,
-    FnKind::FieldInt,
-    FnKind::Swap,
-    FnKind::Shift,
-    FnKind::SumSeq,
-    FnKind::CountSeq,
-    FnKind::MaxSeq,
-    FnKind::Unseq,
-    FnKind::Values,
-];
-
 // Whether the shelf fails at a call of Swap, of Values, of Count and of Dedupe.
 fn answers<D: DoFn, S: SplittableFn, T: StatefulFn>(
     alloc: Global,
@@ -196,9 +182,9 @@ fn the_first_box_of_a_kind_is_called(rt: HostRuntime) -> Result<(), Fail> {
     let alloc = rt.alloc();
     for missing in [true, false] {
         let mut fns: List<Box<dyn DoFn>> = List::new(alloc);
-        for kind in FNS {
-            if kind != FnKind::Values {
-                fns.push(Box::new(alloc, Starved { kind })?)?;
+        for kind in FN_KINDS {
+            if *kind != FnKind::Values {
+                fns.push(Box::new(alloc, Starved { kind: *kind })?)?;
             }
         }
         if !missing {
@@ -209,22 +195,12 @@ fn the_first_box_of_a_kind_is_called(rt: HostRuntime) -> Result<(), Fail> {
             fns.push(Box::new(alloc, Failing { kind, faults: 0 })?)?;
         }
         let mut splits: List<Box<dyn SplittableFn>> = List::new(alloc);
-        for kind in [
-            SourceKind::Made,
-            SourceKind::Count,
-            SourceKind::TimedLines,
-            SourceKind::Lines,
-        ] {
-            splits.push(Box::new(alloc, Starved { kind })?)?;
+        for kind in SOURCE_KINDS.iter().rev() {
+            splits.push(Box::new(alloc, Starved { kind: *kind })?)?;
         }
         let mut states: List<Box<dyn StatefulFn>> = List::new(alloc);
-        for kind in [
-            StateKind::Dedupe,
-            StateKind::RunningSum,
-            StateKind::BatchUntil,
-            StateKind::LatestThenEmit,
-        ] {
-            states.push(Box::new(alloc, Starved { kind })?)?;
+        for kind in STATE_KINDS {
+            states.push(Box::new(alloc, Starved { kind: *kind })?)?;
         }
         let expected = if missing {
             Err(ShelfRefusal::Missing)

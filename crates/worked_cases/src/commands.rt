@@ -5,10 +5,7 @@ use crate::running::Script;
 use beam_command::beam_main;
 use beam_ports::{Gate, MemorySink, MemoryStore, OpenGate, Sink, Store};
 use beam_values::{Bytes, Duplicate, FileText, List, NoMemory};
-use dofn_library::{
-    BatchUntil, CountSeq, Dedupe, Field, FieldInt, KeepPrefix, KeyField, LatestThenEmit, MaxSeq,
-    RunningSum, Shift, SumSeq, Swap, Unseq, Values, Words,
-};
+use dofn_library::{BatchUntil, Dedupe, LatestThenEmit, RunningSum, add_functions};
 use dofn_traits::{BoxShelf, DoFn, Shelf, SplittableFn, StatefulFn};
 use itoa::Buffer;
 use run_engine::Kit;
@@ -240,9 +237,7 @@ fn run_all<R: Threads + Wait + Sync>(
             let mut fns: List<Box<dyn DoFn>> = List::new(alloc);
             let mut splits: List<Box<dyn SplittableFn>> = List::new(alloc);
             let mut states: List<Box<dyn StatefulFn>> = List::new(alloc);
-            case.all_kept(add_boxes!(alloc, fns; KeyField, Words, Field, KeepPrefix));
-            case.all_kept(add_boxes!(alloc, fns; FieldInt, Swap, Shift, SumSeq));
-            case.all_kept(add_boxes!(alloc, fns; CountSeq, MaxSeq, Unseq, Values));
+            case.all_kept(add_functions!(alloc, fns));
             case.all_kept(add_boxes!(alloc, splits; Lines, TimedLines, Count, Made));
             case.all_kept(
                 add_boxes!(alloc, states; Dedupe, RunningSum, BatchUntil, LatestThenEmit),

@@ -25,6 +25,10 @@ pub fn answer_function(case: &mut Case<'_>) {
             let delay = case.number::<i64>().clamp(0, GREATEST_LENGTH);
             give_each::<work::Shift>(&Args::Number(delay), case);
         }
+        FnKind::Tag => {
+            let tag = case.number::<i64>().clamp(0, 1);
+            give_each::<work::Tag>(&Args::Number(tag), case);
+        }
         FnKind::KeyField => give_each::<work::KeyField>(&Args::Nothing, case),
         FnKind::Words => give_each::<work::Words>(&Args::Nothing, case),
         FnKind::FieldInt => give_each::<work::FieldInt>(&Args::Nothing, case),
@@ -34,6 +38,9 @@ pub fn answer_function(case: &mut Case<'_>) {
         FnKind::MaxSeq => give_each::<work::MaxSeq>(&Args::Nothing, case),
         FnKind::Unseq => give_each::<work::Unseq>(&Args::Nothing, case),
         FnKind::Values => give_each::<work::Values>(&Args::Nothing, case),
+        FnKind::JoinList => give_each::<work::JoinList>(&Args::Nothing, case),
+        FnKind::JoinSingle => give_each::<work::JoinSingle>(&Args::Nothing, case),
+        FnKind::JoinLookup => give_each::<work::JoinLookup>(&Args::Nothing, case),
     }
 }
 

@@ -115,6 +115,10 @@ pub fn read_function(case: &mut Case<'_>) -> FnKind {
         "MaxSeq" => FnKind::MaxSeq,
         "Unseq" => FnKind::Unseq,
         "Values" => FnKind::Values,
+        "Tag" => FnKind::Tag,
+        "JoinList" => FnKind::JoinList,
+        "JoinSingle" => FnKind::JoinSingle,
+        "JoinLookup" => FnKind::JoinLookup,
         _ => {
             case.fail("there is no such function");
             FnKind::Values

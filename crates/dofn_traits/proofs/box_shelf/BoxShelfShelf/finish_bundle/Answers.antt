@@ -1,4 +1,4 @@
-use Rattle.std.proofs.Common.{◌∙◌, get_or, ap, arith}
+use Rattle.std.proofs.Common.{◌∙◌, length, get_or, ap, arith}
 use Rattle.beam_values.specs.declared.plan.FnKind.TheVariants.{KeyField}
 use Rattle.dofn_traits.specs.Shelves.{fn_kinds, fn_number, is_shelf_strict, shelf_faults}
 use Rattle.dofn_traits.proofs.Numberings.{fn_numbering}
@@ -10,9 +10,9 @@ loop-number-preserved g c =
     let kept = c.loop-number.invariant in
     let boxes = c.loop-number.self-inside.fns.items in
     let place = get_or c.loop-number.self-inside.fn_places c.loop-number.number 0 in
-    let within = place_within fn_number fn_kinds KeyField g.D.DoFn.work fn_numbering boxes c.loop-number.self-inside.fn_places 12 c.loop-number.number (omega arith) kept.placed in
+    let within = place_within fn_number fn_kinds KeyField g.D.DoFn.work fn_numbering boxes c.loop-number.self-inside.fn_places (length fn_kinds) c.loop-number.number (omega arith) kept.placed in
     record {
-      placed = places_kept fn_number fn_kinds KeyField g.D.DoFn.work fn_numbering boxes c.loop-number.self-inside.fn_places 12 place c.index_mut.result.now c.finish_bundle.new.self
+      placed = places_kept fn_number fn_kinds KeyField g.D.DoFn.work fn_numbering boxes c.loop-number.self-inside.fn_places (length fn_kinds) place c.index_mut.result.now c.finish_bundle.new.self
           c.index_mut.ensures.value c.finish_bundle.ensures.work kept.placed;
       faults = sum_kept g.D.DoFn.faults boxes place c.index_mut.result.now c.finish_bundle.new.self within c.index_mut.ensures.value c.finish_bundle.ensures.faults ∙ kept.faults;
       strict = strictness_kept fn_number fn_kinds KeyField g.D.DoFn.work fn_numbering g.D.DoFn.strict boxes place c.index_mut.result.now c.finish_bundle.new.self

@@ -1,0 +1,12 @@
+use Rattle.std.proofs.Common.{◌∙◌, rules}
+use Rattle.beam_values.specs.Orders.{value_cmp}
+use Rattle.beam_values.proofs.Sorts.{sorted_from_sort_by}
+use Rattle.beam_model.proofs.Ascending.{value_total}
+use Rattle.dofn_library.proofs.StableSorts.{stable_sort_is_ascending, stable_from_sort_by}
+use Rattle.dofn_library.proofs.batches.sorted.Goals as goal
+
+pub returns : goal.returns
+returns c =
+    let up = sorted_from_sort_by value_cmp value_total c.sort_by.new.self.items c.in_ok-sort_by.ensures.sorted (λ a r q k. search rules) in
+    let stable = stable_from_sort_by c.args.values.items c.sort_by.new.self.items c.in_ok-sort_by.ensures.stable (λ a r q k. search rules) in
+    c.from_vec.ensures ∙ stable_sort_is_ascending c.args.values.items c.sort_by.new.self.items up stable

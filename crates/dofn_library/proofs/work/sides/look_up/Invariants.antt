@@ -1,0 +1,8 @@
+use Rattle.std.proofs.Common.{◌≡◌, ◌++◌, map, take}
+use Rattle.std.specs.List.{flat_map}
+use Rattle.beam_model.specs.Functions.{main_values, valued, view_values}
+use Rattle.dofn_library.specs.Sides.{looked_up}
+use Rattle.dofn_library.proofs.work.sides.look_up.Given as goal
+
+abbrev pub invariant-loop-part : goal.invariant-loop-part
+invariant-loop-part l = l.out ≡ l.fn.out ++ map (valued l.e) (flat_map (looked_up (view_values l.parts)) (main_values (take l.part-index l.parts)))
