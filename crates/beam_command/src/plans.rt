@@ -2,7 +2,7 @@
 
 ghost use Rattle.std.specs.Prelude.{◌≡◌, ◌≤◌, [], ◌∷◌, length, IfOk};
 ghost use Rattle.beam_values.specs.Strategies.{IsLength};
-ghost use Rattle.beam_model.specs.Plans.{panes_plan};
+ghost use Rattle.beam_model.specs.Plans.{default_trigger, panes_plan};
 
 use beam_values::{
     Args, Bytes, Estimator, FnKind, List, Mode, NoMemory, Node, NodeKind, Plan, SourceKind,
@@ -12,12 +12,18 @@ use pipeline_graph::{CheckRefusal, Graph};
 use std::alloc::Global;
 
 /// One on-time pane for each window, and no late elements (Beam Programming Guide, Triggers).
-const DEFAULT_TRIGGER: Trigger = Trigger {
-    early: None,
-    late: 1,
-    lateness: 0,
-    mode: Mode::Discarding,
-};
+fn default_trigger(alloc: Global) -> Trigger
+    ensures { result ≡ default_trigger }
+{
+    Trigger {
+        early: None,
+        late: 1,
+        lateness: 0,
+        mode: Mode::Discarding,
+        early_bars: List::new(alloc),
+        late_bars: List::new(alloc),
+    }
+}
 
 // Timed lines of the file, keyed by the field before the next TAB, in fixed windows of `size` milliseconds,
 // grouped and written.
@@ -55,7 +61,7 @@ fn panes_plan(alloc: Global, file: &[u8], size: i64) -> Result<Plan, NoMemory>
         alloc,
         2,
         NodeKind::Group {
-            trigger: DEFAULT_TRIGGER,
+            trigger: default_trigger(alloc),
         },
     )?)?;
     let label = Bytes::from_slice(alloc, b"out")?;

@@ -7,7 +7,7 @@ use Rattle.std.proofs.lemmas.Bool.{and_parts, both_ways, leb-true, ltb-true, ltb
 use Rattle.std.proofs.lemmas.List.{length-take-le}
 use Rattle.std.proofs.lemmas.List.Folds.{list_any_at, Any-from_list_any}
 use Rattle.std.proofs.lemmas.Option.{slice_get_within, slice_get-get_or}
-use Rattle.beam_values.specs.Checked.{IsChecked, has_arity, has_input, file_count, are_early_bars, is_count, is_early_allowed, is_estimator_allowed, is_file_name, is_function_allowed, is_kept, is_set, is_source_allowed, is_trigger_allowed, is_write_in, node_refusal, nodes_refusal, write_refusal, is_source_argument}
+use Rattle.beam_values.specs.Checked.{IsChecked, has_arity, has_input, file_count, are_early_bars, is_count, is_early_allowed, is_estimator_allowed, is_file_name, is_function_allowed, is_kept, is_set, is_source_allowed, is_trigger_allowed, is_write_in, node_refusal, nodes_refusal, write_refusal, is_source_argument, is_state_allowed, takes_state}
 use Rattle.beam_values.specs.Nodes.{is_source_kind, is_stateful_kind, is_write_kind, is_stateful, is_write}
 use Rattle.beam_values.specs.Strategies.{IsAllowed, IsLength, greatest_length, is_allowed, is_length}
 use Rattle.beam_values.specs.declared.graph_refusal.GraphRefusal.TheVariants.{NoWrite}
@@ -28,7 +28,6 @@ use Rattle.beam_values.specs.declared.plan.Strategy.TheVariants.{Global, Fixed, 
 use Rattle.beam_values.specs.declared.plan.Trigger.{Trigger}
 use Rattle.beam_model.specs.Premises.{IsForward}
 use Rattle.pipeline_graph.specs.Rules.{HasFiles, HasInputs, HasLag, HasSettings, IsCount, IsFileName, IsTriggerSet}
-use Rattle.pipeline_graph.specs.Settings.{takes_state}
 use Rattle.pipeline_graph.proofs.BarStairs.{All-from_list_all, bars_set, counted, int_le_true}
 use Rattle.pipeline_graph.proofs.Unrefused.{IsUnrefused, file_count-push, neither, set_files, unbroken, unrefused}
 
@@ -204,7 +203,7 @@ settings before (ParDo work args) inputs test = test
 settings before Flatten inputs test = tt
 settings before (WindowInto strategy) inputs test = let parts = and_parts _ _ test in (allowed_strategy strategy parts.0, not_kept strategy (not-true _ parts.1))
 settings before (Group trigger) inputs test = trigger_set trigger test
-settings before (Stateful work args log) inputs test = test
+settings before (Stateful work args log) inputs test = and_parts takes_state (is_state_allowed work args) test
 settings before (Write label) inputs test = tt
 
 pub node_settings : (plan : Plan) (n : ℕ) (node : Node) → IsChecked plan → slice_get plan.nodes n ≡ Some node → HasSettings node.kind
@@ -222,7 +221,7 @@ no_stateful plan n checked = by_node (slice_get plan.nodes n) refl
     by_kind Flatten set = refl
     by_kind (WindowInto strategy) set = refl
     by_kind (Group trigger) set = refl
-    by_kind (Stateful work args log) set = absurd (both_ways takes_state none_taken set)
+    by_kind (Stateful work args log) set = absurd (both_ways takes_state none_taken set.0)
     by_kind (Write label) set = refl
 
     by_node : (found : Option Node) → slice_get plan.nodes n ≡ found → unwrap_or (option_map (λ node. is_stateful_kind node.kind) found) false ≡ false

@@ -1,6 +1,6 @@
 -- What the nodes of a checked plan have (Beam Programming Guide, Creating a pipeline; the limits are this profile's).
 use Rattle.std.specs.Prelude.{◌≡◌, ◌≢◌, ℕ, ◌<◌, ◌≤◌, ℤ, pos, negsuc, ◌-ℤ◌, ◌<ℤ◌, ◌≤ℤ◌, Bool, true, false, List, [], length, All, AllPairs, IfSome, Option, Some, None}
-use Rattle.beam_values.specs.Checked.{is_function_allowed, is_source_argument}
+use Rattle.beam_values.specs.Checked.{is_function_allowed, is_source_argument, is_state_allowed, takes_state}
 use Rattle.beam_values.specs.Strategies.{IsAllowed, greatest_length}
 use Rattle.beam_values.specs.declared.plan.Bar.{Bar}
 use Rattle.beam_values.specs.declared.plan.Estimator.{Estimator}
@@ -12,7 +12,6 @@ use Rattle.beam_values.specs.declared.plan.SourceKind.TheVariants.{Lines, TimedL
 use Rattle.beam_values.specs.declared.plan.Strategy.{Strategy}
 use Rattle.beam_values.specs.declared.plan.Strategy.TheVariants.{Global, Kept}
 use Rattle.beam_values.specs.declared.plan.Trigger.{Trigger}
-use Rattle.pipeline_graph.specs.Settings.{takes_state}
 
 abbrev pub is_window_into_kind : NodeKind → Bool
 is_window_into_kind (WindowInto strategy) = true
@@ -78,7 +77,7 @@ HasSettings (ParDo work args) = is_function_allowed work args ≡ true
 HasSettings Flatten = Unit {0}
 HasSettings (WindowInto strategy) = IsAllowed strategy × (strategy ≢ Kept)
 HasSettings (Group trigger) = IsTriggerSet trigger
-HasSettings (Stateful work args log) = takes_state ≡ true
+HasSettings (Stateful work args log) = (takes_state ≡ true) × (is_state_allowed work args ≡ true)
 HasSettings (Write label) = Unit {0}
 
 -- a source has the one window of all times, and a WindowInto its own strategy

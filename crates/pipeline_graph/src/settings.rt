@@ -3,14 +3,15 @@ ghost use Rattle.std.specs.List.{list_all};
 ghost use Rattle.beam_values.specs.Checked.{are_files, is_early_allowed, is_estimator_allowed};
 ghost use Rattle.beam_values.specs.Checked.{is_file_name, is_function_allowed, is_no_file};
 ghost use Rattle.beam_values.specs.Checked.{is_nothing, is_number_upto, is_source_allowed};
-ghost use Rattle.beam_values.specs.Checked.{is_text_upto, is_trigger_allowed, is_two_upto};
+ghost use Rattle.beam_values.specs.Checked.{is_state_allowed, is_text_upto, is_trigger_allowed};
+ghost use Rattle.beam_values.specs.Checked.{is_two_upto};
 ghost use Rattle.beam_values.specs.Strategies.{is_allowed};
 
 use crate::bars::{are_early_bars, are_late_bars};
-use beam_values::{Args, Bytes, Estimator, FnKind, SourceKind, Strategy, Trigger};
+use beam_values::{Args, Bytes, Estimator, FnKind, SourceKind, StateKind, Strategy, Trigger};
 use windowing::{GREATEST_LENGTH, check_strategy};
 
-/// Whether a Stateful node is allowed: keyed state isn't taken yet.
+/// Whether pipelines may have Stateful nodes; they aren't run yet.
 pub(crate) const TAKES_STATE: bool = false;
 
 /// The greatest number of files of all sources of a plan together.
@@ -24,6 +25,9 @@ pub const LONGEST_PREFIX: usize = 4096;
 
 /// The greatest number of the field that a function takes.
 pub const GREATEST_FIELD: i64 = 1000;
+
+/// The greatest number of values of a batch.
+pub const GREATEST_BATCH: i64 = 1_000_000;
 
 /// The tag of a value of the main input; that of a value of the view is 0.
 pub const GREATEST_TAG: i64 = 1;
@@ -96,6 +100,16 @@ pub(crate) fn is_function_allowed(work: &FnKind, args: &Args) -> bool
         FnKind::KeepPrefix => is_text_up_to(LONGEST_PREFIX, args),
         FnKind::Shift => is_number_up_to(GREATEST_LENGTH, args),
         FnKind::Tag => is_number_up_to(GREATEST_TAG, args),
+        _ => is_nothing(args),
+    }
+}
+
+pub(crate) fn is_state_allowed(work: &StateKind, args: &Args) -> bool
+    ensures { result ≡ is_state_allowed work.now args.now }
+{
+    match work {
+        StateKind::BatchUntil => is_number_up_to(GREATEST_BATCH, args) && !is_number_up_to(0, args),
+        StateKind::LatestThenEmit => is_number_up_to(GREATEST_LENGTH, args),
         _ => is_nothing(args),
     }
 }

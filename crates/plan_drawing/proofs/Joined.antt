@@ -27,14 +27,15 @@ then_line : (old mid new line : List ℕ) (xs : List (List ℕ)) → mid ≡ old
     → new ≡ old ++ flat_map next (xs ++ line ∷ [])
 then_line old mid new line xs p q = then_lines old mid new xs (line ∷ []) p (q ∙ ap (λ (l : List ℕ). mid ++ l) (sym (append-nil (next line))))
 
--- lines, and three more
-pub then_three : (old a b d new first second third : List ℕ) (xs : List (List ℕ)) → a ≡ old ++ flat_map (λ line. line_break ++ line) xs
-    → b ≡ a ++ (line_break ++ first) → d ≡ b ++ (line_break ++ second) → new ≡ d ++ (line_break ++ third)
-    → new ≡ old ++ flat_map (λ line. line_break ++ line) (xs ++ first ∷ second ∷ third ∷ [])
-then_three old a b d new first second third xs p q r s =
-    then_line old d new third _ (then_line old b d second _ (then_line old a b first xs p q) r) s
-    ∙ ap (λ (ls : List (List ℕ)). old ++ flat_map next ls)
-    (append_assoc (xs ++ first ∷ []) (second ∷ []) (third ∷ []) ∙ append_assoc xs (first ∷ []) (second ∷ third ∷ []))
+-- lines, others, and others again, and two more
+pub three_then_two : (old a b d e new first second : List ℕ) (xs ys zs : List (List ℕ)) → a ≡ old ++ flat_map (λ line. line_break ++ line) xs
+    → b ≡ a ++ flat_map (λ line. line_break ++ line) ys → d ≡ b ++ flat_map (λ line. line_break ++ line) zs
+    → e ≡ d ++ (line_break ++ first) → new ≡ e ++ (line_break ++ second)
+    → new ≡ old ++ flat_map (λ line. line_break ++ line) (xs ++ ys ++ zs ++ first ∷ second ∷ [])
+three_then_two old a b d e new first second xs ys zs p q r s t =
+    let lines = then_lines old b d (xs ++ ys) zs (then_lines old a b xs ys p q) r in
+    then_line old e new second _ (then_line old d e first _ lines s) t
+    ∙ ap (λ (ls : List (List ℕ)). old ++ flat_map next ls) (append_assoc (xs ++ ys ++ zs) (first ∷ []) (second ∷ []))
 
 -- a line, then lines, and others
 pub first_then_both : (old a b new first : List ℕ) (xs ys : List (List ℕ)) → a ≡ old ++ (line_break ++ first)

@@ -5,6 +5,7 @@ use Rattle.std.specs.List.{flat_map, join_by}
 use Rattle.beam_values.specs.Texts.{byte_text}
 use Rattle.beam_values.specs.declared.plan.Args.{Args}
 use Rattle.beam_values.specs.declared.plan.Args.TheVariants.{Nothing, Text, Number, Two}
+use Rattle.beam_values.specs.declared.plan.Bar.{Bar}
 use Rattle.beam_values.specs.declared.plan.Estimator.{Estimator}
 use Rattle.beam_values.specs.declared.plan.Estimator.TheVariants as estimator
 use Rattle.beam_values.specs.declared.plan.NodeKind.{NodeKind}
@@ -65,10 +66,26 @@ abbrev pub early_lines : Option ℕ → List (List ℕ)
 early_lines None = []
 early_lines (Some count) = (codes "early " ++ decimal count) ∷ []
 
+-- from when on a bar is met, after the window's end or before it
+abbrev pub delay_text : Option ℤ → List ℕ
+delay_text None = []
+delay_text (Some delay) = codes " from " ++ milliseconds delay
+
+-- `early 9`, or `early 2 from -5000 ms`
+abbrev pub bar_line : List ℕ → Bar → List ℕ
+bar_line words bar = words ++ decimal bar.count ++ delay_text bar.delay
+
+-- the late bars, or where there is none the late count
+abbrev pub late_lines : ℕ → List Bar → List (List ℕ)
+late_lines late [] = (codes "late " ++ decimal late) ∷ []
+late_lines late bars = map (bar_line (codes "late ")) bars
+
 abbrev pub trigger_lines : Trigger → List (List ℕ)
 trigger_lines trigger =
     early_lines trigger.early
-    ++ (codes "late " ++ decimal trigger.late) ∷ (codes "lateness " ++ milliseconds trigger.lateness) ∷ mode_word trigger.mode ∷ []
+    ++ map (bar_line (codes "early ")) trigger.early_bars
+    ++ late_lines trigger.late trigger.late_bars
+    ++ (codes "lateness " ++ milliseconds trigger.lateness) ∷ mode_word trigger.mode ∷ []
 
 abbrev pub log_lines : Bool → List (List ℕ)
 log_lines true = codes "log" ∷ []

@@ -1,7 +1,7 @@
--- The words of a plan document, each by what it stands for.
-use Rattle.std.specs.Prelude.{ℕ, List, codes}
+-- The words of a plan document, each by what it stands for, and of the functions of side inputs, which no document names.
+use Rattle.std.specs.Prelude.{ℕ, Bool, true, false, List, codes}
 use Rattle.beam_values.specs.declared.plan.FnKind.{FnKind}
-use Rattle.beam_values.specs.declared.plan.FnKind.TheVariants.{KeyField, Words, Field, KeepPrefix, FieldInt, Swap, Shift, SumSeq, CountSeq, MaxSeq, Unseq, Values}
+use Rattle.beam_values.specs.declared.plan.FnKind.TheVariants.{KeyField, Words, Field, KeepPrefix, FieldInt, Swap, Shift, SumSeq, CountSeq, MaxSeq, Unseq, Values, Tag, JoinList, JoinSingle, JoinLookup}
 use Rattle.beam_values.specs.declared.plan.Mode.{Mode}
 use Rattle.beam_values.specs.declared.plan.Mode.TheVariants.{Discarding, Accumulating}
 use Rattle.beam_values.specs.declared.plan.SourceKind.{SourceKind}
@@ -28,6 +28,17 @@ function_word CountSeq = codes "CountSeq"
 function_word MaxSeq = codes "MaxSeq"
 function_word Unseq = codes "Unseq"
 function_word Values = codes "Values"
+function_word Tag = codes "Tag"
+function_word JoinList = codes "JoinList"
+function_word JoinSingle = codes "JoinSingle"
+function_word JoinLookup = codes "JoinLookup"
+
+abbrev pub is_of_side_input : FnKind → Bool
+is_of_side_input Tag = true
+is_of_side_input JoinList = true
+is_of_side_input JoinSingle = true
+is_of_side_input JoinLookup = true
+is_of_side_input _ = false
 
 abbrev pub state_word : StateKind → List ℕ
 state_word Dedupe = codes "Dedupe"

@@ -2,16 +2,17 @@
 
 ghost use Rattle.std.specs.Prelude.{◌≡◌, ◌++◌, OnOk, map};
 ghost use Rattle.std.specs.List.{flat_map};
-ghost use Rattle.plan_drawing.specs.Labels.{args_lines, early_lines, estimator_line, file_line};
-ghost use Rattle.plan_drawing.specs.Labels.{kind_lines, label_of, line_break, log_lines};
-ghost use Rattle.plan_drawing.specs.Labels.{strategy_line, trigger_lines};
+ghost use Rattle.plan_drawing.specs.Labels.{args_lines, bar_line, delay_text, early_lines};
+ghost use Rattle.plan_drawing.specs.Labels.{estimator_line, file_line, kind_lines, label_of};
+ghost use Rattle.plan_drawing.specs.Labels.{late_lines, line_break, log_lines, strategy_line};
+ghost use Rattle.plan_drawing.specs.Labels.{trigger_lines};
 
 use crate::label::{
     push_count_line, push_line, push_number_line, push_span, push_span_line, push_text,
     push_text_line, push_word_line,
 };
 use crate::words::{function_word, mode_word, source_word, state_word};
-use beam_values::{Args, Bytes, Estimator, List, NoMemory, NodeKind, Strategy, Trigger};
+use beam_values::{Args, Bar, Bytes, Estimator, List, NoMemory, NodeKind, Strategy, Trigger};
 
 /// Appends the label of a node: its name, and what its document says of it.
 pub(crate) fn push_label(name: &[u8], kind: &NodeKind, out: &mut List<u8>) -> Result<(), NoMemory>
@@ -120,7 +121,8 @@ fn push_trigger(trigger: &Trigger, out: &mut List<u8>) -> Result<(), NoMemory>
         (out.new ≡ out.old ++ flat_map (λ line. line_break ++ line) (trigger_lines trigger.now)) }
 {
     push_early(trigger.early, out)?;
-    push_count_line(b"late ", trigger.late.into(), out)?;
+    push_bars(b"early ", trigger.early_bars.as_slice(), out)?;
+    push_late(trigger.late, trigger.late_bars.as_slice(), out)?;
     push_span_line(b"lateness ", trigger.lateness, out)?;
     push_line(mode_word(trigger.mode), out)
 }
@@ -132,6 +134,44 @@ fn push_early(early: Option<u32>, out: &mut List<u8>) -> Result<(), NoMemory>
     match early {
         None => Ok(()),
         Some(count) => push_count_line(b"early ", count.into(), out),
+    }
+}
+
+// The count has no say where there are bars.
+fn push_late(late: u32, bars: &[Bar], out: &mut List<u8>) -> Result<(), NoMemory>
+    ensures { OnOk result
+        (out.new ≡ out.old ++ flat_map (λ line. line_break ++ line) (late_lines late bars.now)) }
+{
+    if bars.is_empty() {
+        push_count_line(b"late ", late.into(), out)
+    } else {
+        push_bars(b"late ", bars, out)
+    }
+}
+
+fn push_bars(words: &[u8], bars: &[Bar], out: &mut List<u8>) -> Result<(), NoMemory>
+    ensures { OnOk result (out.new
+        ≡ out.old ++ flat_map (λ line. line_break ++ line) (map (bar_line words.now) bars.now)) }
+{
+    for bar in bars {
+        push_bar(words, bar, out)?;
+    }
+    Ok(())
+}
+
+fn push_bar(words: &[u8], bar: &Bar, out: &mut List<u8>) -> Result<(), NoMemory>
+    ensures { OnOk result (out.new ≡ out.old ++ (line_break ++ bar_line words.now bar.now)) }
+{
+    push_count_line(words, bar.count.into(), out)?;
+    push_delay(bar.delay, out)
+}
+
+fn push_delay(delay: Option<i64>, out: &mut List<u8>) -> Result<(), NoMemory>
+    ensures { OnOk result (out.new ≡ out.old ++ delay_text delay) }
+{
+    match delay {
+        None => Ok(()),
+        Some(delay) => push_span(b" from ", delay, out),
     }
 }
 

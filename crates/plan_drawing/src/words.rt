@@ -30,6 +30,10 @@ pub(crate) fn function_word(work: FnKind) -> &'static [u8]
         FnKind::MaxSeq => b"MaxSeq",
         FnKind::Unseq => b"Unseq",
         FnKind::Values => b"Values",
+        FnKind::Tag => b"Tag",
+        FnKind::JoinList => b"JoinList",
+        FnKind::JoinSingle => b"JoinSingle",
+        FnKind::JoinLookup => b"JoinLookup",
     }
 }
 

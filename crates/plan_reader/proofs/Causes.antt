@@ -20,9 +20,9 @@ use Rattle.plan_reader.specs.declared.refusal.PlanRefusal.{PlanRefusal}
 use Rattle.plan_reader.specs.declared.refusal.PlanRefusal.TheVariants as refusal
 use Rattle.plan_reader.specs.declared.words.KindWord.{KindWord}
 use Rattle.plan_reader.specs.declared.words.KindWord.TheVariants as kind
-use Rattle.plan_reader.specs.Documents.{array_of, checked, plan_of, version_of}
+use Rattle.plan_reader.specs.Documents.{array_of, checked, plan_of, version_in, version_of}
 use Rattle.plan_reader.specs.Forms.{◌>>=◌, one_by_one, or_absent, needed, string_in, text_in, word_in, strings_in, pair_in, any_number_in, within, number_in, bool_in, value_of}
-use Rattle.plan_reader.specs.Nodes.{name_of, names_of, inputs_in, inputs_of, kind_of, node_of, nodes_of}
+use Rattle.plan_reader.specs.Nodes.{name_of, names_of, inputs_in, inputs_of, kind_of, node_of, nodes_of, plain_of}
 use Rattle.plan_reader.specs.Refusals.{Meaning}
 use Rattle.plan_reader.specs.Settings.{work_at, number_at, number_or, files_at, source_files, counts_at, source_args, lag_of, estimator_in, estimator_at, source_of, number_args, text_args, function_args, pardo_of, state_args, stateful_of, allowed, fixed_in, sliding_in, sessions_in, windows_of, strategy_in, window_of, early_in, early_at, mode_at, group_of, write_of, settings_of, longest}
 
@@ -228,14 +228,20 @@ inputs_judges kind.Write names node d = inputs_needed names node d
 kind_judges : (node : ℕ) (d : Data) → Judges (kind_of node d)
 kind_judges node d = search (then, needed_judges, word)
 
+plain_judges : (word : KindWord) (names : List (List ℕ)) (node : ℕ) (d : Data) → Judges (plain_of word names node d)
+plain_judges word names node d = search (then, inputs_judges, settings, tested, judged, refused) depth 9
+
 node_judges : (names : List (List ℕ)) (node : ℕ) (d : Data) → Judges (node_of names node d)
-node_judges names node d = search (then, kind_judges, inputs_judges, settings, tested, judged, refused) depth 9
+node_judges names node d = search (then, kind_judges, plain_judges, judged)
 
 nodes : (names : List (List ℕ)) (array : List Data) → Judges (nodes_of names array)
 nodes names array = each _ (λ before d. node_judges names (length before) d) [] array
 
+version_number : (n : _) → Judges (version_in n)
+version_number n = search (then, found, tested, judged, refused)
+
 version : (d : Data) → Judges (version_of d)
-version d = search (tested, then, needed_judges, any_number, judged, refused) depth 9
+version d = search (tested, then, needed_judges, any_number, version_number, refused) depth 9
 
 array_judges : (d : Data) → Judges (array_of d)
 array_judges d = search (then, needed_judges, found, tested, judged, refused) depth 9

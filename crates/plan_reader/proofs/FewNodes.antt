@@ -1,11 +1,11 @@
 -- A document within its length has few nodes.
-use Rattle.std.proofs.Common.{◌≡◌, ℕ, ◌+◌, ◌<◌, ◌≤◌, ◌^◌, List, length, Bool, true, false, cond, Option, Some, None, Ok, Err, IfOk, ok_or, Ordering, Less, Equal, Greater, arith}
+use Rattle.std.proofs.Common.{◌≡◌, ℕ, ◌+◌, ◌≤◌, List, length, Bool, true, false, cond, Option, Some, None, Ok, Err, IfOk, ok_or, Ordering, Less, Equal, Greater, arith}
 use Rattle.std.specs.Ordering.{match_ordering}
 use Rattle.serde_json.specs.Data.{Data, null, boolean, number, string, array, object, Items, no_items, item, Members, no_members, member}
 use Rattle.serde_json.specs.Find.{as_array, get, get_member}
 use Rattle.serde_json.specs.Read.{read}
 use Rattle.plan_reader.specs.declared.refusal.PlanRefusal.{PlanRefusal}
-use Rattle.plan_reader.specs.Documents.{HasFewNodes}
+use Rattle.plan_reader.specs.Documents.{HasFewNodes, longest_document}
 use Rattle.plan_reader.specs.Forms.{◌>>=◌, has_only, items_list, value_of}
 use Rattle.plan_reader.specs.Keys.{document_keys}
 use Rattle.plan_reader.specs.Places.{key_word}
@@ -51,12 +51,12 @@ get_size k (object ms) = looser (get_member k ms) (data_members ms) (1 + data_me
 abbrev listed : Bool → List Data → PlanRefusal → Meaning (List Data)
 listed b nodes r = cond b (Ok nodes) (Err r)
 
-few_listed : (b : Bool) (nodes : List Data) (r : PlanRefusal) → length nodes < 2 ^ 32 → IfOk (listed b nodes r) (λ nodes. length nodes < 2 ^ 32)
+few_listed : (b : Bool) (nodes : List Data) (r : PlanRefusal) → length nodes ≤ longest_document → IfOk (listed b nodes r) (λ nodes. length nodes ≤ longest_document)
 few_listed true nodes r h = h
 few_listed false nodes r h = tt
 
-few_items : (value : Data) (b : Bool) (r s : PlanRefusal) → data_size value < 2 ^ 32
-    → IfOk (ok_or (as_array value) r >>= λ nodes. listed b (items_list nodes) s) (λ nodes. length nodes < 2 ^ 32)
+few_items : (value : Data) (b : Bool) (r s : PlanRefusal) → data_size value ≤ longest_document + 1
+    → IfOk (ok_or (as_array value) r >>= λ nodes. listed b (items_list nodes) s) (λ nodes. length nodes ≤ longest_document)
 few_items null b r s h = tt
 few_items (boolean c) b r s h = tt
 few_items (number n) b r s h = tt
@@ -64,10 +64,10 @@ few_items (string t) b r s h = tt
 few_items (array ds) b r s h = few_listed b (items_list ds) s (omega (arith, items_list_len ds))
 few_items (object ms) b r s h = tt
 
-few_in : (o : Option Data) (n : ℕ) (b : Bool) (q r s : PlanRefusal) → n < 2 ^ 32 → Most data_size n o
-    → IfOk (ok_or o q >>= λ value. ok_or (as_array value) r >>= λ nodes. listed b (items_list nodes) s) (λ nodes. length nodes < 2 ^ 32)
+few_in : (o : Option Data) (n : ℕ) (b : Bool) (q r s : PlanRefusal) → n ≤ longest_document + 1 → Most data_size n o
+    → IfOk (ok_or o q >>= λ value. ok_or (as_array value) r >>= λ nodes. listed b (items_list nodes) s) (λ nodes. length nodes ≤ longest_document)
 few_in None n b q r s le h = tt
 few_in (Some value) n b q r s le h = few_items value b r s (omega arith)
 
-pub few_nodes : (bytes : List ℕ) (d : Data) → length bytes ≤ 1048576 → read bytes ≡ Some d → HasFewNodes d
+pub few_nodes : (bytes : List ℕ) (d : Data) → length bytes ≤ longest_document → read bytes ≡ Some d → HasFewNodes d
 few_nodes bytes d le e = few_in (value_of key.Nodes d) (data_size d) (has_only document_keys d) _ _ _ (omega (arith, read_size bytes d e)) (get_size (key_word key.Nodes) d)

@@ -1,6 +1,6 @@
 -- What a plan document means: the plan, or the first rule that the document breaks. It is a function of the value that its JSON text
 -- reads as.
-use Rattle.std.specs.Prelude.{ℕ, ◌<◌, ◌^◌, ⊤, Bool, IfOk, false, ◌==◌, List, length, nat_lt, if◌then◌else◌, Option, Some, None, is_some, ok_or, Ok, Err}
+use Rattle.std.specs.Prelude.{ℕ, ◌≤◌, IfOk, ◌&&◌, List, length, nat_le, nat_lt, if◌then◌else◌, Option, Some, None, is_some, ok_or, Ok, Err}
 use Rattle.std.specs.Option.{option_map_or}
 use Rattle.std.specs.Str.{is_utf8}
 use Rattle.serde_json.specs.Data.{Data, Num}
@@ -15,20 +15,26 @@ use Rattle.plan_reader.specs.Forms.{◌>>=◌, needed, has_only, any_number_in, 
 use Rattle.plan_reader.specs.Keys.{document_keys}
 use Rattle.plan_reader.specs.Nodes.{names_of, nodes_of}
 use Rattle.plan_reader.specs.Places.{at_top}
+use Rattle.plan_reader.specs.Placing.{plan_names, plan_nodes}
 use Rattle.plan_reader.specs.Refusals.{Meaning}
 
 -- ---- the top object
 
--- the whole number 1
-abbrev pub is_one : Num → Bool
-is_one number = option_map_or (λ n. n == 1) (as_u64 number) false
+abbrev pub latest_version : ℕ
+latest_version = 1
 
--- an object of version 1
-abbrev pub version_of : Data → Meaning ⊤
+-- a whole number from 1 to the latest version
+abbrev pub version_in : Num → Meaning ℕ
+version_in number = do
+  version ← ok_or (as_u64 number) Version
+  if nat_le 1 version && nat_le version latest_version then Ok version else Err Version
+
+-- the version of an object
+abbrev pub version_of : Data → Meaning ℕ
 version_of d = if is_some (as_object d) then (do
   value ← needed (at_top key.Beam) d
   beam ← any_number_in (at_top key.Beam) value
-  if is_one beam then Ok tt else Err Version)
+  version_in beam)
     else Err (Field (at_top key.Other))
 
 -- the array of its nodes, where it has no other keys
@@ -37,10 +43,6 @@ array_of d = do
   value ← needed (at_top key.Nodes) d
   nodes ← ok_or (as_array value) (Field (at_top key.Nodes))
   if has_only document_keys d then Ok (items_list nodes) else Err (Field (at_top key.Other))
-
--- so many nodes as 32 bits can number; for private clauses, since every document that is read has no more
-abbrev pub HasFewNodes : Data → Type 0
-HasFewNodes d = IfOk (array_of d) (λ nodes. length nodes < 2 ^ 32)
 
 -- ---- the plan
 
@@ -54,16 +56,24 @@ plan_of d = do
   array ← array_of d
   names ← names_of array
   nodes ← nodes_of names array
-  checked (record { version = 1; nodes = nodes })
+  checked (record { version = version; nodes = plan_nodes nodes })
 
--- the names of its nodes, in their order
+-- the names of the nodes of the plan, in their order
 abbrev pub array_names_of : Data → Meaning (List (List ℕ))
-array_names_of d = array_of d >>= names_of
+array_names_of d = do
+  array ← array_of d
+  names ← names_of array
+  nodes ← nodes_of names array
+  Ok (plan_names names nodes)
 
 -- ---- the bytes
 
 abbrev pub longest_document : ℕ
 longest_document = 1048576
+
+-- each node takes a byte at least; for private clauses, since this is so of every document that is read
+abbrev pub HasFewNodes : Data → Type 0
+HasFewNodes d = IfOk (array_of d) (λ nodes. length nodes ≤ longest_document)
 
 abbrev pub length_refusal : ℕ → Option PlanRefusal
 length_refusal len = if nat_lt longest_document len then Some (Length len) else None
@@ -78,7 +88,7 @@ text_of bytes = ok_or (json_of bytes) Syntax >>= plan_of
 abbrev pub document_of : List ℕ → Meaning Plan
 document_of bytes = option_map_or (λ refusal. Err refusal) (length_refusal (length bytes)) (text_of bytes)
 
--- The names of the nodes of a document, each by the number of its node. Those of a document that is a plan are as many as its nodes, and this is said
--- where they are read.
+-- The names that a document gives the nodes of its plan, each by the number of its node. Those of a document that is a plan are as many as its nodes, and
+-- this is said where they are read.
 abbrev pub node_names_of : List ℕ → Meaning (List (List ℕ))
 node_names_of bytes = ok_or (json_of bytes) Syntax >>= array_names_of

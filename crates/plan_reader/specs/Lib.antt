@@ -4,6 +4,7 @@ pub mod Keys
 pub mod Messages
 pub mod Nodes
 pub mod Places
+pub mod Placing
 pub mod Refusals
 pub mod Seen
 pub mod Settings

@@ -1,9 +1,12 @@
--- The nodes of a document: first all names, then node after node its kind, its inputs, its further keys, and that it has no others.
+-- The nodes of a document: first all names, then node after node its kind, its inputs, its further keys, and that it has no others. Numbers of nodes are
+-- those of their places in the document.
 use Rattle.std.specs.Prelude.{ℕ, Bool, List, [], length, nat_le, bytes_eq, position, not, ◌&&◌, if◌then◌else◌, is_some, ok_or, Ok, Err}
 use Rattle.std.specs.List.{list_any}
 use Rattle.serde_json.specs.Data.{Data}
 use Rattle.serde_json.specs.Find.{as_object}
 use Rattle.beam_values.specs.declared.plan.Node.{Node}
+use Rattle.plan_reader.specs.declared.placing.DocumentNode.{DocumentNode}
+use Rattle.plan_reader.specs.declared.placing.DocumentNode.TheVariants.{Plain}
 use Rattle.plan_reader.specs.declared.refusal.Place.{Place}
 use Rattle.plan_reader.specs.declared.refusal.PlanKey.TheVariants as key
 use Rattle.plan_reader.specs.declared.refusal.PlanRefusal.TheVariants as refusal
@@ -60,12 +63,18 @@ kind_of node d = needed (in_node node key.Kind) d >>= word_in (meaning_in kinds)
 abbrev pub closed : ℕ → Data → Node → Meaning Node
 closed node d read = if has_only (node_keys read.kind) d then Ok read else Err (refusal.Field (in_node node key.Other))
 
-abbrev pub node_of : List (List ℕ) → ℕ → Data → Meaning Node
-node_of names node d = do
-  word ← kind_of node d
+-- a node of this kind that is one node of the plan
+abbrev pub plain_of : KindWord → List (List ℕ) → ℕ → Data → Meaning Node
+plain_of word names node d = do
   inputs ← inputs_of word names node d
   settings ← settings_of word node d
   closed node d (record { kind = settings; inputs = inputs })
 
-abbrev pub nodes_of : List (List ℕ) → List Data → Meaning (List Node)
+abbrev pub node_of : List (List ℕ) → ℕ → Data → Meaning DocumentNode
+node_of names node d = do
+  word ← kind_of node d
+  plain ← plain_of word names node d
+  Ok (Plain plain)
+
+abbrev pub nodes_of : List (List ℕ) → List Data → Meaning (List DocumentNode)
 nodes_of names nodes = one_by_one (λ before d. node_of names (length before) d) [] nodes

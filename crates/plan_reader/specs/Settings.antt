@@ -220,7 +220,7 @@ group_of node d = do
   late ← number_or 1 key.Late 1 greatest_count node d
   lateness ← number_or 0 key.Lateness 0 longest node d
   mode ← mode_at node d
-  Ok (Group (record { early = early; late = late; lateness = pos lateness; mode = mode }))
+  Ok (Group (record { early = early; late = late; lateness = pos lateness; mode = mode; early_bars = []; late_bars = [] }))
 
 -- ---- writes
 

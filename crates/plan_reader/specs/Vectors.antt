@@ -71,6 +71,14 @@ without_nodes : refused (object (members ((codes "beam", whole 1) ∷ []))) ≡ 
 unfolding digits
 without_nodes = refl
 
+of_version_0 : refused (object (members ((codes "beam", whole 0) ∷ (codes "nodes", array no_items) ∷ []))) ≡ codes "6 version"
+unfolding digits
+of_version_0 = refl
+
+of_version_2 : refused (object (members ((codes "beam", whole 2) ∷ (codes "nodes", array no_items) ∷ []))) ≡ codes "6 version"
+unfolding digits
+of_version_2 = refl
+
 of_version_3 : refused (object (members ((codes "beam", whole 3) ∷ (codes "nodes", array no_items) ∷ []))) ≡ codes "6 version"
 unfolding digits
 of_version_3 = refl

@@ -1,18 +1,19 @@
 ghost use Rattle.std.specs.Prelude.{◌≡◌, ◌≤◌, length, map, ok_or, Ok, IfErr, IfOk};
-ghost use Rattle.serde_json.specs.View.{view};
+ghost use Rattle.serde_json.specs.View.{number_view, view};
 ghost use Rattle.plan_reader.specs.Documents.{HasFewNodes, array_names_of, array_of, document_of};
 ghost use Rattle.plan_reader.specs.Documents.{json_of, length_refusal, longest_document};
-ghost use Rattle.plan_reader.specs.Documents.{node_names_of, plan_of, version_of};
+ghost use Rattle.plan_reader.specs.Documents.{node_names_of, plan_of, version_in, version_of};
 ghost use Rattle.plan_reader.specs.Refusals.{Gives, IsFirst, Reads};
 
 use crate::forms::{any_number_in, needed};
 use crate::keys::has_only;
-use crate::names::{names_of, owned_names};
+use crate::names::names_of;
 use crate::nodes::nodes_of;
+use crate::placing::{plan_names, plan_nodes};
 use crate::refusal::{Place, PlanKey, PlanReadRefusal, PlanRefusal};
 use beam_values::{Bytes, List, Plan};
 use pipeline_graph::Graph;
-use serde_json::{Category, Value};
+use serde_json::{Category, Number, Value};
 use std::alloc::Global;
 
 /// The greatest length of a document, in bytes.
@@ -28,6 +29,9 @@ pub fn length_refusal(len: u64) -> Option<PlanRefusal>
         None
     }
 }
+
+/// The latest version of a document that is read.
+const LATEST_VERSION: u64 = 1;
 
 /// A checked pipeline, and the names that its document gives its nodes, each by the number of the node.
 #[derive(Debug, Drop)]
@@ -81,27 +85,34 @@ fn named_plan_of(alloc: Global, document: &Value) -> Result<NamedPlan, PlanReadR
     ensures names { IfOk result (λ named. array_names_of (view document.now) ≡ Ok named.names) }
     ensures each { IfOk result (λ named. length named.names ≡ length named.graph.nodes) }
 {
-    check_version(document)?;
+    let version = version_of(document)?;
     let nodes = array_of(document)?;
     let names = names_of(alloc, nodes)?;
     let nodes = nodes_of(alloc, &names, nodes)?;
-    let names = owned_names(alloc, &names)?;
-    let plan = Plan { version: 1, nodes };
+    let names = plan_names(alloc, &names, nodes.as_slice())?;
+    let nodes = plan_nodes(alloc, nodes)?;
+    let plan = Plan { version, nodes };
     let graph = Graph::check(alloc, plan)?;
     Ok(NamedPlan { names, graph })
 }
 
-// An object of version 1.
-fn check_version(document: &Value) -> Result<(), PlanRefusal>
-    ensures { Gives (λ _. tt) result (version_of (view document.now)) }
+// The version of an object.
+fn version_of(document: &Value) -> Result<u32, PlanRefusal>
+    ensures { result ≡ version_of (view document.now) }
 {
     if !document.is_object() {
         return Err(PlanRefusal::Field(Place::top(PlanKey::Other)));
     }
     let place = Place::top(PlanKey::Beam);
-    let beam = any_number_in(place, needed(place, document)?)?;
-    match beam.as_u64() {
-        Some(1) => Ok(()),
+    version_in(any_number_in(place, needed(place, document)?)?)
+}
+
+// A whole number from 1 to the latest version.
+fn version_in(number: &Number) -> Result<u32, PlanRefusal>
+    ensures { result ≡ version_in (number_view number.now) }
+{
+    match number.as_u64() {
+        Some(version) if 1 <= version && version <= LATEST_VERSION => Ok(version as u32),
         _ => Err(PlanRefusal::Version),
     }
 }

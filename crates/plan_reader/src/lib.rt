@@ -2,10 +2,12 @@
 //!
 //! What a document means is a function of the JSON value that its bytes read as
 //! (`specs/Documents.antt`): a plan, or the first rule that it breaks, in the order of the top object,
-//! the names of all nodes, and node after node its keys; last come the rules of a pipeline. The layer
-//! above relies on [`read_plan`] answering exactly this, but for want of memory, on [`read_named_plan`]
-//! for the names of the nodes as well, and on [`refusal_text`] for the notes. It may ask [`length_refusal`] before it reads a file. Texts are
-//! copied only into the plan. Read `document.rt` first, then `nodes.rt` and `settings.rt`.
+//! the names of all nodes, and node after node its keys; last come the rules of a pipeline. A refusal of
+//! the document has the numbers that nodes have there, and the plan its own (`specs/Placing.antt`). The
+//! layer above relies on [`read_plan`] answering exactly this, but for want of memory, on
+//! [`read_named_plan`] for the names of the nodes as well, and on [`refusal_text`] for the notes. It may
+//! ask [`length_refusal`] before it reads a file. Texts are copied only into the plan. Read `document.rt`
+//! first, then `nodes.rt`, `placing.rt` and `settings.rt`.
 #![tactic(auto)]
 
 mod document;
@@ -15,6 +17,7 @@ pub mod laws;
 mod message;
 mod names;
 mod nodes;
+mod placing;
 mod refusal;
 mod settings;
 mod sources;

@@ -10,7 +10,7 @@ ghost use Rattle.plan_reader.specs.Seen.{names_in, texts_of};
 
 use crate::forms::{needed, string_in, strings_in};
 use crate::refusal::{Place, PlanKey, PlanReadRefusal, PlanRefusal};
-use beam_values::{Bytes, List, NoMemory};
+use beam_values::{List, NoMemory};
 use indexmap::IndexSet;
 use serde_json::Value;
 use std::alloc::Global;
@@ -18,7 +18,7 @@ use std::alloc::Global;
 /// The greatest length of a node's name, in bytes.
 const LONGEST_NAME: usize = 64;
 
-/// The names of all nodes, each by its number.
+/// The names of all nodes, each by its number in the document.
 #[tactic(auto, using(crate::proofs::Turns::turns))]
 pub(crate) fn names_of<'v>(
     alloc: Global,
@@ -68,19 +68,6 @@ fn add_name<'v>(names: &mut IndexSet<&'v str>, name: &'v str) -> Result<(), NoMe
 {
     names.insert(name)?;
     Ok(())
-}
-
-/// Copies of the names, which outlive the document.
-pub(crate) fn owned_names(alloc: Global, names: &IndexSet<&str>) -> Result<List<Bytes>, NoMemory>
-    ensures names { IfOk result (λ owned. owned ≡ names_in names.now) }
-    ensures each { IfOk result (λ owned. length owned ≡ index_set_len names.now) }
-{
-    let texts = names.as_slice();
-    let mut owned = Vec::with_capacity(alloc, texts.len())?;
-    for text in texts {
-        owned.push(Bytes::from_slice(alloc, text.as_bytes())?)?;
-    }
-    Ok(List::from_vec(owned))
 }
 
 /// The numbers of the nodes of an array of names.

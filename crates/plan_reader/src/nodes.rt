@@ -2,12 +2,14 @@ ghost use Rattle.std.specs.Prelude.{◌≡◌, ◌<◌, ◌^◌, length, map, If
 ghost use Rattle.indexmap.specs.IndexSet.{index_set_len};
 ghost use Rattle.serde_json.specs.View.{view};
 ghost use Rattle.plan_reader.specs.Nodes.{closed, inputs_of, kind_of, node_of, nodes_of};
+ghost use Rattle.plan_reader.specs.Nodes.{plain_of};
 ghost use Rattle.plan_reader.specs.Refusals.{Reads};
 ghost use Rattle.plan_reader.specs.Seen.{names_in};
 
 use crate::forms::{needed, string_in, value_of};
 use crate::keys::has_only_keys_of;
 use crate::names::inputs_in;
+use crate::placing::DocumentNode;
 use crate::refusal::{Place, PlanKey, PlanReadRefusal, PlanRefusal};
 use crate::settings::settings_of;
 use crate::words::{KindWord, kind_word};
@@ -22,7 +24,7 @@ pub(crate) fn nodes_of(
     alloc: Global,
     names: &IndexSet<&str>,
     nodes: &[Value],
-) -> Result<List<Node>, PlanReadRefusal>
+) -> Result<List<DocumentNode>, PlanReadRefusal>
     requires few_names { index_set_len names.now < 2 ^ 32 }
     requires few { length nodes.now < 2 ^ 32 }
     ensures nodes { Reads (λ nodes. nodes) result
@@ -42,11 +44,27 @@ fn node_of(
     names: &IndexSet<&str>,
     node: u32,
     object: &Value,
-) -> Result<Node, PlanReadRefusal>
+) -> Result<DocumentNode, PlanReadRefusal>
     requires { index_set_len names.now < 2 ^ 32 }
     ensures { Reads (λ node. node) result (node_of (names_in names.now) node (view object.now)) }
 {
     let word = kind_of(node, object)?;
+    let plain = plain_of(alloc, word, names, node, object)?;
+    Ok(DocumentNode::Plain(plain))
+}
+
+// A node of this kind that is one node of the plan.
+fn plain_of(
+    alloc: Global,
+    word: KindWord,
+    names: &IndexSet<&str>,
+    node: u32,
+    object: &Value,
+) -> Result<Node, PlanReadRefusal>
+    requires { index_set_len names.now < 2 ^ 32 }
+    ensures { Reads (λ node. node) result
+        (plain_of word (names_in names.now) node (view object.now)) }
+{
     let inputs = inputs_of(alloc, word, names, node, object)?;
     let kind = settings_of(alloc, word, node, object)?;
     Ok(closed(node, object, Node { kind, inputs })?)

@@ -43,7 +43,7 @@ pub(crate) fn settings_of(
         KindWord::ParDo => pardo_of(alloc, node, object),
         KindWord::Flatten => Ok(NodeKind::Flatten),
         KindWord::Window => Ok(window_of(node, object)?),
-        KindWord::Group => Ok(group_of(node, object)?),
+        KindWord::Group => Ok(group_of(alloc, node, object)?),
         KindWord::Stateful => Ok(stateful_of(node, object)?),
         KindWord::Write => write_of(alloc, node, object),
     }
@@ -228,7 +228,8 @@ fn window_of(node: u32, object: &Value) -> Result<NodeKind, PlanRefusal>
     Ok(NodeKind::WindowInto { strategy })
 }
 
-fn group_of(node: u32, object: &Value) -> Result<NodeKind, PlanRefusal>
+// No document names bars of a trigger yet.
+fn group_of(alloc: Global, node: u32, object: &Value) -> Result<NodeKind, PlanRefusal>
     ensures { result ≡ group_of node (view object.now) }
 {
     let early = early_at(node, object)?;
@@ -241,6 +242,8 @@ fn group_of(node: u32, object: &Value) -> Result<NodeKind, PlanRefusal>
             late: late as u32,
             lateness: lateness as i64,
             mode,
+            early_bars: List::new(alloc),
+            late_bars: List::new(alloc),
         },
     })
 }

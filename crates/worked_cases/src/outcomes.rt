@@ -158,6 +158,7 @@ fn outcome_of(alloc: Global, shown: Shown) -> Outcome {
         plan: Plan { version: 1, nodes },
         files,
         done: List::new(alloc),
+        dead: List::new(alloc),
         cells: List::new(alloc),
         panes: List::new(alloc),
         dropped: List::new(alloc),

@@ -58,6 +58,7 @@ fn read_piece(case: &mut Case<'_>) -> Piece {
         range,
         seen: if is_fresh { Time::LEAST } else { case.time() },
         attempts: if is_fresh { 0 } else { case.number() },
+        spent: None,
     }
 }
 

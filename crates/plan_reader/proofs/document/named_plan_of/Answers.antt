@@ -1,0 +1,29 @@
+use Rattle.std.proofs.Common.{◌≡◌, ◌∙◌, ℕ, List, ap, length, map, sym, subst}
+use Rattle.std.specs.Prelude.{All}
+use Rattle.std.proofs.lemmas.List.{length-map}
+use Rattle.serde_json.specs.View.{view}
+use Rattle.beam_values.specs.declared.plan.Plan.{Plan}
+use Rattle.plan_reader.specs.Placing.{HasInputsWithin, plan_names}
+use Rattle.plan_reader.specs.Seen.{names_in}
+use Rattle.plan_reader.specs.declared.placing.DocumentNode.{DocumentNode}
+use Rattle.plan_reader.proofs.Placed.{counted_alike, inputs_within}
+use Rattle.plan_reader.proofs.document.named_plan_of.Goals as goal
+
+pub plan_nodes-requires-clause-within : goal.plan_nodes-requires-clause-within
+plan_nodes-requires-clause-within c =
+    let nodes = c.in_ok-nodes-2.nodes in
+    let counted : length (names_in c.in_ok-names.names) ≡ length nodes =
+    length-map c.in_ok-names.names.keys (λ name. name.now) ∙ c.in_ok-names.ensures.each ∙ sym c.in_ok-nodes-2.ensures.each in
+    subst (λ (count : ℕ). All (HasInputsWithin count) nodes) counted
+    (inputs_within (names_in c.in_ok-names.names) (map view c.in_ok-nodes.nodes.now) nodes c.in_ok-nodes-2.ensures.nodes)
+
+pub returns-clause-each : goal.returns-clause-each
+returns-clause-each c =
+    let nodes = c.in_ok-nodes-2.nodes in
+    let counted : length (names_in c.in_ok-names.names) ≡ length nodes =
+    length-map c.in_ok-names.names.keys (λ name. name.now) ∙ c.in_ok-names.ensures.each ∙ sym c.in_ok-nodes-2.ensures.each in
+    ap length c.in_ok-names-2.ensures
+    ∙ ap (λ (read : List DocumentNode). length (plan_names (names_in c.in_ok-names.names) read)) c.as_slice.ensures
+    ∙ counted_alike (names_in c.in_ok-names.names) nodes counted
+    ∙ sym (ap length c.in_ok-nodes-3.ensures)
+    ∙ sym (ap (λ (plan : Plan). length plan.nodes) c.in_ok-graph.ensures.same)
