@@ -21,6 +21,7 @@ use Rattle.beam_model.specs.Coverings.{is_item, item_at}
 use Rattle.beam_model.specs.Flow.{batch_outputs}
 use Rattle.beam_model.specs.Positions.{Emission, Emits, Poison, SourceItem, TimedValue, emission}
 use Rattle.beam_model.specs.Premises.{EndsAfter}
+use Rattle.beam_model.specs.Reach.{passed_nodes, reaches_barrier, takes_passed, with_passed}
 use Rattle.beam_model.specs.Spread.{emission_outputs, from_source, is_left_out, outputs_at, spread_range}
 use Rattle.beam_model.proofs.Barriers.{chains_end}
 use Rattle.bundle_commit.specs.declared.job.Receipt.{Receipt}
@@ -29,7 +30,7 @@ use Rattle.watermarks.proofs.CheckedNodes.{inputs_lower}
 use Rattle.book_core.specs.Book.{panes_of}
 use Rattle.book_core.specs.Committing.{node_of}
 use Rattle.book_core.specs.Jobs.{attempted_of, job_of}
-use Rattle.book_core.specs.Work.{IsGiven, IsWorkOnItem, IsWorkOnRange, passed_nodes, reaches_barrier, is_known, items_told, takes_passed, with_passed, worked_to}
+use Rattle.book_core.specs.Work.{IsGiven, IsWorkOnItem, IsWorkOnRange, is_known, items_told, worked_to}
 use Rattle.book_core.specs.declared.live.Live.{Live}
 use Rattle.book_core.specs.declared.live.Live.TheVariants as live
 

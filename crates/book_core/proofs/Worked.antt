@@ -1,7 +1,7 @@
 -- What a slot works after it took a job, claimed a position and committed.
-use Rattle.std.proofs.Common.{◌≡◌, ℕ, ◌<◌, Bool, List, [], ◌∷◌, ◌++◌, length, map, refl, sym, ap, subst, ◌∙◌}
+use Rattle.std.proofs.Common.{◌≡◌, ℕ, Bool, List, [], ◌∷◌, ◌++◌, length, map, refl, sym, ap, subst, ◌∙◌}
 use Rattle.std.specs.Prelude.{Option, Some, None, ◌≤ℤ◌, ◌+ℤ◌, true, false, slice_get, slice_set}
-use Rattle.std.specs.List.{All, flat_map}
+use Rattle.std.specs.List.{All}
 use Rattle.std.proofs.lemmas.List.Elements.{All-weaker}
 use Rattle.std.proofs.lemmas.Option.{slice_get_within}
 use Rattle.beam_values.specs.Intervals.{Interval}
@@ -16,15 +16,16 @@ use Rattle.beam_values.specs.declared.piece.Piece.{Piece}
 use Rattle.beam_values.specs.declared.plan.Plan.{Plan}
 use Rattle.beam_model.specs.Chains.{Output, Arrives, chain}
 use Rattle.beam_model.specs.Flow.{batch_outputs}
+use Rattle.beam_model.specs.Reach.{reaches_barrier}
 use Rattle.bundle_commit.specs.declared.job.Job.{Job}
 use Rattle.bundle_commit.specs.declared.job.Job.TheVariants as job
 use Rattle.bundle_commit.specs.declared.job.Receipt.{Receipt}
 use Rattle.group_cells.specs.Commits.{HasGap, HasLength}
 use Rattle.book_core.specs.Book.{BookData}
-use Rattle.book_core.specs.Changes.{committed, with_slot}
+use Rattle.book_core.specs.Changes.{with_slot}
 use Rattle.book_core.specs.Jobs.{Next, attempted_of, job_of}
 use Rattle.book_core.specs.Steps.{CanCommit, IsClaiming, IsCommitting, IsFree, IsTaking, IsWorking}
-use Rattle.book_core.specs.Work.{reaches_barrier, is_known, worked_to, IsGiven, IsPlausible, IsWorkOnRange}
+use Rattle.book_core.specs.Work.{is_known, worked_to, IsGiven, IsPlausible, IsWorkOnRange}
 use Rattle.book_core.specs.declared.live.Live.{Live}
 use Rattle.book_core.specs.declared.live.Live.TheVariants as live
 use Rattle.book_core.proofs.CellsAlways.{take_stays}

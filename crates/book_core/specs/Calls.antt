@@ -53,6 +53,7 @@ pub record IsOutcomeOf (b : BookData) (o : Outcome) : Type 0 where
   pub plan : o.plan ≡ b.plan
   pub files : o.files ≡ b.files
   pub done : o.done ≡ b.done
+  pub dead : o.dead ≡ []
   pub cells : IsPermutation b.cells o.cells
   pub cells_in_order : IsSorted cell_cmp o.cells
   pub panes : o.panes ≡ b.panes

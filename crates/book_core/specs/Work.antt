@@ -1,10 +1,9 @@
 -- What work on a job brings, whether it is poison, and when it may be said to have failed.
-use Rattle.std.specs.Prelude.{◌≡◌, ◌⊎◌, ℕ, ◌+◌, ◌<◌, ◌≤◌, min, ℤ, ◌≤ℤ◌, ◌+ℤ◌, ◌-◌, Bool, true, false, not, ◌&&◌, ◌||◌, List, [], ◌∷◌, ◌++◌, map, fold, slice_get, unwrap_or, Option, Some, None}
+use Rattle.std.specs.Prelude.{◌≡◌, ◌⊎◌, ℕ, ◌+◌, ◌<◌, ◌≤◌, min, ℤ, ◌≤ℤ◌, ◌+ℤ◌, ◌-◌, Bool, true, false, not, ◌||◌, List, [], map, fold, unwrap_or, Option, Some, None}
 use Rattle.std.specs.List.{All, list_any}
-use Rattle.std.specs.Option.{option_map}
 use Rattle.beam_values.specs.Checked.{reads_file}
 use Rattle.beam_values.specs.Lines.{offsets}
-use Rattle.beam_values.specs.Nodes.{has_kind, is_barrier_kind, takes_from}
+use Rattle.beam_values.specs.Nodes.{has_kind}
 use Rattle.beam_values.specs.Strategies.{greatest_length}
 use Rattle.beam_values.specs.Times.{greatest_time}
 use Rattle.beam_values.specs.Tracking.{first_unattempted}
@@ -12,17 +11,17 @@ use Rattle.beam_values.specs.declared.fault.Cause.{Cause}
 use Rattle.beam_values.specs.declared.fault.Cause.TheVariants.{Call, Read}
 use Rattle.beam_values.specs.declared.file_text.FileText.{FileText}
 use Rattle.beam_values.specs.declared.piece.Piece.{Piece}
-use Rattle.beam_values.specs.declared.plan.Node.{Node}
 use Rattle.beam_values.specs.declared.plan.Estimator.{Estimator}
 use Rattle.beam_values.specs.declared.plan.NodeKind.{NodeKind}
 use Rattle.beam_values.specs.declared.plan.NodeKind.TheVariants.{Source}
 use Rattle.beam_values.specs.declared.plan.Plan.{Plan}
-use Rattle.beam_model.specs.Chains.{Output, Arrives, PoisonAt, chain}
+use Rattle.beam_model.specs.Chains.{Output, Arrives}
 use Rattle.beam_model.specs.Coverings.{item_at, spread_of}
 use Rattle.beam_model.specs.Estimators.{emission_at, seen_with}
 use Rattle.beam_model.specs.Flow.{batch_outputs}
 use Rattle.beam_model.specs.Holds.{estimator_of}
-use Rattle.beam_model.specs.Positions.{Poison, SourceItem, items}
+use Rattle.beam_model.specs.Positions.{SourceItem, items}
+use Rattle.beam_model.specs.Reach.{reaches_barrier}
 use Rattle.beam_model.specs.Spread.{spread_range, is_poison, first_poison}
 use Rattle.bundle_commit.specs.declared.job.Job.{Job}
 use Rattle.bundle_commit.specs.declared.job.Job.TheVariants as job
@@ -54,25 +53,6 @@ is_known told plan node = is_told told || not (is_file_source plan node)
 
 abbrev pub items_told : Option (List FileText) → Plan → List SourceItem
 items_told told plan = items (unwrap_or told []) plan
-
--- ---- where outputs can get to
-
--- of each node before this one whether outputs of `from` pass through it, with no barrier between; and now of this one
-abbrev pub with_passed : ℕ → List Bool → Node → List Bool
-with_passed from passed node = passed ++ (list_any (takes_from from passed) node.inputs && not (is_barrier_kind node.kind)) ∷ []
-
--- the nodes that outputs of `from` pass through
-abbrev pub passed_nodes : Plan → ℕ → List Bool
-passed_nodes plan from = fold (with_passed from) [] plan.nodes
-
--- the node is a barrier, and takes outputs of `from`, or of a node that they pass through
-abbrev pub takes_passed : Plan → ℕ → Node → Bool
-takes_passed plan from node = is_barrier_kind node.kind && list_any (takes_from from (passed_nodes plan from)) node.inputs
-
--- Outputs of `from` reach this barrier, with no other between. Of a source 0, a ParDo 1 of it, a Group 2 of that and a Write 3 of the Group, the source reaches
--- 2, and the Group 3.
-abbrev pub reaches_barrier : Plan → ℕ → ℕ → Bool
-reaches_barrier plan from node = unwrap_or (option_map (takes_passed plan from) (slice_get plan.nodes node)) false
 
 -- ---- what was seen
 

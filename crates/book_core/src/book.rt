@@ -442,6 +442,7 @@ impl Book {
             plan: graph.into_plan(),
             files,
             done: done.into_list(),
+            dead: List::new(alloc),
             cells: in_order(cells)?,
             panes: panes.into_list(),
             dropped,

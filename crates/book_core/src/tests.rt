@@ -5,6 +5,7 @@ ghost use Rattle.std.specs.Prelude.{IfSome, OnOk, None};
 ghost use Rattle.std.specs.List.{All};
 ghost use Rattle.beam_model.specs.Chains.{Arrives, chain};
 ghost use Rattle.beam_model.specs.Positions.{items};
+ghost use Rattle.beam_model.specs.Reach.{reaches_barrier};
 ghost use Rattle.beam_values.specs.Intervals.{Interval};
 ghost use Rattle.beam_values.specs.Nodes.{strategy_of};
 ghost use Rattle.beam_values.specs.Strategies.{greatest_length};
@@ -13,7 +14,7 @@ ghost use Rattle.beam_values.specs.declared.element.Element.{Element};
 ghost use Rattle.group_cells.specs.Commits.{HasLength};
 ghost use Rattle.book_core.specs.Runs.{AreLengthsOf};
 ghost use Rattle.book_core.specs.Steps.{IsFree};
-ghost use Rattle.book_core.specs.Work.{reaches_barrier, is_known};
+ghost use Rattle.book_core.specs.Work.{is_known};
 
 use crate::{Book, Taken};
 use beam_values::{
@@ -61,6 +62,8 @@ fn minutes(alloc: Global) -> Result<Plan, NoMemory>
                 late: 1,
                 lateness: 0,
                 mode: Mode::Discarding,
+                early_bars: List::new(alloc),
+                late_bars: List::new(alloc),
             },
         },
         inputs: List::from_slice(alloc, &[1])?,

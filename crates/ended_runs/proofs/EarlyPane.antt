@@ -46,7 +46,7 @@ use Rattle.ended_runs.proofs.Pipeline.{pipeline, item_of, key, line, at, no_stat
 -- ---- the pipeline and its file
 
 abbrev pub early_trigger : Trigger
-early_trigger = record { early = Some 1; late = 1; lateness = pos 0; mode = Discarding }
+early_trigger = record { early = Some 1; late = 1; lateness = pos 0; mode = Discarding; early_bars = []; late_bars = [] }
 
 -- with no estimator, so nothing can be late
 abbrev pub hasty : Plan

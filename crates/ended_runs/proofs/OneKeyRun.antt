@@ -63,10 +63,10 @@ allowed = record {
 
 -- the first piece, of a file of this length, and what a first commit up to the offset 1 leaves of it
 abbrev pub whole : ℕ → Piece
-whole len = record { node = 0; item = 0; range = record { from = 0; to = len }; seen = least_time; attempts = 0 }
+whole len = record { node = 0; item = 0; range = record { from = 0; to = len }; seen = least_time; attempts = 0; spent = None }
 
 abbrev pub rest : ℕ → ℤ → Piece
-rest len seen = record { node = 0; item = 0; range = record { from = 1; to = len }; seen = seen; attempts = 0 }
+rest len seen = record { node = 0; item = 0; range = record { from = 1; to = len }; seen = seen; attempts = 0; spent = None }
 
 abbrev pub done_to : ℕ → ℕ → Done
 done_to from to = record { node = 0; item = 0; range = record { from = from; to = to } }

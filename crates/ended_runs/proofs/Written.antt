@@ -37,7 +37,7 @@ use Rattle.beam_model.specs.Flow.{elements_at, is_at, pane_chains}
 use Rattle.beam_model.specs.Panes.{IsLegalHistory, Taken, is_sessions, mark_after, panes_at, taken_at, taken_by, taken_drop, taken_entry}
 use Rattle.beam_model.specs.Plain.{ArePlainlyWrittenWhere, HasDefaultTriggersAbove, IsGroupAbove, IsGroupedBy, IsPlainAt, IsPlainRun, NothingIsDroppedAbove, is_met, node_of, plain_flow}
 use Rattle.beam_model.specs.Plans.{default_trigger}
-use Rattle.beam_model.specs.Positions.{items}
+use Rattle.beam_model.specs.Positions.{SourceItem, items}
 use Rattle.beam_model.specs.Sessions.{in_session}
 use Rattle.beam_model.specs.Spread.{spread_all}
 use Rattle.beam_model.proofs.Above.{above_above, checked_inputs_lower}
@@ -57,7 +57,7 @@ use Rattle.book_core.proofs.Slotted.{All-flat_map}
 use Rattle.book_core.proofs.Through.{EndsEarly}
 use Rattle.ended_runs.specs.Storable.{ArePanesStorable}
 use Rattle.ended_runs.proofs.Above.{KnownLaws, StartsAbove}
-use Rattle.ended_runs.proofs.Ending.{book_flow}
+use Rattle.ended_runs.proofs.Ending.{book_flow, nothing_left_out}
 use Rattle.ended_runs.proofs.Grouped.{pane_elements, plainly_grouped, sum_alike, taken_elements}
 use Rattle.ended_runs.proofs.PanesWell.{default_history, marks_rise}
 use Rattle.ended_runs.proofs.SessionsGrouped.{merged_of, merging, placed, sessions_grouped}
@@ -424,8 +424,9 @@ outcome_plain laws no_stateful told b o reached lengths through of storable to w
       triggers = subst (λ (p : Plan). HasDefaultTriggersAbove p to) same triggers;
     }) in
     record {
-      plain = subst (λ (p : Plan). IsPlainAt p (items told b.plan) to (elements_at to o.written)) (sym same)
-          (subst (λ (l : List Arrival). IsPlainAt b.plan (items told b.plan) to (elements_at to l)) (sym of.written) found.0);
+      plain = subst (λ (l : List SourceItem). IsPlainAt o.plan l to (elements_at to o.written)) (sym (nothing_left_out b o of (items told b.plan)))
+          (subst (λ (p : Plan). IsPlainAt p (items told b.plan) to (elements_at to o.written)) (sym same)
+          (subst (λ (l : List Arrival). IsPlainAt b.plan (items told b.plan) to (elements_at to l)) (sym of.written) found.0));
       undropped = subst (λ (p : Plan). NothingIsDroppedAbove p to o.dropped) (sym same) (subst (NothingIsDroppedAbove b.plan to) (sym of.dropped) found.1);
     }
 

@@ -1,7 +1,7 @@
 //! What holds of the outcome of a run. Each function does nothing, but for calling the laws that its own
 //! rests on: its contract is the law.
 
-ghost use Rattle.std.specs.Prelude.{◌≡◌, ◌≤◌, ℕ, true, List, Option, Some};
+ghost use Rattle.std.specs.Prelude.{◌≡◌, ◌≤◌, ℕ, true, List, [], Option, Some};
 ghost use Rattle.std.specs.List.Sorted.{IsSorted};
 ghost use Rattle.beam_values.specs.Cells.{cell_cmp, pane_cmp};
 ghost use Rattle.beam_values.specs.declared.fault.FaultNote.{FaultNote};
@@ -46,6 +46,12 @@ pub fn outcomes_are_covered()
     reached_books_are_partitioned();
     reached_books_are_well_formed();
 }
+
+/// No outcome has a position that was set aside, so nothing is left out of its cover, its account and its
+/// plain writing.
+pub fn nothing_is_set_aside()
+    ensures { (b : BookData) (o : Outcome) → IsOutcomeOf b o → o.dead ≡ [] }
+{}
 
 /// Where the files are told, every position's outputs and every pane came to each barrier that they
 /// reach exactly once, and nothing else did.

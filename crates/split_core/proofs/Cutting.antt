@@ -1,5 +1,5 @@
 -- Cutting the middle out of a range that is out loses nothing.
-use Rattle.std.proofs.Common.{◌≡◌, ℕ, ℤ, ◌+◌, ◌≤◌, Bool, true, false, cond, ◌&&◌, ◌==◌, List, [], ◌∷◌, refl, ap, arith}
+use Rattle.std.proofs.Common.{◌≡◌, ℕ, ℤ, ◌+◌, ◌≤◌, Bool, true, false, cond, ◌&&◌, ◌==◌, List, [], ◌∷◌, None, refl, ap, arith}
 use Rattle.std.specs.List.{All}
 use Rattle.std.proofs.lemmas.Bool.Decides.{nat_tests}
 use Rattle.std.proofs.lemmas.List.Elements.{All-nil, All-cons, All-weaker}
@@ -60,7 +60,7 @@ module _ (out rest others : List Done) (node item from s t to attempts : ℕ) (s
 
   pub middle_cut_out : from ≤ s → s ≤ t → t ≤ to
       → IsSameBag out (part node item from to ∷ others) → IsSameBag rest (part node item from s ∷ part node item t to ∷ others)
-      → IsCutOut out (record { node = node; item = item; range = record { from = s; to = t }; seen = seen; attempts = attempts }) rest
+      → IsCutOut out (record { node = node; item = item; range = record { from = s; to = t }; seen = seen; attempts = attempts; spent = None }) rest
   middle_cut_out a b c whole cut = record {
     piece_out = out_same out (part node item from to ∷ others) whole node item (out_here (part node item from to) others);
     rest_out = All-weaker (λ d. IsOut rest d.node d.item) (λ d. IsOut out d.node d.item) (λ d h. rest_was_out whole cut d.node d.item h) rest (out_itself rest);

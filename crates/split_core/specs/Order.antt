@@ -1,5 +1,5 @@
 -- The order of pending pieces, and how an item is cut at first (Splittable DoFn: initial splitting of a restriction).
-use Rattle.std.specs.Prelude.{◌≡◌, ℕ, ◌+◌, ◌*◌, Bool, false, List, [], ◌∷◌, map, fold, min, All, if◌then◌else◌}
+use Rattle.std.specs.Prelude.{◌≡◌, ℕ, ◌+◌, ◌*◌, Bool, false, List, [], ◌∷◌, map, fold, min, All, if◌then◌else◌, None}
 use Rattle.std.specs.Int.{div_ceil}
 use Rattle.std.specs.declared.cmp.Ordering.{Ordering}
 use Rattle.std.specs.Ordering.{on, then_cmp, nat_cmp, int_cmp, is_lt}
@@ -37,6 +37,7 @@ first_piece node item chunk len i = record {
   range = record { from = i * chunk; to = min ((i + 1) * chunk) len };
   seen = least_time;
   attempts = 0;
+  spent = None;
 }
 
 -- an item is cut into chunks from its start on, the last of which may be shorter

@@ -1,7 +1,7 @@
 //! How the cover of the items begins, what it does not depend on, and what may be cut out of a range
 //! that is out. Each function does nothing: its contract is the law.
 
-ghost use Rattle.std.specs.Prelude.{◌≤◌, ℕ, ℤ, [], ◌∷◌, List};
+ghost use Rattle.std.specs.Prelude.{◌≤◌, ℕ, ℤ, [], ◌∷◌, List, None};
 ghost use Rattle.beam_values.specs.Bags.{IsSameBag};
 ghost use Rattle.beam_values.specs.declared.piece.Done.{Done};
 ghost use Rattle.beam_values.specs.declared.piece.FileLen.{FileLen};
@@ -23,6 +23,7 @@ pub fn the_middle_of_a_range_may_be_cut_out()
           range = record { from = s; to = t };
           seen = seen;
           attempts = attempts;
+          spent = None;
         }) rest }
 {}
 

@@ -48,5 +48,6 @@ pub fn first_piece(node: u32, item: u32, chunk: u64, len: u64, i: u64) -> Piece
         range: Range::between(from, to),
         seen: Time::LEAST,
         attempts: 0,
+        spent: None,
     }
 }

@@ -1,9 +1,10 @@
 use Rattle.std.proofs.Common.{◌≡◌, ℕ, true, false, refl, sym, subst, ◌∙◌}
 use Rattle.std.specs.Prelude.{None}
+use Rattle.beam_model.specs.Reach.{reaches_barrier}
 use Rattle.bundle_commit.specs.declared.job.Job.TheVariants as job
 use Rattle.book_core.specs.Calls.{answer_of}
 use Rattle.book_core.specs.Steps.{CanCommit, IsTaking, Step, Take}
-use Rattle.book_core.specs.Work.{reaches_barrier, is_known}
+use Rattle.book_core.specs.Work.{is_known}
 use Rattle.book_core.specs.declared.live.Taken.{Taken}
 use Rattle.book_core.proofs.Worked.{claimed_works, committed_free, plausible_at, range_can, taken_plan, taken_range}
 use Rattle.book_core.proofs.tests.work_range.Goals as goal
