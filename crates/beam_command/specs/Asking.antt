@@ -1,14 +1,12 @@
 -- The pipeline that a command line asks to be run.
-use Rattle.std.specs.Prelude.{◌≡◌, ℕ, List, Option, Some, Ok}
-use Rattle.beam_values.specs.Files.{first_named}
+use Rattle.std.specs.Prelude.{◌≡◌, List, Option, Ok}
 use Rattle.beam_values.specs.declared.file_text.FileText.{FileText}
 use Rattle.beam_values.specs.declared.options.Options.{Options}
 use Rattle.beam_values.specs.declared.plan.Plan.{Plan}
 use Rattle.beam_model.specs.Plans.{panes_plan}
 use Rattle.beam_ports.specs.Observed.{WhereTold}
+use Rattle.command_ends.specs.PlanFiles.{IsMeaningOf}
 use Rattle.command_words.specs.Commands.{Asked, Help, Panes, Run}
-use Rattle.plan_reader.specs.Documents.{document_of, node_names_of}
-use Rattle.plan_reader.specs.Refusals.{Meaning}
 
 -- a pipeline is asked for, with these options
 abbrev pub IsAskedWith : Options → Asked → Type 0

@@ -1,5 +1,5 @@
 -- How a command may end, and what each end means.
-use Rattle.std.specs.Prelude.{◌≡◌, ◌⊎◌, ℕ, ◌<◌, ◌≤◌, List, Option, Some, None, Err, IsSome, length, slice_get, take}
+use Rattle.std.specs.Prelude.{◌≡◌, ◌⊎◌, ℕ, List, Option, Some, None, IsSome, slice_get}
 use Rattle.std.specs.List.{All}
 use Rattle.beam_values.specs.Files.{first_named}
 use Rattle.beam_values.specs.declared.file_text.FileText.{FileText}
@@ -7,9 +7,7 @@ use Rattle.beam_values.specs.declared.options.Options.{Options}
 use Rattle.beam_values.specs.declared.outcome.Outcome.{Outcome}
 use Rattle.beam_values.specs.declared.plan.Plan.{Plan}
 use Rattle.beam_model.specs.Rendering.{IsRendering}
-use Rattle.beam_ports.specs.Counts.{Rose, rise}
 use Rattle.beam_ports.specs.Observed.{ObservedStore, ObservedSink, WhereTold}
-use Rattle.beam_ports.specs.Sinks.{then_taken}
 use Rattle.book_core.specs.Book.{BookData}
 use Rattle.book_core.specs.Runs.{IsEnded}
 use Rattle.chain_exec.specs.Causes.{ObservedShelf}
@@ -19,11 +17,11 @@ use Rattle.worker_loop.specs.Openings.{file_names}
 use Rattle.run_engine.specs.Openings.{IsOpeningRefused}
 use Rattle.run_engine.specs.PlanRun.{IsOutcomeWhere, IsSpent, IsStoppedBy, surroundings_of}
 use Rattle.run_engine.specs.declared.run_end.RunEnd.{RunEnd}
+use Rattle.command_ends.specs.PlanFiles.{IsPlanRefused}
+use Rattle.command_ends.specs.Writing.{IsWritten}
 use Rattle.command_ends.specs.declared.status.Status.{Status}
 use Rattle.command_ends.specs.declared.status.Status.TheVariants as status
 use Rattle.beam_command.specs.Asking.{IsPlanOf}
-use Rattle.command_ends.specs.PlanFiles.{IsMeaningOf}
-use Rattle.command_ends.specs.Notes.{note_line}
 
 -- What a command observed at the kits in use and at its output: of all shelves and of all stores as if they were one, and of each store.
 pub record Observed : Type 0 where

@@ -1,5 +1,5 @@
 -- How a pipeline ends that is run with a kit.
-use Rattle.std.specs.Prelude.{◌≡◌, ◌⊎◌, ℕ, List, Option, Some, None}
+use Rattle.std.specs.Prelude.{◌≡◌, ◌⊎◌, ℕ, Option, Some, None}
 use Rattle.beam_ports.specs.Observed.{ObservedSink}
 use Rattle.beam_values.specs.declared.options.Options.{Options}
 use Rattle.beam_values.specs.declared.outcome.Outcome.{Outcome}
@@ -10,7 +10,6 @@ use Rattle.run_engine.specs.PlanRun.{IsOutcomeWhere, IsSpent, IsStoppedBy, surro
 use Rattle.command_ends.specs.declared.status.Status.{Status}
 use Rattle.command_ends.specs.declared.status.Status.TheVariants as status
 use Rattle.beam_command.specs.Ends.{Observed, AreFound, IsUnwritten, IsPrinted}
-use Rattle.command_ends.specs.Writing.{IsWritten}
 
 -- the rendering of an outcome was written, or its writing failed, or there was no memory for it
 abbrev pub IsRunPrinted : ObservedSink → ℕ → Outcome → Status → Option Outcome → Type 0

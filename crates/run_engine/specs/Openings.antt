@@ -1,5 +1,5 @@
 -- How the kits of a run open the files of its plan, and why one didn't.
-use Rattle.std.specs.Prelude.{◌≡◌, ◌⊎◌, ℕ, zero, suc, ◌+◌, ◌≤◌, List, [], ◌∷◌, ◌++◌, length, slice_get, Option, Some, None, IsSome}
+use Rattle.std.specs.Prelude.{◌≡◌, ℕ, zero, suc, ◌+◌, ◌≤◌, List, [], ◌∷◌, ◌++◌, length, slice_get, Option, Some, None, IsSome}
 use Rattle.std.specs.List.{All, AllByRecursion}
 use Rattle.beam_values.specs.Files.{first_named}
 use Rattle.beam_values.specs.declared.file_text.FileText.{FileText}
