@@ -6,7 +6,7 @@ use Rattle.std.proofs.Crossing.{crosses}
 use Rattle.turn_desk.proofs.desk.Desk.TheSendSync as desk
 use Rattle.turn_desk.proofs.desk.Pass.TheSendSync as pass
 use Rattle.std.proofs.MapsCrossing.{crosses as maps}
-use Rattle.beam_values.proofs.Crossing.{Arrival-send, Cell-send, CommitMarks-send, Dropped-send, Entry-send, List-send, List-sync, Pane-send, Plan-send, Plan-sync, Value-send}
+use Rattle.beam_values.proofs.Crossing.{Arrival-send, Cell-send, CommitMarks-send, Dropped-send, Entry-send, List-send, List-sync, Pane-send, Plan-send, Plan-sync, Trigger-send, Value-send}
 use Rattle.beam_containers.specs.contracts.roomy.RoomyList as RoomyList
 use Rattle.beam_values.specs.contracts.piece.Done as Done
 use Rattle.windowing.specs.contracts.facts.NodeFacts as NodeFacts
@@ -22,10 +22,10 @@ use Rattle.group_cells.specs.contracts.groups.fired.Unfired as Unfired
 use Rattle.group_cells.specs.contracts.groups.group_plan.GroupPlan as GroupPlan
 use Rattle.group_cells.specs.contracts.groups.group_plan.GroupPlan.TheInside as GroupPlanInside
 use Rattle.group_cells.specs.contracts.groups.handing.Given as Given
-use Rattle.group_cells.specs.contracts.groups.index.CellIndex as CellIndex
-use Rattle.group_cells.specs.contracts.groups.index_key.CellKey as CellKey
-use Rattle.group_cells.specs.contracts.groups.index_key.IndexKey as IndexKey
-use Rattle.group_cells.specs.contracts.groups.index_key.IndexKey.TheInside as IndexKeyInside
+use Rattle.cell_index.specs.contracts.index.CellIndex as CellIndex
+use Rattle.cell_index.specs.contracts.index_key.CellKey as CellKey
+use Rattle.cell_index.specs.contracts.index_key.IndexKey as IndexKey
+use Rattle.cell_index.specs.contracts.index_key.IndexKey.TheInside as IndexKeyInside
 use Rattle.group_cells.specs.contracts.groups.keyed.GroupKey as GroupKey
 use Rattle.group_cells.specs.contracts.groups.room.Room as Room
 use Rattle.group_cells.specs.contracts.rules.Rules as Rules
@@ -90,7 +90,7 @@ Rules-send : IsSend Rules.the_row
 Rules-send = search (sendable, crosses) depth 40
 
 GroupPlan-send : IsSend GroupPlan.the_row
-GroupPlan-send = view_send _ _ _ _ _ (declared_send GroupPlanInside.the_type (search (Plan-send, Rules-send, as_row_send, sendable, crosses) depth 40))
+GroupPlan-send = view_send _ _ _ _ _ (declared_send GroupPlanInside.the_type (search (Plan-send, Rules-send, Trigger-send, as_row_send, sendable, crosses) depth 40))
 
 Groups-send : IsSend Groups.the_row
 Groups-send = view_send _ _ _ _ _ (declared_send GroupsInside.the_type (search (GroupPlan-send, Draft-send, GroupKey-send, List-send, as_row_send, sendable, crosses, maps) depth 40))
