@@ -6,6 +6,7 @@ use Rattle.std.proofs.lemmas.List.Elements.{All-cons, All-head, All-nil}
 use Rattle.std.proofs.lemmas.List.Sums.{sum_by-cons, sum_by-append}
 use Rattle.beam_values.proofs.Bags.{bag_count}
 use Rattle.beam_values.specs.Files.{first_named}
+use Rattle.beam_values.specs.declared.piece.Dead.{Dead}
 use Rattle.beam_values.specs.declared.arrival.Arrival.{Arrival}
 use Rattle.beam_values.specs.declared.fault.Cause.{Cause}
 use Rattle.beam_values.specs.declared.fault.Cause.TheVariants.{Call, Read}
@@ -22,6 +23,7 @@ use Rattle.beam_model.specs.Flow.{flow, log_chains, pane_chains}
 use Rattle.beam_model.specs.Plans.{panes_plan}
 use Rattle.beam_model.specs.Positions.{SourceItem, items}
 use Rattle.beam_model.specs.Spread.{HasPoison, is_poison, spread_all}
+use Rattle.beam_model.proofs.DeadPositions.{without_none}
 use Rattle.beam_ports.specs.Counts.{Rose, rise}
 use Rattle.beam_ports.specs.Observed.{WhereTold}
 use Rattle.book_core.specs.Book.{BookData}
@@ -34,7 +36,6 @@ use Rattle.command_words.specs.Parts.{Part}
 use Rattle.command_words.specs.declared.setting.Setting.TheVariants.{Attempts}
 use Rattle.ended_runs.specs.Stops.{IsHonestStop}
 use Rattle.ended_runs.specs.Unpoisoned.{TakesNoPoison}
-use Rattle.ended_runs.proofs.Ending.{nothing_left_out}
 use Rattle.worker_loop.specs.Bundles.{IsCountedAs}
 use Rattle.worker_loop.specs.Openings.{file_names}
 use Rattle.run_engine.specs.Openings.{IsOpeningRefused}
@@ -62,6 +63,10 @@ poison_counts : (outputs : List Output) → list_any is_poison outputs ≡ true 
 poison_counts [] any = absurd (false≢true any)
 poison_counts (Arrives a ∷ rest) any = omega (arith, poison_counts rest any, sum_by-cons (λ b. cond (is_poison b) 1 0) (Arrives a) rest)
 poison_counts (PoisonAt n ∷ rest) any = omega (arith, sum_by-cons (λ b. cond (is_poison b) 1 0) (PoisonAt n) rest)
+
+-- where nothing is dead, nothing is left out
+nothing_left_out : (items : List SourceItem) (o : Outcome) → o.dead ≡ [] → items_without o.dead items ≡ items
+nothing_left_out items o none = ap (λ (d : List Dead). items_without d items) none ∙ without_none items
 
 accounted-no_poison : (items : List SourceItem) (o : Outcome) → items_without o.dead items ≡ items → IsAccounted items o → HasPoison o.plan items → ⊥
 accounted-no_poison items o whole account poison =
@@ -107,7 +112,7 @@ module _ (asked : Option Asked) (observed : Observed) (told : List FileText) (te
       let kept = subst (λ (a : Option Asked). IsPlanAsked observed.store.files a o.plan) is (plan_kept asked observed own options o is run) in
       let asks = subst (λ (a : Option Asked). IsPlanAsked (Some told) a poison.0) is poison.1 in
       let same = plan_is observed.store told tells own poison.0 o.plan asks kept in
-      accounted-no_poison (items told o.plan) o (nothing_left_out run.3.book o run.3.of_book (items told o.plan)) (account told tells) (subst (λ (p : Plan). HasPoison p (items told p)) (sym same) poison.2)
+      accounted-no_poison (items told o.plan) o (nothing_left_out (items told o.plan) o run.3.of_book.dead) (account told tells) (subst (λ (p : Plan). HasPoison p (items told p)) (sym same) poison.2)
 
 -- so no run over poison ends Ok
 pub not_ok : (asked : Option Asked) (observed : Observed)
