@@ -1,6 +1,5 @@
 pub mod Answered
 pub mod Working
-pub mod BarrierReach
 pub mod PieceWork
 pub mod Claims
 pub mod Stretching

@@ -18,7 +18,9 @@ use Rattle.beam_model.specs.Chains.{Output, Arrives, PoisonAt}
 use Rattle.beam_model.specs.Estimators.{emission_at, seen_with}
 use Rattle.beam_model.specs.Holds.{estimator_of}
 use Rattle.beam_model.specs.Positions.{Emission, Emits, Poison, SourceItem, emission, next_position, nothing}
+use Rattle.beam_model.specs.Reach.{ReachesBarrier}
 use Rattle.beam_model.specs.Spread.{emission_outputs, outputs_at, spread_range}
+use Rattle.beam_model.proofs.BarrierReach.{emission_reaches}
 use Rattle.beam_model.proofs.Positions.{between_nothing}
 use Rattle.bundle_commit.specs.declared.job.Receipt.{Receipt}
 use Rattle.group_cells.proofs.Counting.{All-unmap}
@@ -34,7 +36,6 @@ use Rattle.chain_exec.specs.Sources.{SourceWork}
 use Rattle.chain_exec.specs.declared.position.Step.{Step}
 use Rattle.worker_loop.specs.Bundles.{IsFit, item_of}
 use Rattle.worker_loop.specs.Stretches.{HasStaged, IsFitSoFar}
-use Rattle.worker_loop.proofs.BarrierReach.{ReachesBarrier, emission_reaches}
 use Rattle.worker_loop.proofs.Working.{Quiet, spread_gap, spread_rest}
 
 -- ---- what was seen

@@ -9,11 +9,12 @@ use Rattle.beam_values.specs.declared.piece.Piece.{Piece}
 use Rattle.beam_values.specs.declared.plan.Plan.{Plan}
 use Rattle.beam_model.specs.Chains.{Output, Arrives, PoisonAt}
 use Rattle.beam_model.specs.Positions.{Emission, SourceItem}
+use Rattle.beam_model.specs.Reach.{reaches_barrier}
 use Rattle.beam_ports.specs.Counts.{Rose}
 use Rattle.beam_ports.specs.Files.{Opening}
 use Rattle.beam_ports.specs.Observed.{ObservedStore}
 use Rattle.book_core.specs.Changes.{cut_to}
-use Rattle.book_core.specs.Work.{Surroundings, IsHonest, IsPlausible, IsWorkOn, reaches_barrier, worked_to}
+use Rattle.book_core.specs.Work.{Surroundings, IsHonest, IsPlausible, IsWorkOn, worked_to}
 use Rattle.bundle_commit.specs.declared.job.Job.{Job}
 use Rattle.bundle_commit.specs.declared.job.Job.TheVariants as job
 use Rattle.bundle_commit.specs.declared.job.Receipt.{Receipt}
