@@ -17,6 +17,7 @@ use Rattle.beam_values.specs.declared.outcome.StopCause.TheVariants as stop
 use Rattle.beam_values.specs.declared.plan.Plan.{Plan}
 use Rattle.beam_model.specs.Account.{IsAccounted, arrivals}
 use Rattle.beam_model.specs.Chains.{Output, Arrives, PoisonAt}
+use Rattle.beam_model.specs.Dead.{items_without}
 use Rattle.beam_model.specs.Flow.{flow, log_chains, pane_chains}
 use Rattle.beam_model.specs.Plans.{panes_plan}
 use Rattle.beam_model.specs.Positions.{SourceItem, items}
@@ -33,6 +34,7 @@ use Rattle.command_words.specs.Parts.{Part}
 use Rattle.command_words.specs.declared.setting.Setting.TheVariants.{Attempts}
 use Rattle.ended_runs.specs.Stops.{IsHonestStop}
 use Rattle.ended_runs.specs.Unpoisoned.{TakesNoPoison}
+use Rattle.ended_runs.proofs.Ending.{nothing_left_out}
 use Rattle.worker_loop.specs.Bundles.{IsCountedAs}
 use Rattle.worker_loop.specs.Openings.{file_names}
 use Rattle.run_engine.specs.Openings.{IsOpeningRefused, IsNoSourceOrNoMemory}
@@ -60,11 +62,12 @@ poison_counts [] any = absurd (false≢true any)
 poison_counts (Arrives a ∷ rest) any = omega (arith, poison_counts rest any, sum_by-cons (λ b. cond (is_poison b) 1 0) (Arrives a) rest)
 poison_counts (PoisonAt n ∷ rest) any = omega (arith, sum_by-cons (λ b. cond (is_poison b) 1 0) (PoisonAt n) rest)
 
-accounted-no_poison : (items : List SourceItem) (o : Outcome) → IsAccounted items o → HasPoison o.plan items → ⊥
-accounted-no_poison items o account poison =
+accounted-no_poison : (items : List SourceItem) (o : Outcome) → items_without o.dead items ≡ items → IsAccounted items o → HasPoison o.plan items → ⊥
+accounted-no_poison items o whole account poison =
     let rest = pane_chains o.plan o.panes ++ log_chains o.plan o.logs in
     let some = poison_counts (spread_all o.plan items) poison in
-    let none : count_by is_poison (flow o.plan items o.panes o.logs) ≡ 0 = bag_count is_poison _ _ account.flow ∙ none_of_arrivals (arrivals o) in
+    let none : count_by is_poison (flow o.plan items o.panes o.logs) ≡ 0 =
+    ap (λ (l : List SourceItem). count_by is_poison (flow o.plan l o.panes o.logs)) (sym whole) ∙ bag_count is_poison _ _ account.flow ∙ none_of_arrivals (arrivals o) in
     let both : count_by is_poison (flow o.plan items o.panes o.logs) ≡ count_by is_poison (spread_all o.plan items) + count_by is_poison rest =
     sum_by-append (λ b. cond (is_poison b) 1 0) (spread_all o.plan items) rest in
     absurd (omega (arith, some, none, both))
@@ -103,7 +106,7 @@ module _ (asked : Option Asked) (observed : Observed) (told : List FileText) (te
       let kept = subst (λ (a : Option Asked). IsPlanAsked observed.store.files a o.plan) is (plan_kept asked observed own options o is run) in
       let asks = subst (λ (a : Option Asked). IsPlanAsked (Some told) a poison.0) is poison.1 in
       let same = plan_is observed.store told tells own poison.0 o.plan asks kept in
-      accounted-no_poison (items told o.plan) o (account told tells) (subst (λ (p : Plan). HasPoison p (items told p)) (sym same) poison.2)
+      accounted-no_poison (items told o.plan) o (nothing_left_out run.3.book o run.3.of_book (items told o.plan)) (account told tells) (subst (λ (p : Plan). HasPoison p (items told p)) (sym same) poison.2)
 
 -- so no run over poison ends Ok
 pub not_ok : (asked : Option Asked) (observed : Observed)

@@ -1,4 +1,4 @@
-ghost use Rattle.std.specs.Prelude.{◌≡◌, ◌<◌, ◌≤◌, ℕ, IfSome, None, length, drop, map};
+ghost use Rattle.std.specs.Prelude.{◌≡◌, ◌<◌, ◌≤◌, ℕ, IfSome, None, [], length, drop, map};
 ghost use Rattle.beam_ports.specs.Observed.{observed_sink, WhereTold};
 ghost use Rattle.beam_model.specs.Account.{IsAccounted};
 ghost use Rattle.beam_model.specs.Covers.{IsCovered};
@@ -33,8 +33,9 @@ use command_words::laws::words_ask_by_the_rules;
 use command_words::{Command, Usage, help_text, read_words};
 use dofn_traits::Shelf;
 use ended_runs::laws::{
-    outcomes_are_accounted, outcomes_are_covered, outcomes_are_plainly_written,
-    outcomes_have_legal_panes, runs_without_poison_fail_by_reads, stops_are_honest,
+    nothing_is_set_aside, outcomes_are_accounted, outcomes_are_covered,
+    outcomes_are_plainly_written, outcomes_have_legal_panes, runs_without_poison_fail_by_reads,
+    stops_are_honest,
 };
 use run_engine::{Kit, RunEnd, Status};
 use std::alloc::Global;
@@ -81,6 +82,10 @@ pub fn beam_main<R: Threads + Wait + Sync, F: Shelf, S: Store, W: Sink, N: Sink,
 
     // The committed ranges partition each item.
     ensures cover { IsRun result IsCovered }
+
+    // No position is set aside: every offset is in a committed range, and nothing is left out of the account
+    // and of plain grouping.
+    ensures no_dead { IsRun result (λ o. o.dead ≡ []) }
 
     // The outputs of every position, and every pane, arrived at each barrier that they reach exactly once.
     ensures account { IsRun result
@@ -159,6 +164,7 @@ pub fn beam_main<R: Threads + Wait + Sync, F: Shelf, S: Store, W: Sink, N: Sink,
 {
     honest_runs_are_runs();
     outcomes_are_covered();
+    nothing_is_set_aside();
     outcomes_are_accounted();
     outcomes_have_legal_panes();
     outcomes_are_plainly_written();

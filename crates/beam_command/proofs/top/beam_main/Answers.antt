@@ -1,4 +1,4 @@
-use Rattle.std.proofs.Common.{◌≡◌, List, Option, Some, length, sym, subst, ◌∙◌}
+use Rattle.std.proofs.Common.{◌≡◌, List, [], Option, Some, length, sym, subst, ◌∙◌}
 use Rattle.std.specs.Prelude.{IfSome}
 use Rattle.worker_loop.specs.Kits.{EachBecomes}
 use Rattle.worker_loop.specs.declared.kit.Kit.{Kit}
@@ -89,6 +89,12 @@ pub returns-clause-cover : goal.returns-clause-cover
 returns-clause-cover g c =
     promised (asked g c) (seen g c) IsCovered
     (λ own options o is run. covered (asked g c) (seen g c) own options o is run c.honest_runs_are_runs.ensures c.outcomes_are_covered.ensures)
+    c.noted-status.result c.unless_no_memory-outcome.result (ends g c)
+
+pub returns-clause-no_dead : goal.returns-clause-no_dead
+returns-clause-no_dead g c =
+    promised (asked g c) (seen g c) (λ o. o.dead ≡ [])
+    (λ own options o is run. c.nothing_is_set_aside.ensures run.3.book o run.3.of_book)
     c.noted-status.result c.unless_no_memory-outcome.result (ends g c)
 
 pub returns-clause-account : goal.returns-clause-account
