@@ -24,6 +24,11 @@ const LEAST_NEED: u64 = 2;
 
 const MOST_NEED: u64 = 512;
 
+// So many changes of what a pass works on let all in, at first and at most.
+const LEAST_CHANGES: u64 = 1;
+
+const MOST_CHANGES: u64 = 512;
+
 /// What a pass counts of its own turns.
 #[derive(Clone, Copy, Drop)]
 pub struct Waits {
@@ -38,8 +43,11 @@ pub struct Waits {
     calm: u32,
     // Whether it has had no window yet, or none since it was let in again.
     is_new: bool,
-    // What it last worked on.
+    // Whether it was let in again for a change.
+    is_back_for_change: bool,
+    // What it last worked on, and how often that changed.
     kind: Option<u32>,
+    changes: u32,
 }
 
 // How many turns of a window had to wait.
@@ -61,7 +69,9 @@ impl Waits {
             waited: 0,
             calm: 0,
             is_new: true,
+            is_back_for_change: false,
             kind: None,
+            changes: 0,
         }
     }
 
@@ -99,21 +109,25 @@ impl Waits {
         }
     }
 
-    fn come_back(&mut self) {
+    fn come_back(&mut self, is_for_change: bool) {
         self.turns = 0;
         self.waited = 0;
         self.calm = 0;
         self.is_new = true;
+        self.is_back_for_change = is_for_change;
     }
 
     // Whether it worked on something else before.
     fn changes_to(&mut self, kind: u32) -> bool {
-        let changes = match self.kind {
+        let is_other = match self.kind {
             Some(last) => last != kind,
             None => false,
         };
         self.kind = Some(kind);
-        changes
+        if is_other {
+            self.changes = self.changes.saturating_add(1);
+        }
+        is_other
     }
 }
 
@@ -121,9 +135,12 @@ impl Waits {
 #[derive(Drop)]
 pub struct Parking {
     state: AtomicU64,
+    // How many calm windows let one in, and how many changes let all in.
     need: AtomicU64,
-    // Whether one was let in for calm windows.
+    changes: AtomicU64,
+    // Whether one was let in for calm windows, and whether those that were last let in were so for a change.
     has_let_in: AtomicBool,
+    is_for_change: AtomicBool,
     bells: Bells,
 }
 
@@ -132,7 +149,9 @@ impl Parking {
         Parking {
             state: AtomicU64::new(0),
             need: AtomicU64::new(LEAST_NEED),
+            changes: AtomicU64::new(LEAST_CHANGES),
             has_let_in: AtomicBool::new(false),
+            is_for_change: AtomicBool::new(false),
             bells: Bells::new(),
         }
     }
@@ -154,7 +173,12 @@ impl Parking {
         if !waits.has_window() {
             return;
         }
-        if waits.end_window() == Share::Crowded {
+        let is_crowded = waits.end_window() == Share::Crowded;
+        if waits.is_back_for_change {
+            waits.is_back_for_change = false;
+            self.judge_change(is_crowded);
+        }
+        if is_crowded {
             self.park(rt, waits, number);
             return;
         }
@@ -164,9 +188,9 @@ impl Parking {
         }
         if u64::from(waits.calm) >= self.need() && self.has_parked() {
             waits.calm = 0;
-            if self.let_in(rt) {
-                self.has_let_in.store(true, Ordering::SeqCst);
-            }
+            self.has_let_in.store(true, Ordering::SeqCst);
+            self.is_for_change.store(false, Ordering::SeqCst);
+            self.let_in(rt);
         }
     }
 
@@ -178,10 +202,13 @@ impl Parking {
         }
     }
 
-    /// The pass works on this from now on. Where it worked on something else before, all are let in.
+    /// The pass works on this from now on. Where it worked on something else before, all are let in; where they were in vain
+    /// before, only after more such changes.
     pub fn turn_to<R: Wait>(&self, rt: &R, waits: &mut Waits, kind: u32) {
-        if waits.changes_to(kind) {
+        if waits.changes_to(kind) && u64::from(waits.changes) >= self.changes() {
+            waits.changes = 0;
             self.set_need(LEAST_NEED);
+            self.is_for_change.store(true, Ordering::SeqCst);
             self.let_all_in(rt);
         }
     }
@@ -203,6 +230,21 @@ impl Parking {
         self.need.store(need, Ordering::SeqCst);
     }
 
+    fn changes(&self) -> u64 {
+        self.changes.load(Ordering::SeqCst)
+    }
+
+    // One that was let in for a change has had its first window.
+    fn judge_change(&self, is_crowded: bool) {
+        let changes = self.changes();
+        let changes = if is_crowded {
+            changes.saturating_mul(2).min(MOST_CHANGES)
+        } else {
+            (changes / 2).max(LEAST_CHANGES)
+        };
+        self.changes.store(changes, Ordering::SeqCst);
+    }
+
     fn has_parked(&self) -> bool {
         self.state.load(Ordering::SeqCst) & PARKED != 0
     }
@@ -221,7 +263,7 @@ impl Parking {
             }
             self.bells.sleep(rt, u64::from(number));
         }
-        waits.come_back();
+        waits.come_back(self.is_for_change.load(Ordering::SeqCst));
         true
     }
 
