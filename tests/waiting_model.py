@@ -29,8 +29,8 @@ FAULTS = {
 }
 
 # A worker is (step, x, y): what it does next, with what it has to remember.
-(READY, DRAW, LOOK, ASK, ASKED, SLEEP, ASLEEP, TURN, ENDS, RING, QUIET, WAKE, WORK, PARK_ASK, PARK_LOOK, PARK_SET, PARK_LATE,
- PARK_SLEEP, PARKED, LET_LOOK, LET_SET, LET_RING, LET_QUIET, LET_WAKE, LEAVE, THROUGH, COUNT_LATE) = range(27)
+(ENTER, READY, DRAW, LOOK, ASK, ASKED, SLEEP, ASLEEP, TURN, ENDS, RING, QUIET, WAKE, WORK, PARK_ASK, PARK_LOOK, PARK_SET, PARK_LATE,
+ PARK_SLEEP, PARKED, LET_LOOK, LET_SET, LET_RING, LET_QUIET, LET_WAKE, LEAVE, THROUGH, COUNT_LATE) = range(28)
 WAITING = LOOK, ASK, ASKED, SLEEP, ASLEEP, TURN  # it has a ticket
 # What a turn is for, and what follows once its rings are done.
 TAKE, COMMIT = 0, 1
@@ -41,11 +41,10 @@ ONE, ALL, LAST = range(3)
 
 class Model:
     def __init__(self, workers, jobs, fault):
-        self.n, self.fault = workers, fault
-        word = (workers, 0)
+        self.fault = fault
         # the workers, the ticket served as a bell, the bells, those of the parked, how many are active and who is parked,
         # the jobs left, those that are worked, and whether the run is stopped
-        self.first = ((READY, 0, 0),) * workers, 0, (0,) * BELLS, (0,) * workers, word, (jobs, 0, False)
+        self.first = ((ENTER, 0, 0),) * workers, 0, (0,) * BELLS, (0,) * workers, (0, 0), (jobs, 0, False)
 
     def steps(self, state):
         ws, served, bells, own, word, run = state
@@ -55,7 +54,9 @@ class Model:
             def to(w, served=served, bells=bells, own=own, word=word, run=run, ws=ws):
                 return put(ws, i, w), served, bells, own, word, run
 
-            if step == READY:
+            if step == ENTER:
+                yield to((READY, 0, 0), word=(word[0] + 1, word[1]))
+            elif step == READY:
                 yield to((DRAW, TAKE, 0))
                 yield to((LET_LOOK, ONE, 0))
                 if i > 0:

@@ -13,13 +13,13 @@ const SPINS: u32 = 63;
 const YIELDS: u32 = 16;
 
 impl<V: Held> Desk<V> {
-    /// The pass is the one with this number from now on, and may park.
-    pub fn enter(&self, pass: &mut Pass<V>, number: u32)
+    /// The pass takes jobs from now on, and may park.
+    pub fn enter(&self, pass: &mut Pass<V>)
         requires desk { IsPassOf self.now pass.old }
         ensures desk { IsPassOf self.now pass.new }
         ensures note { note_of pass.new ≡ note_of pass.old }
     {
-        self.parking.enter(&mut pass.waits, number);
+        self.parking.enter(&mut pass.waits);
     }
 
     /// Before a job: where the pass's turns mostly had to wait, it lets others go first.

@@ -64,7 +64,7 @@ impl<V: Held> Desk<V> {
             Ok((table, seat)) => {
                 let bells = Bells::new();
                 let parking = Parking::new();
-                let waits = Waits::new();
+                let waits = Waits::first();
                 let desk = Desk {
                     table,
                     bells,
@@ -168,7 +168,7 @@ impl<V: Held> Desk<V> {
         let split = self.table.shared.split_seat::<Cut<V>>(&mut pass.seat);
         Pass {
             seat: split,
-            waits: Waits::new(),
+            waits: self.parking.next_waits(),
         }
     }
 

@@ -32,8 +32,10 @@ const MOST_CHANGES: u64 = 512;
 /// What a pass counts of its own turns.
 #[derive(Clone, Copy, Drop)]
 pub struct Waits {
-    // None before it is one of those that may park, and after it has left.
-    pub number: Option<u32>,
+    // Its number among all passes that were split off.
+    number: u64,
+    // Whether it is one of those that may park.
+    is_in: bool,
     // The ticket of its last turn.
     ticket: u64,
     // The turns of its window, and those that had to wait, by their weights.
@@ -61,9 +63,15 @@ enum Share {
 }
 
 impl Waits {
-    pub fn new() -> Waits {
+    // Of the first pass, which takes no jobs.
+    pub fn first() -> Waits {
+        Waits::new(u64::MAX)
+    }
+
+    fn new(number: u64) -> Waits {
         Waits {
-            number: None,
+            number,
+            is_in: false,
             ticket: 0,
             turns: 0,
             waited: 0,
@@ -135,6 +143,8 @@ impl Waits {
 #[derive(Drop)]
 pub struct Parking {
     state: AtomicU64,
+    // How many passes were split off.
+    passes: AtomicU64,
     // How many calm windows let one in, and how many changes let all in.
     need: AtomicU64,
     changes: AtomicU64,
@@ -148,6 +158,7 @@ impl Parking {
     pub fn new() -> Parking {
         Parking {
             state: AtomicU64::new(0),
+            passes: AtomicU64::new(0),
             need: AtomicU64::new(LEAST_NEED),
             changes: AtomicU64::new(LEAST_CHANGES),
             has_let_in: AtomicBool::new(false),
@@ -156,10 +167,15 @@ impl Parking {
         }
     }
 
-    /// The pass is active from now on. One with a greater number than there are bells never parks.
-    pub fn enter(&self, waits: &mut Waits, number: u32) {
-        if waits.number.is_none() && (number as usize) < COUNT {
-            waits.number = Some(number);
+    /// Of a pass that is split off.
+    pub fn next_waits(&self) -> Waits {
+        Waits::new(self.passes.fetch_add(1, Ordering::SeqCst))
+    }
+
+    /// The pass is active from now on. One for which there is no bell takes no part.
+    pub fn enter(&self, waits: &mut Waits) {
+        if !waits.is_in && waits.number < COUNT as u64 {
+            waits.is_in = true;
             self.state.fetch_add(ACTIVE, Ordering::SeqCst);
         }
     }
@@ -167,10 +183,7 @@ impl Parking {
     /// Before a job: the pass parks where the turns of its window were crowded, and where they were calm, and others before
     /// them, it lets one in.
     pub fn step<R: Wait>(&self, rt: &R, waits: &mut Waits) {
-        let Some(number) = waits.number else {
-            return;
-        };
-        if !waits.has_window() {
+        if !waits.is_in || !waits.has_window() {
             return;
         }
         let is_crowded = waits.end_window() == Share::Crowded;
@@ -179,7 +192,7 @@ impl Parking {
             self.judge_change(is_crowded);
         }
         if is_crowded {
-            self.park(rt, waits, number);
+            self.park(rt, waits);
             return;
         }
         if waits.is_new {
@@ -196,10 +209,7 @@ impl Parking {
 
     /// The pass has nothing to do. Answers whether it was parked meanwhile.
     pub fn rest<R: Wait>(&self, rt: &R, waits: &mut Waits) -> bool {
-        match waits.number {
-            Some(number) if waits.has_started() => self.park(rt, waits, number),
-            _ => false,
-        }
+        waits.is_in && waits.has_started() && self.park(rt, waits)
     }
 
     /// The pass works on this from now on. Where it worked on something else before, all are let in; where they were in vain
@@ -215,7 +225,8 @@ impl Parking {
 
     /// The pass has ended, and all are let in.
     pub fn leave<R: Wait>(&self, rt: &R, waits: &mut Waits) {
-        if waits.number.take().is_some() {
+        if waits.is_in {
+            waits.is_in = false;
             self.state.fetch_sub(ACTIVE, Ordering::SeqCst);
         }
         self.let_all_in(rt);
@@ -250,7 +261,8 @@ impl Parking {
     }
 
     // Sleeps until it is let in. The first one never parks, nor does the last one that is active.
-    fn park<R: Wait>(&self, rt: &R, waits: &mut Waits, number: u32) -> bool {
+    fn park<R: Wait>(&self, rt: &R, waits: &mut Waits) -> bool {
+        let number = waits.number;
         if number == 0 || !self.stand_aside(number) {
             return false;
         }
@@ -258,18 +270,17 @@ impl Parking {
             self.set_need(self.need().saturating_mul(2));
         }
         for _ in rt.forever() {
-            if !self.bells.is_asked(u64::from(number)) {
+            if !self.bells.is_asked(number) {
                 break;
             }
-            self.bells.sleep(rt, u64::from(number));
+            self.bells.sleep(rt, number);
         }
         waits.come_back(self.is_for_change.load(Ordering::SeqCst));
         true
     }
 
     // It asks to be woken before its bit is seen, so who lets it in finds that it asked.
-    fn stand_aside(&self, number: u32) -> bool {
-        let number = u64::from(number);
+    fn stand_aside(&self, number: u64) -> bool {
         self.bells.ask(number);
         let state = self.state.load(Ordering::SeqCst);
         let parked = state.wrapping_sub(ACTIVE) | bit(number);

@@ -34,7 +34,7 @@ impl Table {
         };
         let (answer, mut own) = in_turn::enroll(&self.desk, rt, own);
         if let Ok(slot) = answer {
-            self.desk.enter(&mut own, slot);
+            self.desk.enter(&mut own);
             pass.slot = Some(slot);
         }
         pass.pass = Some(own);
