@@ -10,8 +10,7 @@ const ACTIVE: u64 = 1 << 32;
 
 const PARKED: u64 = ACTIVE - 1;
 
-// So many turns are a window, after which a pass looks whether it parks. The first one, and the first after it was let in
-// again, is shorter.
+// So many turns are a window, after which a pass looks whether it parks. The first one after it was let in again is shorter.
 const WINDOW: u32 = 64;
 
 const FIRST_WINDOW: u32 = 16;
@@ -43,9 +42,8 @@ pub struct Waits {
     waited: u32,
     // How many windows in a row were calm.
     calm: u32,
-    // Whether it has had no window yet, or none since it was let in again.
-    is_new: bool,
-    // Whether it was let in again for a change.
+    // Whether it was let in again and has had no window since, and whether that was for a change.
+    is_back: bool,
     is_back_for_change: bool,
     // What it last worked on, and how often that changed.
     kind: Option<u32>,
@@ -76,7 +74,7 @@ impl Waits {
             turns: 0,
             waited: 0,
             calm: 0,
-            is_new: true,
+            is_back: false,
             is_back_for_change: false,
             kind: None,
             changes: 0,
@@ -97,7 +95,7 @@ impl Waits {
     }
 
     fn has_window(&self) -> bool {
-        let least = if self.is_new { FIRST_WINDOW } else { WINDOW };
+        let least = if self.is_back { FIRST_WINDOW } else { WINDOW };
         self.has_started() && self.turns >= least
     }
 
@@ -121,7 +119,7 @@ impl Waits {
         self.turns = 0;
         self.waited = 0;
         self.calm = 0;
-        self.is_new = true;
+        self.is_back = true;
         self.is_back_for_change = is_for_change;
     }
 
@@ -195,8 +193,8 @@ impl Parking {
             self.park(rt, waits);
             return;
         }
-        if waits.is_new {
-            waits.is_new = false;
+        if waits.is_back {
+            waits.is_back = false;
             self.set_need(self.need() / 2);
         }
         if u64::from(waits.calm) >= self.need() && self.has_parked() {
