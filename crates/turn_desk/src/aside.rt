@@ -22,7 +22,8 @@ impl<V: Held> Desk<V> {
         self.parking.enter(&mut pass.waits);
     }
 
-    /// Before a job: where the pass's turns mostly had to wait, it lets others go first.
+    /// Before a job: where the pass's turns mostly had to wait, it parks until another pass lets it in. So passes that take
+    /// turns on one thread could wait for one another.
     pub fn step_aside<R: Wait>(&self, rt: &R, pass: &mut Pass<V>)
         requires desk { IsPassOf self.now pass.old }
         ensures desk { IsPassOf self.now pass.new }
@@ -31,7 +32,7 @@ impl<V: Held> Desk<V> {
         self.parking.step(rt, &mut pass.waits);
     }
 
-    /// The pass has nothing to do just now.
+    /// The pass has nothing to do just now, and parks as in `step_aside`, or lets others run.
     pub fn rest<R: Wait>(&self, rt: &R, pass: &mut Pass<V>)
         requires desk { IsPassOf self.now pass.old }
         ensures desk { IsPassOf self.now pass.new }
@@ -42,7 +43,7 @@ impl<V: Held> Desk<V> {
         }
     }
 
-    /// The pass has a job of this kind. Where its last one was of another, all passes are let in again.
+    /// The pass has a job of this kind. Where a phase of other jobs has begun, all passes are let in again.
     pub fn turn_to<R: Wait>(&self, rt: &R, pass: &mut Pass<V>, kind: u32)
         requires desk { IsPassOf self.now pass.old }
         ensures desk { IsPassOf self.now pass.new }

@@ -4,8 +4,8 @@ use std::sync::Wait;
 use std::sync::atomic::{AtomicU64, Ordering};
 use std::{array, hint, thread};
 
-// Passes whose tickets leave the same remainder share a bell. More than FAR, so that of those only one at a time asks, and
-// a divisor of 2^64, at which tickets begin anew.
+// Passes whose tickets leave the same remainder share a bell; those of parked passes go by their numbers. More than FAR, so that
+// of those only one at a time asks, and a divisor of 2^64, at which tickets begin anew.
 pub const COUNT: usize = 16;
 
 // What a bell says: whether a pass asked to be woken that wasn't since.

@@ -15,18 +15,14 @@ const WINDOW: u32 = 64;
 
 const FIRST_WINDOW: u32 = 16;
 
-// No pass parks before so many turns were taken in all: so a worker that is held waits in vain for no other one.
+// No pass parks before so many turns were taken in all, nor counts them, since many come at once at the start. So a gate that
+// holds one worker until another got on doesn't wait for a parked one.
 const START: u64 = 64;
 
 // So many calm windows of one pass in a row let in another one, at first and at most.
 const LEAST_NEED: u64 = 2;
 
 const MOST_NEED: u64 = 512;
-
-// So many changes of what a pass works on let all in, at first and at most.
-const LEAST_CHANGES: u64 = 1;
-
-const MOST_CHANGES: u64 = 512;
 
 /// What a pass counts of its own turns.
 #[derive(Clone, Copy, Drop)]
@@ -42,12 +38,11 @@ pub struct Waits {
     waited: u32,
     // How many windows in a row were calm.
     calm: u32,
-    // Whether it was let in again and has had no window since, and whether that was for a change.
+    // Whether it was let in again and has had no window since.
     is_back: bool,
-    is_back_for_change: bool,
-    // What it last worked on, and how often that changed.
+    // What it last worked on, and for which work it last let all in.
     kind: Option<u32>,
-    changes: u32,
+    let_in_for: Option<u32>,
 }
 
 // How many turns of a window had to wait.
@@ -75,19 +70,20 @@ impl Waits {
             waited: 0,
             calm: 0,
             is_back: false,
-            is_back_for_change: false,
             kind: None,
-            changes: 0,
+            let_in_for: None,
         }
     }
 
     /// The turn of this ticket has come, at once or after this pause.
     #[inline(always)]
     pub fn count(&mut self, ticket: u64, pause: &Pause) {
-        let weight = pause.weight();
         self.ticket = ticket;
-        self.turns = self.turns.saturating_add(weight.max(1));
-        self.waited = self.waited.saturating_add(weight);
+        if self.has_started() {
+            let weight = pause.weight();
+            self.turns = self.turns.saturating_add(weight.max(1));
+            self.waited = self.waited.saturating_add(weight);
+        }
     }
 
     fn has_started(&self) -> bool {
@@ -96,7 +92,7 @@ impl Waits {
 
     fn has_window(&self) -> bool {
         let least = if self.is_back { FIRST_WINDOW } else { WINDOW };
-        self.has_started() && self.turns >= least
+        self.turns >= least
     }
 
     fn end_window(&mut self) -> Share {
@@ -115,25 +111,23 @@ impl Waits {
         }
     }
 
-    fn come_back(&mut self, is_for_change: bool) {
+    // It begins to count anew.
+    fn clear(&mut self) {
         self.turns = 0;
         self.waited = 0;
         self.calm = 0;
-        self.is_back = true;
-        self.is_back_for_change = is_for_change;
     }
 
-    // Whether it worked on something else before.
-    fn changes_to(&mut self, kind: u32) -> bool {
-        let is_other = match self.kind {
-            Some(last) => last != kind,
-            None => false,
-        };
+    // Whether this is its second job in a row of a kind for which it didn't last let all in. So phases of a run count, and
+    // jobs that change their kind all the time don't.
+    fn begins_phase(&mut self, kind: u32) -> bool {
+        let is_second = self.kind == Some(kind);
+        let begins = is_second && self.let_in_for != Some(kind);
         self.kind = Some(kind);
-        if is_other {
-            self.changes = self.changes.saturating_add(1);
+        if begins {
+            self.let_in_for = Some(kind);
         }
-        is_other
+        begins
     }
 }
 
@@ -143,12 +137,9 @@ pub struct Parking {
     state: AtomicU64,
     // How many passes were split off.
     passes: AtomicU64,
-    // How many calm windows let one in, and how many changes let all in.
-    need: AtomicU64,
-    changes: AtomicU64,
-    // Whether one was let in for calm windows, and whether those that were last let in were so for a change.
-    has_let_in: AtomicBool,
-    is_for_change: AtomicBool,
+    // How many calm windows in a row let one in, and whether that ever was.
+    calm_needed: AtomicU64,
+    ever_let_in: AtomicBool,
     bells: Bells,
 }
 
@@ -157,10 +148,8 @@ impl Parking {
         Parking {
             state: AtomicU64::new(0),
             passes: AtomicU64::new(0),
-            need: AtomicU64::new(LEAST_NEED),
-            changes: AtomicU64::new(LEAST_CHANGES),
-            has_let_in: AtomicBool::new(false),
-            is_for_change: AtomicBool::new(false),
+            calm_needed: AtomicU64::new(LEAST_NEED),
+            ever_let_in: AtomicBool::new(false),
             bells: Bells::new(),
         }
     }
@@ -184,39 +173,34 @@ impl Parking {
         if !waits.is_in || !waits.has_window() {
             return;
         }
-        let is_crowded = waits.end_window() == Share::Crowded;
-        if waits.is_back_for_change {
-            waits.is_back_for_change = false;
-            self.judge_change(is_crowded);
-        }
-        if is_crowded {
+        if waits.end_window() == Share::Crowded {
+            if waits.number != 0 && self.ever_let_in.load(Ordering::SeqCst) {
+                self.need(self.calm_needed().saturating_mul(2));
+            }
             self.park(rt, waits);
             return;
         }
         if waits.is_back {
             waits.is_back = false;
-            self.set_need(self.need() / 2);
+            self.need(self.calm_needed() / 2);
         }
-        if u64::from(waits.calm) >= self.need() && self.has_parked() {
+        if u64::from(waits.calm) >= self.calm_needed() && self.has_parked() {
             waits.calm = 0;
-            self.has_let_in.store(true, Ordering::SeqCst);
-            self.is_for_change.store(false, Ordering::SeqCst);
+            self.ever_let_in.store(true, Ordering::SeqCst);
             self.let_in(rt);
         }
     }
 
-    /// The pass has nothing to do. Answers whether it was parked meanwhile.
+    /// The pass has nothing to do, so how its turns came tells nothing. Answers whether it was parked meanwhile.
     pub fn rest<R: Wait>(&self, rt: &R, waits: &mut Waits) -> bool {
+        waits.clear();
         waits.is_in && waits.has_started() && self.park(rt, waits)
     }
 
-    /// The pass works on this from now on. Where it worked on something else before, all are let in; where they were in vain
-    /// before, only after more such changes.
+    /// The pass has a job of this kind. Where another phase of the run has begun, all are let in.
     pub fn turn_to<R: Wait>(&self, rt: &R, waits: &mut Waits, kind: u32) {
-        if waits.changes_to(kind) && u64::from(waits.changes) >= self.changes() {
-            waits.changes = 0;
-            self.set_need(LEAST_NEED);
-            self.is_for_change.store(true, Ordering::SeqCst);
+        if waits.begins_phase(kind) {
+            self.need(LEAST_NEED);
             self.let_all_in(rt);
         }
     }
@@ -230,28 +214,14 @@ impl Parking {
         self.let_all_in(rt);
     }
 
-    fn need(&self) -> u64 {
-        self.need.load(Ordering::SeqCst)
+    fn calm_needed(&self) -> u64 {
+        self.calm_needed.load(Ordering::SeqCst)
     }
 
-    fn set_need(&self, need: u64) {
-        let need = need.clamp(LEAST_NEED, MOST_NEED);
-        self.need.store(need, Ordering::SeqCst);
-    }
-
-    fn changes(&self) -> u64 {
-        self.changes.load(Ordering::SeqCst)
-    }
-
-    // One that was let in for a change has had its first window.
-    fn judge_change(&self, is_crowded: bool) {
-        let changes = self.changes();
-        let changes = if is_crowded {
-            changes.saturating_mul(2).min(MOST_CHANGES)
-        } else {
-            (changes / 2).max(LEAST_CHANGES)
-        };
-        self.changes.store(changes, Ordering::SeqCst);
+    // From now on as many are needed, within the bounds.
+    fn need(&self, calm: u64) {
+        let calm = calm.clamp(LEAST_NEED, MOST_NEED);
+        self.calm_needed.store(calm, Ordering::SeqCst);
     }
 
     fn has_parked(&self) -> bool {
@@ -264,16 +234,14 @@ impl Parking {
         if number == 0 || !self.stand_aside(number) {
             return false;
         }
-        if self.has_let_in.load(Ordering::SeqCst) {
-            self.set_need(self.need().saturating_mul(2));
-        }
         for _ in rt.forever() {
             if !self.bells.is_asked(number) {
                 break;
             }
             self.bells.sleep(rt, number);
         }
-        waits.come_back(self.is_for_change.load(Ordering::SeqCst));
+        waits.clear();
+        waits.is_back = true;
         true
     }
 
@@ -325,6 +293,7 @@ impl Parking {
     }
 }
 
+// Numbers of those that may park are below COUNT, so the remainder changes none.
 fn bit(number: u64) -> u64 {
     1 << (number % COUNT as u64)
 }
