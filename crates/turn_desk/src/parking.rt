@@ -10,7 +10,8 @@ const ACTIVE: u64 = 1 << 32;
 
 const PARKED: u64 = ACTIVE - 1;
 
-// So many turns are a window, after which a pass looks whether it parks. The first one after it was let in again is shorter.
+// So many turns are a window, after which a pass looks whether it parks. The first one is shorter, and so is the first one after
+// it was let in again: where sixteen workers start at once, those that are too many are soon gone.
 const WINDOW: u32 = 64;
 
 const FIRST_WINDOW: u32 = 16;
@@ -38,8 +39,8 @@ pub struct Waits {
     waited: u32,
     // How many windows in a row were calm.
     calm: u32,
-    // Whether it was let in again and has had no window since.
-    is_back: bool,
+    // Whether it has had no window yet, or none since it was let in again.
+    is_new: bool,
     // What it last worked on, and for which work it last let all in.
     kind: Option<u32>,
     let_in_for: Option<u32>,
@@ -69,7 +70,7 @@ impl Waits {
             turns: 0,
             waited: 0,
             calm: 0,
-            is_back: false,
+            is_new: true,
             kind: None,
             let_in_for: None,
         }
@@ -91,7 +92,7 @@ impl Waits {
     }
 
     fn has_window(&self) -> bool {
-        let least = if self.is_back { FIRST_WINDOW } else { WINDOW };
+        let least = if self.is_new { FIRST_WINDOW } else { WINDOW };
         self.turns >= least
     }
 
@@ -180,8 +181,8 @@ impl Parking {
             self.park(rt, waits);
             return;
         }
-        if waits.is_back {
-            waits.is_back = false;
+        if waits.is_new {
+            waits.is_new = false;
             self.need(self.calm_needed() / 2);
         }
         if u64::from(waits.calm) >= self.calm_needed() && self.has_parked() {
@@ -241,7 +242,7 @@ impl Parking {
             self.bells.sleep(rt, number);
         }
         waits.clear();
-        waits.is_back = true;
+        waits.is_new = true;
         true
     }
 
