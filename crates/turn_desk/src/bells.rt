@@ -4,9 +4,9 @@ use std::sync::Wait;
 use std::sync::atomic::{AtomicU64, Ordering};
 use std::{array, hint, thread};
 
-// Passes whose tickets leave the same remainder share a bell. More than FAR, so that of those only one at a time asks, and
-// a divisor of 2^64, at which tickets begin anew.
-const COUNT: usize = 16;
+// Passes whose tickets leave the same remainder share a bell; those of parked passes go by their numbers. More than FAR, so that
+// of those only one at a time asks, and a divisor of 2^64, at which tickets begin anew.
+pub const COUNT: usize = 16;
 
 // What a bell says: whether a pass asked to be woken that wasn't since.
 const QUIET: u64 = 0;
@@ -23,6 +23,9 @@ const LOOKS: u32 = 6000;
 // A pass with more turns than this before its own lets others run and looks again, and never sleeps: where turns are
 // short a sleep costs more than it waits.
 const FAR: u64 = 3;
+
+// A turn that came after fewer looks than this didn't have to wait.
+const LONG: u32 = 32;
 
 /// A bell for each of sixteen tickets in a row.
 #[derive(Drop)]
@@ -41,21 +44,30 @@ impl Bells {
         &self.bells[(ticket % COUNT as u64) as usize]
     }
 
-    fn ask(&self, ticket: u64) {
+    pub fn ask(&self, ticket: u64) {
         self.bell(ticket).store(ASKED, Ordering::SeqCst);
     }
 
-    // Sleeps until the bell is rung, unless it was since the pass asked.
-    fn sleep<R: Wait>(&self, rt: &R, ticket: u64) {
+    /// Whether a pass asked to be woken that wasn't since.
+    pub fn is_asked(&self, ticket: u64) -> bool {
+        self.bell(ticket).load(Ordering::SeqCst) == ASKED
+    }
+
+    /// The one that asked needn't be woken.
+    pub fn forget(&self, ticket: u64) {
+        self.bell(ticket).store(QUIET, Ordering::SeqCst);
+    }
+
+    /// Sleeps until the bell is rung, unless it was since the pass asked. It may end for no reason.
+    pub fn sleep<R: Wait>(&self, rt: &R, ticket: u64) {
         self.bell(ticket).park(rt, ASKED as u32);
     }
 
-    // The word changes before the wake: so who finds it changed needn't sleep, and who sleeps is woken after it.
-    fn ring(&self, ticket: u64) {
-        let bell = self.bell(ticket);
-        if bell.load(Ordering::SeqCst) == ASKED {
-            bell.store(QUIET, Ordering::SeqCst);
-            bell.wake_all();
+    /// The word changes before the wake: so who finds it changed needn't sleep, and who sleeps is woken after it.
+    pub fn ring(&self, ticket: u64) {
+        if self.is_asked(ticket) {
+            self.forget(ticket);
+            self.bell(ticket).wake_all();
         }
     }
 
@@ -77,6 +89,8 @@ impl Bells {
 pub struct Pause {
     looks: u32,
     has_asked: bool,
+    has_slept: bool,
+    has_given_way: bool,
 }
 
 impl Pause {
@@ -84,6 +98,19 @@ impl Pause {
         Pause {
             looks: 0,
             has_asked: false,
+            has_slept: false,
+            has_given_way: false,
+        }
+    }
+
+    /// How much the turn counts among those that had to wait. One that came after a few looks is none.
+    pub fn weight(&self) -> u32 {
+        if self.has_given_way {
+            16
+        } else if self.has_slept {
+            4
+        } else {
+            u32::from(self.looks >= LONG)
         }
     }
 
@@ -96,9 +123,12 @@ impl Pause {
             hint::spin_loop();
         } else if before > FAR {
             thread::yield_now();
+            self.has_given_way = true;
         } else if self.has_asked {
             bells.sleep(rt, ticket);
-            *self = Pause::new();
+            self.looks = 0;
+            self.has_asked = false;
+            self.has_slept = true;
         } else {
             bells.ask(ticket);
             self.has_asked = true;

@@ -12,6 +12,7 @@ use crate::change::Change;
 use crate::desk::{Desk, Hold, Pass, Place, Turn};
 use crate::error::NoMemory;
 use crate::held::{Held, Note};
+use crate::parking::{Parking, Waits};
 use crate::plays::{Cut, Draw, End, Merge, Serve};
 use crate::unseen::Unseen;
 use crate::view::Slot;
@@ -62,7 +63,14 @@ impl<V: Held> Desk<V> {
         match Table::new(alloc, &[0, 0], slots, &constant) {
             Ok((table, seat)) => {
                 let bells = Bells::new();
-                Ok((Desk { table, bells }, Pass { seat }))
+                let parking = Parking::new();
+                let waits = Waits::first();
+                let desk = Desk {
+                    table,
+                    bells,
+                    parking,
+                };
+                Ok((desk, Pass { seat, waits }))
             }
             Err(Refused { slots: _ }) => Err(NoMemory),
         }
@@ -78,9 +86,13 @@ impl<V: Held> Desk<V> {
         ensures fits { V.fits (lent_value result) (constant_of self.now) (note_of pass) }
         ensures value { present_value result ≡ lent_value result }
     {
-        let Pass { mut seat } = pass;
+        let Pass {
+            mut seat,
+            mut waits,
+        } = pass;
         let ticket = self.table.shared.fetch_add::<Draw>(&mut seat, TICKETS, 1);
-        self.wait(rt, &mut seat, ticket);
+        let pause = self.wait(rt, &mut seat, ticket);
+        waits.count(ticket, &pause);
         let out = Slot {
             value: None,
             note: Unseen::of(),
@@ -89,13 +101,13 @@ impl<V: Held> Desk<V> {
         let lent = Snapshot::of(&value);
         Turn {
             value,
-            hold: Hold { lent, seat },
+            hold: Hold { lent, seat, waits },
         }
     }
 
     // Waits until the ticket is served.
     #[inline(always)]
-    fn wait<R: Wait>(&self, rt: &R, seat: &mut Place<V>, ticket: u64)
+    fn wait<R: Wait>(&self, rt: &R, seat: &mut Place<V>, ticket: u64) -> Pause
         requires desk { seat.old.table_id ≡ self.now.table.shared.table_id }
         requires drawn { HasDrawn ticket seat.old.me }
         ensures desk { seat.new.table_id ≡ seat.old.table_id }
@@ -109,6 +121,7 @@ impl<V: Held> Desk<V> {
             }
             pause.step(rt, &self.bells, ticket, serving);
         }
+        pause
     }
 
     /// Gives the turn back. The pass then has the note that the change names.
@@ -127,7 +140,11 @@ impl<V: Held> Desk<V> {
             value: present,
             hold,
         } = turn;
-        let Hold { lent: _, mut seat } = hold;
+        let Hold {
+            lent: _,
+            mut seat,
+            waits,
+        } = hold;
         let back = Slot {
             value: Some(present),
             note,
@@ -136,7 +153,7 @@ impl<V: Held> Desk<V> {
         let ended = self.table.shared.fetch_add::<End>(&mut seat, SERVING, 1);
         let drawn = self.table.shared.peek(TICKETS);
         self.bells.ring_after(ended, drawn);
-        Pass { seat }
+        Pass { seat, waits }
     }
 
     /// Splits off a pass, whose number is the greatest free one.
@@ -149,7 +166,10 @@ impl<V: Held> Desk<V> {
             ≡ given_part (V.given (note_of pass.old)) (note_of pass.old) }
     {
         let split = self.table.shared.split_seat::<Cut<V>>(&mut pass.seat);
-        Pass { seat: split }
+        Pass {
+            seat: split,
+            waits: self.parking.next_waits(),
+        }
     }
 
     /// Joins another pass into this one.
@@ -159,7 +179,7 @@ impl<V: Held> Desk<V> {
         ensures note { note_of pass.new ≡ joined_note (V.joined (note_of pass.old) (note_of other))
             (note_of pass.old) (note_of other) }
     {
-        let Pass { seat: joined } = other;
+        let Pass { seat: joined, .. } = other;
         let shared = &self.table.shared;
         shared.join_seat::<Merge<V>>(&mut pass.seat, joined);
     }
@@ -171,8 +191,8 @@ impl<V: Held> Desk<V> {
         ensures sound { IsSound (note_of pass) }
         ensures fits { V.fits result (constant_of self) (note_of pass) }
     {
-        let Desk { table, bells: _ } = self;
-        let Pass { seat } = pass;
+        let Desk { table, .. } = self;
+        let Pass { seat, .. } = pass;
         let mut closed = table.close_with(seat);
         let value = closed.take(0).into_value();
         closed.free();

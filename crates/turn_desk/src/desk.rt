@@ -5,6 +5,7 @@ ghost use Rattle.turn_desk.specs.Standing.{IsIdle, IsIdle-prop, HasTaken, HasTak
 
 use crate::bells::Bells;
 use crate::held::Held;
+use crate::parking::{Parking, Waits};
 use crate::plays::Order;
 use crate::unseen::Unseen;
 use crate::view::{Slot, View};
@@ -28,14 +29,16 @@ pub struct Desk<V: Held> {
         Global,
     >,
     pub(crate) bells: Bells,
+    pub(crate) parking: Parking,
     ghost counts: { (table.shared.table_id.words ≡ 2) × (table.shared.table_id.slots ≡ 1) },
 }
 
-/// The right to take turns, with a note of what is known of the value. It has no bytes.
+/// The right to take turns, with a note of what is known of the value.
 /// A pass that is dropped keeps its numbers, so its desk can't be closed.
 #[derive(Drop)]
 pub struct Pass<V: Held> {
     pub(crate) seat: Place<V>,
+    pub(crate) waits: Waits,
     ghost idle: { IsIdle seat.me.0.stage } by { IsIdle-prop seat.me.0.stage },
     ghost empty: { seat.me.1 ≡ [] },
 }
@@ -50,6 +53,7 @@ pub struct Turn<V: Held> {
 pub(crate) struct Hold<V: Held> {
     pub(crate) lent: Snapshot<V>,
     pub(crate) seat: Place<V>,
+    pub(crate) waits: Waits,
     ghost taken: { HasTaken lent.value seat.me.0.stage } by { HasTaken-prop V.code
         lent.value seat.me.0.stage },
     ghost out: { map (λ k. k.0) seat.me.1 ≡ 0 ∷ [] },

@@ -6,15 +6,17 @@
 //! A call that is given a desk with a pass or a turn asks that these are of that desk.
 //!
 //! Read `held.rt` first, for what a value has to meet, and then `calls.rt`. The README says why no two turns overlap,
-//! and `bells.rt` how a pass waits.
+//! `bells.rt` how a pass waits, and `parking.rt` when it steps aside.
 #![tactic(auto)]
 
+mod aside;
 mod bells;
 mod calls;
 mod change;
 mod desk;
 mod error;
 mod held;
+mod parking;
 mod plays;
 #[cfg(test)]
 mod tally;

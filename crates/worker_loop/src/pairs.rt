@@ -79,5 +79,6 @@ fn beside<R: Threads + Sync, K: Send, T: Send, J: Fn(&mut T, &mut K) + Sync>(
         ensures { EachPairBecomes (ChangesPair J.Fn job.entry.now) other_kits.entry.now
             other_kits.exit.now other_seats.entry.now other_seats.exit.now }
     { each_pair(rt, job, other_seats, other_kits) };
-    join_mut(rt, &mut here, &mut there);
+    // The second one stays on this thread: so the first seat is worked on the thread that called for all.
+    join_mut(rt, &mut there, &mut here);
 }

@@ -37,7 +37,6 @@ use pipeline_graph::laws::{
 use retry_core::FaultShare;
 use std::alloc::Global;
 use std::sync::Wait;
-use std::{hint, thread};
 use worker_table::{Table, WorkerPass};
 
 /// How a worker ended.
@@ -273,7 +272,7 @@ impl<'a, G: Gate> Shop<'a, G> {
         }
     }
 
-    // Splits the range of another slot. Where none can be split, the worker gives way before it looks again.
+    // Splits the range of another slot. Where none can be split, the table lets others work before the worker looks again.
     fn help<R: Wait>(&self, rt: &R, pass: &mut WorkerPass) -> Option<WorkerEnd>
         requires table { IsOf self.now.table.now pass.old }
         requires slot { IsSome (slot_of pass.old) }
@@ -284,11 +283,7 @@ impl<'a, G: Gate> Shop<'a, G> {
         ensures keeps { KeepsSlot (entry_of pass.old) (entry_of pass.new) }
     {
         match self.table.split_other(rt, pass) {
-            Ok(Some(_at)) => None,
-            Ok(None) => {
-                give_way();
-                None
-            }
+            Ok(_at) => None,
             Err(NoMemory) => Some(self.give_up(rt, pass)),
         }
     }
@@ -330,18 +325,4 @@ fn counts_have_64_bits(share: &FaultShare)
 {
     let _calls = share.calls;
     let _reads = share.reads;
-}
-
-// How often a worker that has nothing to do lets others run before it takes a turn again.
-const SPINS: u32 = 63;
-
-const YIELDS: u32 = 16;
-
-fn give_way() {
-    for _ in 0..SPINS {
-        hint::spin_loop();
-    }
-    for _ in 0..YIELDS {
-        thread::yield_now();
-    }
 }

@@ -15,7 +15,7 @@ use crate::in_turn;
 use crate::pass::{Table, WorkerPass};
 use beam_values::{Cause, NoMemory};
 use book_core::{Failure, Taken, Unplaced};
-use bundle_commit::Receipt;
+use bundle_commit::{Job, Receipt};
 use std::sync::Wait;
 
 impl Table {
@@ -32,11 +32,12 @@ impl Table {
         let Some(own) = pass.pass.take() else {
             unreachable!();
         };
-        let (answer, own) = in_turn::enroll(&self.desk, rt, own);
-        pass.pass = Some(own);
+        let (answer, mut own) = in_turn::enroll(&self.desk, rt, own);
         if let Ok(slot) = answer {
+            self.desk.enter(&mut own);
             pass.slot = Some(slot);
         }
+        pass.pass = Some(own);
         answer
     }
 
@@ -54,10 +55,16 @@ impl Table {
         ensures stays { KeepsSlot (entry_of pass.old) (entry_of pass.new) }
         ensures others { KeepsOthers (note_of_pass pass.old) (note_of_pass pass.new) }
     {
-        let (Some(own), Some(slot)) = (pass.pass.take(), pass.slot) else {
+        let (Some(mut own), Some(slot)) = (pass.pass.take(), pass.slot) else {
             unreachable!();
         };
-        let (answer, own) = in_turn::take_job(&self.desk, rt, own, slot);
+        self.desk.step_aside(rt, &mut own);
+        let (answer, mut own) = in_turn::take_job(&self.desk, rt, own, slot);
+        match &answer {
+            Ok(Taken::Job(job)) => self.desk.turn_to(rt, &mut own, kind_of(job)),
+            Ok(Taken::Finished | Taken::Stopped) => self.desk.leave(rt, &mut own),
+            Ok(Taken::Nothing) | Err(NoMemory) => {}
+        }
         pass.pass = Some(own);
         answer
     }
@@ -117,7 +124,10 @@ impl Table {
         let (Some(own), Some(slot)) = (pass.pass.take(), pass.slot) else {
             unreachable!();
         };
-        let (answer, own) = in_turn::split_other(&self.desk, rt, own, slot);
+        let (answer, mut own) = in_turn::split_other(&self.desk, rt, own, slot);
+        if let Ok(None) = answer {
+            self.desk.rest(rt, &mut own);
+        }
         pass.pass = Some(own);
         answer
     }
@@ -162,7 +172,10 @@ impl Table {
         let (Some(own), Some(slot)) = (pass.pass.take(), pass.slot) else {
             unreachable!();
         };
-        let (answer, own) = in_turn::fail(&self.desk, rt, own, slot, at, cause);
+        let (answer, mut own) = in_turn::fail(&self.desk, rt, own, slot, at, cause);
+        if let Failure::Spent(_) = answer {
+            self.desk.leave(rt, &mut own);
+        }
         pass.pass = Some(own);
         answer
     }
@@ -179,6 +192,16 @@ impl Table {
         let Some(own) = pass.pass.take() else {
             unreachable!();
         };
-        pass.pass = Some(in_turn::stop(&self.desk, rt, own));
+        let mut own = in_turn::stop(&self.desk, rt, own);
+        self.desk.leave(rt, &mut own);
+        pass.pass = Some(own);
+    }
+}
+
+// Jobs of one kind crowd the table alike: those that read, and those of one node.
+fn kind_of(job: &Job) -> u32 {
+    match job {
+        Job::Span { .. } => 0,
+        Job::Batch { node, .. } | Job::Key { node, .. } => node.saturating_add(1),
     }
 }

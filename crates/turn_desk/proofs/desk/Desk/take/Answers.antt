@@ -10,4 +10,4 @@ fetch_add-ticket-requires g c =
     (c.requires.0, omega arith, draws g.V.Held.fits c.args.self.now.table.shared.key.value _ seat.id seat.me (idle_is seat.me.0.stage c.args.pass.idle))
 
 pub exchange-requires : goal.exchange-requires
-exchange-requires g c = (search rules, has_slot g.V.Held.fits c.fetch_add-ticket.new.seat.me c.wait.new.seat.me c.wait.ensures.turn)
+exchange-requires g c = (search rules, has_slot g.V.Held.fits c.fetch_add-ticket.new.seat.me c.wait-pause.new.seat.me c.wait-pause.ensures.turn)
