@@ -37,14 +37,28 @@ fn run_file<R: Files + Print + AllocGlobal + Threads + Wait + Sync>(
         let Some(line) = script.next_line() else {
             break;
         };
-        let mut case = Case::new(rt.alloc());
-        case.read(line);
-        match case.word() {
-            "command" => answer_command(rt, &mut script, &mut case),
-            _ => case.fail("a case is a block that begins with command"),
-        }
-        tally = tally.counting(is_shown_to_pass(rt, name, &script, &case)?);
+        tally = tally.counting(passes(rt, name, line, &mut script)?);
     }
     print_passed(rt, name, tally)?;
     Ok(tally)
+}
+
+// Runs the case that begins with the line.
+fn passes<'a, R: Print + AllocGlobal + Threads + Wait + Sync>(
+    rt: &R,
+    name: &str,
+    line: &'a str,
+    script: &mut Script<'a>,
+) -> io::Result<bool> {
+    let mut case = Case::new(rt.alloc());
+    case.read(line);
+    answer(rt, script, &mut case);
+    is_shown_to_pass(rt, name, script, &case)
+}
+
+fn answer<'a, R: Threads + Wait + Sync>(rt: &R, script: &mut Script<'a>, case: &mut Case<'a>) {
+    match case.word() {
+        "command" => answer_command(rt, script, case),
+        _ => case.fail("a case is a block that begins with command"),
+    }
 }
