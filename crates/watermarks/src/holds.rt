@@ -1,28 +1,21 @@
-ghost use Rattle.std.specs.Prelude.{◌≡◌, ◌↔◌, ◌+◌, ◌<◌, ◌≤◌, [], ◌∷◌, List, ℤ, slice_get, int_lt};
-ghost use Rattle.std.specs.Prelude.{Contains, IsTrue, IsOk, IsSomeAnd, OnOk, OnErr, MatchOption};
+ghost use Rattle.std.specs.Prelude.{◌≡◌, ◌+◌, ◌<◌, ◌≤◌, [], ◌∷◌, List, ℤ};
+ghost use Rattle.std.specs.Prelude.{Contains, IsOk, OnOk, OnErr, MatchOption};
 ghost use Rattle.beam_values.specs.Bags.{IsSameBag};
 ghost use Rattle.beam_values.specs.Marks.{least_mark};
-ghost use Rattle.watermarks.specs.HeldMarks.{marks_of, AreKept, IsPlace, IsListed};
 ghost use Rattle.watermarks.specs.Holds.{IsLeast};
 
+use crate::listed::Listed;
 use beam_values::{Mark, NoMemory};
 use std::alloc::Global;
 use std::marker::Model;
 
-/// A mark, and how often it is held.
-#[derive(Clone, Copy, Debug, PartialEq, Eq)]
-struct Held {
-    mark: Mark,
-    count: u64,
-}
-
 /// The marks that hold a node back, each as often as it was added and not removed.
 ///
-/// Contracts see them as a bag and the room that is kept: a place is the room of one more mark.
+/// Contracts see them as a bag and the room that is kept: a place is the room of one more mark. Adding costs
+/// the same however many are held. So does removing over many of them, where the oldest are removed first.
 #[derive(Debug, Drop)]
 pub struct Holds {
-    // They ascend by mark. Where a count is full, the mark is listed once more.
-    items: Vec<Held>,
+    listed: Listed,
 }
 
 impl Model for Holds {
@@ -34,11 +27,12 @@ impl Model for Holds {
     ghost use Rattle.watermarks.specs.HeldMarks.{marks_of, AreKept};
 
     ghost view = { λ h. record {
-      marks = marks_of h.items.items;
-      room = h.items.cap - h.items.len;
+      marks = marks_of h.listed.items.items;
+      room = h.listed.items.cap - h.listed.items.len;
     } };
 
-    ghost invariant = { λ h. AreKept h.items.items };
+    ghost invariant = { λ h.
+        AreKept h.listed.items.items h.listed.ordered h.listed.first h.listed.lowest };
 }
 
 impl Holds {
@@ -47,7 +41,7 @@ impl Holds {
         ensures { result ≡ record { marks = []; room = 0 } }
     {
         Holds {
-            items: Vec::new(alloc),
+            listed: Listed::new(alloc),
         }
     }
 
@@ -59,7 +53,7 @@ impl Holds {
         ensures err { OnErr result (self.new ≡ self.old) }
         ensures had { places ≤ self.old.room → IsOk result }
     {
-        self.items.reserve(places)?;
+        self.listed.items.reserve(places)?;
         Ok(())
     }
 
@@ -70,15 +64,8 @@ impl Holds {
         ensures had { 0 < self.old.room → IsOk result }
         ensures used { self.old.room ≤ self.new.room + 1 }
     {
-        let at = place_of(self.items.as_slice(), m);
-        if can_count_more(self.items.as_slice(), at, m) {
-            self.items[at].count += 1;
-            return Ok(());
-        }
-        self.items.reserve(1)?;
-        let Ok(()) = self.items.insert(at, Held { mark: m, count: 1 }) else {
-            unreachable!()
-        };
+        self.listed.items.reserve(1)?;
+        self.listed.add_kept(m);
         Ok(())
     }
 
@@ -88,20 +75,15 @@ impl Holds {
         ensures taken { IsSameBag self.old.marks (m ∷ self.new.marks) }
         ensures kept { self.old.room ≤ self.new.room }
     {
-        let at = place_of(self.items.as_slice(), m);
-        if self.items[at].count > 1 {
-            self.items[at].count -= 1;
-        } else {
-            let _ = self.items.remove(at);
-        }
+        self.listed.remove(m);
     }
 
     /// The least mark that is held.
     pub fn least(&self) -> Option<Mark>
         ensures { MatchOption result (self.now.marks ≡ []) (IsLeast self.now.marks) }
     {
-        let first = self.items.as_slice().first()?;
-        Some(first.mark)
+        let place = self.listed.least_place()?;
+        Some(self.listed.items[place].mark)
     }
 
     /// The least mark that is held, or FINAL. The order in which the marks are listed is no matter.
@@ -112,31 +94,5 @@ impl Holds {
         // What is read of a mark is that it isn't above FINAL.
         let _ms = least.ms();
         least
-    }
-}
-
-/// Where a mark is listed, or would be.
-fn place_of(items: &[Held], m: Mark) -> usize
-    requires { AreKept items.now }
-    ensures place { IsPlace items.now m result }
-    ensures listed { Contains (marks_of items.now) m → IsListed items.now m result }
-{
-    items.partition_point(|held| is_below(held, m))
-}
-
-fn is_below(held: &Held, m: Mark) -> bool
-    ensures { result ≡ int_lt held.now.mark m }
-{
-    held.mark.ms() < m.ms()
-}
-
-/// Whether the mark is listed there, and its count isn't full.
-fn can_count_more(items: &[Held], at: usize, m: Mark) -> bool
-    ensures { IsTrue result
-        ↔ IsSomeAnd (slice_get items.now at) (λ held. (held.mark ≡ m) × (held.count < u64.MAX)) }
-{
-    match items.get(at) {
-        Some(held) => held.mark == m && held.count < u64::MAX,
-        None => false,
     }
 }
