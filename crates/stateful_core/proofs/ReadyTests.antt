@@ -1,0 +1,168 @@
+-- The tests of a ready cell, part by part.
+use Rattle.std.proofs.Common.{◌≡◌, ℕ, zero, suc, ◌+◌, ◌<◌, ◌≤◌, min, ℤ, ◌<ℤ◌, ◌≤ℤ◌, Bool, true, false, cond, List, [], ◌∷◌, ◌++◌, length, map, take, get_or, Option, Some, None, refl, sym, ap, subst, ◌∙◌, ◌⊎◌, inl, inr, arith}
+use Rattle.std.specs.Prelude.{slice_get, slice_set, int_le, fold, ◌&&◌, ◌||◌}
+use Rattle.std.specs.List.{enumerate_from}
+use Rattle.std.specs.Option.{IfSome, MatchOption, option_map}
+use Rattle.std.proofs.lemmas.Bool.{cond_both}
+use Rattle.std.proofs.lemmas.Int.{ints}
+use Rattle.std.proofs.lemmas.List.{take_more, map-append, map-set, length-map, length-append, length-take-le, take_min, take_all}
+use Rattle.std.proofs.lemmas.Option.{same_Some, slice_get-map, slice_get-get_or, slice_get_within}
+use Rattle.beam_values.specs.Marks.{marks_at}
+use Rattle.beam_values.specs.States.{timer_of, IsFirstTimer, IsNoneDue}
+use Rattle.beam_values.specs.declared.log.LogInput.{LogInput}
+use Rattle.beam_values.specs.declared.log.Timer.{Timer}
+use Rattle.beam_values.specs.declared.marks.StageMarks.{StageMarks}
+use Rattle.stateful_core.specs.Cells.{KeyCell}
+use Rattle.stateful_core.specs.Seen.{cell_of, cells_of}
+use Rattle.stateful_core.specs.Taking.{first_timer, if_due, is_some, is_free, has_waiting, is_ready, sooner, or_sooner, next_place, IsFirstReady, set_by, change, inputs_of, element_inputs, timer_inputs}
+use Rattle.stateful_core.specs.declared.place.Place.{Place}
+use Rattle.stateful_core.specs.declared.slot.Slot.{Slot}
+use Rattle.stateful_core.specs.declared.waiting.Waiting.{Waiting}
+use Rattle.stateful_core.proofs.FirstTimer.{first_is, is_first}
+use Rattle.stateful_core.proofs.NextReady.{next_found}
+
+-- ---- the first timer that is due
+
+if_late : (mark : ℤ) (timer : Timer) → timer.time ≤ℤ mark → if_due mark (Some timer) ≡ Some timer
+if_late mark timer h = by (int_le timer.time mark) refl
+  where
+    by : (b : Bool) → int_le timer.time mark ≡ b → cond b (Some timer) None ≡ Some timer
+    by true e = refl
+    by false e = absurd (omega (arith, ints, h))
+
+if_early : (mark : ℤ) (timer : Timer) → mark <ℤ timer.time → if_due mark (Some timer) ≡ None
+if_early mark timer h = by (int_le timer.time mark) refl
+  where
+    by : (b : Bool) → int_le timer.time mark ≡ b → cond b (Some timer) None ≡ None
+    by true e = absurd (omega (arith, ints, h))
+    by false e = refl
+
+none_due : (mark : ℤ) (timers : List (Option ℤ)) (found : Option Timer) → first_timer timers ≡ found → IsNoneDue timers mark → if_due mark found ≡ None
+none_due mark timers None e h = refl
+none_due mark timers (Some timer) e h = if_early mark timer (h timer.name timer.time (is_first timers timer e).is_set)
+
+pub due_is : (mark : ℤ) (timers : List (Option ℤ)) (result : Option Timer)
+    → MatchOption result (IsNoneDue timers mark) (λ timer. IsFirstTimer timers timer × (timer.time ≤ℤ mark)) → result ≡ if_due mark (first_timer timers)
+due_is mark timers None h = sym (none_due mark timers (first_timer timers) refl h)
+due_is mark timers (Some timer) h = sym (ap (if_due mark) (first_is timers timer h.0) ∙ if_late mark timer h.1)
+
+-- ---- parts
+
+pub ready_live : (marks : List StageMarks) (cell : KeyCell) (n : ℕ) → cell.live ≡ Some n → false ≡ is_ready marks cell
+ready_live marks cell n e =
+    sym (ap (λ (o : Option ℕ). (elim o as (λ _. Bool) [ None ↦ true | Some k ↦ false ]) && (has_waiting cell.waiting || is_some (if_due (marks_at marks cell.log.node).mark_in (first_timer cell.kept.timers)))) e)
+
+pub ready_free : (marks : List StageMarks) (cell : KeyCell) → cell.live ≡ None
+    → (has_waiting cell.waiting || is_some (if_due (marks_at marks cell.log.node).mark_in (first_timer cell.kept.timers))) ≡ is_ready marks cell
+ready_free marks cell e =
+    sym (ap (λ (o : Option ℕ). (elim o as (λ _. Bool) [ None ↦ true | Some k ↦ false ]) && (has_waiting cell.waiting || is_some (if_due (marks_at marks cell.log.node).mark_in (first_timer cell.kept.timers)))) e)
+
+some_waits : (waiting : List Waiting) → 0 < length waiting → has_waiting waiting ≡ true
+some_waits [] h = absurd (omega arith)
+some_waits (w ∷ ws) h = refl
+
+none_waits : (waiting : List Waiting) → length waiting ≤ 0 → has_waiting waiting ≡ false
+none_waits [] h = refl
+none_waits (w ∷ ws) h = absurd (omega arith)
+
+pub ready_waiting : (marks : List StageMarks) (cell : KeyCell) → cell.live ≡ None → 0 < length cell.waiting → true ≡ is_ready marks cell
+ready_waiting marks cell e h =
+    sym (ap (λ b. b || is_some (if_due (marks_at marks cell.log.node).mark_in (first_timer cell.kept.timers))) (some_waits cell.waiting h)) ∙ ready_free marks cell e
+
+pub ready_due : (marks : List StageMarks) (cell : KeyCell) → cell.live ≡ None → length cell.waiting ≤ 0
+    → is_some (if_due (marks_at marks cell.log.node).mark_in (first_timer cell.kept.timers)) ≡ is_ready marks cell
+ready_due marks cell e h =
+    sym (ap (λ b. b || is_some (if_due (marks_at marks cell.log.node).mark_in (first_timer cell.kept.timers))) (none_waits cell.waiting h)) ∙ ready_free marks cell e
+
+pub or_on : (marks : List StageMarks) (best : Option Place) (at : ℕ) (cell : KeyCell) → is_ready marks cell ≡ true
+    → sooner best (record { at = at; node = cell.log.node }) ≡ or_sooner marks best (at, cell)
+or_on marks best at cell e = sym (ap (λ b. cond b (sooner best (record { at = at; node = cell.log.node })) best) e)
+
+pub or_off : (marks : List StageMarks) (best : Option Place) (at : ℕ) (cell : KeyCell) → is_ready marks cell ≡ false → best ≡ or_sooner marks best (at, cell)
+or_off marks best at cell e = sym (ap (λ b. cond b (sooner best (record { at = at; node = cell.log.node })) best) e)
+
+-- ---- a step of the search
+
+fold_last : {X Y : Type 0} (f : Y → (ℕ × X) → Y) (y : Y) (k : ℕ) (xs : List X) (x : X) → fold f y (enumerate_from k (xs ++ x ∷ [])) ≡ f (fold f y (enumerate_from k xs)) (k + length xs, x)
+fold_last f y k [] x = let e : k ≡ k + 0 = omega arith in ap (λ n. f y (n, x)) e
+fold_last f y k (z ∷ xs) x =
+    let e : k + 1 + length xs ≡ k + suc (length xs) = omega arith in
+    fold_last f (f y (k, z)) (k + 1) xs x ∙ ap (λ n. f (fold f (f y (k, z)) (enumerate_from (k + 1) xs)) (n, x)) e
+
+pub next_more : (marks : List StageMarks) (slots : List Slot) (at : ℕ) (slot : Slot) (best : Option Place) → at < length slots → slot ≡ get_or slots at slot
+    → best ≡ next_place marks (cells_of (take at slots)) → or_sooner marks best (at, cell_of slot) ≡ next_place marks (cells_of (take (at + 1) slots))
+next_more marks slots at slot best less read e =
+    let upto = take at slots in
+    let sized : 0 + length (cells_of upto) ≡ at = let s = length-map upto cell_of in let t = length-take-le at slots (omega (arith, less)) in omega (arith, s, t) in
+    let grown : cells_of (take (at + 1) slots) ≡ cells_of upto ++ cell_of slot ∷ [] =
+    ap cells_of (take_more slots at slot less ∙ ap (λ s. upto ++ s ∷ []) (sym read)) ∙ map-append cell_of upto (slot ∷ []) in
+    ap (λ b. or_sooner marks b (at, cell_of slot)) e
+    ∙ ap (λ n. or_sooner marks (next_place marks (cells_of upto)) (n, cell_of slot)) (sym sized)
+    ∙ sym (ap (next_place marks) grown ∙ fold_last (or_sooner marks) None 0 (cells_of upto) (cell_of slot))
+
+pub next_all : (marks : List StageMarks) (slots : List Slot) (at : ℕ) (best : Option Place) → length slots ≤ at → best ≡ next_place marks (cells_of (take at slots)) → best ≡ next_place marks (cells_of slots)
+next_all marks slots at best h e = e ∙ ap (λ l. next_place marks (cells_of l)) (take_all at slots h)
+
+-- ---- one slot in the place of another
+
+pub change_is : (f : KeyCell → KeyCell) (slots : List Slot) (at : ℕ) (d new : Slot) → at < length slots → cell_of new ≡ f (cell_of (get_or slots at d))
+    → cells_of (slice_set slots at new) ≡ change f at (cells_of slots)
+change_is f slots at d new less is =
+    let there : slice_get (cells_of slots) at ≡ Some (cell_of (get_or slots at d)) = slice_get-map cell_of slots at ∙ ap (option_map cell_of) (slice_get-get_or slots at d less) in
+    map-set cell_of slots at new ∙ ap (slice_set (cells_of slots) at) is ∙ sym (ap (λ (o : Option KeyCell). set_by f o at (cells_of slots)) there)
+
+-- ---- the inputs of a job
+
+pub inputs_some : (cell : KeyCell) (bundle : ℕ) (inputs : List LogInput) → 1 ≤ bundle → 0 < length cell.waiting → inputs ≡ element_inputs (take bundle cell.waiting)
+    → inputs ≡ inputs_of cell (min bundle (length cell.waiting))
+inputs_some cell bundle inputs one some e = e ∙ ap element_inputs (sym (take_min bundle cell.waiting)) ∙ by (min bundle (length cell.waiting)) (omega arith)
+  where
+    by : (n : ℕ) → 1 ≤ n → element_inputs (take n cell.waiting) ≡ inputs_of cell n
+    by zero h = absurd (omega arith)
+    by (suc n) h = refl
+
+due_none : (mark : ℤ) (first : Option Timer) (timer : Timer) → if_due mark first ≡ Some timer → first ≡ Some timer
+due_none mark None timer e = absurd (cc)
+due_none mark (Some first) timer e = by (int_le first.time mark) e
+  where
+    by : (b : Bool) → cond b (Some first) None ≡ Some timer → Some first ≡ Some timer
+    by true f = f
+    by false f = absurd (cc)
+
+pub inputs_timer : (cell : KeyCell) (bundle : ℕ) (mark : ℤ) (timer : Timer) → length cell.waiting ≤ 0 → Some timer ≡ if_due mark (first_timer cell.kept.timers)
+    → timer_inputs (Some timer) ≡ inputs_of cell (min bundle (length cell.waiting))
+inputs_timer cell bundle mark timer none e =
+    let n : 0 ≡ min bundle (length cell.waiting) = omega (arith, none) in
+    ap timer_inputs (sym (due_none mark (first_timer cell.kept.timers) timer (sym e))) ∙ ap (inputs_of cell) n
+
+pub not_ready : (marks : List StageMarks) (cell : KeyCell) → is_ready marks cell ≡ true → length cell.waiting ≤ 0 → None ≡ if_due (marks_at marks cell.log.node).mark_in (first_timer cell.kept.timers) → ⊥
+not_ready marks cell on none e = by cell.live refl
+  where
+    test : (b : Bool) → b ≡ true → b ≡ false → ⊥
+    test b h k = cc
+
+    by : (live : Option ℕ) → cell.live ≡ live → ⊥
+    by (Some n) f = test (is_ready marks cell) on (sym (ready_live marks cell n f))
+    by None f = test (is_ready marks cell) on (sym (ready_due marks cell f none) ∙ ap is_some (sym e))
+
+pub change_at : (f : KeyCell → KeyCell) (slots : List Slot) (at : ℕ) (old new : Slot) → at < length slots → old ≡ get_or slots at old → cell_of new ≡ f (cell_of old)
+    → cells_of (slice_set slots at new) ≡ change f at (cells_of slots)
+change_at f slots at old new less read is = change_is f slots at old new less (is ∙ ap (λ (s : Slot). f (cell_of s)) read)
+
+-- ---- what the search finds
+
+pub if_found : (marks : List StageMarks) (slots : List Slot) (result : Option Place) → result ≡ next_place marks (cells_of slots) → IfSome result (IsFirstReady marks (cells_of slots))
+if_found marks slots None e = tt
+if_found marks slots (Some place) e = next_found marks (cells_of slots) place (sym e)
+
+pub if_within : (marks : List StageMarks) (slots : List Slot) (result : Option Place) → result ≡ next_place marks (cells_of slots) → IfSome result (λ place. place.at < length slots)
+if_within marks slots None e = tt
+if_within marks slots (Some place) e =
+    let first = next_found marks (cells_of slots) place (sym e) in
+    omega (arith, slice_get_within (cells_of slots) place.at first.cell first.is_at, length-map slots cell_of)
+
+pub slot_ready : (marks : List StageMarks) (slots : List Slot) (place : Place) (slot : Slot) → place.at < length slots → slot ≡ get_or slots place.at slot
+    → (first : IsFirstReady marks (cells_of slots) place) → cell_of slot ≡ first.cell
+slot_ready marks slots place slot less read first =
+    same_Some (cell_of slot) first.cell
+    (sym (slice_get-map cell_of slots place.at ∙ ap (option_map cell_of) (slice_get-get_or slots place.at slot less ∙ ap Some (sym read))) ∙ first.is_at)

@@ -1,0 +1,157 @@
+-- A job that is done lowers what is left of its cell, whichever function it calls.
+use Rattle.std.proofs.Common.{◌≡◌, ℕ, zero, suc, ◌+◌, ◌*◌, ◌-◌, ◌<◌, ◌≤◌, ℤ, ◌≤ℤ◌, Bool, true, false, cond, List, [], ◌∷◌, ◌++◌, length, map, drop, replicate, Option, Some, None, refl, sym, ap, subst, ◌∙◌, arith}
+use Rattle.std.specs.Prelude.{slice_get, slice_set, unwrap_or, ◌==◌}
+use Rattle.std.specs.List.{All, sum_by}
+use Rattle.std.specs.Option.{option_map, option_and_then}
+use Rattle.std.proofs.lemmas.Bool.{eqb-true, eq-eqb}
+use Rattle.std.proofs.lemmas.Int.{ints}
+use Rattle.std.proofs.lemmas.List.{length-drop}
+use Rattle.std.proofs.lemmas.List.Sums.{sum_by-cons, sum_by-append}
+use Rattle.std.proofs.lemmas.Option.{same_Some, option_and_then_some}
+use Rattle.beam_values.specs.Intervals.{Interval}
+use Rattle.beam_values.specs.States.{KeptState, fresh_state, timer_of, IsFirstTimer}
+use Rattle.beam_values.specs.declared.log.KeyLog.{KeyLog}
+use Rattle.beam_values.specs.declared.log.LogEntry.{LogEntry}
+use Rattle.beam_values.specs.declared.log.LogInput.{LogInput}
+use Rattle.beam_values.specs.declared.log.LogInput.TheVariants.{Arrived, Fired}
+use Rattle.beam_values.specs.declared.log.Timer.{Timer}
+use Rattle.beam_values.specs.declared.marks.CommitMarks.{CommitMarks}
+use Rattle.beam_values.specs.declared.marks.StageMarks.{StageMarks}
+use Rattle.beam_values.specs.declared.plan.Args.{Args}
+use Rattle.beam_values.specs.declared.plan.Node.{Node}
+use Rattle.beam_values.specs.declared.plan.NodeKind.{NodeKind}
+use Rattle.beam_values.specs.declared.plan.NodeKind.TheVariants.{Stateful}
+use Rattle.beam_values.specs.declared.plan.Plan.{Plan}
+use Rattle.beam_values.specs.declared.plan.StateKind.{StateKind}
+use Rattle.beam_values.specs.declared.plan.StateKind.TheVariants.{Dedupe, RunningSum, BatchUntil, LatestThenEmit}
+use Rattle.beam_values.specs.declared.value.Value.{Value}
+use Rattle.beam_model.specs.Logs.{Leads, LeadsAt, LeadsIn}
+use Rattle.beam_model.specs.Steps.{Stepped, steps, stepped, bag, cleared_bag, on_first_timer}
+use Rattle.stateful_core.specs.Cells.{KeyCell}
+use Rattle.stateful_core.specs.declared.waiting.Waiting.{Waiting}
+use Rattle.stateful_core.specs.Facts.{Folded, noted, folded, folded_at, folded_in, IsCellKept, IsLiveAs}
+use Rattle.stateful_core.specs.Lasting.{one_if_set, left_of}
+use Rattle.stateful_core.specs.Placing.{Done, with_done}
+use Rattle.stateful_core.specs.Taking.{first_timer, timer_inputs, inputs_of}
+use Rattle.stateful_core.specs.Timers.{IsAllowed, AreTimersOf}
+use Rattle.stateful_core.proofs.FirstTimer.{first_is}
+use Rattle.stateful_core.proofs.SetTimers.{steps_timers, fresh_timers, leads_timers}
+
+map_some : {A B P : Type 0} (f : A → B) (o : Option A) (y : B) → option_map f o ≡ Some y → ((x : A) → o ≡ Some x → f x ≡ y → P) → P
+map_some f None y e k = absurd (cc)
+map_some f (Some x) y e k = k x refl (cc)
+
+-- ---- how many timers are set
+
+set_first : (first : Option ℤ) → sum_by one_if_set (first ∷ replicate 7 None) ≡ one_if_set first
+set_first None = refl
+set_first (Some time) = refl
+
+timers_left : (kind : StateKind) (timers : List (Option ℤ)) (h : AreTimersOf kind timers) → sum_by one_if_set timers ≡ one_if_set h.first
+timers_left kind timers h = ap (sum_by one_if_set) h.is ∙ set_first h.first
+
+at_most_one : (o : Option ℤ) → one_if_set o ≤ 1
+at_most_one None = omega arith
+at_most_one (Some time) = omega arith
+
+-- ---- the delivery of a timer clears it
+
+-- a timer that is set is timer 0
+set_name : (first : Option ℤ) (name : ℕ) (time : ℤ) → timer_of (first ∷ replicate 7 None) name ≡ Some time → (name ≡ 0) × (first ≡ Some time)
+set_name first zero time e = (refl, e)
+set_name first (suc name) time e = absurd (none name e)
+  where
+    none : (k : ℕ) → timer_of (replicate 7 None) k ≡ Some time → ⊥
+    none zero f = cc
+    none (suc zero) f = cc
+    none (suc (suc zero)) f = cc
+    none (suc (suc (suc zero))) f = cc
+    none (suc (suc (suc (suc zero)))) f = cc
+    none (suc (suc (suc (suc (suc zero))))) f = cc
+    none (suc (suc (suc (suc (suc (suc zero)))))) f = cc
+    none (suc (suc (suc (suc (suc (suc (suc k))))))) f = cc
+
+set_none : (kind : StateKind) (timers : List (Option ℤ)) → AreTimersOf kind timers → slice_set timers 0 None ≡ replicate 8 None
+set_none kind timers h = ap (λ (l : List (Option ℤ)). slice_set l 0 None) h.is
+
+bag_cleared : (kind : StateKind) (kept : KeptState) (values : List Value) → AreTimersOf kind kept.timers → (cleared_bag kept values).timers ≡ replicate 8 None
+bag_cleared kind kept [] h = set_none kind kept.timers h
+bag_cleared kind kept (v ∷ vs) h = set_none kind kept.timers h
+
+first_cleared : (kind : StateKind) (key : Value) (span : Interval) (time : ℤ) (kept : KeptState) → AreTimersOf kind kept.timers → IsAllowed kind (Some time)
+    → (on_first_timer kind key span time kept).kept.timers ≡ replicate 8 None
+first_cleared Dedupe key span time kept h allowed = absurd allowed
+first_cleared RunningSum key span time kept h allowed = absurd allowed
+first_cleared BatchUntil key span time kept h allowed = bag_cleared BatchUntil kept (bag kept) h
+first_cleared LatestThenEmit key span time kept h allowed = set_none LatestThenEmit kept.timers h
+
+fired_clears : (kind : StateKind) (args : Args) (key : Value) (span : Interval) (timer : Timer) (kept : KeptState) (s : Stepped)
+    → AreTimersOf kind kept.timers → IsFirstTimer kept.timers timer → steps kind args key span (Fired timer) kept ≡ Some s → s.kept.timers ≡ replicate 8 None
+fired_clears kind args key span timer kept s h first e =
+    let set = set_name h.first timer.name timer.time (subst (λ (l : List (Option ℤ)). timer_of l timer.name ≡ Some timer.time) h.is first.is_set) in
+    let zero_named : (timer.name == 0) ≡ true = eq-eqb timer.name 0 set.0 in
+    let call : Some (on_first_timer kind key span timer.time kept) ≡ Some s =
+    sym (ap (λ b. cond b (Some (on_first_timer kind key span timer.time kept)) (Some (stepped kept []))) zero_named) ∙ e in
+    subst (λ (x : Stepped). x.kept.timers ≡ replicate 8 None) (same_Some (on_first_timer kind key span timer.time kept) s call)
+    (first_cleared kind key span timer.time kept h (subst (IsAllowed kind) set.1 h.allowed))
+
+-- ---- over a fold
+
+folded_timers : (kind : StateKind) (args : Args) (key : Value) (span : Interval) (c : ℕ) (inputs : List LogInput) (kept : KeptState) (all : Folded)
+    → folded kind args key span c kept inputs ≡ Some all → AreTimersOf kind kept.timers → AreTimersOf kind all.kept.timers
+folded_timers kind args key span c [] kept all e h = subst (λ (r : Folded). AreTimersOf kind r.kept.timers) (same_Some (record { kept = kept; entries = [] }) all e) h
+folded_timers kind args key span c (input ∷ inputs) kept all e h =
+    option_and_then_some (λ (s : Stepped). option_map (noted c input s.outputs) (folded kind args key span c s.kept inputs)) (steps kind args key span input kept) all e
+    (λ s at f. map_some (noted c input s.outputs) (folded kind args key span c s.kept inputs) all f
+    (λ rest on is. subst (λ (r : Folded). AreTimersOf kind r.kept.timers) is
+    (folded_timers kind args key span c inputs s.kept rest on (steps_timers kind args key span input kept s at h))))
+
+folded_clears : (kind : StateKind) (args : Args) (key : Value) (span : Interval) (c : ℕ) (timer : Timer) (kept : KeptState) (all : Folded)
+    → folded kind args key span c kept (Fired timer ∷ []) ≡ Some all → AreTimersOf kind kept.timers → IsFirstTimer kept.timers timer → all.kept.timers ≡ replicate 8 None
+folded_clears kind args key span c timer kept all e h first =
+    option_and_then_some (λ (s : Stepped). option_map (noted c (Fired timer) s.outputs) (folded kind args key span c s.kept [])) (steps kind args key span (Fired timer) kept) all e
+    (λ s at f. map_some (noted c (Fired timer) s.outputs) (folded kind args key span c s.kept []) all f
+    (λ rest on is. subst (λ (r : Folded). r.kept.timers ≡ replicate 8 None) is
+    (subst (λ (r : Folded). r.kept.timers ≡ replicate 8 None) (same_Some (record { kept = s.kept; entries = [] }) rest on) (fired_clears kind args key span timer kept s h first at))))
+
+-- ---- a job that is done
+
+module _ (commits : List CommitMarks) (before : List StageMarks) (cell : KeyCell) (done : Done) (c : ℕ) where
+  abbrev all : Folded
+  all = record { kept = done.kept; entries = done.entries }
+
+  of_kind : (kind : StateKind) (args : Args) (count : ℕ) → AreTimersOf kind cell.kept.timers → IsLiveAs commits cell (Some count) → cell.live ≡ Some count
+      → folded kind args cell.log.key cell.log.span c cell.kept (inputs_of cell count) ≡ Some all → left_of (with_done before done cell) < left_of cell
+  of_kind kind args zero h works live e =
+      let first = works.1 in
+      let set = set_name h.first works.0.name works.0.time (subst (λ (l : List (Option ℤ)). timer_of l works.0.name ≡ Some works.0.time) h.is first.is_set) in
+      let one : sum_by one_if_set cell.kept.timers ≡ 1 = timers_left kind cell.kept.timers h ∙ ap one_if_set set.1 in
+      let cleared = folded_clears kind args cell.log.key cell.log.span c works.0 cell.kept all
+      (subst (λ (o : Option Timer). folded kind args cell.log.key cell.log.span c cell.kept (timer_inputs o) ≡ Some all) (first_is cell.kept.timers works.0 first) e) h first in
+      let none : sum_by one_if_set done.kept.timers ≡ 0 = ap (sum_by one_if_set) cleared in
+      let same : length (with_done before done cell).waiting ≡ length cell.waiting = ap (λ (o : Option ℕ). length (drop (unwrap_or o 0) cell.waiting)) live in
+      omega (arith, one, none, same)
+  of_kind kind args (suc n) h works live e =
+      let now = folded_timers kind args cell.log.key cell.log.span c (inputs_of cell (suc n)) cell.kept all e h in
+      let few : sum_by one_if_set done.kept.timers ≤ 1 = omega (arith, timers_left kind done.kept.timers now, at_most_one now.first) in
+      let fewer : length (with_done before done cell).waiting ≡ length cell.waiting - suc n =
+      ap (λ (o : Option ℕ). length (drop (unwrap_or o 0) cell.waiting)) live ∙ length-drop (suc n) cell.waiting in
+      omega (arith, few, fewer, works)
+
+  at_kind : (kind : NodeKind) (count : ℕ) → LeadsAt commits kind cell.log cell.kept → IsLiveAs commits cell (Some count) → cell.live ≡ Some count
+      → folded_at kind cell.log.key cell.log.span c cell.kept (inputs_of cell count) ≡ Some all → left_of (with_done before done cell) < left_of cell
+  at_kind (Stateful work args logged) count leads works live e =
+      of_kind work args count (leads_timers commits work args cell.log fresh_state 1 cell.log.entries cell.kept leads (fresh_timers work)) works live e
+  at_kind _ count leads works live e = absurd leads
+
+  at_node : (found : Option Node) (count : ℕ) → LeadsIn commits found cell.log cell.kept → IsLiveAs commits cell (Some count) → cell.live ≡ Some count
+      → folded_in found cell.log.key cell.log.span c cell.kept (inputs_of cell count) ≡ Some all → left_of (with_done before done cell) < left_of cell
+  at_node (Some node) count leads works live e = at_kind node.kind count leads works live e
+  at_node None count leads works live e = absurd leads
+
+-- of elements or of a timer
+pub done_lowers : (plan : Plan) (commits : List CommitMarks) (before : List StageMarks) (cell : KeyCell) (done : Done) (c count : ℕ) → IsCellKept plan commits cell → cell.live ≡ Some count
+    → folded_in (slice_get plan.nodes cell.log.node) cell.log.key cell.log.span c cell.kept (inputs_of cell count) ≡ Some (record { kept = done.kept; entries = done.entries })
+    → left_of (with_done before done cell) < left_of cell
+done_lowers plan commits before cell done c count h live e =
+    at_node commits before cell done c (slice_get plan.nodes cell.log.node) count h.leads (subst (IsLiveAs commits cell) live h.works) live e

@@ -1,0 +1,14 @@
+pub mod Queues
+pub mod Timers
+pub mod Cells
+pub mod Placing
+pub mod Taking
+pub mod Facts
+pub mod KeyWork
+pub mod Lasting
+pub mod Seen
+pub mod Opening
+pub mod Least
+pub mod Staying
+pub mod Leaving
+pub mod Working

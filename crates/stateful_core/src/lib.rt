@@ -1,0 +1,35 @@
+//! Key cells: what the Stateful nodes of a run keep of each key and window (Beam Programming Guide, State
+//! and Timers).
+//!
+//! [`Keys`] is seen as the list of its cells, numbered by first arrival. A cell has the log of its calls, the
+//! state and timers after them, the elements that wait, whether a job of it is worked, and the marks at which
+//! elements and timers hold its node back. One job of a cell is worked at a time: [`Keys::take_job`] takes the
+//! first elements that wait, or else the first timer that is due, [`Keys::give_back`] undoes that after a
+//! failure, and a commit is prepared, which takes all memory, and then placed, which takes none.
+//!
+//! What each step does stands in `specs/Taking.antt` and `specs/Placing.antt`. [`laws`] has what every list of
+//! steps keeps: the logs are those of calls in one legal order, and what came stands in a log or waits, once
+//! and in order. Read `keys.rt` first.
+#![tactic(auto)]
+
+mod finding;
+mod holding;
+mod key_job;
+mod keys;
+pub mod laws;
+mod opening;
+mod place;
+mod putting;
+mod queue;
+mod slot;
+mod taking;
+mod timer_holds;
+mod waiting;
+
+pub use key_job::{KeyDone, KeyTurn};
+pub use keys::Keys;
+pub use place::Place;
+pub use queue::Queue;
+pub use slot::Slot;
+pub use timer_holds::TimerHolds;
+pub use waiting::Waiting;

@@ -1,0 +1,154 @@
+ghost use Rattle.std.specs.Prelude.{◌≡◌, ◌≤◌, ◌<◌, ◌+◌, ◌-◌, [], ◌∷◌, ◌++◌, true, false, All, List as ListOf, count_by, length, drop, slice_get, unwrap_or};
+ghost use Rattle.std.specs.Prelude.{Option, Some, None};
+ghost use Rattle.std.specs.Int.{int_max};
+ghost use Rattle.beam_values.specs.Marks.{marks_at};
+ghost use Rattle.beam_values.specs.declared.arrival.Arrival.{Arrival};
+ghost use Rattle.beam_values.specs.declared.value.Value.TheVariants.{Null};
+ghost use Rattle.stateful_core.specs.Cells.{belongs};
+ghost use Rattle.stateful_core.specs.Opening.{CanFinish, HasCell, IsCellAt, IsAdded, IsMore, IsRoomy, done_of, put_all, put_one};
+ghost use Rattle.beam_model.specs.Holds.{arrival_hold};
+ghost use Rattle.stateful_core.specs.Placing.{finish, waits, with_done, with_waiting};
+ghost use Rattle.beam_values.specs.declared.plan.Plan.{Plan};
+ghost use Rattle.beam_values.specs.declared.marks.StageMarks.{StageMarks};
+ghost use Rattle.stateful_core.specs.Seen.{cell_of, cells_of};
+ghost use Rattle.stateful_core.specs.declared.slot.Slot.{Slot};
+
+use crate::finding::{find, is_stateful};
+use crate::{KeyDone, Slot, Waiting};
+use beam_values::{Arrival, List, LogEntry, Mark, Plan, RoomyList, StageMarks, Value};
+
+/// The mark after a node; FINAL where there is no such node.
+pub fn mark_out(marks: &[StageMarks], node: u32) -> Mark
+    ensures { result ≡ (marks_at marks.now node).mark_out }
+{
+    match marks.get(node as usize) {
+        Some(marks) => marks.mark_out,
+        None => Mark::FINAL,
+    }
+}
+
+/// The mark into a node; FINAL where there is no such node.
+pub fn mark_in(marks: &[StageMarks], node: u32) -> Mark
+    ensures { result ≡ (marks_at marks.now node).mark_in }
+{
+    match marks.get(node as usize) {
+        Some(marks) => marks.mark_in,
+        None => Mark::FINAL,
+    }
+}
+
+/// The mark at which an arrival holds its node back.
+pub fn arrival_hold(before: &[StageMarks], arrival: &Arrival) -> Mark
+    ensures { result ≡ (arrival_hold before.now arrival.now).mark }
+{
+    Mark::at(arrival.element.time).max(mark_out(before, arrival.node))
+}
+
+/// An arrival at a Stateful node waits at its cell, where room is kept.
+pub fn put(plan: &Plan, null: &Value, before: &[StageMarks], slots: &mut [Slot], arrival: Arrival)
+    requires null { null.now ≡ Null }
+    requires cell { HasCell plan.now (cells_of slots.old) arrival }
+    requires roomy { All (IsRoomy plan.now (arrival ∷ [])) slots.old }
+    ensures cells { cells_of slots.new ≡ put_one plan.now before.now (cells_of slots.old) arrival }
+    ensures roomy { (rest : ListOf Arrival) → All (IsRoomy plan.now (arrival ∷ rest)) slots.old
+        → All (IsRoomy plan.now rest) slots.new }
+    ensures sized { length slots.new ≡ length slots.old }
+{
+    if !is_stateful(plan, arrival.node) {
+        return;
+    }
+    let hold = arrival_hold(before, &arrival);
+    let Some(at) = find(slots, null, &arrival) else {
+        unreachable!()
+    };
+    let Arrival { element, .. } = arrival;
+    add_at(slots, at, Waiting { element, hold });
+}
+
+fn add_at(slots: &mut [Slot], at: usize, waiting: Waiting)
+    requires within { at < length slots.old }
+    requires room { (slot : Slot) → slice_get slots.old at ≡ Some slot → 0 < slot.waiting.room }
+    ensures { (slot : Slot) → slice_get slots.old at ≡ Some slot → IsAdded slots.old at slot waiting slots.new }
+{
+    let slot = &mut slots[at];
+    add(slot, waiting);
+}
+
+fn add(slot: &mut Slot, waiting: Waiting)
+    requires { 0 < slot.old.waiting.room }
+    ensures { IsMore slot.old waiting slot.new }
+{
+    slot.waiting.add_kept(waiting);
+}
+
+/// Each arrival in turn.
+pub fn put_all(
+    plan: &Plan,
+    null: &Value,
+    before: &[StageMarks],
+    slots: &mut [Slot],
+    arrivals: List<Arrival>,
+)
+    requires null { null.now ≡ Null }
+    requires cells { All (HasCell plan.now (cells_of slots.old)) arrivals }
+    requires roomy { All (IsRoomy plan.now arrivals) slots.old }
+    ensures cells { cells_of slots.new ≡ put_all plan.now before.now arrivals (cells_of slots.old) }
+    ensures sized { length slots.new ≡ length slots.old }
+{
+    for arrival in arrivals.into_vec() {
+        put(plan, null, before, slots, arrival);
+    }
+}
+
+/// The job of a cell is done: its entries are logged, and what it was on no longer waits.
+pub fn finish(slots: &mut [Slot], before: &[StageMarks], done: KeyDone)
+    requires { CanFinish slots.old (done_of done) }
+    ensures cells { cells_of slots.new ≡ finish before.now (Some (done_of done)) (cells_of slots.old) }
+    ensures roomy { (plan : Plan) (arrivals : ListOf Arrival) → All (IsRoomy plan arrivals) slots.old
+        → All (IsRoomy plan arrivals) slots.new }
+    ensures sized { length slots.new ≡ length slots.old }
+{
+    let slot = &mut slots[done.cell as usize];
+    let mark = mark_out(before, slot.node);
+    finish_slot(slot, mark, done);
+}
+
+fn finish_slot(slot: &mut Slot, mark: Mark, done: KeyDone)
+    requires { length done.entries ≤ slot.old.entries.room }
+    ensures cell { (before : ListOf StageMarks) → mark ≡ (marks_at before slot.old.node).mark_out
+        → cell_of slot.new ≡ with_done before (done_of done) (cell_of slot.old) }
+    ensures room { slot.old.waiting.room ≤ slot.new.waiting.room }
+{
+    let KeyDone {
+        state,
+        timers,
+        entries,
+        ..
+    } = done;
+    slot.timer_holds = slot.timer_holds.after(mark, &slot.timers, &timers);
+    slot.waiting.remove_oldest(slot.live.unwrap_or(0) as usize);
+    put_entries(&mut slot.entries, entries);
+    slot.state = state;
+    slot.timers = timers;
+    slot.live = None;
+    slot.attempts = 0;
+}
+
+fn put_entries(entries: &mut RoomyList<LogEntry>, more: List<LogEntry>)
+    requires { length more ≤ entries.old.room }
+    ensures { entries.new.items ≡ entries.old.items ++ more }
+{
+    for entry in more.into_vec() {
+        put_entry(entries, entry);
+    }
+}
+
+fn put_entry(entries: &mut RoomyList<LogEntry>, entry: LogEntry)
+    requires { 0 < entries.old.room }
+    ensures items { entries.new.items ≡ entries.old.items ++ entry ∷ [] }
+    ensures used { entries.old.room ≤ entries.new.room + 1 }
+{
+    let Ok(()) = entries.push(entry) else {
+        unreachable!()
+    };
+}
