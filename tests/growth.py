@@ -1,0 +1,249 @@
+#!/usr/bin/env python3
+"""How the time and memory of a built program grow with its work: tests/growth.py PROGRAM [SHAPE ..]
+
+Each shape is run at a size and at four times that size, the better of RUNS runs (2), by one worker where it doesn't say how many.
+Four times the work may take at most 5.2 times the time, 5.6 times where most of it is sorting, and 5.2 times the memory; below
+MARGIN seconds or MB (0.15, 20) the difference tells nothing. WORKERS=N runs all shapes by N workers. The status is 1 where a shape grows
+faster or doesn't end with 0.
+"""
+import json
+import os
+import pathlib
+import random
+import subprocess
+import sys
+import tempfile
+import time
+
+RUNS = int(os.environ.get("RUNS", "2"))
+LIMIT, LIMIT_OF_SORTS = 5.2, 5.6
+MARGIN_SECONDS, MARGIN_MB = 0.15, 20
+SHAPES = {}
+
+
+def shape(size, sorts=False):
+    """A function that writes the input of so many lines, and answers the words of the command."""
+
+    def add(make):
+        SHAPES[make.__name__] = (make, size, LIMIT_OF_SORTS if sorts else LIMIT)
+        return make
+
+    return add
+
+
+def timed(times, key=lambda at: "k", part=lambda at: "v"):
+    with open("lines", "w") as file:
+        file.writelines(f"{moment}\t{key(at)}\t{part(at)}\n" for at, moment in enumerate(times))
+
+
+def plan(*nodes, source=None):
+    made = [{"name": "in", "kind": "source", "work": "TimedLines", "files": ["lines"], **(source or {})}]
+    for number, node in enumerate([*nodes, {"kind": "write"}]):
+        made.append({"name": f"n{number}", "input": [made[-1]["name"]], **node})
+    with open("plan", "w") as file:
+        json.dump({"beam": 1, "nodes": made}, file)
+    return ["run", "plan"]
+
+
+def counted(windows, source=None, **group):
+    """Counts of each key and window."""
+    return plan(
+        {"kind": "pardo", "work": "KeyField"},
+        {"kind": "window", "windows": windows},
+        {"kind": "group", **group},
+        {"kind": "pardo", "work": "CountSeq"},
+        source=source,
+    )
+
+
+def sessions(gap):
+    return counted({"sessions": gap})
+
+
+# ---- what users have
+
+
+@shape(200_000, sorts=True)
+def many_keys(n):
+    timed((at * 10 for at in range(n)), key=lambda at: f"k{at % 1000}")
+    return ["panes", "lines", "60000"]
+
+
+@shape(100_000, sorts=True)
+def a_key_a_line(n):
+    timed(range(n), key=lambda at: f"k{at}")
+    return ["panes", "lines", "60000"]
+
+
+@shape(100_000, sorts=True)
+def a_window_a_line(n):
+    timed(at * 1000 for at in range(n))
+    return ["panes", "lines", "1000"]
+
+
+@shape(200_000, sorts=True)
+def one_window(n):
+    timed(random.randrange(60_000) for _ in range(n))
+    return ["panes", "lines", "60000"]
+
+
+@shape(4_000)
+def sliding_windows(n):
+    timed((at * 10 for at in range(n)), key=lambda at: f"k{at % 100}")
+    return counted({"sliding": [100_000, 1000]})
+
+
+@shape(40_000)
+def sessions_of_many_keys(n):
+    timed((at * 10 for at in range(n)), key=lambda at: f"k{at % 997}")
+    return sessions(5000)
+
+
+@shape(20_000)
+def sessions_in_order(n):
+    timed(at * 1000 for at in range(n))
+    return sessions(100)
+
+
+@shape(20_000)
+def one_long_session(n):
+    timed(at * 10 for at in range(n))
+    return sessions(100)
+
+
+@shape(40_000)
+def late_lines(n):
+    timed((at * 10 if at % 2 else 0 for at in range(n)), key=lambda at: f"k{at % 100}")
+    words = counted({"fixed": 1000}, source={"estimator": "monotonic"}, lateness=10**9)
+    return [*words, "--chunk", "1000000000"]
+
+
+@shape(40_000)
+def early_panes(n):
+    timed(range(n), key=lambda at: f"k{at % 10}")
+    return counted({"fixed": 10**9}, early=1)
+
+
+@shape(100)
+def many_files(n):
+    names = [f"file{at}" for at in range(n)]
+    for name in names:
+        pathlib.Path(name).write_text("1\tk\tv\n" * 2000)
+    return counted({"fixed": 1000}, source={"files": names})
+
+
+@shape(400)
+def long_lines(n):
+    timed(range(n), part=lambda at: "y" * 70_000)
+    return ["panes", "lines", "1000"]
+
+
+# ---- what was made to be slow
+
+
+@shape(8_000_000)
+def one_line(n):
+    pathlib.Path("lines").write_text("1\tk\t" + "x" * n + "\n")
+    return ["panes", "lines", "1000"]
+
+
+@shape(10_000)
+def sessions_after_one_far_ahead(n):
+    timed([10**12, *(at * 1000 for at in range(n))])
+    return sessions(100)
+
+
+@shape(10_000)
+def sessions_backwards(n):
+    timed((n - at) * 1000 for at in range(n))
+    return sessions(100)
+
+
+@shape(10_000)
+def sessions_in_any_order(n):
+    timed(random.randrange(n) * 1000 for _ in range(n))
+    return sessions(100)
+
+
+@shape(10_000)
+def sessions_from_both_ends(n):
+    timed((at if at % 2 else 2 * n - at) * 1000 for at in range(n))
+    return [*sessions(100), "--bundle", "1000000"]
+
+
+@shape(10_000)
+def sessions_that_merge_in_pairs(n):
+    timed((at // 2 * 1000 if at < n else (at - n) * 1000 + 500 for at in range(2 * n)))
+    return sessions(600)
+
+
+@shape(40_000)
+def a_bundle_a_line(n):
+    timed((at * 10 for at in range(n)), key=lambda at: f"k{at % 100}")
+    return ["panes", "lines", "60000", "--bundle", "1"]
+
+
+@shape(20_000)
+def tiny_pieces(n):
+    timed((at * 10 for at in range(n)), key=lambda at: f"k{at % 100}")
+    return ["panes", "lines", "60000", "--chunk", "16"]
+
+
+@shape(100_000)
+def one_bundle(n):
+    timed((at * 10 for at in range(n)), key=lambda at: f"k{at % 100}")
+    return ["panes", "lines", "60000", "--bundle", "1000000", "--chunk", "1099511627776"]
+
+
+@shape(20_000)
+def windows_backwards_one_by_one(n):
+    timed((n - at) * 1000 for at in range(n))
+    return ["panes", "lines", "1000", "--bundle", "1", "--chunk", "1", "--workers", "16"]
+
+
+def run(program, words):
+    """Seconds, MB and status of one run."""
+    begun = time.time()
+    process = subprocess.Popen([program, *words], stdout=subprocess.DEVNULL, stderr=subprocess.DEVNULL)
+    _, status, usage = os.wait4(process.pid, 0)
+    process.returncode = status
+    return time.time() - begun, usage.ru_maxrss // 1024, os.waitstatus_to_exitcode(status)
+
+
+def measured(program, make, size):
+    random.seed(7)
+    words = make(size)
+    if "--workers" not in words:
+        words = [*words, "--workers", os.environ.get("WORKERS", "1")]
+    runs = [run(program, words) for _ in range(RUNS)]
+    return min(seconds for seconds, _, _ in runs), min(memory for _, memory, _ in runs), max(status for _, _, status in runs)
+
+
+def main():
+    program, *wanted = sys.argv[1:]
+    program = os.path.abspath(program)
+    failed = False
+    with tempfile.TemporaryDirectory() as folder:
+        os.chdir(folder)
+        for name, (make, size, limit) in SHAPES.items():
+            if wanted and name not in wanted:
+                continue
+            (seconds, memory, status), (more_seconds, more_memory, more_status) = (
+                measured(program, make, size),
+                measured(program, make, 4 * size),
+            )
+            times = more_seconds / max(seconds, MARGIN_SECONDS)
+            memories = more_memory / max(memory, MARGIN_MB)
+            is_bad = status or more_status or times > limit or memories > LIMIT
+            failed = failed or is_bad
+            print(
+                f"{name:30} {size:9} lines {seconds:7.2f} s {memory:5} MB | 4 times {more_seconds:7.2f} s {more_memory:5} MB"
+                f" | {times:5.1f} {memories:5.1f}{'  grows too fast' if is_bad else ''}",
+                flush=True,
+            )
+        os.chdir("/")
+    sys.exit(1 if failed else 0)
+
+
+if __name__ == "__main__":
+    main()
