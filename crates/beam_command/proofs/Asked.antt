@@ -1,5 +1,5 @@
 -- How a command ends that asks for a pipeline, and what its note leaves of its end.
-use Rattle.std.proofs.Common.{◌≡◌, ◌⊎◌, ℕ, zero, suc, ◌+◌, ◌<◌, ◌≤◌, List, [], ◌∷◌, ◌++◌, Option, Some, None, Bool, length, map, min, take, get_or, set, slice_get, inl, inr, refl, sym, ap, subst, ◌∙◌, arith}
+use Rattle.std.proofs.Common.{◌≡◌, ◌⊎◌, ℕ, zero, suc, ◌+◌, ◌<◌, ◌≤◌, List, [], ◌∷◌, Option, Some, None, length, map, get_or, set, slice_get, inl, inr, refl, sym, ap, subst, ◌∙◌, arith}
 use Rattle.beam_values.specs.declared.file_text.FileText.{FileText}
 use Rattle.beam_values.specs.declared.options.Options.{Options}
 use Rattle.beam_values.specs.declared.outcome.Outcome.{Outcome}
@@ -7,9 +7,12 @@ use Rattle.beam_values.specs.declared.plan.Plan.{Plan}
 use Rattle.beam_ports.specs.Counts.{rise}
 use Rattle.beam_ports.specs.Observed.{ObservedSink, ObservedStore, observed_sink, observed_store}
 use Rattle.beam_ports.proofs.Rises.{rises_add}
+use Rattle.beam_ports.specs.declared.sink.Sink.{Ghosts as SinkGhosts}
+use Rattle.beam_ports.specs.declared.store.Store.{Ghosts as StoreGhosts}
 use Rattle.book_core.specs.Runs.{AreOptions}
 use Rattle.chain_exec.specs.Causes.{ObservedShelf}
 use Rattle.command_words.specs.Commands.{Asked, Help, Panes, Run}
+use Rattle.dofn_traits.specs.declared.shelf.Shelf.{Ghosts as ShelfGhosts}
 use Rattle.worker_loop.specs.Kits.{EachBecomes, observed_shelves, sum_rises, told_by}
 use Rattle.worker_loop.specs.declared.kit.Kit.{Kit}
 use Rattle.run_engine.specs.Kits.{observed_each}
@@ -21,10 +24,9 @@ use Rattle.beam_command.specs.Asking.{IsPlanOf}
 use Rattle.beam_command.specs.Ends.{Observed, AreSourcesRefused, IsDocumentRefused, IsEndOf, IsHelpEnd, IsPipelineEnd, IsUnwritten}
 use Rattle.command_ends.specs.Notes.{IsLongNoted, StaysOrNoMemory}
 use Rattle.command_ends.specs.PlanFiles.{IsPlanRefused}
-use Rattle.beam_command.specs.Kits.{observed_in_use, observed_kits}
+use Rattle.beam_command.specs.Kits.{observed_at, observed_in_use}
 use Rattle.beam_command.specs.Pipelines.{IsGraphEnd}
 use Rattle.beam_command.proofs.Graphs.{spent_since, stopped_since}
-use Rattle.beam_command.proofs.InUse.{used, used_after}
 use Rattle.beam_command.proofs.Stores.{rise_since, tells_first}
 
 -- ---- a pipeline that was asked for
@@ -92,10 +94,10 @@ module _ (shelf : ObservedShelf) (told : Option (List FileText)) (less more : �
     (failed : ℕ) (grows : less ≤ more) (refused : (s : Status) → IsOpeningRefused stores plan options.attempts failed s → IsOpeningRefused since plan options.attempts 0 s)
     (of : IsPlanOf told asked plan) (first : ObservedStore) (is_first : slice_get since 0 ≡ Some first) (of_first : IsPlanOf first.files asked plan) where
   abbrev at_run : Observed
-  at_run = record { shelf = shelf; store = record { files = told; before = 0; after = less }; stores = stores; out = out }
+  at_run = record { kits = record { shelf = shelf; store = record { files = told; before = 0; after = less }; stores = stores }; out = out }
 
   abbrev at_call : Observed
-  at_call = record { shelf = shelf; store = record { files = told; before = 0; after = more }; stores = since; out = out }
+  at_call = record { kits = record { shelf = shelf; store = record { files = told; before = 0; after = more }; stores = since }; out = out }
 
   unbegun : (s : Status) → (IsOpeningRefused stores plan options.attempts failed s ⊎ (s ≡ status.NoMemory))
       → IsDocumentRefused at_call asked options.attempts s ⊎ AreSourcesRefused at_call asked options.attempts s ⊎ (s ≡ status.NoMemory)
@@ -107,8 +109,8 @@ module _ (shelf : ObservedShelf) (told : Option (List FileText)) (less more : �
   pipeline_end status.SinkFault outcome end = (end.1.0, end.1.1, (plan, of, end.0, end.1.2), end.1.3)
   pipeline_end (status.WorkFault note) outcome end = (
     end.0,
-    (end.2.0, end.2.1, (plan, of, end.1, stopped_since shelf told less more grows (surroundings_of shelf at_run.store) plan options note end.2.0 end.2.2)),
-    spent_since shelf told less more grows options.attempts note end.3,
+    (end.2.0, end.2.1, (plan, of, end.1, stopped_since shelf told less more stores since grows (surroundings_of at_run.kits) plan options note end.2.0 end.2.2)),
+    spent_since shelf told less more stores since grows options.attempts note end.3,
   )
   pipeline_end status.NoMemory outcome end = (end.0, end.1, inr (inr refl))
   pipeline_end (status.NoSource name) outcome end = (end.0, end.1, unbegun (status.NoSource name) end.2)
@@ -119,7 +121,7 @@ module _ (shelf : ObservedShelf) (told : Option (List FileText)) (less more : �
   pipeline_end (status.BadPlan refusal) outcome end = (end.0, end.1, unbegun (status.BadPlan refusal) end.2)
 
 -- a plan's document that the first store refused
-pub document_end : (observed : Observed) (name : List ℕ) (options : Options) (first : ObservedStore) → slice_get observed.stores 0 ≡ Some first → IsUnwritten observed
+pub document_end : (observed : Observed) (name : List ℕ) (options : Options) (first : ObservedStore) → slice_get observed.kits.stores 0 ≡ Some first → IsUnwritten observed
     → (s : Status) → IsPlanRefused first name options.attempts s → IsPipelineEnd observed (Run name options) options s None
 document_end observed name options first is unwritten (status.NoSource absent) refused = (unwritten, refl, inl (first, is, refused))
 document_end observed name options first is unwritten (status.SourceFault kit) refused = (unwritten, refl, inl (first, is, refused))
@@ -134,10 +136,9 @@ document_end observed name options first is unwritten (status.FileChanged change
 
 -- ---- the kits of a pipeline
 
-module _ {F S W : Type 0} (strict : F → Bool) (calls : F → ℕ) (files : S → Option (List FileText)) (faults : S → ℕ) (fails : W → ℕ) (taken : W → Option (List ℕ))
-    (out_old out_new : W) (options : Options) where
+module _ {F S W : Type 0} (of_shelf : ShelfGhosts F) (of_store : StoreGhosts S) (of_sink : SinkGhosts W) (out_old out_new : W) (options : Options) where
   abbrev observed : List (Kit F S) → List (Kit F S) → Observed
-  observed olds news = observed_kits strict calls files faults fails taken olds news out_old out_new
+  observed olds news = observed_at of_shelf of_store of_sink olds news out_old out_new
 
   module _ (name : List ℕ) (store : S) (some : Kit F S) where
     -- the kits, after the store of the first has read the plan's file
@@ -145,63 +146,57 @@ module _ {F S W : Type 0} (strict : F → Bool) (calls : F → ℕ) (files : S �
     after kits = set kits 0 (record { shelf = (get_or kits 0 some).shelf; store = store; files = (get_or kits 0 some).files })
 
     -- the plan's file was refused, and the other kits did nothing
-    pub refused_end : (kits : List (Kit F S)) → 0 < length kits → taken out_new ≡ taken out_old → (s : Status)
-        → IsPlanRefused (observed_store files faults (get_or kits 0 some).store store) name options.attempts s
+    pub refused_end : (kits : List (Kit F S)) → 0 < length kits → of_sink.taken out_new ≡ of_sink.taken out_old → (s : Status)
+        → IsPlanRefused (observed_store of_store.files of_store.faults (get_or kits 0 some).store store) name options.attempts s
         → IsPipelineEnd (observed kits (after kits)) (Run name options) options s None
     refused_end [] there unwritten s refused = absurd (omega arith)
     refused_end (first ∷ others) there unwritten s refused =
-        document_end (observed (first ∷ others) (after (first ∷ others))) name options (observed_store files faults first.store store) refl unwritten s refused
+        document_end (observed (first ∷ others) (after (first ∷ others))) name options (observed_store of_store.files of_store.faults first.store store) refl unwritten s refused
 
     module _ (plan : Plan) (failed : ℕ) (allowed : AreOptions options) where
       -- the run of the plan that it read, seen from before
-      run_of_file : (first new : Kit F S) (others news : List (Kit F S)) (s : Status) (outcome : Option Outcome) → files store ≡ files first.store → faults first.store ≤ faults store
-          → failed ≤ rise (faults first.store) (faults store) → IsPlanOf (files first.store) (Run name options) plan → faults store ≤ faults new.store
+      run_of_file : (first new : Kit F S) (others news : List (Kit F S)) (s : Status) (outcome : Option Outcome) → of_store.files store ≡ of_store.files first.store → of_store.faults first.store ≤ of_store.faults store
+          → failed ≤ rise (of_store.faults first.store) (of_store.faults store) → IsPlanOf (of_store.files first.store) (Run name options) plan → of_store.faults store ≤ of_store.faults new.store
           → IsGraphEnd (observed (after (first ∷ others)) (new ∷ news)) plan options failed s outcome
           → IsPipelineEnd (observed (first ∷ others) (new ∷ news)) (Run name options) options s outcome
       run_of_file first new others news s outcome same earlier counted of later end =
-          let shelf = observed_shelves strict calls (first ∷ others) (new ∷ news) in
-          let tellings = map (λ (k : Kit F S). files k.store) others in
-          let less = sum_rises (λ (k : Kit F S). faults k.store) (after (first ∷ others)) (new ∷ news) in
-          let more = sum_rises (λ (k : Kit F S). faults k.store) (first ∷ others) (new ∷ news) in
-          let rest = observed_each files faults others news in
-          let out = observed_sink fails taken out_old out_new in
-          let own : ℕ → List ObservedStore = λ start. record { files = files first.store; before = start; after = faults new.store } ∷ rest in
-          pipeline_end shelf (told_by (files first.store ∷ tellings)) less more (own (faults store)) (own (faults first.store)) out (Run name options) options plan failed
-          (omega (arith, rise_since (faults first.store) (faults store) (faults new.store) earlier))
-          (refused_since (files first.store) (faults first.store) (faults store) (faults new.store) rest plan options failed allowed earlier later counted)
-          (λ told tells. of told (tells_first (files first.store) tellings told tells))
-          (record { files = files first.store; before = faults first.store; after = faults new.store }) refl of s outcome
+          let shelf = observed_shelves of_shelf.strict of_shelf.faults (first ∷ others) (new ∷ news) in
+          let tellings = map (λ (k : Kit F S). of_store.files k.store) others in
+          let less = sum_rises (λ (k : Kit F S). of_store.faults k.store) (after (first ∷ others)) (new ∷ news) in
+          let more = sum_rises (λ (k : Kit F S). of_store.faults k.store) (first ∷ others) (new ∷ news) in
+          let rest = observed_each of_store.files of_store.faults others news in
+          let out = observed_sink of_sink.faults of_sink.taken out_old out_new in
+          let own : ℕ → List ObservedStore = λ start. record { files = of_store.files first.store; before = start; after = of_store.faults new.store } ∷ rest in
+          pipeline_end shelf (told_by (of_store.files first.store ∷ tellings)) less more (own (of_store.faults store)) (own (of_store.faults first.store)) out (Run name options) options plan failed
+          (omega (arith, rise_since (of_store.faults first.store) (of_store.faults store) (of_store.faults new.store) earlier))
+          (refused_since (of_store.files first.store) (of_store.faults first.store) (of_store.faults store) (of_store.faults new.store) rest plan options failed allowed earlier later counted)
+          (λ told tells. of told (tells_first (of_store.files first.store) tellings told tells))
+          (record { files = of_store.files first.store; before = of_store.faults first.store; after = of_store.faults new.store }) refl of s outcome
           (subst (λ (f : Option (List FileText)). IsGraphEnd (record {
-            shelf = shelf;
-            store = record { files = told_by (f ∷ tellings); before = 0; after = less };
-            stores = record { files = f; before = faults store; after = faults new.store } ∷ rest;
+            kits = record {
+              shelf = shelf;
+              store = record { files = told_by (f ∷ tellings); before = 0; after = less };
+              stores = record { files = f; before = of_store.faults store; after = of_store.faults new.store } ∷ rest;
+            };
             out = out;
           }) plan options failed s outcome) same end)
 
-      pub file_end : (kits news : List (Kit F S)) (s : Status) (outcome : Option Outcome) → 0 < length kits → files store ≡ files (get_or kits 0 some).store
-          → faults (get_or kits 0 some).store ≤ faults store → failed ≤ rise (faults (get_or kits 0 some).store) (faults store)
-          → IsPlanOf (files (get_or kits 0 some).store) (Run name options) plan → EachBecomes (after kits) news (λ old new. faults old.store ≤ faults new.store)
+      pub file_end : (kits news : List (Kit F S)) (s : Status) (outcome : Option Outcome) → 0 < length kits → of_store.files store ≡ of_store.files (get_or kits 0 some).store
+          → of_store.faults (get_or kits 0 some).store ≤ of_store.faults store → failed ≤ rise (of_store.faults (get_or kits 0 some).store) (of_store.faults store)
+          → IsPlanOf (of_store.files (get_or kits 0 some).store) (Run name options) plan → EachBecomes (after kits) news (λ old new. of_store.faults old.store ≤ of_store.faults new.store)
           → IsGraphEnd (observed (after kits) news) plan options failed s outcome → IsPipelineEnd (observed kits news) (Run name options) options s outcome
       file_end [] news s outcome there same earlier counted of each end = absurd (omega arith)
       file_end (first ∷ others) [] s outcome there same earlier counted of each end = absurd each
       file_end (first ∷ others) (new ∷ news) s outcome there same earlier counted of each end =
           run_of_file first new others news s outcome same earlier counted of each.0 end
 
-  -- what was observed at the kits in use, which were split off at the front
-  pub used_end : (own : Asked) (kits front back news : List (Kit F S)) → kits ≡ front ++ back → length front ≡ min (length kits) options.workers → length news ≡ length front
-      → (s : Status) (outcome : Option Outcome) → IsPipelineEnd (observed front news) own options s outcome
-      → IsPipelineEnd (observed (take options.workers kits) (take options.workers (news ++ back))) own options s outcome
-  used_end own kits front back news are split as_many s outcome end =
-      subst (λ (both : List (Kit F S) × List (Kit F S)). IsPipelineEnd (observed both.0 both.1) own options s outcome)
-      (λ i. (sym (used options.workers kits front back news are split as_many) i, sym (used_after options.workers kits front back news are split as_many) i)) end
-
 -- the same end, of the same kits
-pub end_of_same : {F S W : Type 0} (strict : F → Bool) (calls : F → ℕ) (files : S → Option (List FileText)) (faults : S → ℕ) (fails : W → ℕ) (taken : W → Option (List ℕ))
-    (out_old out_new : W) (asked : Option Asked) (olds own news left : List (Kit F S)) (s : Status) (outcome : Option Outcome) → olds ≡ own → left ≡ news
-    → IsEndOf asked (observed_in_use strict calls files faults fails taken asked olds news out_old out_new) s outcome
-    → IsEndOf asked (observed_in_use strict calls files faults fails taken asked own left out_old out_new) s outcome
-end_of_same strict calls files faults fails taken out_old out_new asked olds own news left s outcome before after end =
-    subst (λ (both : List (Kit _ _) × List (Kit _ _)). IsEndOf asked (observed_in_use strict calls files faults fails taken asked both.0 both.1 out_old out_new) s outcome)
+pub end_of_same : {F S W : Type 0} (of_shelf : ShelfGhosts F) (of_store : StoreGhosts S) (of_sink : SinkGhosts W) (out_old out_new : W) (asked : Option Asked)
+    (olds own news left : List (Kit F S)) (s : Status) (outcome : Option Outcome) → olds ≡ own → left ≡ news
+    → IsEndOf asked (observed_in_use of_shelf of_store of_sink asked olds news out_old out_new) s outcome
+    → IsEndOf asked (observed_in_use of_shelf of_store of_sink asked own left out_old out_new) s outcome
+end_of_same of_shelf of_store of_sink out_old out_new asked olds own news left s outcome before after end =
+    subst (λ (both : List (Kit _ _) × List (Kit _ _)). IsEndOf asked (observed_in_use of_shelf of_store of_sink asked both.0 both.1 out_old out_new) s outcome)
     (λ i. (before i, sym after i)) end
 
 -- ---- the note of an end

@@ -12,7 +12,7 @@ use Rattle.beam_values.specs.declared.outcome.StopCause.TheVariants as stop
 use Rattle.beam_values.specs.declared.plan.Plan.{Plan}
 use Rattle.beam_ports.specs.Counts.{rise}
 use Rattle.beam_ports.specs.Observed.{ObservedStore, WhereTold}
-use Rattle.book_core.specs.Book.{BookData}
+use Rattle.book_core.specs.Book.{SeenBook}
 use Rattle.book_core.specs.Runs.{AreTold, HonestlyReached}
 use Rattle.book_core.specs.Work.{Surroundings}
 use Rattle.ended_runs.specs.Unpoisoned.{TakesNoPoison}
@@ -23,8 +23,7 @@ use Rattle.run_engine.specs.PlanRun.{IsStoppedBy, surroundings_of}
 use Rattle.command_ends.specs.declared.status.Status.{Status}
 use Rattle.command_ends.specs.declared.status.Status.TheVariants as status
 use Rattle.beam_command.specs.Asking.{IsPlanOf}
-use Rattle.beam_command.specs.Clauses.{IsChange}
-use Rattle.beam_command.specs.Completeness.{AreFaultsFew, AreReadFaultsFew, HasCleanInputs, HasInputs, IsEndOfClean, IsStrict, WherePipeline}
+use Rattle.beam_command.specs.Completeness.{AreFaultsFew, AreKitFaultsFew, AreReadFaultsFew, HasCleanInputs, HasInputs, IsChange, IsEndOfClean, IsEndOfFewFaults, IsStrict, WherePipeline}
 use Rattle.beam_command.specs.Ends.{Observed, AreFound, AreSourcesRefused, IsDocumentRefused, IsEndOf, IsOutcomeOfAsked, IsPipelineEnd}
 use Rattle.command_ends.specs.PlanFiles.{IsPlanRefused}
 use Rattle.beam_command.proofs.Stores.{AreOfOne, IsOneOf, told_here}
@@ -59,30 +58,31 @@ none_before : (kit : ℕ) → failed_before 0 kit ≡ 0
 none_before zero = refl
 none_before (suc kit) = refl
 
-module _ (observed : Observed) (of_one : AreOfOne observed.stores observed.store) (told : List FileText) (tells : observed.store.files ≡ Some told) where
+-- no store failed as often as it may
+pub not_failed : (observed : Observed) → AreOfOne observed.kits → (attempts : ℕ) → rise observed.kits.store.before observed.kits.store.after < attempts → (kit : ℕ)
+    → HasFailed observed.kits.stores attempts 0 kit → ⊥
+not_failed observed of_one attempts few kit has = absurd (omega (arith, has.counted, none_before kit, (of_one kit has.store has.at).counts, few))
+
+module _ (observed : Observed) (of_one : AreOfOne observed.kits) (told : List FileText) (tells : observed.kits.store.files ≡ Some told) where
   -- no file has two lengths
-  pub unchanged : (names : List (List ℕ)) (name : List ℕ) (len other : ℕ) → HasChanged observed.stores names name len other → ⊥
+  pub unchanged : (names : List (List ℕ)) (name : List ℕ) (len other : ℕ) → HasChanged observed.kits.stores names name len other → ⊥
   unchanged names name len other changed =
-      let first = changed.len_at_first told (told_here observed.store changed.first told (of_one 0 changed.first changed.at_first) tells) in
-      let also = changed.len_at told (told_here observed.store changed.store told (of_one (suc changed.kit) changed.store changed.at) tells) in
+      let first = changed.len_at_first told (told_here observed.kits.store changed.first told (of_one 0 changed.first changed.at_first) tells) in
+      let also = changed.len_at told (told_here observed.kits.store changed.store told (of_one (suc changed.kit) changed.store changed.at) tells) in
       let text : also.0 ≡ first.0 = cc (first.1, also.1) in
       changed.differ (sym also.2 ∙ ap length text ∙ first.2)
 
-  module _ (attempts : ℕ) (few : rise observed.store.before observed.store.after < attempts) where
-    -- no store failed as often as it may
-    pub not_failed : (kit : ℕ) → HasFailed observed.stores attempts 0 kit → ⊥
-    not_failed kit has = absurd (omega (arith, has.counted, none_before kit, (of_one kit has.store has.at).counts, few))
-
-    plan_read : (name : List ℕ) (options : Options) (plan : Plan) → IsPlanOf (Some told) (Run name options) plan → (first : ObservedStore) → IsOneOf observed.store first → (s : Status)
+  module _ (attempts : ℕ) (few : rise observed.kits.store.before observed.kits.store.after < attempts) where
+    plan_read : (name : List ℕ) (options : Options) (plan : Plan) → IsPlanOf (Some told) (Run name options) plan → (first : ObservedStore) → IsOneOf observed.kits.store first → (s : Status)
         → IsPlanRefused first name attempts s → s ≡ status.NoMemory
     plan_read name options plan of first one (status.NoSource absent) refused =
         let meant = of told refl in
-        let none = refused.1 told (told_here observed.store first told one tells) in
+        let none = refused.1 told (told_here observed.kits.store first told one tells) in
         absurd (cc (meant.1, none))
     plan_read name options plan of first one (status.SourceFault kit) refused = absurd (omega (arith, refused.1, one.counts, few))
     plan_read name options plan of first one (status.BadPlan refusal) refused =
         let meant = of told refl in
-        let also = refused told (told_here observed.store first told one tells) in
+        let also = refused told (told_here observed.kits.store first told one tells) in
         let text : also.0 ≡ meant.0 = cc (meant.1, also.1) in
         absurd (cc (text, meant.2, also.2))
     plan_read name options plan of first one status.NoMemory refused = refl
@@ -98,12 +98,12 @@ module _ (observed : Observed) (of_one : AreOfOne observed.stores observed.store
     document_read (Panes file size options) plan of s refused = absurd refused
     document_read (Run name options) plan of s refused = plan_read name options plan of refused.0 (of_one 0 refused.0 refused.1) s refused.2
 
-    opened : (plan : Plan) → AreFound (Some told) plan → (s : Status) → IsOpeningRefused observed.stores plan attempts 0 s → s ≡ status.NoMemory
+    opened : (plan : Plan) → AreFound (Some told) plan → (s : Status) → IsOpeningRefused observed.kits.stores plan attempts 0 s → s ≡ status.NoMemory
     opened plan found (status.NoSource name) refused =
-        let none = (refused.absent told (told_here observed.store refused.store told (of_one refused.kit refused.store refused.at) tells)).1 in
+        let none = (refused.absent told (told_here observed.kits.store refused.store told (of_one refused.kit refused.store refused.at) tells)).1 in
         absurd (named_not_none (first_named name told) none
         (among (λ (n : List ℕ). IsSome (first_named n told)) refused.before refused.after (file_names plan) name refused.names_are (found told refl)))
-    opened plan found (status.SourceFault kit) refused = absurd (not_failed kit refused)
+    opened plan found (status.SourceFault kit) refused = absurd (not_failed observed of_one attempts few kit refused)
     opened plan found (status.FileChanged name len other) refused = absurd (unchanged (file_names plan) name len other refused)
     opened plan found status.NoMemory refused = refl
     opened plan found (status.BadPlan refusal) refused = absurd refused
@@ -121,15 +121,15 @@ module _ (observed : Observed) (of_one : AreOfOne observed.stores observed.store
       | inr other ↦ elim other [
         | inl refused ↦
             opened inputs.0 inputs.2 s
-            (subst (λ (p : Plan). IsOpeningRefused observed.stores p attempts 0 s)
-            (plan_is refused.0 told (told_here observed.store refused.0 told (of_one 0 refused.0 refused.2) tells) asked inputs.0 refused.1 inputs.1 refused.3) refused.4)
+            (subst (λ (p : Plan). IsOpeningRefused observed.kits.stores p attempts 0 s)
+            (plan_is refused.0 told (told_here observed.kits.store refused.0 told (of_one 0 refused.0 refused.2) tells) asked inputs.0 refused.1 inputs.1 refused.3) refused.4)
         | inr none ↦ none
       ]
     ]
 
 -- ---- files that change
 
-module _ (observed : Observed) (of_one : AreOfOne observed.stores observed.store) (told : List FileText) (tells : observed.store.files ≡ Some told) where
+module _ (observed : Observed) (of_one : AreOfOne observed.kits) (told : List FileText) (tells : observed.kits.store.files ≡ Some told) where
   no_pipeline_changes : (own : Asked) (options : Options) (name : List ℕ) (len other : ℕ) (outcome : Option Outcome) → IsPipelineEnd observed own options (status.FileChanged name len other) outcome → ⊥
   no_pipeline_changes own options name len other outcome end = elim end.2 [
     | inl refused ↦ no_document own refused
@@ -160,16 +160,16 @@ module _ (observed : Observed) (of_one : AreOfOne observed.stores observed.store
   no_change asked status.NoMemory outcome end change = change
 
 -- where all stores tell the same files, none has changed
-pub same_files : (asked : Option Asked) (observed : Observed) → AreOfOne observed.stores observed.store → (s : Status) (outcome : Option Outcome) → IsEndOf asked observed s outcome
-    → WhereTold observed.store.files (λ told. IsChange s → ⊥)
+pub same_files : (asked : Option Asked) (observed : Observed) → AreOfOne observed.kits → (s : Status) (outcome : Option Outcome) → IsEndOf asked observed s outcome
+    → WhereTold observed.kits.store.files (λ told. IsChange s → ⊥)
 same_files asked observed of_one s outcome end = λ told tells. no_change observed of_one told tells asked s outcome end
 
 -- ---- few faults
 
-module _ (observed : Observed) (of_one : AreOfOne observed.stores observed.store) (told : List FileText) (tells : observed.store.files ≡ Some told) where
+module _ (observed : Observed) (of_one : AreOfOne observed.kits) (told : List FileText) (tells : observed.kits.store.files ≡ Some told) where
   module _ (own : Asked) (options : Options) (inputs : HasInputs told own) (few : AreFaultsFew options.attempts observed) where
-    few_in_store : rise observed.store.before observed.store.after < options.attempts
-    few_in_store = omega (arith, few.kit)
+    few_in_store : rise observed.kits.store.before observed.kits.store.after < options.attempts
+    few_in_store = omega (arith, few.kits)
 
     unbegun : (s : Status)
         → (IsDocumentRefused observed own options.attempts s ⊎ AreSourcesRefused observed own options.attempts s ⊎ (s ≡ status.NoMemory)) → IsEndOfClean s
@@ -178,7 +178,7 @@ module _ (observed : Observed) (of_one : AreOfOne observed.stores observed.store
     completes : (s : Status) (outcome : Option Outcome) → IsPipelineEnd observed own options s outcome → IsEndOfClean s
     completes status.Ok outcome end = inl refl
     completes status.SinkFault outcome end = absurd (omega (arith, end.3.2.0, few.out))
-    completes (status.WorkFault note) outcome end = absurd (omega (arith, end.2.counted, few.kit))
+    completes (status.WorkFault note) outcome end = absurd (omega (arith, end.2.counted, few.kits))
     completes (status.NoSource name) outcome end = unbegun (status.NoSource name) end.2
     completes (status.SourceFault kit) outcome end = unbegun (status.SourceFault kit) end.2
     completes (status.FileChanged name len other) outcome end = unbegun (status.FileChanged name len other) end.2
@@ -188,8 +188,8 @@ module _ (observed : Observed) (of_one : AreOfOne observed.stores observed.store
     completes status.Usage outcome end = unbegun status.Usage end.2
 
 -- with all inputs there and few faults a pipeline comes to its end
-pub complete : (asked : Option Asked) (observed : Observed) → AreOfOne observed.stores observed.store → (s : Status) (outcome : Option Outcome) → IsEndOf asked observed s outcome
-    → WherePipeline asked (λ own options. WhereTold observed.store.files (λ told. HasInputs told own → AreFaultsFew options.attempts observed → IsEndOfClean s))
+pub complete : (asked : Option Asked) (observed : Observed) → AreOfOne observed.kits → (s : Status) (outcome : Option Outcome) → IsEndOf asked observed s outcome
+    → WherePipeline asked (λ own options. WhereTold observed.kits.store.files (λ told. HasInputs told own → AreFaultsFew options.attempts observed → IsEndOfClean s))
 complete None observed of_one s outcome end = tt
 complete (Some Help) observed of_one s outcome end = tt
 complete (Some (Panes file size options)) observed of_one s outcome end = λ told tells inputs few.
@@ -197,26 +197,90 @@ complete (Some (Panes file size options)) observed of_one s outcome end = λ tol
 complete (Some (Run name options)) observed of_one s outcome end = λ told tells inputs few.
     completes observed of_one told tells (Run name options) options inputs few s outcome end
 
+-- ---- few faults, whatever the stores tell
+
+module _ (observed : Observed) (of_one : AreOfOne observed.kits) (options : Options) (few : AreKitFaultsFew options.attempts observed.kits) where
+  few_reads : rise observed.kits.store.before observed.kits.store.after < options.attempts
+  few_reads = omega (arith, few)
+
+  abbrev Fits : Status → Type 0
+  Fits s = IsEndOfFewFaults options.attempts observed.out s
+
+  by_file : (name : List ℕ) (first : ObservedStore) → IsOneOf observed.kits.store first → (s : Status) → IsPlanRefused first name options.attempts s → Fits s
+  by_file name first one (status.NoSource absent) refused = tt
+  by_file name first one (status.SourceFault kit) refused = absurd (omega (arith, refused.1, one.counts, few_reads))
+  by_file name first one (status.BadPlan refusal) refused = tt
+  by_file name first one status.NoMemory refused = tt
+  by_file name first one status.Ok refused = absurd refused
+  by_file name first one status.Help refused = absurd refused
+  by_file name first one status.Usage refused = absurd refused
+  by_file name first one (status.WorkFault note) refused = absurd refused
+  by_file name first one status.SinkFault refused = absurd refused
+  by_file name first one (status.FileChanged changed len other) refused = absurd refused
+
+  by_document : (own : Asked) (s : Status) → IsDocumentRefused observed own options.attempts s → Fits s
+  by_document Help s refused = absurd refused
+  by_document (Panes file size with) s refused = absurd refused
+  by_document (Run name with) s refused = by_file name refused.0 (of_one 0 refused.0 refused.1) s refused.2
+
+  by_opening : (plan : Plan) (s : Status) → IsOpeningRefused observed.kits.stores plan options.attempts 0 s → Fits s
+  by_opening plan (status.NoSource name) refused = tt
+  by_opening plan (status.SourceFault kit) refused = absurd (not_failed observed of_one options.attempts few_reads kit refused)
+  by_opening plan (status.FileChanged name len other) refused = tt
+  by_opening plan status.NoMemory refused = tt
+  by_opening plan (status.BadPlan refusal) refused = absurd refused
+  by_opening plan status.Ok refused = absurd refused
+  by_opening plan status.Help refused = absurd refused
+  by_opening plan status.Usage refused = absurd refused
+  by_opening plan (status.WorkFault note) refused = absurd refused
+  by_opening plan status.SinkFault refused = absurd refused
+
+  before : (own : Asked) (s : Status) → (IsDocumentRefused observed own options.attempts s ⊎ AreSourcesRefused observed own options.attempts s ⊎ (s ≡ status.NoMemory)) → Fits s
+  before own s why = elim why [
+    | inl refused ↦ by_document own s refused
+    | inr other ↦ elim other [ inl refused ↦ by_opening refused.1 s refused.4 | inr none ↦ subst Fits (sym none) tt ]
+  ]
+
+  ends_few : (own : Asked) (s : Status) (outcome : Option Outcome) → IsPipelineEnd observed own options s outcome → Fits s
+  ends_few own status.Ok outcome end = tt
+  ends_few own status.SinkFault outcome end = end.3.2.0
+  ends_few own (status.WorkFault note) outcome end = absurd (omega (arith, end.2.counted, few))
+  ends_few own (status.NoSource name) outcome end = before own (status.NoSource name) end.2
+  ends_few own (status.SourceFault kit) outcome end = before own (status.SourceFault kit) end.2
+  ends_few own (status.FileChanged name len other) outcome end = before own (status.FileChanged name len other) end.2
+  ends_few own (status.BadPlan refusal) outcome end = before own (status.BadPlan refusal) end.2
+  ends_few own status.NoMemory outcome end = before own status.NoMemory end.2
+  ends_few own status.Help outcome end = before own status.Help end.2
+  ends_few own status.Usage outcome end = before own status.Usage end.2
+
+-- with few faults at the kits nothing of a pipeline failed as often as it may, but for its sink
+pub few_faults : (asked : Option Asked) (observed : Observed) → AreOfOne observed.kits → (s : Status) (outcome : Option Outcome) → IsEndOf asked observed s outcome
+    → WherePipeline asked (λ own options. AreKitFaultsFew options.attempts observed.kits → IsEndOfFewFaults options.attempts observed.out s)
+few_faults None observed of_one s outcome end = tt
+few_faults (Some Help) observed of_one s outcome end = tt
+few_faults (Some (Panes file size options)) observed of_one s outcome end = λ few. ends_few observed of_one options few (Panes file size options) s outcome end
+few_faults (Some (Run name options)) observed of_one s outcome end = λ few. ends_few observed of_one options few (Run name options) s outcome end
+
 -- ---- a shelf that fails on poison alone
 
-module _ (observed : Observed) (of_one : AreOfOne observed.stores observed.store) (s : Status) (outcome : Option Outcome)
-    (by_reads : (known : Surroundings) (told : List FileText) (b : BookData) (note : FaultNote) → known.told ≡ Some told → known.strict ≡ true → AreTold told b
+module _ (observed : Observed) (of_one : AreOfOne observed.kits) (s : Status) (outcome : Option Outcome)
+    (by_reads : (known : Surroundings) (told : List FileText) (b : SeenBook) (note : FaultNote) → known.told ≡ Some told → known.strict ≡ true → AreTold told b
     → TakesNoPoison known b.plan b.options → HonestlyReached known b → b.stopped ≡ Some (stop.Spent note) → b.options.attempts ≤ b.reads) where
-  module _ (told : List FileText) (tells : observed.store.files ≡ Some told) (own : Asked) (options : Options) (strict : observed.shelf.strict ≡ true)
+  module _ (told : List FileText) (tells : observed.kits.store.files ≡ Some told) (own : Asked) (options : Options) (strict : observed.kits.shelf.strict ≡ true)
       (inputs : HasCleanInputs told own options) (few : AreReadFaultsFew options.attempts observed) where
-    takes_none : (plan : Plan) (own_options : Options) → plan ≡ inputs.0 → own_options ≡ options → TakesNoPoison (surroundings_of observed.shelf observed.store) plan own_options
+    takes_none : (plan : Plan) (own_options : Options) → plan ≡ inputs.0 → own_options ≡ options → TakesNoPoison (surroundings_of observed.kits) plan own_options
     takes_none plan own_options same with_options =
-        let known : record { told = Some told; strict = true } ≡ surroundings_of observed.shelf observed.store = λ i. record { told = sym tells i; strict = sym strict i } in
+        let known : record { told = Some told; strict = true } ≡ surroundings_of observed.kits = λ i. record { told = sym tells i; strict = sym strict i } in
         subst (λ (k : Surroundings). TakesNoPoison k plan own_options) known
         (subst (λ (p : Plan). TakesNoPoison (record { told = Some told; strict = true }) p own_options) (sym same)
         (subst (λ (o : Options). TakesNoPoison (record { told = Some told; strict = true }) inputs.0 o) (sym with_options) inputs.3))
 
     -- what was given up failed by reads, and the store counted them
-    not_given_up : (note : FaultNote) (o : Outcome) → IsOutcomeOfAsked observed own options (IsStoppedBy observed.shelf observed.store note) o → ⊥
+    not_given_up : (note : FaultNote) (o : Outcome) → IsOutcomeOfAsked observed own options (IsStoppedBy observed.kits note) o → ⊥
     not_given_up note o run =
         let book = run.3.book in
-        let plan = run.3.of_plan ∙ plan_is observed.store told tells own inputs.0 run.0 inputs.1 run.1 in
-        let many = by_reads (surroundings_of observed.shelf observed.store) told book note tells strict (run.3.lengths told tells)
+        let plan = run.3.of_plan ∙ plan_is observed.kits.store told tells own inputs.0 run.0 inputs.1 run.1 in
+        let many = by_reads (surroundings_of observed.kits) told book note tells strict (run.3.lengths told tells)
         (takes_none book.plan book.options plan run.3.with_options) run.3.reached run.3.is.noted in
         let limit : book.options.attempts ≡ options.attempts = ap (λ (o : Options). o.attempts) run.3.with_options in
         absurd (omega (arith, many, limit, run.3.is.reads, few.store))
@@ -239,8 +303,8 @@ module _ (observed : Observed) (of_one : AreOfOne observed.stores observed.store
 
   -- so it comes to its end where it takes no poison and few faults of the store were counted
   pub complete_strict : (asked : Option Asked) → IsEndOf asked observed s outcome
-      → WherePipeline asked (λ own options. IsStrict observed.shelf
-      → WhereTold observed.store.files (λ told. HasCleanInputs told own options → AreReadFaultsFew options.attempts observed → IsEndOfClean s))
+      → WherePipeline asked (λ own options. IsStrict observed.kits.shelf
+      → WhereTold observed.kits.store.files (λ told. HasCleanInputs told own options → AreReadFaultsFew options.attempts observed → IsEndOfClean s))
   complete_strict None end = tt
   complete_strict (Some Help) end = tt
   complete_strict (Some (Panes file size options)) end = λ strict told tells inputs few.

@@ -21,6 +21,7 @@ use Rattle.book_core.specs.Runs.{IsEnded}
 use Rattle.book_core.specs.Work.{Surroundings}
 use Rattle.worker_loop.specs.Bundles.{IsCountedAs}
 use Rattle.worker_loop.specs.Openings.{AreOpened, file_names}
+use Rattle.run_engine.specs.Kits.{ObservedKits}
 use Rattle.run_engine.specs.PlanRun.{IsOutcomeWhere, IsPlanEnd, IsSpent, IsStoppedBy, surroundings_of}
 use Rattle.command_ends.specs.declared.status.Status.{Status}
 use Rattle.command_ends.specs.declared.status.Status.TheVariants as status
@@ -48,8 +49,8 @@ pub are_found : (files : Option (List FileText)) (opened : ℕ → Option Openin
 are_found files opened plan kept are = λ told is. opened_are_found files told is opened (file_names plan) kept are
 
 -- the text of a run that came to its end was written, or was not
-pub printed_end : (observed : Observed) (plan : Plan) (options : Options) (failed : ℕ) (o : Outcome) (s : Status) (outcome : Option Outcome) → AreFound observed.store.files plan
-    → IsOutcomeWhere (surroundings_of observed.shelf observed.store) plan options IsEnded o → IsRunPrinted observed.out options.attempts o s outcome
+pub printed_end : (observed : Observed) (plan : Plan) (options : Options) (failed : ℕ) (o : Outcome) (s : Status) (outcome : Option Outcome) → AreFound observed.kits.store.files plan
+    → IsOutcomeWhere (surroundings_of observed.kits) plan options IsEnded o → IsRunPrinted observed.out options.attempts o s outcome
     → IsGraphEnd observed plan options failed s outcome
 printed_end observed plan options failed o status.Ok outcome there run printed = (there, (o, printed.0, run, printed.1))
 printed_end observed plan options failed o status.SinkFault outcome there run printed = (there, (o, printed.0, run, printed.1))
@@ -65,27 +66,27 @@ printed_end observed plan options failed o (status.WorkFault note) outcome there
 -- ---- a run, seen from a call that began before it
 
 -- the store counted at least as much in the whole call
-module _ (shelf : ObservedShelf) (files : Option (List FileText)) (less more : ℕ) (grows : less ≤ more) where
-  abbrev run_store : ObservedStore
-  run_store = record { files = files; before = 0; after = less }
+module _ (shelf : ObservedShelf) (files : Option (List FileText)) (less more : ℕ) (stores since : List ObservedStore) (grows : less ≤ more) where
+  abbrev in_run : ObservedKits
+  in_run = record { shelf = shelf; store = record { files = files; before = 0; after = less }; stores = stores }
 
-  abbrev call_store : ObservedStore
-  call_store = record { files = files; before = 0; after = more }
+  abbrev in_call : ObservedKits
+  in_call = record { shelf = shelf; store = record { files = files; before = 0; after = more }; stores = since }
 
   rises : rise 0 less ≤ rise 0 more
   rises = rise_grows 0 less more grows
 
-  counted_since : (cause : Cause) → IsCountedAs shelf run_store cause → IsCountedAs shelf call_store cause
+  counted_since : (cause : Cause) → IsCountedAs shelf in_run.store cause → IsCountedAs shelf in_call.store cause
   counted_since Call counted = counted
   counted_since Read counted = omega (arith, counted, rises)
 
-  pub spent_since : (attempts : ℕ) (note : FaultNote) → IsSpent shelf run_store attempts note → IsSpent shelf call_store attempts note
+  pub spent_since : (attempts : ℕ) (note : FaultNote) → IsSpent in_run attempts note → IsSpent in_call attempts note
   spent_since attempts note spent =
       record { attempt = spent.attempt; counted = omega (arith, spent.counted, rises); cause = counted_since note.cause spent.cause }
 
   -- what stopped a run stopped it also in the call
   pub stopped_since : (known : Surroundings) (plan : Plan) (options : Options) (note : FaultNote) (o : Outcome)
-      → IsOutcomeWhere known plan options (IsStoppedBy shelf run_store note) o → IsOutcomeWhere known plan options (IsStoppedBy shelf call_store note) o
+      → IsOutcomeWhere known plan options (IsStoppedBy in_run note) o → IsOutcomeWhere known plan options (IsStoppedBy in_call note) o
   stopped_since known plan options note o run = record {
     book = run.book;
     reached = run.reached;
@@ -98,10 +99,10 @@ module _ (shelf : ObservedShelf) (files : Option (List FileText)) (less more : �
   }
 
   -- the end of a run is one also of the call
-  pub ended_since : (plan : Plan) (options : Options) (s : Status) (outcome : Option Outcome) → IsPlanEnd shelf run_store plan options s outcome → IsPlanEnd shelf call_store plan options s outcome
+  pub ended_since : (plan : Plan) (options : Options) (s : Status) (outcome : Option Outcome) → IsPlanEnd in_run plan options s outcome → IsPlanEnd in_call plan options s outcome
   ended_since plan options status.Ok outcome end = end
   ended_since plan options (status.WorkFault note) outcome end =
-      ((end.0.0, end.0.1, stopped_since (surroundings_of shelf run_store) plan options note end.0.0 end.0.2), spent_since options.attempts note end.1)
+      ((end.0.0, end.0.1, stopped_since (surroundings_of in_run) plan options note end.0.0 end.0.2), spent_since options.attempts note end.1)
   ended_since plan options status.NoMemory outcome end = end
   ended_since plan options status.SinkFault outcome end = absurd end
   ended_since plan options status.Help outcome end = absurd end
@@ -113,7 +114,7 @@ module _ (shelf : ObservedShelf) (files : Option (List FileText)) (less more : �
 
 -- a run that did not come to its end wrote nothing
 pub unprinted_end : (observed : Observed) (plan : Plan) (options : Options) (failed : ℕ) (s : Status) (outcome : Option Outcome) → IsUnwritten observed
-    → AreFound observed.store.files plan → IsPlanEnd observed.shelf observed.store plan options s outcome → (s ≡ status.Ok → ⊥)
+    → AreFound observed.kits.store.files plan → IsPlanEnd observed.kits plan options s outcome → (s ≡ status.Ok → ⊥)
     → IsGraphEnd observed plan options failed s outcome
 unprinted_end observed plan options failed status.Ok outcome unwritten there ended none = absurd (none refl)
 unprinted_end observed plan options failed (status.WorkFault note) outcome unwritten there ended none = (unwritten, there, ended.0, ended.1)
@@ -127,9 +128,9 @@ unprinted_end observed plan options failed (status.SourceFault kit) outcome unwr
 unprinted_end observed plan options failed (status.FileChanged name len other) outcome unwritten there ended none = absurd ended
 
 -- a run that came to its end, and whose text was written or not
-pub finished_end : (observed : Observed) (plan : Plan) (options : Options) (failed : ℕ) (reached : Status) (own outcome : Option Outcome) (s : Status) → AreFound observed.store.files plan
-    → IsPlanEnd observed.shelf observed.store plan options reached own → reached ≡ status.Ok
+pub finished_end : (observed : Observed) (plan : Plan) (options : Options) (failed : ℕ) (reached : Status) (own outcome : Option Outcome) (s : Status) → AreFound observed.kits.store.files plan
+    → IsPlanEnd observed.kits plan options reached own → reached ≡ status.Ok
     → ((o : Outcome) → own ≡ Some o → IsRunPrinted observed.out options.attempts o s outcome) → IsGraphEnd observed plan options failed s outcome
 finished_end observed plan options failed reached own outcome s there ended is printed =
-    let end = subst (λ (st : Status). IsPlanEnd observed.shelf observed.store plan options st own) is ended in
+    let end = subst (λ (st : Status). IsPlanEnd observed.kits plan options st own) is ended in
     printed_end observed plan options failed end.0 s outcome there end.2 (printed end.0 end.1)

@@ -1,6 +1,20 @@
 -- The kits in use are split off at the front, and put back before the others.
-use Rattle.std.proofs.Common.{◌≡◌, ℕ, zero, suc, ◌+◌, min, List, [], ◌∷◌, ◌++◌, length, take, drop, refl, sym, ap, ◌∙◌, arith, length-append}
+use Rattle.std.proofs.Common.{◌≡◌, ℕ, zero, suc, ◌+◌, min, List, [], ◌∷◌, ◌++◌, Option, length, take, drop, refl, sym, ap, subst, ◌∙◌, arith, length-append}
 use Rattle.std.proofs.Math.Seq.{take-append_seam}
+use Rattle.beam_ports.specs.declared.sink.Sink.{Ghosts as SinkGhosts}
+use Rattle.beam_ports.specs.declared.store.Store.{Ghosts as StoreGhosts}
+use Rattle.beam_values.specs.declared.options.Options.{Options}
+use Rattle.beam_values.specs.declared.outcome.Outcome.{Outcome}
+use Rattle.command_words.specs.Commands.{Asked}
+use Rattle.dofn_traits.specs.declared.shelf.Shelf.{Ghosts as ShelfGhosts}
+use Rattle.worker_loop.specs.Kits.{EachBecomes}
+use Rattle.worker_loop.specs.declared.kit.Kit.{Kit}
+use Rattle.run_engine.specs.Kits.{KeepsKit}
+use Rattle.command_ends.specs.declared.status.Status.{Status}
+use Rattle.beam_command.specs.Ends.{IsPipelineEnd}
+use Rattle.beam_command.specs.Kits.{AreKitsLeft, HasNotBegun, IsOutcomeOfKits, IsOutcomeOfOpened, KeepsShelf, first_files, in_use, observed_at, observed_in_use, workers_of}
+use Rattle.beam_command.specs.Promises.{IsPlanAsked}
+use Rattle.beam_command.proofs.Kept.{all_same, become_front, become_length, idle_same, keeps_same}
 
 module _ {K : Type 0} where
   -- a front that has as many as are wanted, or all
@@ -28,8 +42,8 @@ module _ {K : Type 0} where
     pub used_after : take n (after ++ back) ≡ after
     used_after = take_front n after back (omega (arith, split, whole, same))
 
-    pub unused : drop n (after ++ back) ≡ drop n kits
-    unused = drop_front n after back (omega (arith, split, whole, same)) ∙ sym (ap (drop n) are ∙ drop_front n front back (omega (arith, split, whole)))
+    pub left_unused : drop n (after ++ back) ≡ drop n kits
+    left_unused = drop_front n after back (omega (arith, split, whole, same)) ∙ sym (ap (drop n) are ∙ drop_front n front back (omega (arith, split, whole)))
 
   -- what a borrow of a whole vector of this length leaves there
   abbrev pub written_back : ℕ → List K → List K → List K
@@ -37,3 +51,40 @@ module _ {K : Type 0} where
 
   pub all_written : (n : ℕ) (kits after : List K) → length after ≡ n → written_back n kits after ≡ after
   all_written n kits after is = ap (λ (m : ℕ). written_back m kits after) (sym is) ∙ take-append_seam after (drop (length after) kits)
+
+-- ---- what a run with the kits in use leaves of all kits
+
+module _ {F S : Type 0} (of_shelf : ShelfGhosts F) (of_store : StoreGhosts S) (asked : Option Asked) where
+  pub kits_same : (s : Status) (kits : List (Kit F S)) → AreKitsLeft of_shelf of_store asked s kits kits
+  kits_same s kits = record { idle = λ none. idle_same kits; kept = all_same of_shelf of_store kits; unused = refl }
+
+  module _ (workers : ℕ) (asks : workers_of asked ≡ workers) (kits front back news : List (Kit F S)) (are : kits ≡ front ++ back) (split : length front ≡ min (length kits) workers)
+      (kept : EachBecomes front news (KeepsKit of_shelf of_store)) where
+    as_many : length news ≡ length front
+    as_many = become_length (KeepsKit of_shelf of_store) front news kept
+
+    in_use_before : in_use asked kits ≡ front
+    in_use_before = ap (λ (n : ℕ). take n kits) asks ∙ used workers kits front back news are split as_many
+
+    in_use_after : in_use asked (news ++ back) ≡ news
+    in_use_after = ap (λ (n : ℕ). take n (news ++ back)) asks ∙ used_after workers kits front back news are split as_many
+
+    pub kits_left : (s : Status) → (HasNotBegun s → EachBecomes front news KeepsShelf) → AreKitsLeft of_shelf of_store asked s kits (news ++ back)
+    kits_left s idle = record {
+      idle = λ none.
+          subst (λ (olds : List (Kit F S)). EachBecomes olds (news ++ back) KeepsShelf) (sym are) (become_front KeepsShelf (λ kit. refl) front news back (idle none));
+      kept = subst (λ (olds : List (Kit F S)). EachBecomes olds (news ++ back) (KeepsKit of_shelf of_store)) (sym are)
+          (become_front (KeepsKit of_shelf of_store) (keeps_same of_shelf of_store) front news back kept);
+      unused = subst (λ (n : ℕ). drop n (news ++ back) ≡ drop n kits) (sym asks) (left_unused workers kits front back news are split as_many);
+    }
+
+    pub outcome_left : (o : Outcome) → IsPlanAsked (first_files of_store.files kits) asked o.plan → IsOutcomeOfOpened of_store news o
+        → IsOutcomeOfKits of_store asked kits (news ++ back) o
+    outcome_left o plan opened = record { plan = plan; opened = subst (λ (own : List (Kit F S)). IsOutcomeOfOpened of_store own o) (sym in_use_after) opened }
+
+    pub end_in_use : {W : Type 0} (of_sink : SinkGhosts W) (out_old out_new : W) (own : Asked) (options : Options) (s : Status) (outcome : Option Outcome)
+        → IsPipelineEnd (observed_at of_shelf of_store of_sink front news out_old out_new) own options s outcome
+        → IsPipelineEnd (observed_in_use of_shelf of_store of_sink asked kits (news ++ back) out_old out_new) own options s outcome
+    end_in_use of_sink out_old out_new own options s outcome end =
+        subst (λ (both : List (Kit F S) × List (Kit F S)). IsPipelineEnd (observed_at of_shelf of_store of_sink both.0 both.1 out_old out_new) own options s outcome)
+        (λ i. (sym in_use_before i, sym in_use_after i)) end

@@ -1,28 +1,29 @@
 -- What a command leaves of each kit, and what is so of the outcome that it hands out.
-use Rattle.std.proofs.Common.{◌≡◌, ◌⊎◌, ℕ, ◌<◌, ◌≤◌, Bool, List, [], ◌∷◌, ◌++◌, length, take, get_or, set, Option, Some, None, inl, inr, refl, sym, ap, subst, ◌∙◌, arith}
+use Rattle.std.proofs.Common.{◌≡◌, ℕ, ◌<◌, List, [], ◌∷◌, ◌++◌, length, get_or, set, Option, Some, None, inl, inr, refl, sym, ap, subst, ◌∙◌, arith}
 use Rattle.std.specs.Prelude.{IfSome}
 use Rattle.std.specs.List.{AllByRecursion}
 use Rattle.beam_values.specs.declared.file_text.FileText.{FileText}
 use Rattle.beam_values.specs.declared.options.Options.{Options}
 use Rattle.beam_values.specs.declared.outcome.Outcome.{Outcome}
 use Rattle.beam_values.specs.declared.plan.Plan.{Plan}
-use Rattle.beam_ports.specs.Files.{Opening}
-use Rattle.beam_ports.specs.Observed.{ObservedSink, ObservedStore}
+use Rattle.beam_ports.specs.Observed.{ObservedSink}
+use Rattle.beam_ports.specs.declared.store.Store.{Ghosts as StoreGhosts}
 use Rattle.beam_ports.specs.declared.store.Opened.{Opened}
-use Rattle.chain_exec.specs.Causes.{ObservedShelf}
+use Rattle.command_words.specs.Commands.{Asked}
+use Rattle.dofn_traits.specs.declared.shelf.Shelf.{Ghosts as ShelfGhosts}
 use Rattle.worker_loop.specs.Kits.{EachBecomes}
 use Rattle.worker_loop.specs.Openings.{AreOpened, file_names}
 use Rattle.worker_loop.specs.Outside.{IsKitKept, IsStoreKept}
 use Rattle.worker_loop.specs.declared.kit.Kit.{Kit}
 use Rattle.worker_loop.proofs.Answered.{kit_onward, kit_same}
+use Rattle.run_engine.specs.Kits.{KeepsKit, ObservedKits, OpensKit, RunsKit}
 use Rattle.run_engine.specs.Openings.{AgreeInLength, AgreeWithFirst, AreOpenedByAll}
-use Rattle.run_engine.specs.PlanRun.{IsOutcomeWhere, IsPlanEnd, lengths_of_first, opened_lengths}
+use Rattle.run_engine.specs.PlanRun.{IsPlanEnd, lengths_of_first, opened_lengths}
 use Rattle.command_ends.specs.declared.status.Status.{Status}
 use Rattle.command_ends.specs.declared.status.Status.TheVariants as status
 use Rattle.run_engine.proofs.Opens.{become_onward, opened_later, same_become}
-use Rattle.beam_command.specs.Clauses.{HasNotBegun}
 use Rattle.command_ends.specs.Notes.{StaysOrNoMemory}
-use Rattle.beam_command.specs.Kits.{IsOutcomeOfOpened, first_files}
+use Rattle.beam_command.specs.Kits.{AreKitsLeft, HasNotBegun, IsOutcomeOfOpened, KeepsShelf, first_files}
 use Rattle.beam_command.specs.Pipelines.{IsRunPrinted}
 
 -- ---- what becomes of each
@@ -59,6 +60,10 @@ pub if_some : {A : Type 0} (P Q : A → Type 0) → ((a : A) → P a → Q a) �
 if_some P Q holds None h = tt
 if_some P Q holds (Some a) h = holds a h
 
+pub if_both : {A : Type 0} (P Q R : A → Type 0) → ((a : A) → P a → Q a → R a) → (o : Option A) → IfSome o P → IfSome o Q → IfSome o R
+if_both P Q R holds None p q = tt
+if_both P Q R holds (Some a) p q = holds a p q
+
 pub if_none : {A : Type 0} (P : A → Type 0) (o : Option A) → o ≡ None → IfSome o P
 if_none P None is = tt
 if_none P (Some a) is = absurd (cc)
@@ -92,12 +97,12 @@ printed_begun out attempts o (status.SourceFault kit) outcome printed none = pri
 printed_begun out attempts o (status.FileChanged name len other) outcome printed none = printed
 printed_begun out attempts o (status.WorkFault note) outcome printed none = none
 
-module _ (shelf : ObservedShelf) (store : ObservedStore) (plan : Plan) (options : Options) where
+module _ (seen : ObservedKits) (plan : Plan) (options : Options) where
   -- of a run that came to its end, whose text was written or not
-  module _ (reached : Status) (own : Option Outcome) (ended : IsPlanEnd shelf store plan options reached own) (is : reached ≡ status.Ok) (out : ObservedSink) (attempts : ℕ) (s : Status) (outcome : Option Outcome)
+  module _ (reached : Status) (own : Option Outcome) (ended : IsPlanEnd seen plan options reached own) (is : reached ≡ status.Ok) (out : ObservedSink) (attempts : ℕ) (s : Status) (outcome : Option Outcome)
       (printed : (o : Outcome) → own ≡ Some o → IsRunPrinted out attempts o s outcome) where
-    through : IsPlanEnd shelf store plan options status.Ok own
-    through = subst (λ (st : Status). IsPlanEnd shelf store plan options st own) is ended
+    through : IsPlanEnd seen plan options status.Ok own
+    through = subst (λ (st : Status). IsPlanEnd seen plan options st own) is ended
 
     pub finished_some : (P : Outcome → Type 0) → IfSome own P → IfSome outcome P
     finished_some P holds = by own refl holds
@@ -109,7 +114,7 @@ module _ (shelf : ObservedShelf) (store : ObservedStore) (plan : Plan) (options 
     pub finished_begun : HasNotBegun s → ⊥
     finished_begun none = printed_begun out attempts through.0 s outcome (printed through.0 through.1) none
 
-  pub run_begun : (s : Status) (outcome : Option Outcome) → IsPlanEnd shelf store plan options s outcome → HasNotBegun s → ⊥
+  pub run_begun : (s : Status) (outcome : Option Outcome) → IsPlanEnd seen plan options s outcome → HasNotBegun s → ⊥
   run_begun status.Ok outcome end none = none
   run_begun (status.WorkFault note) outcome end none = none
   run_begun status.NoMemory outcome end none = none
@@ -122,7 +127,7 @@ module _ (shelf : ObservedShelf) (store : ObservedStore) (plan : Plan) (options 
   run_begun (status.FileChanged name len other) outcome end none = end
 
   -- the outcome of a run is of its plan
-  pub run_of_plan : (s : Status) (outcome : Option Outcome) → IsPlanEnd shelf store plan options s outcome → IfSome outcome (λ o. o.plan ≡ plan)
+  pub run_of_plan : (s : Status) (outcome : Option Outcome) → IsPlanEnd seen plan options s outcome → IfSome outcome (λ o. o.plan ≡ plan)
   run_of_plan status.Ok outcome end = if_same (λ (o : Outcome). o.plan ≡ plan) outcome end.0 end.1 (end.2.of_book.plan ∙ end.2.of_plan)
   run_of_plan (status.WorkFault note) outcome end = if_same (λ (o : Outcome). o.plan ≡ plan) outcome end.0.0 end.0.1 (end.0.2.of_book.plan ∙ end.0.2.of_plan)
   run_of_plan status.NoMemory outcome end = if_none (λ (o : Outcome). o.plan ≡ plan) outcome end
@@ -136,59 +141,51 @@ module _ (shelf : ObservedShelf) (store : ObservedStore) (plan : Plan) (options 
 
 -- ---- the kits of a run
 
-module _ {F S : Type 0} (strict : F → Bool) (calls : F → ℕ) (files : S → Option (List FileText)) (faults : S → ℕ) (opened : S → ℕ → Option Opening) where
-  abbrev pub Keeps : Kit F S → Kit F S → Type 0
-  Keeps old new = IsKitKept calls strict faults files opened old.shelf new.shelf old.store new.store
-
-  abbrev Opens : Kit F S → Kit F S → Type 0
-  Opens old new = (new.shelf ≡ old.shelf) × IsStoreKept faults files opened old.store new.store
+module _ {F S : Type 0} (of_shelf : ShelfGhosts F) (of_store : StoreGhosts S) where
+  abbrev Keeps : Kit F S → Kit F S → Type 0
+  Keeps = KeepsKit of_shelf of_store
 
   abbrev Runs : Kit F S → Kit F S → Type 0
-  Runs old new = (new.files ≡ old.files) × IsKitKept calls strict faults files opened old.shelf new.shelf old.store new.store
+  Runs = RunsKit of_shelf of_store
 
-  pub keeps_same : (kit : Kit F S) → Keeps kit kit
-  keeps_same kit = kit_same calls strict faults files opened kit.shelf kit.store
+  pub keeps_same : (kit : Kit F S) → KeepsKit of_shelf of_store kit kit
+  keeps_same kit = kit_same of_shelf.faults of_shelf.strict of_store.faults of_store.files of_store.opened kit.shelf kit.store
 
-  pub all_same : (kits : List (Kit F S)) → EachBecomes kits kits (λ old new. IsKitKept calls strict faults files opened old.shelf new.shelf old.store new.store)
+  pub all_same : (kits : List (Kit F S)) → EachBecomes kits kits (KeepsKit of_shelf of_store)
   all_same kits = same_become Keeps keeps_same kits
 
-  pub keeps_onward : (old mid new : Kit F S) → Keeps old mid → Keeps mid new → Keeps old new
-  keeps_onward old mid new one two = kit_onward calls strict faults files opened old.shelf mid.shelf new.shelf old.store mid.store new.store one two
+  pub keeps_onward : (old mid new : Kit F S) → KeepsKit of_shelf of_store old mid → KeepsKit of_shelf of_store mid new → KeepsKit of_shelf of_store old new
+  keeps_onward old mid new one two =
+      kit_onward of_shelf.faults of_shelf.strict of_store.faults of_store.files of_store.opened old.shelf mid.shelf new.shelf old.store mid.store new.store one two
 
   -- a store was used, and the shelf wasn't
-  pub store_used : (old : Kit F S) (shelf : F) (store : S) (own : List Opened) → shelf ≡ old.shelf → IsStoreKept faults files opened old.store store
-      → Keeps old (record { shelf = shelf; store = store; files = own })
+  pub store_used : (old : Kit F S) (shelf : F) (store : S) (own : List Opened) → shelf ≡ old.shelf → IsStoreKept of_store.faults of_store.files of_store.opened old.store store
+      → KeepsKit of_shelf of_store old (record { shelf = shelf; store = store; files = own })
   store_used old shelf store own same kept =
-      subst (λ (f : F). IsKitKept calls strict faults files opened old.shelf f old.store store) (sym same)
+      subst (λ (f : F). IsKitKept of_shelf.faults of_shelf.strict of_store.faults of_store.files of_store.opened old.shelf f old.store store) (sym same)
       (record { counts = omega arith; strict = refl; reading = kept })
 
-  opens_keeps : (old mid : Kit F S) → Opens old mid → Keeps old mid
+  opens_keeps : (old mid : Kit F S) → OpensKit of_store old mid → Keeps old mid
   opens_keeps old mid is = store_used old mid.shelf mid.store mid.files is.0 is.1
 
-  pub kept_opened : (olds mids : List (Kit F S)) → EachBecomes olds mids (λ old new. (new.shelf ≡ old.shelf) × IsStoreKept faults files opened old.store new.store)
-      → EachBecomes olds mids (λ old new. IsKitKept calls strict faults files opened old.shelf new.shelf old.store new.store)
-  kept_opened olds mids each = become_weaker Opens Keeps opens_keeps olds mids each
+  pub kept_opened : (olds mids : List (Kit F S)) → EachBecomes olds mids (OpensKit of_store) → EachBecomes olds mids (KeepsKit of_shelf of_store)
+  kept_opened olds mids each = become_weaker (OpensKit of_store) Keeps opens_keeps olds mids each
 
-  pub idle_opened : (olds mids : List (Kit F S)) → EachBecomes olds mids (λ old new. (new.shelf ≡ old.shelf) × IsStoreKept faults files opened old.store new.store)
-      → EachBecomes olds mids (λ old new. new.shelf ≡ old.shelf)
-  idle_opened olds mids each = become_weaker Opens (λ (old : Kit F S) (new : Kit F S). new.shelf ≡ old.shelf) (λ old mid is. is.0) olds mids each
-
-  pub kept_run : (olds mids news : List (Kit F S)) → EachBecomes olds mids (λ old new. (new.shelf ≡ old.shelf) × IsStoreKept faults files opened old.store new.store)
-      → EachBecomes mids news (λ old new. (new.files ≡ old.files) × IsKitKept calls strict faults files opened old.shelf new.shelf old.store new.store)
-      → EachBecomes olds news (λ old new. IsKitKept calls strict faults files opened old.shelf new.shelf old.store new.store)
-  kept_run olds mids news one two = become_onward Opens Runs Keeps (λ old mid new o r. keeps_onward old mid new (opens_keeps old mid o) r.1) olds mids news one two
+  pub kept_run : (olds mids news : List (Kit F S)) → EachBecomes olds mids (OpensKit of_store) → EachBecomes mids news (RunsKit of_shelf of_store)
+      → EachBecomes olds news (KeepsKit of_shelf of_store)
+  kept_run olds mids news one two = become_onward (OpensKit of_store) Runs Keeps (λ old mid new o r. keeps_onward old mid new (opens_keeps old mid o) r.1) olds mids news one two
 
   -- what was opened is open after the run
   all_opened : (plan : Plan) (mids news : List (Kit F S)) → EachBecomes mids news Runs
-      → AllByRecursion (λ kit. AreOpened (files kit.store) (opened kit.store) (file_names plan) kit.files) mids
-      → AllByRecursion (λ kit. AreOpened (files kit.store) (opened kit.store) (file_names plan) kit.files) news
+      → AllByRecursion (λ kit. AreOpened (of_store.files kit.store) (of_store.opened kit.store) (file_names plan) kit.files) mids
+      → AllByRecursion (λ kit. AreOpened (of_store.files kit.store) (of_store.opened kit.store) (file_names plan) kit.files) news
   all_opened plan [] [] each are = tt
   all_opened plan [] (new ∷ news) each are = absurd each
   all_opened plan (mid ∷ mids) [] each are = absurd each
   all_opened plan (mid ∷ mids) (new ∷ news) each are = (
-    subst (λ (own : List Opened). AreOpened (files new.store) (opened new.store) (file_names plan) own) (sym each.0.0)
-        (subst (λ (told : Option (List FileText)). AreOpened told (opened new.store) (file_names plan) mid.files) (sym each.0.1.reading.files)
-        (opened_later (files mid.store) (opened mid.store) (opened new.store) each.0.1.reading.openings (file_names plan) mid.files are.0)),
+    subst (λ (own : List Opened). AreOpened (of_store.files new.store) (of_store.opened new.store) (file_names plan) own) (sym each.0.0)
+        (subst (λ (told : Option (List FileText)). AreOpened told (of_store.opened new.store) (file_names plan) mid.files) (sym each.0.1.reading.files)
+        (opened_later (of_store.files mid.store) (of_store.opened mid.store) (of_store.opened new.store) each.0.1.reading.openings (file_names plan) mid.files are.0)),
     all_opened plan mids news each.1 are.1,
   )
 
@@ -212,23 +209,31 @@ module _ {F S : Type 0} (strict : F → Bool) (calls : F → ℕ) (files : S →
   lengths_still plan (mid ∷ mids) [] each = absurd each
   lengths_still plan (mid ∷ mids) (new ∷ news) each = ap (opened_lengths plan) (sym each.0.0)
 
-  pub outcome_opened : (plan : Plan) (mids news : List (Kit F S)) (shelf : ObservedShelf) (store : ObservedStore) (options : Options) (s : Status) (outcome : Option Outcome)
-      → AreOpenedByAll files opened plan mids
-      → EachBecomes mids news (λ old new. (new.files ≡ old.files) × IsKitKept calls strict faults files opened old.shelf new.shelf old.store new.store)
-      → IsPlanEnd shelf store plan options s outcome → IfSome outcome (λ o. o.files ≡ lengths_of_first plan mids)
-      → IfSome outcome (λ o. (o.plan ≡ plan) × IsOutcomeOfOpened files opened news o)
-  outcome_opened plan mids news shelf store options s outcome are each end lengths = by outcome (run_of_plan shelf store plan options s outcome end) lengths
+  pub outcome_opened : (plan : Plan) (mids news : List (Kit F S)) (seen : ObservedKits) (options : Options) (s : Status) (outcome : Option Outcome)
+      → AreOpenedByAll of_store.files of_store.opened plan mids → EachBecomes mids news (RunsKit of_shelf of_store)
+      → IsPlanEnd seen plan options s outcome → IfSome outcome (λ o. o.files ≡ lengths_of_first plan mids)
+      → IfSome outcome (λ o. (o.plan ≡ plan) × IsOutcomeOfOpened of_store news o)
+  outcome_opened plan mids news seen options s outcome are each end lengths = by outcome (run_of_plan seen plan options s outcome end) lengths
     where
       by : (o : Option Outcome) → IfSome o (λ o. o.plan ≡ plan) → IfSome o (λ o. o.files ≡ lengths_of_first plan mids)
-          → IfSome o (λ o. (o.plan ≡ plan) × IsOutcomeOfOpened files opened news o)
+          → IfSome o (λ o. (o.plan ≡ plan) × IsOutcomeOfOpened of_store news o)
       by None of long = tt
       by (Some o) of long = (
         of,
         record {
-          opens = subst (λ (p : Plan). AreOpenedByAll files opened p news) (sym of) (record { each = all_opened plan mids news each are.each; lengths = agree_still mids news each are.lengths });
+          opens = subst (λ (p : Plan). AreOpenedByAll of_store.files of_store.opened p news) (sym of)
+              (record { each = all_opened plan mids news each are.each; lengths = agree_still mids news each are.lengths });
           lengths = long ∙ lengths_still plan mids news each ∙ ap (λ (p : Plan). lengths_of_first p news) (sym of);
         },
       )
+
+module _ {F S : Type 0} (of_store : StoreGhosts S) where
+  -- where files were opened at most, no function was called
+  pub idle_opened : (olds mids : List (Kit F S)) → EachBecomes olds mids (OpensKit of_store) → EachBecomes olds mids KeepsShelf
+  idle_opened olds mids each = become_weaker (OpensKit of_store) KeepsShelf (λ old mid is. is.0) olds mids each
+
+pub idle_same : {F S : Type 0} (kits : List (Kit F S)) → EachBecomes kits kits KeepsShelf
+idle_same kits = same_become KeepsShelf (λ kit. refl) kits
 
 -- ---- the first kit
 
@@ -244,11 +249,16 @@ first_got files (kit ∷ kits) d some = refl
 -- ---- the note of an end
 
 -- an end before the run is as it was before its note
-pub not_begun_before : (before after : Status) → StaysOrNoMemory before after → HasNotBegun after → HasNotBegun before
+not_begun_before : (before after : Status) → StaysOrNoMemory before after → HasNotBegun after → HasNotBegun before
 not_begun_before before after stays none = elim stays [
   | inl same ↦ subst HasNotBegun same none
   | inr long ↦ absurd (subst HasNotBegun long.0 none)
 ]
+
+pub left_before_note : {F S : Type 0} (of_shelf : ShelfGhosts F) (of_store : StoreGhosts S) (asked : Option Asked) (olds news : List (Kit F S)) (before after : Status)
+    → StaysOrNoMemory before after → AreKitsLeft of_shelf of_store asked before olds news → AreKitsLeft of_shelf of_store asked after olds news
+left_before_note of_shelf of_store asked olds news before after stays left =
+    record { idle = λ none. left.idle (not_begun_before before after stays none); kept = left.kept; unused = left.unused }
 
 -- an outcome that is handed out after the note was there before
 pub still_some : {A : Type 0} (P : A → Type 0) (s : Status) (before after : Option A) → (s ≡ status.NoMemory → after ≡ None) → ((s ≡ status.NoMemory → ⊥) → after ≡ before) → IfSome before P

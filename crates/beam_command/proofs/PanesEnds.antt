@@ -26,7 +26,7 @@ use Rattle.beam_model.specs.Spread.{HasPoison, is_poison, spread_all}
 use Rattle.beam_model.proofs.DeadPositions.{without_none}
 use Rattle.beam_ports.specs.Counts.{Rose, rise}
 use Rattle.beam_ports.specs.Observed.{WhereTold}
-use Rattle.book_core.specs.Book.{BookData}
+use Rattle.book_core.specs.Book.{SeenBook}
 use Rattle.book_core.specs.Facts.{AreKept}
 use Rattle.book_core.specs.Runs.{AreTold, HonestlyReached, IsEnded, Reached}
 use Rattle.book_core.specs.Work.{Surroundings}
@@ -104,20 +104,20 @@ some_attempts _ _ (ForRun program words parts plan options are one given) = some
 
 -- ---- the ends of any pipeline over poison
 
-module _ (asked : Option Asked) (observed : Observed) (told : List FileText) (tells : observed.store.files ≡ Some told) where
+module _ (asked : Option Asked) (observed : Observed) (told : List FileText) (tells : observed.kits.store.files ≡ Some told) where
   -- an outcome of a run that came to its end is of a plan without poison
   pub unpoisoned : (own : Asked) (options : Options) (o : Outcome) → asked ≡ Some own → IsOutcomeOfAsked observed own options IsEnded o
-      → WhereTold observed.store.files (λ told. IsAccounted (items told o.plan) o) → AsksForPoison told asked → ⊥
+      → WhereTold observed.kits.store.files (λ told. IsAccounted (items told o.plan) o) → AsksForPoison told asked → ⊥
   unpoisoned own options o is run account poison =
-      let kept = subst (λ (a : Option Asked). IsPlanAsked observed.store.files a o.plan) is (plan_kept asked observed own options o is run) in
+      let kept = subst (λ (a : Option Asked). IsPlanAsked observed.kits.store.files a o.plan) is (plan_kept asked observed own options o is run) in
       let asks = subst (λ (a : Option Asked). IsPlanAsked (Some told) a poison.0) is poison.1 in
-      let same = plan_is observed.store told tells own poison.0 o.plan asks kept in
+      let same = plan_is observed.kits.store told tells own poison.0 o.plan asks kept in
       accounted-no_poison (items told o.plan) o (nothing_left_out (items told o.plan) o run.3.of_book.dead) (account told tells) (subst (λ (p : Plan). HasPoison p (items told p)) (sym same) poison.2)
 
 -- so no run over poison ends Ok
 pub not_ok : (asked : Option Asked) (observed : Observed)
-    → ((own : Asked) (options : Options) (o : Outcome) → asked ≡ Some own → IsOutcomeOfAsked observed own options IsEnded o → WhereTold observed.store.files (λ told. IsAccounted (items told o.plan) o))
-    → (s : Status) (outcome : Option Outcome) → IsEndOf asked observed s outcome → WhereTold observed.store.files (λ told. AsksForPoison told asked → s ≡ status.Ok → ⊥)
+    → ((own : Asked) (options : Options) (o : Outcome) → asked ≡ Some own → IsOutcomeOfAsked observed own options IsEnded o → WhereTold observed.kits.store.files (λ told. IsAccounted (items told o.plan) o))
+    → (s : Status) (outcome : Option Outcome) → IsEndOf asked observed s outcome → WhereTold observed.kits.store.files (λ told. AsksForPoison told asked → s ≡ status.Ok → ⊥)
 not_ok asked observed account s outcome end = λ told tells poison is.
     let run = promised asked observed (λ o. AsksForPoison told asked → ⊥) (λ own options o same run. unpoisoned asked observed told tells own options o same run (account own options o same run)) s outcome end in
     (subst (λ (st : Status). HasRun st outcome (λ o. AsksForPoison told asked → ⊥)) is run).2 poison
@@ -129,33 +129,33 @@ found_all file size told found = λ files same.
     let is : told ≡ files = cc in
     subst (λ (t : List FileText). All (λ name. IsSome (first_named name t)) (file ∷ [])) is (All-cons (λ (name : List ℕ). IsSome (first_named name told)) file [] found (All-nil _))
 
-module _ (observed : Observed) (of_one : AreOfOne observed.stores observed.store) (told : List FileText) (tells : observed.store.files ≡ Some told) (file : List ℕ) (size : ℤ) (options : Options)
-    (some : 1 ≤ options.attempts) (whole : HasNotFailed observed.store) where
+module _ (observed : Observed) (of_one : AreOfOne observed.kits) (told : List FileText) (tells : observed.kits.store.files ≡ Some told) (file : List ℕ) (size : ℤ) (options : Options)
+    (some : 1 ≤ options.attempts) (whole : HasNotFailed observed.kits.store) where
   abbrev own : Asked
   own = Panes file size options
 
-  few : rise observed.store.before observed.store.after < options.attempts
-  few = none_rose observed.store.before observed.store.after options.attempts whole some
+  few : rise observed.kits.store.before observed.kits.store.after < options.attempts
+  few = none_rose observed.kits.store.before observed.kits.store.after options.attempts whole some
 
   abbrev Begins : Status → Type 0
   Begins s = IsDocumentRefused observed own options.attempts s ⊎ AreSourcesRefused observed own options.attempts s ⊎ (s ≡ status.NoMemory)
 
   -- ---- a file that isn't there
 
-  file_found : (plan : Plan) → IsPlanOf observed.store.files own plan → AreFound observed.store.files plan → IsSome (first_named file told)
+  file_found : (plan : Plan) → IsPlanOf observed.kits.store.files own plan → AreFound observed.kits.store.files plan → IsSome (first_named file told)
   file_found plan is found =
       All-head (λ (name : List ℕ). IsSome (first_named name told)) file []
       (subst (λ (p : Plan). All (λ name. IsSome (first_named name told)) (file_names p)) is (found told tells))
 
   module _ (absent : first_named file told ≡ None) where
-    never_found : (plan : Plan) → IsPlanOf observed.store.files own plan → AreFound observed.store.files plan → ⊥
+    never_found : (plan : Plan) → IsPlanOf observed.kits.store.files own plan → AreFound observed.kits.store.files plan → ⊥
     never_found plan is found = named_not_none (first_named file told) absent (file_found plan is found)
 
-    not_opened : (s : Status) → IsOpeningRefused observed.stores (panes_plan file size) options.attempts 0 s → IsNoSourceOrNoMemory file s
+    not_opened : (s : Status) → IsOpeningRefused observed.kits.stores (panes_plan file size) options.attempts 0 s → IsNoSourceOrNoMemory file s
     not_opened (status.NoSource name) refused =
         inl (ap (λ (n : List ℕ). status.NoSource n)
         (among (λ (n : List ℕ). n ≡ file) refused.before refused.after (file ∷ []) name refused.names_are (All-cons (λ (n : List ℕ). n ≡ file) file [] refl (All-nil (λ (n : List ℕ). n ≡ file)))))
-    not_opened (status.SourceFault kit) refused = absurd (not_failed observed of_one told tells options.attempts few kit refused)
+    not_opened (status.SourceFault kit) refused = absurd (not_failed observed of_one options.attempts few kit refused)
     not_opened (status.FileChanged name len other) refused = absurd (unchanged observed of_one told tells (file ∷ []) name len other refused)
     not_opened status.NoMemory refused = inr refl
     not_opened (status.BadPlan refusal) refused = absurd refused
@@ -169,7 +169,7 @@ module _ (observed : Observed) (of_one : AreOfOne observed.stores observed.store
     absent_unbegun s why = elim why [
       | inl refused ↦ absurd refused
       | inr other ↦ elim other [
-        | inl refused ↦ not_opened s (subst (λ (p : Plan). IsOpeningRefused observed.stores p options.attempts 0 s) refused.3 refused.4)
+        | inl refused ↦ not_opened s (subst (λ (p : Plan). IsOpeningRefused observed.kits.stores p options.attempts 0 s) refused.3 refused.4)
         | inr none ↦ inr none
       ]
     ]
@@ -189,7 +189,7 @@ module _ (observed : Observed) (of_one : AreOfOne observed.stores observed.store
   -- ---- a file that is there
 
   module _ (found : IsSome (first_named file told))
-      (stops : observed.shelf.strict ≡ true → (note : FaultNote) (o : Outcome) → IsOutcomeOfAsked observed own options (IsStoppedBy observed.shelf observed.store note) o → note.cause ≡ Call
+      (stops : observed.kits.shelf.strict ≡ true → (note : FaultNote) (o : Outcome) → IsOutcomeOfAsked observed own options (IsStoppedBy observed.kits note) o → note.cause ≡ Call
       → (note ≡ first_fault options) × HasPoison (panes_plan file size) (items told (panes_plan file size))) where
     inputs : HasInputs told own
     inputs = (panes_plan file size, refl, found_all file size told found)
@@ -197,9 +197,9 @@ module _ (observed : Observed) (of_one : AreOfOne observed.stores observed.store
     unbegun : (s : Status) → Begins s → s ≡ status.NoMemory
     unbegun s why = began observed of_one told tells options.attempts few own inputs s why
 
-    module _ (strict : observed.shelf.strict ≡ true) (never : (o : Outcome) → IsOutcomeOfAsked observed own options IsEnded o → ⊥) where
-      faulted : (note : FaultNote) (o : Outcome) → IsOutcomeOfAsked observed own options (IsStoppedBy observed.shelf observed.store note) o → (cause : Cause) → note.cause ≡ cause
-          → IsCountedAs observed.shelf observed.store cause → IsEndOfPoison options (status.WorkFault note)
+    module _ (strict : observed.kits.shelf.strict ≡ true) (never : (o : Outcome) → IsOutcomeOfAsked observed own options IsEnded o → ⊥) where
+      faulted : (note : FaultNote) (o : Outcome) → IsOutcomeOfAsked observed own options (IsStoppedBy observed.kits note) o → (cause : Cause) → note.cause ≡ cause
+          → IsCountedAs observed.kits.shelf observed.kits.store cause → IsEndOfPoison options (status.WorkFault note)
       faulted note o run Call is counted = inl (ap (λ (n : FaultNote). status.WorkFault n) (stops strict note o run is).0)
       faulted note o run Read is counted = absurd (whole counted)
 
@@ -217,32 +217,32 @@ module _ (observed : Observed) (of_one : AreOfOne observed.stores observed.store
 
 -- ---- by what is asked for
 
-module _ (observed : Observed) (of_one : AreOfOne observed.stores observed.store) (s : Status) (outcome : Option Outcome) where
+module _ (observed : Observed) (of_one : AreOfOne observed.kits) (s : Status) (outcome : Option Outcome) where
   pub absent : (asked : Option Asked) → ((own : Asked) → asked ≡ Some own → HasAttempts own) → IsEndOf asked observed s outcome
-      → WherePanes asked (λ file size options. HasNotFailed observed.store → WhereTold observed.store.files (λ told. first_named file told ≡ None → IsNoSourceOrNoMemory file s))
+      → WherePanes asked (λ file size options. HasNotFailed observed.kits.store → WhereTold observed.kits.store.files (λ told. first_named file told ≡ None → IsNoSourceOrNoMemory file s))
   absent None tried end = tt
   absent (Some Help) tried end = tt
   absent (Some (Run name options)) tried end = tt
   absent (Some (Panes file size options)) tried end = λ whole told tells none.
       absent_ends observed of_one told tells file size options (tried (Panes file size options) refl) whole none s outcome end
 
-  module _ (runs : (known : Surroundings) (b : BookData) → HonestlyReached known b → Reached known.told b)
-      (kept : (told : Option (List FileText)) (b : BookData) → Reached told b → AreKept b)
-      (honest : (known : Surroundings) (b : BookData) (note : FaultNote) → HonestlyReached known b → b.stopped ≡ Some (stop.Spent note) → IsHonestStop known b note) where
-    stopped : (told : List FileText) → observed.store.files ≡ Some told → (file : List ℕ) (size : ℤ) (options : Options) → observed.shelf.strict ≡ true → (note : FaultNote) (o : Outcome)
-        → IsOutcomeOfAsked observed (Panes file size options) options (IsStoppedBy observed.shelf observed.store note) o → note.cause ≡ Call
+  module _ (runs : (known : Surroundings) (b : SeenBook) → HonestlyReached known b → Reached known.told b)
+      (kept : (told : Option (List FileText)) (b : SeenBook) → Reached told b → AreKept b)
+      (honest : (known : Surroundings) (b : SeenBook) (note : FaultNote) → HonestlyReached known b → b.stopped ≡ Some (stop.Spent note) → IsHonestStop known b note) where
+    stopped : (told : List FileText) → observed.kits.store.files ≡ Some told → (file : List ℕ) (size : ℤ) (options : Options) → observed.kits.shelf.strict ≡ true → (note : FaultNote) (o : Outcome)
+        → IsOutcomeOfAsked observed (Panes file size options) options (IsStoppedBy observed.kits note) o → note.cause ≡ Call
         → (note ≡ first_fault options) × HasPoison (panes_plan file size) (items told (panes_plan file size))
     stopped told tells file size options strict note o run is =
-        let known = surroundings_of observed.shelf observed.store in
+        let known = surroundings_of observed.kits in
         let stop = honest known run.3.book note run.3.reached run.3.is.noted in
         let found = stop_is_poison file size known told run.3.book note tells strict (run.3.of_plan ∙ run.1) is stop (kept known.told stop.before (runs known stop.before stop.reached)) in
         (found.0 ∙ ap first_fault run.3.with_options, found.1)
 
     pub poison : (asked : Option Asked) → ((own : Asked) → asked ≡ Some own → HasAttempts own)
-        → ((own : Asked) (options : Options) (o : Outcome) → asked ≡ Some own → IsOutcomeOfAsked observed own options IsEnded o → WhereTold observed.store.files (λ told. IsAccounted (items told o.plan) o))
+        → ((own : Asked) (options : Options) (o : Outcome) → asked ≡ Some own → IsOutcomeOfAsked observed own options IsEnded o → WhereTold observed.kits.store.files (λ told. IsAccounted (items told o.plan) o))
         → IsEndOf asked observed s outcome
-        → WherePanes asked (λ file size options. HasNotFailed observed.store → IsStrict observed.shelf
-        → WhereTold observed.store.files (λ told. IsSome (first_named file told) → AsksForPoison told asked → IsEndOfPoison options s))
+        → WherePanes asked (λ file size options. HasNotFailed observed.kits.store → IsStrict observed.kits.shelf
+        → WhereTold observed.kits.store.files (λ told. IsSome (first_named file told) → AsksForPoison told asked → IsEndOfPoison options s))
     poison None tried account end = tt
     poison (Some Help) tried account end = tt
     poison (Some (Run name options)) tried account end = tt
@@ -251,11 +251,11 @@ module _ (observed : Observed) (of_one : AreOfOne observed.stores observed.store
         poison_ends observed of_one told tells file size options (tried own refl) whole found (stopped told tells file size options) strict
         (λ o run. unpoisoned (Some own) observed told tells own options o refl run (account own options o refl run) asks) s outcome end
 
-    pub clean : ((known : Surroundings) (told : List FileText) (b : BookData) (note : FaultNote) → known.told ≡ Some told → known.strict ≡ true → AreTold told b
+    pub clean : ((known : Surroundings) (told : List FileText) (b : SeenBook) (note : FaultNote) → known.told ≡ Some told → known.strict ≡ true → AreTold told b
         → TakesNoPoison known b.plan b.options → HonestlyReached known b → b.stopped ≡ Some (stop.Spent note) → b.options.attempts ≤ b.reads)
         → (asked : Option Asked) → IsEndOf asked observed s outcome
-        → WherePanes asked (λ file size options. AreReadFaultsFew options.attempts observed → FailsOnPoison observed.shelf
-        → WhereTold observed.store.files (λ told. IsSome (first_named file told) → (AsksForPoison told asked → ⊥) → IsEndOfClean s))
+        → WherePanes asked (λ file size options. AreReadFaultsFew options.attempts observed → FailsOnPoison observed.kits.shelf
+        → WhereTold observed.kits.store.files (λ told. IsSome (first_named file told) → (AsksForPoison told asked → ⊥) → IsEndOfClean s))
     clean by_reads None end = tt
     clean by_reads (Some Help) end = tt
     clean by_reads (Some (Run name options)) end = tt
@@ -269,7 +269,7 @@ module _ (observed : Observed) (of_one : AreOfOne observed.stores observed.store
               (panes_plan file size, refl, found_all file size told found, none) few
           | inr quiet ↦
               complete (Some own) observed of_one s outcome end told tells (panes_plan file size, refl, found_all file size told found) (record {
-                kit = omega (arith, few.store, none_rose observed.shelf.before observed.shelf.after 1 quiet (omega arith));
+                kits = omega (arith, few.store, none_rose observed.kits.shelf.before observed.kits.shelf.after 1 quiet (omega arith));
                 out = few.out;
               })
         ]

@@ -15,7 +15,7 @@ use Rattle.beam_model.specs.Plans.{panes_plan}
 use Rattle.beam_model.specs.Positions.{items}
 use Rattle.beam_model.specs.Spread.{HasPoison, first_poison}
 use Rattle.beam_model.specs.Flow.{batch_outputs}
-use Rattle.book_core.specs.Book.{BookData, batch_of, held_at, held_in, live_batches, panes_of, queued}
+use Rattle.book_core.specs.Book.{SeenBook, batch_of, held_at, held_in, live_batches, panes_of, queued}
 use Rattle.book_core.specs.Changes.{note_of}
 use Rattle.book_core.specs.Facts.{AreKept, IsHeldPane}
 use Rattle.book_core.specs.Jobs.{attempted_of, job_of}
@@ -43,7 +43,7 @@ same_note : (note : FaultNote) (attempts : ℕ) → note.node ≡ 0 → note.ite
     → note ≡ record { node = 0; item = 0; at = 0; attempt = attempts; cause = Call }
 same_note note attempts node item at attempt cause = λ i. record { node = node i; item = item i; at = at i; attempt = attempt i; cause = cause i }
 
-module _ (file : List ℕ) (size : ℤ) (b : BookData) (of : b.plan ≡ panes_plan file size) (kept : AreKept b) where
+module _ (file : List ℕ) (size : ℤ) (b : SeenBook) (of : b.plan ≡ panes_plan file size) (kept : AreKept b) where
   abbrev plan : Plan
   plan = panes_plan file size
 
@@ -93,7 +93,7 @@ module _ (file : List ℕ) (size : ℤ) (b : BookData) (of : b.plan ≡ panes_pl
     ]
 
 -- the fault is that of the source's function, and a position is poison
-pub stop_is_poison : (file : List ℕ) (size : ℤ) (known : Surroundings) (told : List FileText) (b : BookData) (note : FaultNote) → known.told ≡ Some told → known.strict ≡ true
+pub stop_is_poison : (file : List ℕ) (size : ℤ) (known : Surroundings) (told : List FileText) (b : SeenBook) (note : FaultNote) → known.told ≡ Some told → known.strict ≡ true
     → b.plan ≡ panes_plan file size → note.cause ≡ Call → (stop : IsHonestStop known b note) → AreKept stop.before
     → (note ≡ record { node = 0; item = 0; at = 0; attempt = b.options.attempts; cause = Call }) × HasPoison (panes_plan file size) (items told (panes_plan file size))
 stop_is_poison file size known told b note tells strict of cause stop kept =

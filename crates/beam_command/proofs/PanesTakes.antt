@@ -9,7 +9,7 @@ use Rattle.beam_model.specs.Plans.{panes_plan}
 use Rattle.beam_model.specs.Positions.{items}
 use Rattle.beam_model.specs.Spread.{HasPoison}
 use Rattle.beam_model.specs.Flow.{batch_outputs}
-use Rattle.book_core.specs.Book.{BookData, panes_of}
+use Rattle.book_core.specs.Book.{SeenBook, panes_of}
 use Rattle.book_core.specs.Facts.{AreKept}
 use Rattle.book_core.specs.Jobs.{Due, GivenBack, Oldest, first_due, job_of, without_due}
 use Rattle.book_core.specs.Runs.{HonestlyReached}
@@ -31,10 +31,10 @@ get_set (x ∷ xs) (suc i) old new at = get_set xs i old new at
 abbrev Worked : Type 0
 Worked = Plan × (List Pane × List (Option Live))
 
-abbrev worked_of : BookData → Worked
+abbrev worked_of : SeenBook → Worked
 worked_of b = (b.plan, (b.panes, b.slots))
 
-due_worked : (b : BookData) (d : Due) → worked_of (without_due b d).rest ≡ worked_of b
+due_worked : (b : SeenBook) (d : Due) → worked_of (without_due b d).rest ≡ worked_of b
 due_worked b (GivenBack batch) = refl
 due_worked b (Oldest batch) = refl
 
@@ -43,7 +43,7 @@ module _ (file : List ℕ) (size : ℤ) (told : List FileText) (clean : HasPoiso
   plan = panes_plan file size
 
   -- what a slot works is no poison
-  works_none : (b : BookData) → b.plan ≡ plan → AreKept b → (slot : ℕ) (job : Live) → IsWorking b slot job → IsPoisonJob (Some told) plan (job_of b.panes job) → ⊥
+  works_none : (b : SeenBook) → b.plan ≡ plan → AreKept b → (slot : ℕ) (job : Live) → IsWorking b slot job → IsPoisonJob (Some told) plan (job_of b.panes job) → ⊥
   works_none b of kept slot (live.Span piece attempted) works poison =
       clean (range_is_poison file size told piece.node piece.item piece.range.from piece.range.to poison)
   works_none b of kept slot (live.Batch batch) works poison =
@@ -53,7 +53,7 @@ module _ (file : List ℕ) (size : ℤ) (told : List FileText) (clean : HasPoiso
   abbrev seen : Surroundings
   seen = record { told = Some told; strict = true }
 
-  pub takes_none : (options : Options) → ((b : BookData) → HonestlyReached seen b → AreKept b) → TakesNoPoison seen plan options
+  pub takes_none : (options : Options) → ((b : SeenBook) → HonestlyReached seen b → AreKept b) → TakesNoPoison seen plan options
   takes_none options kept b new slot job reached of with_options lengths step poison =
       let rest = take_keeps worked_of b (λ ps. refl) (due_worked b) (first_due b) b.pending step.next refl step.is_next in
       let now = ap worked_of step.is ∙ ap (λ (w : Worked). (w.0, (w.1.0, slice_set w.1.1 slot (Some step.next.job)))) rest in

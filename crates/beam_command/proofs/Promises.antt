@@ -15,7 +15,7 @@ use Rattle.beam_model.specs.Plain.{ArePlainlyWritten, ArePlainlyWrittenWhere}
 use Rattle.beam_model.specs.Plans.{default_trigger, panes_plan}
 use Rattle.beam_model.specs.Positions.{SourceItem, items, item_len}
 use Rattle.beam_ports.specs.Observed.{WhereTold}
-use Rattle.book_core.specs.Book.{BookData}
+use Rattle.book_core.specs.Book.{SeenBook}
 use Rattle.book_core.specs.Calls.{IsOutcomeOf}
 use Rattle.book_core.specs.Runs.{AreTold, HonestlyReached, IsEnded, IsThrough, Reached}
 use Rattle.book_core.specs.Work.{Surroundings}
@@ -72,39 +72,39 @@ module _ (asked : Option Asked) (observed : Observed) (own : Asked) (options : O
   plan_is : o.plan ≡ run.0
   plan_is = run.3.of_book.plan ∙ run.3.of_plan
 
-  pub plan_kept : IsPlanAsked observed.store.files asked o.plan
+  pub plan_kept : IsPlanAsked observed.kits.store.files asked o.plan
   plan_kept =
-      subst (λ (a : Option Asked). IsPlanAsked observed.store.files a o.plan) (sym is)
-      (subst (λ (p : Plan). IsPlanOf observed.store.files own p) (sym plan_is) run.1)
+      subst (λ (a : Option Asked). IsPlanAsked observed.kits.store.files a o.plan) (sym is)
+      (subst (λ (p : Plan). IsPlanOf observed.kits.store.files own p) (sym plan_is) run.1)
 
-  pub files_found : AreFound observed.store.files o.plan
-  files_found = subst (λ (p : Plan). AreFound observed.store.files p) (sym plan_is) run.2
+  pub files_found : AreFound observed.kits.store.files o.plan
+  files_found = subst (λ (p : Plan). AreFound observed.kits.store.files p) (sym plan_is) run.2
 
-  pub lengths_kept : WhereTold observed.store.files (λ told. o.files ≡ map item_len (items told o.plan))
+  pub lengths_kept : WhereTold observed.kits.store.files (λ told. o.files ≡ map item_len (items told o.plan))
   lengths_kept = λ told tells. run.3.of_book.files ∙ run.3.lengths told tells ∙ ap (λ (p : Plan). map item_len (items told p)) (sym run.3.of_book.plan)
 
-  module _ (runs : (known : Surroundings) (b : BookData) → HonestlyReached known b → Reached known.told b) where
-    reached : Reached observed.store.files run.3.book
+  module _ (runs : (known : Surroundings) (b : SeenBook) → HonestlyReached known b → Reached known.told b) where
+    reached : Reached observed.kits.store.files run.3.book
     reached = runs _ run.3.book run.3.reached
 
-    reached_told : (told : List FileText) → observed.store.files ≡ Some told → Reached (Some told) run.3.book
+    reached_told : (told : List FileText) → observed.kits.store.files ≡ Some told → Reached (Some told) run.3.book
     reached_told told tells = subst (λ (files : Option (List FileText)). Reached files run.3.book) tells reached
 
-    pub covered : ((told : Option (List FileText)) (b : BookData) (o : Outcome) → Reached told b → IsThrough b → IsOutcomeOf b o → IsCovered o) → IsCovered o
-    covered law = law observed.store.files run.3.book o reached run.3.is.through run.3.of_book
+    pub covered : ((told : Option (List FileText)) (b : SeenBook) (o : Outcome) → Reached told b → IsThrough b → IsOutcomeOf b o → IsCovered o) → IsCovered o
+    covered law = law observed.kits.store.files run.3.book o reached run.3.is.through run.3.of_book
 
-    pub legal : ((told : Option (List FileText)) (b : BookData) (o : Outcome) → Reached told b → IsOutcomeOf b o → ArePanesLegal o.plan o.commits o.cells o.dropped o.panes)
+    pub legal : ((told : Option (List FileText)) (b : SeenBook) (o : Outcome) → Reached told b → IsOutcomeOf b o → ArePanesLegal o.plan o.commits o.cells o.dropped o.panes)
         → HasLegalPanes o
-    legal law = law observed.store.files run.3.book o reached run.3.of_book
+    legal law = law observed.kits.store.files run.3.book o reached run.3.of_book
 
-    pub accounted : ((told : List FileText) (b : BookData) (o : Outcome) → Reached (Some told) b → AreTold told b → IsThrough b → IsOutcomeOf b o → IsAccounted (items told b.plan) o)
-        → WhereTold observed.store.files (λ told. IsAccounted (items told o.plan) o)
+    pub accounted : ((told : List FileText) (b : SeenBook) (o : Outcome) → Reached (Some told) b → AreTold told b → IsThrough b → IsOutcomeOf b o → IsAccounted (items told b.plan) o)
+        → WhereTold observed.kits.store.files (λ told. IsAccounted (items told o.plan) o)
     accounted law = λ told tells.
         subst (λ (p : Plan). IsAccounted (items told p) o) (sym run.3.of_book.plan)
         (law told run.3.book o (reached_told told tells) (run.3.lengths told tells) run.3.is.through run.3.of_book)
 
-    pub plainly : ((told : List FileText) (b : BookData) (o : Outcome) → Reached (Some told) b → AreTold told b → IsThrough b → IsOutcomeOf b o → ArePanesStorable o
-        → ArePlainlyWrittenWhere (items told b.plan) o) → WhereTold observed.store.files (λ told. ArePlainlyWrittenWhere (items told o.plan) o)
+    pub plainly : ((told : List FileText) (b : SeenBook) (o : Outcome) → Reached (Some told) b → AreTold told b → IsThrough b → IsOutcomeOf b o → ArePanesStorable o
+        → ArePlainlyWrittenWhere (items told b.plan) o) → WhereTold observed.kits.store.files (λ told. ArePlainlyWrittenWhere (items told o.plan) o)
     plainly law = λ told tells.
         subst (λ (p : Plan). ArePlainlyWrittenWhere (items told p) o) (sym run.3.of_book.plan)
         (law told run.3.book o (reached_told told tells) (run.3.lengths told tells) run.3.is.through run.3.of_book run.3.storable)

@@ -1,73 +1,75 @@
--- How a command must end, each clause as one word. `files` are those that the stores in use tell; `asked` is what the words ask for.
-use Rattle.std.specs.Prelude.{◌≡◌, List, Option, None, IsSome}
+-- What the clauses of a command speak of, and what they say, each in one word.
+use Rattle.std.specs.Prelude.{◌≡◌, List, [], map, Option, Vec, IfSome}
 use Rattle.std.specs.declared.alloc.Global.{Global}
 use Rattle.std.specs.declared.string.String.{String}
 use Rattle.beam_ports.specs.Observed.{WhereTold}
-use Rattle.beam_values.specs.Files.{first_named}
+use Rattle.beam_ports.specs.declared.sink.Sink.{Ghosts as SinkGhosts}
+use Rattle.beam_ports.specs.declared.store.Store.{Ghosts as StoreGhosts}
 use Rattle.beam_values.specs.declared.file_text.FileText.{FileText}
-use Rattle.beam_model.specs.Plain.{ArePlainlyWritten}
-use Rattle.beam_model.specs.Positions.{items}
+use Rattle.beam_values.specs.declared.outcome.Outcome.{Outcome}
+use Rattle.beam_model.specs.Account.{IsAccounted}
+use Rattle.beam_model.specs.Covers.{IsCovered}
+use Rattle.beam_model.specs.Plain.{ArePlainlyWritten, ArePlainlyWrittenWhere}
+use Rattle.beam_model.specs.Positions.{item_len, items}
 use Rattle.command_words.specs.Commands.{Asked, command_of, words_of}
-use Rattle.command_ends.specs.Statuses.{IsNoSourceOrNoMemory}
+use Rattle.dofn_traits.specs.declared.shelf.Shelf.{Ghosts as ShelfGhosts}
+use Rattle.worker_loop.specs.declared.kit.Kit.{Kit}
 use Rattle.run_engine.specs.declared.run_end.RunEnd.{RunEnd}
-use Rattle.command_ends.specs.declared.status.Status.{Status}
-use Rattle.command_ends.specs.declared.status.Status.TheVariants as status
-use Rattle.beam_command.specs.Completeness.{AreFaultsFew, AreReadFaultsFew, AsksForPoison, FailsOnPoison, HasCleanInputs, HasInputs, HasNotFailed, IsEndOfClean, IsEndOfPoison, IsStrict, WherePanes, WherePipeline}
-use Rattle.beam_command.specs.Ends.{Observed, IsEndOf, IsRun}
-use Rattle.beam_command.specs.Promises.{AsksPanes}
+use Rattle.beam_command.specs.Ends.{Observed, AreFound, IsEndOf}
+use Rattle.beam_command.specs.Kits.{AreKitsLeft, IsOutcomeOfKits, in_use, observed_in_use, told_files}
+use Rattle.beam_command.specs.Promises.{AsksPanes, IsPlanAsked}
+
+-- ---- what they speak of
 
 -- what the words of a command line ask for
 abbrev pub asked_by : List (String Global) → Option Asked
 asked_by words = command_of (words_of words)
 
--- the end is one of what is asked for
+-- what is asked for, and the files that the kits in use tell
+pub record Asking : Type 0 where
+  pub asked : Option Asked
+  pub files : Option (List FileText)
+
+abbrev pub asking : {F S : Type 0} → StoreGhosts S → List (String Global) → Vec (Kit F S) Global → Asking
+asking s words kits = record { asked = asked_by words; files = told_files s.files (in_use (asked_by words) kits.items) }
+
+-- what was observed at the kits in use and at the output
+abbrev pub observed_by : {F S W : Type 0} → ShelfGhosts F → StoreGhosts S → SinkGhosts W → List (String Global) → Vec (Kit F S) Global → Vec (Kit F S) Global → W → W → Observed
+observed_by f s w words olds news out_old out_new = observed_in_use f s w (asked_by words) olds.items news.items out_old out_new
+
+-- ---- what they say of an end
+
+-- it is one of those of what is asked for
 abbrev pub EndsAsAsked : Option Asked → Observed → RunEnd → Type 0
 EndsAsAsked asked observed end = IsEndOf asked observed end.status end.outcome
 
--- what `panes` has written is plain grouping of the whole file, and nothing was dropped
-abbrev pub ArePanesPlain : Option (List FileText) → Option Asked → RunEnd → Type 0
-ArePanesPlain files asked end = AsksPanes asked → IsRun end (λ o. WhereTold files (λ told. ArePlainlyWritten (items told o.plan) o))
+-- its outcome, if it has one, is of what the kits opened
+abbrev pub EndsWithOpened : {F S : Type 0} → StoreGhosts S → List (String Global) → Vec (Kit F S) Global → Vec (Kit F S) Global → RunEnd → Type 0
+EndsWithOpened s words olds news end = IfSome end.outcome (IsOutcomeOfKits s (asked_by words) olds.items news.items)
 
--- the store does not fail, and the file of `panes` isn't there
-abbrev pub EndsWhereAbsent : Option (List FileText) → Option Asked → Observed → Status → Type 0
-EndsWhereAbsent files asked observed s =
-    WherePanes asked (λ file size options. HasNotFailed observed.store
-    → WhereTold files (λ told. first_named file told ≡ None → IsNoSourceOrNoMemory file s))
+-- the kits are as it leaves them
+abbrev pub LeavesKits : {F S : Type 0} → ShelfGhosts F → StoreGhosts S → List (String Global) → Vec (Kit F S) Global → Vec (Kit F S) Global → RunEnd → Type 0
+LeavesKits f s words olds news end = AreKitsLeft f s (asked_by words) end.status olds.items news.items
 
--- the store does not fail, and a line of the file of `panes` is poison, over a strict shelf
-abbrev pub EndsWherePoison : Option (List FileText) → Option Asked → Observed → Status → Type 0
-EndsWherePoison files asked observed s =
-    WherePanes asked (λ file size options. HasNotFailed observed.store → IsStrict observed.shelf
-    → WhereTold files (λ told. IsSome (first_named file told) → AsksForPoison told asked → IsEndOfPoison options s))
+-- ---- what they say of the outcome of a run that came to its end
 
--- no line of the file of `panes` is poison, and few reads and writes fail
-abbrev pub EndsWhereClean : Option (List FileText) → Option Asked → Observed → Status → Type 0
-EndsWhereClean files asked observed s =
-    WherePanes asked (λ file size options. AreReadFaultsFew options.attempts observed → FailsOnPoison observed.shelf
-    → WhereTold files (λ told. IsSome (first_named file told) → (AsksForPoison told asked → ⊥) → IsEndOfClean s))
+-- It is of the plan that is asked for. Where the files are told, each one that the plan reads is there, and the items have their lengths.
+pub record IsOfAsked (asking : Asking) (o : Outcome) : Type 0 where
+  pub plan : IsPlanAsked asking.files asking.asked o.plan
+  pub found : AreFound asking.files o.plan
+  pub lengths : WhereTold asking.files (λ told. o.files ≡ map item_len (items told o.plan))
 
--- all files of the pipeline are there, and few faults are counted
-abbrev pub EndsWhereFewFaults : Option (List FileText) → Option Asked → Observed → Status → Type 0
-EndsWhereFewFaults files asked observed s =
-    WherePipeline asked (λ asked options. WhereTold files (λ told. HasInputs told asked → AreFaultsFew options.attempts observed → IsEndOfClean s))
+-- each offset of each item is in exactly one committed range, and no position is set aside
+pub record IsPartitioned (o : Outcome) : Type 0 where
+  pub cover : IsCovered o
+  pub no_dead : o.dead ≡ []
 
--- no run of the plan takes a job that is poison, over a strict shelf, and few reads and writes fail
-abbrev pub EndsWhereNoPoison : Option (List FileText) → Option Asked → Observed → Status → Type 0
-EndsWhereNoPoison files asked observed s =
-    WherePipeline asked (λ asked options. IsStrict observed.shelf
-    → WhereTold files (λ told. HasCleanInputs told asked options → AreReadFaultsFew options.attempts observed → IsEndOfClean s))
+-- where the files are told: what arrived is what flows, each once
+abbrev pub IsAccountedFor : Asking → Outcome → Type 0
+IsAccountedFor asking o = WhereTold asking.files (λ told. IsAccounted (items told o.plan) o)
 
--- the end came before the run began
-abbrev pub HasNotBegun : Status → Type 0
-HasNotBegun status.Help = Unit {0}
-HasNotBegun status.Usage = Unit {0}
-HasNotBegun (status.BadPlan refusal) = Unit {0}
-HasNotBegun (status.NoSource name) = Unit {0}
-HasNotBegun (status.SourceFault kit) = Unit {0}
-HasNotBegun (status.FileChanged name first other) = Unit {0}
-HasNotBegun _ = ⊥
-
--- two kits opened a file with different lengths
-abbrev pub IsChange : Status → Type 0
-IsChange (status.FileChanged name first other) = Unit {0}
-IsChange _ = ⊥
+-- Where the files are told: what was written is plain grouping at each Write with the default trigger and sound estimators above it. So it is for `panes` at
+-- each Write.
+pub record IsPlain (asking : Asking) (o : Outcome) : Type 0 where
+  pub where_sound : WhereTold asking.files (λ told. ArePlainlyWrittenWhere (items told o.plan) o)
+  pub panes : AsksPanes asking.asked → WhereTold asking.files (λ told. ArePlainlyWritten (items told o.plan) o)

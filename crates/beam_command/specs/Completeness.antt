@@ -1,5 +1,6 @@
 -- How a command must end where little or nothing outside fails: then the files decide.
-use Rattle.std.specs.Prelude.{◌≡◌, ◌⊎◌, true, ℕ, ◌+◌, ◌<◌, ℤ, List, Option, Some}
+use Rattle.std.specs.Prelude.{◌≡◌, ◌⊎◌, true, ℕ, ◌+◌, ◌<◌, ◌≤◌, ℤ, List, Option, Some, None, IsSome}
+use Rattle.beam_values.specs.Files.{first_named}
 use Rattle.beam_values.specs.declared.fault.Cause.TheVariants.{Call}
 use Rattle.beam_values.specs.declared.fault.FaultNote.{FaultNote}
 use Rattle.beam_values.specs.declared.file_text.FileText.{FileText}
@@ -8,10 +9,13 @@ use Rattle.beam_values.specs.declared.plan.Plan.{Plan}
 use Rattle.beam_model.specs.Positions.{items}
 use Rattle.beam_model.specs.Spread.{HasPoison}
 use Rattle.beam_ports.specs.Counts.{Rose, rise}
-use Rattle.beam_ports.specs.Observed.{ObservedStore}
+use Rattle.beam_ports.specs.Observed.{ObservedSink, ObservedStore, WhereTold}
 use Rattle.chain_exec.specs.Causes.{ObservedShelf}
 use Rattle.ended_runs.specs.Unpoisoned.{TakesNoPoison}
 use Rattle.command_words.specs.Commands.{Asked, Panes, Run}
+use Rattle.run_engine.specs.Kits.{ObservedKits}
+use Rattle.run_engine.specs.declared.run_end.RunEnd.{RunEnd}
+use Rattle.command_ends.specs.Statuses.{IsNoSourceOrNoMemory}
 use Rattle.command_ends.specs.declared.status.Status.{Status}
 use Rattle.command_ends.specs.declared.status.Status.TheVariants as status
 use Rattle.beam_command.specs.Asking.{IsPlanOf}
@@ -58,14 +62,18 @@ IsStrict shelf = shelf.strict ≡ true
 abbrev pub FailsOnPoison : ObservedShelf → Type 0
 FailsOnPoison shelf = IsStrict shelf ⊎ (Rose shelf.before shelf.after → ⊥)
 
--- fewer faults than a job has attempts, in all kits together and in the sink
+-- fewer faults than a job has attempts, of all functions and stores together
+abbrev pub AreKitFaultsFew : ℕ → ObservedKits → Type 0
+AreKitFaultsFew attempts kits = rise kits.shelf.before kits.shelf.after + rise kits.store.before kits.store.after < attempts
+
+-- so few in all kits together, and in the sink
 pub record AreFaultsFew (attempts : ℕ) (observed : Observed) : Type 0 where
-  pub kit : rise observed.shelf.before observed.shelf.after + rise observed.store.before observed.store.after < attempts
+  pub kits : AreKitFaultsFew attempts observed.kits
   pub out : rise observed.out.before observed.out.after < attempts
 
--- fewer faults than a job has attempts, in all stores together and in the sink, however many the shelves counted
+-- so few in all stores together and in the sink, however many the shelves counted
 pub record AreReadFaultsFew (attempts : ℕ) (observed : Observed) : Type 0 where
-  pub store : rise observed.store.before observed.store.after < attempts
+  pub store : rise observed.kits.store.before observed.kits.store.after < attempts
   pub out : rise observed.out.before observed.out.after < attempts
 
 -- ---- the ends
@@ -80,3 +88,48 @@ IsEndOfPoison options s = (s ≡ status.WorkFault (first_fault options)) ⊎ (s 
 -- the run came to its end, and its text was written
 abbrev pub IsEndOfClean : Status → Type 0
 IsEndOfClean s = (s ≡ status.Ok) ⊎ (s ≡ status.NoMemory)
+
+-- no opening, call or read failed as often as it may; the sink may have
+abbrev pub IsEndOfFewFaults : ℕ → ObservedSink → Status → Type 0
+IsEndOfFewFaults attempts out status.Ok = Unit {0}
+IsEndOfFewFaults attempts out status.NoMemory = Unit {0}
+IsEndOfFewFaults attempts out (status.BadPlan refusal) = Unit {0}
+IsEndOfFewFaults attempts out (status.NoSource name) = Unit {0}
+IsEndOfFewFaults attempts out (status.FileChanged name len other) = Unit {0}
+IsEndOfFewFaults attempts out status.SinkFault = attempts ≤ rise out.before out.after
+IsEndOfFewFaults attempts out _ = ⊥
+
+-- two kits opened a file with different lengths
+abbrev pub IsChange : Status → Type 0
+IsChange (status.FileChanged name first other) = Unit {0}
+IsChange _ = ⊥
+
+-- ---- which end must come
+
+-- where the files are told
+pub record IsDecided (asked : Option Asked) (observed : Observed) (end : RunEnd) : Type 0 where
+  -- no store fails, and the file of `panes` isn't there
+  pub absent : WherePanes asked (λ file size options. HasNotFailed observed.kits.store
+      → WhereTold observed.kits.store.files (λ told. first_named file told ≡ None → IsNoSourceOrNoMemory file end.status))
+  -- no store fails, and a line of that file is poison, over strict shelves
+  pub poison : WherePanes asked (λ file size options. HasNotFailed observed.kits.store → IsStrict observed.kits.shelf
+      → WhereTold observed.kits.store.files (λ told. IsSome (first_named file told) → AsksForPoison told asked → IsEndOfPoison options end.status))
+  -- no line of that file is poison, and few reads and writes fail
+  pub clean : WherePanes asked (λ file size options. AreReadFaultsFew options.attempts observed → FailsOnPoison observed.kits.shelf
+      → WhereTold observed.kits.store.files (λ told. IsSome (first_named file told) → (AsksForPoison told asked → ⊥) → IsEndOfClean end.status))
+  -- no pipeline ends Ok of which a position is poison
+  pub not_ok : WhereTold observed.kits.store.files (λ told. AsksForPoison told asked → end.status ≡ status.Ok → ⊥)
+  -- all files of the pipeline are there, and few faults are counted
+  pub complete : WherePipeline asked (λ own options.
+      WhereTold observed.kits.store.files (λ told. HasInputs told own → AreFaultsFew options.attempts observed → IsEndOfClean end.status))
+  -- no run of the plan takes a job that is poison, over strict shelves, and few reads and writes fail
+  pub complete_strict : WherePipeline asked (λ own options. IsStrict observed.kits.shelf
+      → WhereTold observed.kits.store.files (λ told. HasCleanInputs told own options → AreReadFaultsFew options.attempts observed → IsEndOfClean end.status))
+  -- files that all stores tell alike don't change
+  pub same_files : WhereTold observed.kits.store.files (λ told. IsChange end.status → ⊥)
+
+-- Whatever the stores tell, where few faults of the kits are counted. With 3 attempts and 2 faults at the kits a pipeline may end NoSource, or SinkFault where the
+-- sink counted 3. It can't end SourceFault or WorkFault, each of which takes 3 at the kits.
+abbrev pub EndsWhereFewFail : Option Asked → Observed → RunEnd → Type 0
+EndsWhereFewFail asked observed end =
+    WherePipeline asked (λ own options. AreKitFaultsFew options.attempts observed.kits → IsEndOfFewFaults options.attempts observed.out end.status)

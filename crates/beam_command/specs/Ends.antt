@@ -8,12 +8,12 @@ use Rattle.beam_values.specs.declared.outcome.Outcome.{Outcome}
 use Rattle.beam_values.specs.declared.plan.Plan.{Plan}
 use Rattle.beam_model.specs.Rendering.{IsRendering}
 use Rattle.beam_ports.specs.Observed.{ObservedStore, ObservedSink, WhereTold}
-use Rattle.book_core.specs.Book.{BookData}
+use Rattle.book_core.specs.Book.{SeenBook}
 use Rattle.book_core.specs.Runs.{IsEnded}
-use Rattle.chain_exec.specs.Causes.{ObservedShelf}
 use Rattle.command_words.specs.Commands.{Asked, Help, Panes, Run}
 use Rattle.command_words.specs.HelpText.{help_text}
 use Rattle.worker_loop.specs.Openings.{file_names}
+use Rattle.run_engine.specs.Kits.{ObservedKits}
 use Rattle.run_engine.specs.Openings.{IsOpeningRefused}
 use Rattle.run_engine.specs.PlanRun.{IsOutcomeWhere, IsSpent, IsStoppedBy, surroundings_of}
 use Rattle.run_engine.specs.declared.run_end.RunEnd.{RunEnd}
@@ -23,11 +23,9 @@ use Rattle.command_ends.specs.declared.status.Status.{Status}
 use Rattle.command_ends.specs.declared.status.Status.TheVariants as status
 use Rattle.beam_command.specs.Asking.{IsPlanOf}
 
--- What a command observed at the kits in use and at its output: of all shelves and of all stores as if they were one, and of each store.
+-- what a command observed at the kits in use and at its output
 pub record Observed : Type 0 where
-  pub shelf : ObservedShelf
-  pub store : ObservedStore
-  pub stores : List ObservedStore
+  pub kits : ObservedKits
   pub out : ObservedSink
 
 -- nothing was written
@@ -45,14 +43,14 @@ IsPrinted out attempts s o = (text : List ℕ) × IsRendering o text × IsWritte
 -- a plan's document was refused, where the command reads one, by the first store
 abbrev pub IsDocumentRefused : Observed → Asked → ℕ → Status → Type 0
 IsDocumentRefused observed (Run name options) attempts s =
-    (first : ObservedStore) × (slice_get observed.stores 0 ≡ Some first) × IsPlanRefused first name attempts s
+    (first : ObservedStore) × (slice_get observed.kits.stores 0 ≡ Some first) × IsPlanRefused first name attempts s
 IsDocumentRefused observed _ attempts s = ⊥
 
 -- the plan that the first store tells is there, and a file that it reads could not be opened, or not as the first kit opened it
 abbrev pub AreSourcesRefused : Observed → Asked → ℕ → Status → Type 0
 AreSourcesRefused observed asked attempts s =
-    (first : ObservedStore) × (plan : Plan) × (slice_get observed.stores 0 ≡ Some first) × IsPlanOf first.files asked plan
-    × IsOpeningRefused observed.stores plan attempts 0 s
+    (first : ObservedStore) × (plan : Plan) × (slice_get observed.kits.stores 0 ≡ Some first) × IsPlanOf first.files asked plan
+    × IsOpeningRefused observed.kits.stores plan attempts 0 s
 
 -- ---- the ends of a pipeline that is run
 
@@ -61,10 +59,10 @@ abbrev pub AreFound : Option (List FileText) → Plan → Type 0
 AreFound files plan = WhereTold files (λ told. All (λ name. IsSome (first_named name told)) (file_names plan))
 
 -- the plan that was asked for is there with its files, and the outcome is the data of a book of its run for which P holds
-abbrev pub IsOutcomeOfAsked : Observed → Asked → Options → (BookData → Type 0) → Outcome → Type 0
+abbrev pub IsOutcomeOfAsked : Observed → Asked → Options → (SeenBook → Type 0) → Outcome → Type 0
 IsOutcomeOfAsked observed asked options P o =
-    (plan : Plan) × IsPlanOf observed.store.files asked plan × AreFound observed.store.files plan
-    × IsOutcomeWhere (surroundings_of observed.shelf observed.store) plan options P o
+    (plan : Plan) × IsPlanOf observed.kits.store.files asked plan × AreFound observed.kits.store.files plan
+    × IsOutcomeWhere (surroundings_of observed.kits) plan options P o
 
 -- the run came to its end, and its rendering was written
 abbrev pub IsRunThrough : Observed → Asked → Options → Status → Option Outcome → Type 0
@@ -77,8 +75,8 @@ IsPipelineEnd observed asked options status.Ok outcome = IsRunThrough observed a
 IsPipelineEnd observed asked options status.SinkFault outcome = IsRunThrough observed asked options status.SinkFault outcome
 -- work failed as often as it may, and what was committed before is handed out
 IsPipelineEnd observed asked options (status.WorkFault note) outcome =
-    IsUnwritten observed × ((o : Outcome) × (outcome ≡ Some o) × IsOutcomeOfAsked observed asked options (IsStoppedBy observed.shelf observed.store note) o)
-    × IsSpent observed.shelf observed.store options.attempts note
+    IsUnwritten observed × ((o : Outcome) × (outcome ≡ Some o) × IsOutcomeOfAsked observed asked options (IsStoppedBy observed.kits note) o)
+    × IsSpent observed.kits options.attempts note
 -- the run did not begin, or there was no memory
 IsPipelineEnd observed asked options s outcome =
     IsUnwritten observed × (outcome ≡ None)

@@ -1,16 +1,23 @@
 -- The kits that a command uses, and what it observes at them.
-use Rattle.std.specs.Prelude.{◌≡◌, ℕ, Bool, List, [], ◌∷◌, map, take, Option, Some, None}
-use Rattle.beam_ports.specs.Files.{Opening}
+use Rattle.std.specs.Prelude.{◌≡◌, ℕ, List, [], ◌∷◌, map, take, drop, Option, Some, None}
 use Rattle.beam_ports.specs.Observed.{observed_sink}
+use Rattle.beam_ports.specs.declared.sink.Sink.{Ghosts as SinkGhosts}
+use Rattle.beam_ports.specs.declared.store.Store.{Ghosts as StoreGhosts}
 use Rattle.beam_values.specs.declared.file_text.FileText.{FileText}
 use Rattle.beam_values.specs.declared.outcome.Outcome.{Outcome}
 use Rattle.command_words.specs.Commands.{Asked, Panes, Run}
-use Rattle.worker_loop.specs.Kits.{observed_shelves, observed_stores, told_by}
+use Rattle.dofn_traits.specs.declared.shelf.Shelf.{Ghosts as ShelfGhosts}
+use Rattle.worker_loop.specs.Kits.{EachBecomes, told_by}
 use Rattle.worker_loop.specs.declared.kit.Kit.{Kit}
-use Rattle.run_engine.specs.Kits.{observed_each}
+use Rattle.run_engine.specs.Kits.{KeepsKit, observed_kits}
 use Rattle.run_engine.specs.Openings.{AreOpenedByAll}
 use Rattle.run_engine.specs.PlanRun.{lengths_of_first}
+use Rattle.command_ends.specs.declared.status.Status.{Status}
+use Rattle.command_ends.specs.declared.status.Status.TheVariants as status
 use Rattle.beam_command.specs.Ends.{Observed}
+use Rattle.beam_command.specs.Promises.{IsPlanAsked}
+
+-- ---- the kits in use
 
 -- how many workers are asked for: none where no pipeline is
 abbrev pub workers_of : Option Asked → ℕ
@@ -26,32 +33,51 @@ in_use asked kits = take (workers_of asked) kits
 abbrev pub told_files : {F S : Type 0} → (S → Option (List FileText)) → List (Kit F S) → Option (List FileText)
 told_files files kits = told_by (map (λ kit. files kit.store) kits)
 
--- the same of the kits in use
-abbrev pub kit_files : {F S : Type 0} → (S → Option (List FileText)) → Option Asked → List (Kit F S) → Option (List FileText)
-kit_files files asked kits = told_files files (in_use asked kits)
-
 -- the files that the first of these kits tells
 abbrev pub first_files : {F S : Type 0} → (S → Option (List FileText)) → List (Kit F S) → Option (List FileText)
 first_files files [] = None
 first_files files (first ∷ others) = files first.store
 
+-- ---- what is observed
+
+-- at these kits and at the output
+abbrev pub observed_at : {F S W : Type 0} → ShelfGhosts F → StoreGhosts S → SinkGhosts W → List (Kit F S) → List (Kit F S) → W → W → Observed
+observed_at f s w olds news out_old out_new = record { kits = observed_kits f s olds news; out = observed_sink w.faults w.taken out_old out_new }
+
+-- the same, at the kits in use
+abbrev pub observed_in_use : {F S W : Type 0} → ShelfGhosts F → StoreGhosts S → SinkGhosts W → Option Asked → List (Kit F S) → List (Kit F S) → W → W → Observed
+observed_in_use f s w asked olds news out_old out_new = observed_at f s w (in_use asked olds) (in_use asked news) out_old out_new
+
+-- ---- what a command leaves of its kits
+
+-- the end came before the run began
+abbrev pub HasNotBegun : Status → Type 0
+HasNotBegun status.Help = Unit {0}
+HasNotBegun status.Usage = Unit {0}
+HasNotBegun (status.BadPlan refusal) = Unit {0}
+HasNotBegun (status.NoSource name) = Unit {0}
+HasNotBegun (status.SourceFault kit) = Unit {0}
+HasNotBegun (status.FileChanged name first other) = Unit {0}
+HasNotBegun _ = ⊥
+
+-- no function was called
+abbrev pub KeepsShelf : {F S : Type 0} → Kit F S → Kit F S → Type 0
+KeepsShelf old new = new.shelf ≡ old.shelf
+
+-- There are as many kits as before; no function was called where the run did not begin, and those that aren't in use stay as they were.
+pub record AreKitsLeft {F S : Type 0} (f : ShelfGhosts F) (s : StoreGhosts S) (asked : Option Asked) (status : Status) (olds news : List (Kit F S)) : Type 0 where
+  pub idle : HasNotBegun status → EachBecomes olds news KeepsShelf
+  pub kept : EachBecomes olds news (KeepsKit f s)
+  pub unused : drop (workers_of asked) news ≡ drop (workers_of asked) olds
+
+-- ---- an outcome, and the files that were opened for it
+
 -- Every one of these kits has opened each file of the outcome's plan, and the items have the lengths that the first of them met.
-pub record IsOutcomeOfOpened {F S : Type 0} (files : S → Option (List FileText)) (opened : S → ℕ → Option Opening) (kits : List (Kit F S)) (o : Outcome) : Type 0 where
-  pub opens : AreOpenedByAll files opened o.plan kits
+pub record IsOutcomeOfOpened {F S : Type 0} (s : StoreGhosts S) (kits : List (Kit F S)) (o : Outcome) : Type 0 where
+  pub opens : AreOpenedByAll s.files s.opened o.plan kits
   pub lengths : o.files ≡ lengths_of_first o.plan kits
 
--- what was observed at these kits and at the output
-abbrev pub observed_kits : {F S W : Type 0} → (F → Bool) → (F → ℕ) → (S → Option (List FileText)) → (S → ℕ) → (W → ℕ) → (W → Option (List ℕ))
-    → List (Kit F S) → List (Kit F S) → W → W → Observed
-observed_kits strict calls files faults fails taken olds news out_old out_new = record {
-  shelf = observed_shelves strict calls olds news;
-  store = observed_stores files faults olds news;
-  stores = observed_each files faults olds news;
-  out = observed_sink fails taken out_old out_new;
-}
-
--- the same of the kits in use
-abbrev pub observed_in_use : {F S W : Type 0} → (F → Bool) → (F → ℕ) → (S → Option (List FileText)) → (S → ℕ) → (W → ℕ) → (W → Option (List ℕ)) → Option Asked
-    → List (Kit F S) → List (Kit F S) → W → W → Observed
-observed_in_use strict calls files faults fails taken asked olds news out_old out_new =
-    observed_kits strict calls files faults fails taken (in_use asked olds) (in_use asked news) out_old out_new
+-- The outcome's plan is the one of the first kit's file, where that store tells its files, and the kits in use have opened its files.
+pub record IsOutcomeOfKits {F S : Type 0} (s : StoreGhosts S) (asked : Option Asked) (olds news : List (Kit F S)) (o : Outcome) : Type 0 where
+  pub plan : IsPlanAsked (first_files s.files olds) asked o.plan
+  pub opened : IsOutcomeOfOpened s (in_use asked news) o

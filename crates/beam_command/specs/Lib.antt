@@ -1,7 +1,7 @@
-pub mod Ends
 pub mod Asking
-pub mod Kits
-pub mod Pipelines
+pub mod Ends
 pub mod Promises
+pub mod Pipelines
+pub mod Kits
 pub mod Completeness
 pub mod Clauses

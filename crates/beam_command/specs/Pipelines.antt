@@ -21,15 +21,15 @@ IsRunPrinted out attempts o _ outcome = ⊥
 -- the run of this plan came to its end, and its rendering was written
 abbrev pub IsGraphThrough : Observed → Plan → Options → Status → Option Outcome → Type 0
 IsGraphThrough observed plan options s outcome =
-    AreFound observed.store.files plan
-    × ((o : Outcome) × (outcome ≡ Some o) × IsOutcomeWhere (surroundings_of observed.shelf observed.store) plan options IsEnded o × IsPrinted observed.out options.attempts s o)
+    AreFound observed.kits.store.files plan
+    × ((o : Outcome) × (outcome ≡ Some o) × IsOutcomeWhere (surroundings_of observed.kits) plan options IsEnded o × IsPrinted observed.out options.attempts s o)
 
 abbrev pub IsGraphEnd : Observed → Plan → Options → ℕ → Status → Option Outcome → Type 0
 IsGraphEnd observed plan options failed status.Ok outcome = IsGraphThrough observed plan options status.Ok outcome
 IsGraphEnd observed plan options failed status.SinkFault outcome = IsGraphThrough observed plan options status.SinkFault outcome
 IsGraphEnd observed plan options failed (status.WorkFault note) outcome =
-    IsUnwritten observed × AreFound observed.store.files plan
-    × ((o : Outcome) × (outcome ≡ Some o) × IsOutcomeWhere (surroundings_of observed.shelf observed.store) plan options (IsStoppedBy observed.shelf observed.store note) o)
-    × IsSpent observed.shelf observed.store options.attempts note
+    IsUnwritten observed × AreFound observed.kits.store.files plan
+    × ((o : Outcome) × (outcome ≡ Some o) × IsOutcomeWhere (surroundings_of observed.kits) plan options (IsStoppedBy observed.kits note) o)
+    × IsSpent observed.kits options.attempts note
 IsGraphEnd observed plan options failed s outcome =
-    IsUnwritten observed × (outcome ≡ None) × (IsOpeningRefused observed.stores plan options.attempts failed s ⊎ (s ≡ status.NoMemory))
+    IsUnwritten observed × (outcome ≡ None) × (IsOpeningRefused observed.kits.stores plan options.attempts failed s ⊎ (s ≡ status.NoMemory))

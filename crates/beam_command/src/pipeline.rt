@@ -5,9 +5,8 @@ ghost use Rattle.beam_values.specs.declared.outcome.Outcome.{Outcome as OutcomeO
 ghost use Rattle.beam_ports.specs.Observed.{observed_sink};
 ghost use Rattle.book_core.specs.Runs.{AreOptions};
 ghost use Rattle.worker_loop.specs.Kits.{EachBecomes};
-ghost use Rattle.worker_loop.specs.Outside.{IsKitKept};
-ghost use Rattle.beam_command.specs.Clauses.{HasNotBegun};
-ghost use Rattle.beam_command.specs.Kits.{IsOutcomeOfOpened, observed_kits};
+ghost use Rattle.run_engine.specs.Kits.{KeepsKit};
+ghost use Rattle.beam_command.specs.Kits.{HasNotBegun, IsOutcomeOfOpened, KeepsShelf, observed_at};
 ghost use Rattle.beam_command.specs.Pipelines.{IsGraphEnd, IsRunPrinted};
 
 use beam_ports::{Gate, Sink, Store};
@@ -46,15 +45,12 @@ pub fn run_graph<R: Threads + Wait + Sync, F: Shelf, S: Store, W: Sink, G: Gate>
     requires allowed { AreOptions options.now }
     requires some { 0 < length kits.old }
     requires workers { length kits.old ≤ options.now.workers }
-    ensures ends { IsGraphEnd (observed_kits F.strict F.faults S.files
-        S.faults W.faults W.taken kits.old kits.new out.old out.new)
+    ensures ends { IsGraphEnd (observed_at F.Shelf S.Store W.Sink kits.old kits.new out.old out.new)
         graph options.now failed result.status result.outcome }
     ensures outcome { IfSome result.outcome
-        (λ o. (o.plan ≡ graph) × IsOutcomeOfOpened S.files S.opened kits.new o) }
-    ensures idle { HasNotBegun result.status
-        → EachBecomes kits.old kits.new (λ old new. new.shelf ≡ old.shelf) }
-    ensures kept { EachBecomes kits.old kits.new (λ old new. IsKitKept F.faults
-        F.strict S.faults S.files S.opened old.shelf new.shelf old.store new.store) }
+        (λ o. (o.plan ≡ graph) × IsOutcomeOfOpened S.Store kits.new o) }
+    ensures idle { HasNotBegun result.status → EachBecomes kits.old kits.new KeepsShelf }
+    ensures kept { EachBecomes kits.old kits.new (KeepsKit F.Shelf S.Store) }
 {
     if let Err(status) = open_sources(alloc, &graph, options, kits, failed) {
         return ended(status);

@@ -1,27 +1,22 @@
-ghost use Rattle.std.specs.Prelude.{◌≡◌, ◌<◌, ◌≤◌, ℕ, IfSome, None, [], length, drop, map};
-ghost use Rattle.beam_ports.specs.Observed.{observed_sink, WhereTold};
-ghost use Rattle.beam_model.specs.Account.{IsAccounted};
-ghost use Rattle.beam_model.specs.Covers.{IsCovered};
-ghost use Rattle.beam_model.specs.Plain.{ArePlainlyWrittenWhere};
-ghost use Rattle.beam_model.specs.Positions.{items, item_len};
+ghost use Rattle.std.specs.Prelude.{◌≡◌, ◌<◌, ◌≤◌, ℕ, IfSome, None, length};
+ghost use Rattle.beam_ports.specs.Observed.{observed_sink};
 ghost use Rattle.beam_values.specs.Strategies.{IsLength};
-ghost use Rattle.command_words.specs.Commands.{command_of, words_of, Panes as PanesOf};
-ghost use Rattle.command_words.specs.Commands.{Run as RunOf};
+ghost use Rattle.command_words.specs.Commands.{Panes as PanesOf, Run as RunOf};
 ghost use Rattle.book_core.specs.Runs.{AreOptions};
 ghost use Rattle.worker_loop.specs.Kits.{EachBecomes};
-ghost use Rattle.worker_loop.specs.Outside.{IsKitKept};
 ghost use Rattle.beam_model.specs.Plans.{panes_plan};
-ghost use Rattle.beam_command.specs.Asking.{IsPlanOf};
-ghost use Rattle.beam_command.specs.Promises.{HasLegalPanes, IsPlanAsked};
-ghost use Rattle.beam_command.specs.Ends.{AreFound, IsRun, IsEndOf, IsHelpEnd};
 ghost use Rattle.command_ends.specs.Notes.{IsNoted};
-ghost use Rattle.beam_command.specs.Ends.{IsPipelineEnd};
-ghost use Rattle.beam_command.specs.Kits.{IsOutcomeOfOpened, first_files, in_use, kit_files};
-ghost use Rattle.beam_command.specs.Kits.{observed_in_use, observed_kits, workers_of};
-ghost use Rattle.beam_command.specs.Completeness.{AsksForPoison};
-ghost use Rattle.beam_command.specs.Clauses.{asked_by, EndsAsAsked, HasNotBegun, IsChange};
-ghost use Rattle.beam_command.specs.Clauses.{ArePanesPlain, EndsWhereAbsent, EndsWherePoison};
-ghost use Rattle.beam_command.specs.Clauses.{EndsWhereClean, EndsWhereFewFaults, EndsWhereNoPoison};
+ghost use Rattle.run_engine.specs.Kits.{KeepsKit};
+ghost use Rattle.beam_command.specs.Asking.{IsPlanOf};
+ghost use Rattle.beam_command.specs.Promises.{HasLegalPanes};
+ghost use Rattle.beam_command.specs.Ends.{IsHelpEnd, IsPipelineEnd, IsRun};
+ghost use Rattle.beam_command.specs.Kits.{AreKitsLeft, HasNotBegun, IsOutcomeOfKits};
+ghost use Rattle.beam_command.specs.Kits.{IsOutcomeOfOpened, KeepsShelf, first_files};
+ghost use Rattle.beam_command.specs.Kits.{observed_at, observed_in_use};
+ghost use Rattle.beam_command.specs.Completeness.{EndsWhereFewFail, IsDecided};
+ghost use Rattle.beam_command.specs.Clauses.{asked_by, asking, observed_by, EndsAsAsked};
+ghost use Rattle.beam_command.specs.Clauses.{EndsWithOpened, IsAccountedFor, IsOfAsked};
+ghost use Rattle.beam_command.specs.Clauses.{IsPartitioned, IsPlain, LeavesKits};
 
 use crate::pipeline::{ended, run_graph};
 use crate::plans::panes_graph;
@@ -53,10 +48,10 @@ const HELP_ATTEMPTS: u32 = 3;
 /// wait ends is not promised: the clauses are on calls that return.
 ///
 /// `ends` says of each end what it means and why it comes: at Ok the outcome is the data of the run's own
-/// final book, which is ended, and its rendering was written. The clauses from `plan` to `panes_plain` say
-/// what that outcome is, however many workers there were and whatever was split, bundled or tried again.
-/// Those that say what a file has speak of told files: of stores in use that all tell the same files, as
-/// those in memory do.
+/// final book, which is ended, and its rendering was written. The clauses from `plan` to `plain` say what
+/// that outcome is, however many workers there were and whatever was split, bundled or tried again; those
+/// from `opened` on speak of every end. What is said of a file's content is said of told files: of stores
+/// in use that all tell the same files, as those in memory do.
 pub fn beam_main<R: Threads + Wait + Sync, F: Shelf, S: Store, W: Sink, N: Sink, G: Gate>(
     rt: &R,
     alloc: Global,
@@ -68,99 +63,42 @@ pub fn beam_main<R: Threads + Wait + Sync, F: Shelf, S: Store, W: Sink, N: Sink,
 ) -> RunEnd
     requires { 0 < length kits.old.items }
     ensures ends { EndsAsAsked (asked_by words.now)
-        (observed_in_use F.strict F.faults S.files S.faults W.faults W.taken
-        (asked_by words.now) kits.old.items kits.new.items out.old out.new) result }
+        (observed_by F.Shelf S.Store W.Sink words.now kits.old kits.new out.old out.new) result }
 
     // The outcome is of the plan that is asked for and of the files that it names, which are there.
-    ensures plan { IsRun result (λ o. IsPlanAsked
-        (kit_files S.files (asked_by words.now) kits.old.items) (asked_by words.now) o.plan) }
-    ensures found { IsRun result
-        (λ o. AreFound (kit_files S.files (asked_by words.now) kits.old.items) o.plan) }
-    ensures lengths { IsRun result
-        (λ o. WhereTold (kit_files S.files (asked_by words.now) kits.old.items)
-        (λ told. o.files ≡ map item_len (items told o.plan))) }
+    ensures plan { IsRun result (IsOfAsked (asking S.Store words.now kits.old)) }
 
-    // The committed ranges partition each item.
-    ensures cover { IsRun result IsCovered }
-
-    // No position is set aside: every offset is in a committed range, and nothing is left out of the account
-    // and of plain grouping.
-    ensures no_dead { IsRun result (λ o. o.dead ≡ []) }
+    // The committed ranges partition each item: no position is set aside, so nothing is left out of the
+    // account and of plain grouping.
+    ensures cover { IsRun result IsPartitioned }
 
     // The outputs of every position, and every pane, arrived at each barrier that they reach exactly once.
-    ensures account { IsRun result
-        (λ o. WhereTold (kit_files S.files (asked_by words.now) kits.old.items)
-        (λ told. IsAccounted (items told o.plan) o)) }
+    ensures account { IsRun result (IsAccountedFor (asking S.Store words.now kits.old)) }
 
     // The panes are legal under the trigger of each Group, commit by commit.
     ensures legal_panes { IsRun result HasLegalPanes }
 
     // At each Write with the default trigger and sound estimators above it: what was written is plain
     // grouping of the whole input, and nothing was dropped. So it is always for `panes`.
-    ensures plain { IsRun result
-        (λ o. WhereTold (kit_files S.files (asked_by words.now) kits.old.items)
-        (λ told. ArePlainlyWrittenWhere (items told o.plan) o)) }
-    ensures panes_plain { ArePanesPlain (kit_files S.files (asked_by words.now) kits.old.items)
-        (asked_by words.now) result }
+    ensures plain { IsRun result (IsPlain (asking S.Store words.now kits.old)) }
 
     // Of an outcome, at WorkFault too: its plan is the one of the first kit's file, where that store tells its
-    // files; every kit in use has a file open for each one of the plan, and the items are as long as those of
-    // the first kit, whatever the stores tell.
-    ensures first_plan { IfSome result.outcome
-        (λ o. IsPlanAsked (first_files S.files kits.old.items) (asked_by words.now) o.plan) }
-    ensures opened { IfSome result.outcome
-        (IsOutcomeOfOpened S.files S.opened (in_use (asked_by words.now) kits.new.items)) }
+    // files; every kit in use has a file open for each one of the plan, as long as that of the first kit.
+    ensures opened { EndsWithOpened S.Store words.now kits.old kits.new result }
 
-    // Where no store in use fails and all tell the same files, the file decides how `panes` ends: it isn't
-    // there; or a line is poison, over shelves that fail on poison alone.
-    ensures absent { EndsWhereAbsent (kit_files S.files (asked_by words.now) kits.old.items)
-        (asked_by words.now)
-        (observed_in_use F.strict F.faults S.files S.faults W.faults W.taken
-        (asked_by words.now) kits.old.items kits.new.items out.old out.new) result.status }
-    ensures poison { EndsWherePoison (kit_files S.files (asked_by words.now) kits.old.items)
-        (asked_by words.now)
-        (observed_in_use F.strict F.faults S.files S.faults W.faults W.taken
-        (asked_by words.now) kits.old.items kits.new.items out.old out.new) result.status }
+    // Where the files are told and little or nothing outside fails, they decide which end comes.
+    ensures decided { IsDecided (asked_by words.now)
+        (observed_by F.Shelf S.Store W.Sink words.now kits.old kits.new out.old out.new) result }
 
-    // A file without poison comes to its end, over shelves that fail on poison alone or do not fail, where
-    // fewer faults of all stores, and of `out`, are counted than a job has attempts.
-    ensures clean { EndsWhereClean (kit_files S.files (asked_by words.now) kits.old.items)
-        (asked_by words.now)
-        (observed_in_use F.strict F.faults S.files S.faults W.faults W.taken
-        (asked_by words.now) kits.old.items kits.new.items out.old out.new) result.status }
-
-    // No pipeline ends Ok of which a position is poison.
-    ensures not_ok { WhereTold (kit_files S.files (asked_by words.now) kits.old.items)
-        (λ told. AsksForPoison told (asked_by words.now) → result.status ≡ Status.Ok → ⊥) }
-
-    // Where all its files are there and fewer faults are counted than a job has attempts, a pipeline comes
-    // to its end, unless there is no memory.
-    ensures complete { EndsWhereFewFaults (kit_files S.files (asked_by words.now) kits.old.items)
-        (asked_by words.now)
-        (observed_in_use F.strict F.faults S.files S.faults W.faults W.taken
-        (asked_by words.now) kits.old.items kits.new.items out.old out.new) result.status }
-
-    // So it does over shelves that fail on poison alone, however often they fail, where no run of the plan
-    // takes a job that is poison and fewer faults of all stores, and of `out`, are counted.
-    ensures complete_strict { EndsWhereNoPoison
-        (kit_files S.files (asked_by words.now) kits.old.items) (asked_by words.now)
-        (observed_in_use F.strict F.faults S.files S.faults W.faults W.taken
-        (asked_by words.now) kits.old.items kits.new.items out.old out.new) result.status }
-
-    // Files have changed only where not all stores in use tell the same ones.
-    ensures same_files { WhereTold (kit_files S.files (asked_by words.now) kits.old.items)
-        (λ told. IsChange result.status → ⊥) }
-
+    // Whatever the stores tell: a pipeline whose kits count fewer faults than a job has attempts comes to
+    // its end, unless its plan or a file is bad, not there or changed, the sink fails, or there is no memory.
+    ensures few_faults { EndsWhereFewFail (asked_by words.now)
+        (observed_by F.Shelf S.Store W.Sink words.now kits.old kits.new out.old out.new) result }
     ensures noted { IsNoted result.status (observed_sink N.faults N.taken notes.old notes.new) }
 
-    // No function was called where the run did not begin. Of every kit the counts never fall, and what its store
-    // tells and has opened stays. The kits that are not in use stay as they were.
-    ensures idle { HasNotBegun result.status
-        → EachBecomes kits.old.items kits.new.items (λ old new. new.shelf ≡ old.shelf) }
-    ensures kept { EachBecomes kits.old.items kits.new.items (λ old new. IsKitKept F.faults
-        F.strict S.faults S.files S.opened old.shelf new.shelf old.store new.store) }
-    ensures unused { drop (workers_of (asked_by words.now)) kits.new.items
-        ≡ drop (workers_of (asked_by words.now)) kits.old.items }
+    // No function was called where the run did not begin. Of every kit the counts never fall, and what its
+    // store tells and has opened stays. The kits that are not in use stay as they were.
+    ensures kits { LeavesKits F.Shelf S.Store words.now kits.old kits.new result }
 {
     honest_runs_are_runs();
     outcomes_are_covered();
@@ -199,20 +137,11 @@ fn run<R: Threads + Wait + Sync, F: Shelf, S: Store, W: Sink, G: Gate>(
     gate: &G,
 ) -> RunEnd
     requires { 0 < length kits.old }
-    ensures ends { IsEndOf (command_of (words_of words.now))
-        (observed_in_use F.strict F.faults S.files S.faults W.faults W.taken
-        (command_of (words_of words.now)) kits.old kits.new out.old out.new)
-        result.status result.outcome }
-    ensures first_plan { IfSome result.outcome
-        (λ o. IsPlanAsked (first_files S.files kits.old) (command_of (words_of words.now)) o.plan) }
+    ensures ends { EndsAsAsked (asked_by words.now) (observed_in_use F.Shelf S.Store W.Sink
+        (asked_by words.now) kits.old kits.new out.old out.new) result }
     ensures opened { IfSome result.outcome
-        (IsOutcomeOfOpened S.files S.opened (in_use (command_of (words_of words.now)) kits.new)) }
-    ensures idle { HasNotBegun result.status
-        → EachBecomes kits.old kits.new (λ old new. new.shelf ≡ old.shelf) }
-    ensures kept { EachBecomes kits.old kits.new (λ old new. IsKitKept F.faults
-        F.strict S.faults S.files S.opened old.shelf new.shelf old.store new.store) }
-    ensures unused { drop (workers_of (command_of (words_of words.now))) kits.new
-        ≡ drop (workers_of (command_of (words_of words.now))) kits.old }
+        (IsOutcomeOfKits S.Store (asked_by words.now) kits.old kits.new) }
+    ensures kits { AreKitsLeft F.Shelf S.Store (asked_by words.now) result.status kits.old kits.new }
 {
     match read_words(words) {
         Err(Usage) => ended(Status::Usage),
@@ -261,15 +190,13 @@ fn run_panes<R: Threads + Wait + Sync, F: Shelf, S: Store, W: Sink, G: Gate>(
     requires allowed { AreOptions options.now }
     requires some { 0 < length kits.old }
     requires workers { length kits.old ≤ options.now.workers }
-    ensures ends { IsPipelineEnd (observed_kits F.strict F.faults S.files
-        S.faults W.faults W.taken kits.old kits.new out.old out.new)
+    ensures ends { IsPipelineEnd
+        (observed_at F.Shelf S.Store W.Sink kits.old kits.new out.old out.new)
         (PanesOf file.now size options.now) options.now result.status result.outcome }
     ensures first_plan { IfSome result.outcome (λ o. o.plan ≡ panes_plan file.now size) }
-    ensures opened { IfSome result.outcome (IsOutcomeOfOpened S.files S.opened kits.new) }
-    ensures idle { HasNotBegun result.status
-        → EachBecomes kits.old kits.new (λ old new. new.shelf ≡ old.shelf) }
-    ensures kept { EachBecomes kits.old kits.new (λ old new. IsKitKept F.faults
-        F.strict S.faults S.files S.opened old.shelf new.shelf old.store new.store) }
+    ensures opened { IfSome result.outcome (IsOutcomeOfOpened S.Store kits.new) }
+    ensures idle { HasNotBegun result.status → EachBecomes kits.old kits.new KeepsShelf }
+    ensures kept { EachBecomes kits.old kits.new (KeepsKit F.Shelf S.Store) }
 {
     match panes_graph(alloc, file, size) {
         Ok(graph) => run_graph(rt, alloc, graph, options, 0, kits, out, gate),
@@ -290,16 +217,14 @@ fn run_file<R: Threads + Wait + Sync, F: Shelf, S: Store, W: Sink, G: Gate>(
     requires allowed { AreOptions options.now }
     requires some { 0 < length kits.old }
     requires workers { length kits.old ≤ options.now.workers }
-    ensures ends { IsPipelineEnd (observed_kits F.strict F.faults S.files
-        S.faults W.faults W.taken kits.old kits.new out.old out.new)
+    ensures ends { IsPipelineEnd
+        (observed_at F.Shelf S.Store W.Sink kits.old kits.new out.old out.new)
         (RunOf plan.now options.now) options.now result.status result.outcome }
     ensures first_plan { IfSome result.outcome
         (λ o. IsPlanOf (first_files S.files kits.old) (RunOf plan.now options.now) o.plan) }
-    ensures opened { IfSome result.outcome (IsOutcomeOfOpened S.files S.opened kits.new) }
-    ensures idle { HasNotBegun result.status
-        → EachBecomes kits.old kits.new (λ old new. new.shelf ≡ old.shelf) }
-    ensures kept { EachBecomes kits.old kits.new (λ old new. IsKitKept F.faults
-        F.strict S.faults S.files S.opened old.shelf new.shelf old.store new.store) }
+    ensures opened { IfSome result.outcome (IsOutcomeOfOpened S.Store kits.new) }
+    ensures idle { HasNotBegun result.status → EachBecomes kits.old kits.new KeepsShelf }
+    ensures kept { EachBecomes kits.old kits.new (KeepsKit F.Shelf S.Store) }
 {
     match read_plan_file(alloc, &mut kits[0].store, plan, options.attempts) {
         Ok(read) => run_graph(rt, alloc, read.graph, options, read.failed, kits, out, gate),

@@ -1,71 +1,112 @@
--- All that is kept of a reached book, together.
-use Rattle.std.proofs.Common.{ℕ, sym, subst}
-use Rattle.std.specs.Prelude.{◌≡◌, ◌⊎◌, [], ◌∷◌, List, Option, Some, None}
-use Rattle.beam_values.specs.declared.fault.Cause.{Cause}
-use Rattle.bundle_commit.specs.declared.job.Job.{Job}
-use Rattle.book_core.specs.Left.{IsBelow, left}
-use Rattle.book_core.proofs.Lowered.{fail_lowers}
-use Rattle.book_core.proofs.TakenLeft.{take_no_higher}
+-- What is kept of books that runs reach: besides that they are sane, what holds whatever the files are, and what holds where they are told.
+use Rattle.std.proofs.Common.{◌≡◌, ℕ}
+use Rattle.std.specs.Prelude.{[], ◌∷◌, List, Option, Some, None}
 use Rattle.beam_values.specs.declared.file_text.FileText.{FileText}
-use Rattle.book_core.specs.Book.{BookData}
-use Rattle.book_core.specs.Facts.{AreKept, AreKeptOf}
-use Rattle.book_core.specs.Runs.{HonestRun, HonestlyReached, IsThrough, MadeStep, Reached, Run}
-use Rattle.book_core.specs.Work.{Surroundings}
+use Rattle.beam_values.specs.declared.options.Options.{Options}
+use Rattle.beam_values.specs.declared.piece.FileLen.{FileLen}
+use Rattle.beam_values.specs.declared.plan.Plan.{Plan}
+use Rattle.book_core.specs.Book.{SeenBook}
+use Rattle.book_core.specs.Facts.{AreCellsKept, AreKept, AreKeptOf, AreSeenBefore, IsAttemptedWithin, IsBalanced, IsEarlyBook}
 use Rattle.book_core.specs.Jobs.{next_job}
-use Rattle.book_core.specs.Steps.{Answer, IsFailing, IsIdle, IsTaking}
-use Rattle.book_core.proofs.AttemptsKept.{reached_counted, reached_noted}
-use Rattle.book_core.proofs.BalancedAlways.{NoStateful, reached_balanced}
-use Rattle.book_core.proofs.CellsAlways.{StrategiesOfPlans, reached_cells, reached_writes}
-use Rattle.book_core.proofs.EarlyAlways.{reached_early}
+use Rattle.book_core.specs.Runs.{HonestRun, HonestlyReached, IsOpening, IsThrough, MadeStep, Reached, Run, opened}
+use Rattle.book_core.specs.Sane.{AreKeptWith, IsSane}
+use Rattle.book_core.specs.Steps.{Action, Answer, IsIdle, Step}
+use Rattle.book_core.specs.Work.{Surroundings}
+use Rattle.book_core.proofs.BalancedAlways.{NoStateful, keeps_balanced}
+use Rattle.book_core.proofs.Cases.{AreAlways, Both, always_reached, step_keeps}
+use Rattle.book_core.proofs.CellsAlways.{StrategiesOfPlans, keeps_celled}
+use Rattle.book_core.proofs.EarlyAlways.{keeps_early}
 use Rattle.book_core.proofs.EarlyEnds.{WindowsOfKind}
-use Rattle.book_core.proofs.Ended.{SettingsOfPlans, ended_through}
-use Rattle.book_core.proofs.Formed.{reached_formed}
-use Rattle.book_core.proofs.HeldOnce.{reached_held}
-use Rattle.book_core.proofs.Partitioned.{reached_attempted, reached_partitioned}
-use Rattle.book_core.proofs.RisingMarks.{reached_marks}
-use Rattle.book_core.proofs.SeenAlways.{reached_seen}
+use Rattle.book_core.proofs.Ended.{SettingsOfPlans, kept_through}
+use Rattle.book_core.proofs.SaneAlways.{opened_sane, sane_always, step_sane}
+use Rattle.book_core.proofs.SeenAlways.{AreWithin, keeps_seen}
 
-pub reached_kept : StrategiesOfPlans → (told : Option (List FileText)) (b : BookData) → Reached told b → AreKept b
-reached_kept strategies told b reached = record {
-  partitioned = reached_partitioned told b reached;
-  attempted = reached_attempted told b reached;
-  marks = reached_marks told b reached;
-  cells = reached_cells strategies told b reached;
-  held = reached_held told b reached;
-  writes = reached_writes strategies told b reached;
-  attempts = reached_counted told b reached;
-  formed = reached_formed told b reached;
-  stop = reached_noted told b reached;
+-- ---- whatever the files are
+
+kept_from : (b : SeenBook) → IsSane b → AreCellsKept b → AreKept b
+kept_from b sane cells = record {
+  partitioned = sane.partitioned;
+  attempted = sane.attempted;
+  marks = sane.marks;
+  cells = cells;
+  held = sane.held;
+  writes = sane.writes;
+  attempts = sane.attempts;
+  formed = sane.formed;
+  stop = sane.stop;
 }
 
--- and where the files are told
-pub reached_kept_of : NoStateful → (told : List FileText) (b : BookData) → Reached (Some told) b → AreKeptOf told b
-reached_kept_of no_stateful told b reached = record { balanced = reached_balanced no_stateful told b reached; seen = reached_seen told b reached }
+module _ (strategies : StrategiesOfPlans) (settings : SettingsOfPlans) (windows : WindowsOfKind) where
+  pub kept_always : (told : Option (List FileText)) → AreAlways told AreKeptWith
+  kept_always told = record {
+    opens = λ b first opening.
+        let sane = (sane_always told).opens b first opening in
+        record {
+          sane = sane;
+          kept = kept_from first sane ((keeps_celled strategies told).opens b first opening);
+          early = (keeps_early strategies windows settings told).opens b first opening;
+        };
+    steps = λ b new slot action answer step h.
+        let sane = step_sane told b new slot action answer step h.sane in
+        record {
+          sane = sane;
+          kept = kept_from new sane (step_keeps told IsSane AreCellsKept (keeps_celled strategies told) b new slot action answer step h.sane h.kept.cells);
+          early = step_keeps told (Both IsSane AreCellsKept) IsEarlyBook (keeps_early strategies windows settings told) b new slot action answer step (h.sane, h.kept.cells) h.early;
+        };
+  }
 
--- what has no job left is through
-pub reached_through : StrategiesOfPlans → SettingsOfPlans → WindowsOfKind → (told : Option (List FileText)) (b : BookData) → Reached told b
-    → next_job b ≡ None → IsIdle b → IsThrough b
-reached_through strategies settings windows told b reached =
-    ended_through strategies settings told b reached (reached_early windows settings told b reached).taken
+  pub opened_kept : (plan : Plan) (files : List FileLen) (options : Options) (first : SeenBook) → IsOpening plan files options first → AreKeptWith first
+  opened_kept plan files options first opening = (kept_always None).opens (opened plan files options []) first opening
 
--- ---- what is left
+  pub reached_kept_with : (told : Option (List FileText)) (b : SeenBook) → Reached told b → AreKeptWith b
+  reached_kept_with told = always_reached told AreKeptWith (kept_always told)
 
-pub reached_fail_lowers : (told : Option (List FileText)) (b new : BookData) (slot at : ℕ) (cause : Cause) (answer : Answer) → Reached told b → IsFailing b slot at cause answer new
-    → IsBelow (left new) (left b)
-reached_fail_lowers told b new slot at cause answer reached step =
-    subst (λ (x : BookData). IsBelow (left x) (left b)) (sym step.is) (fail_lowers b slot at step.job cause (reached_counted told b reached) step.works)
+  -- what has no job left is through
+  pub reached_through : (told : Option (List FileText)) (b : SeenBook) → Reached told b → next_job b ≡ None → IsIdle b → IsThrough b
+  reached_through told b reached = kept_through settings b (reached_kept_with told b reached)
 
-pub reached_take_lowers : (told : Option (List FileText)) (b new : BookData) (slot : ℕ) (job : Job) → Reached told b → IsTaking b slot job new
-    → IsBelow (left new) (left b) ⊎ (left new ≡ left b)
-reached_take_lowers told b new slot job reached step =
-    subst (λ (x : BookData). IsBelow (left x) (left b) ⊎ (left x ≡ left b)) (sym step.is)
-    (take_no_higher b slot (reached_formed told b reached) (reached_held told b reached) step.free step.next step.is_next)
+  -- ---- and where the files are told
+
+  module _ (no_stateful : NoStateful) (told : List FileText) where
+    pub step_kept_of : (b new : SeenBook) (slot : ℕ) (action : Action) (answer : Answer) → Step (Some told) b slot action answer new → AreKeptWith b → AreKeptOf told b → AreKeptOf told new
+    step_kept_of b new slot action answer step kept h = record {
+      balanced = step_keeps (Some told) AreKeptWith (IsBalanced told) (keeps_balanced no_stateful told) b new slot action answer step kept h.balanced;
+      seen = step_keeps (Some told) AreWithin (AreSeenBefore told) (keeps_seen told) b new slot action answer step kept.sane.attempted h.seen;
+    }
+
+    first_kept_of : (b first : SeenBook) → IsOpening b.plan b.files b.options first → AreKeptOf told first
+    first_kept_of b first opening = record { balanced = (keeps_balanced no_stateful told).opens b first opening; seen = (keeps_seen told).opens b first opening }
+
+    pub opened_kept_of : (plan : Plan) (files : List FileLen) (options : Options) (first : SeenBook) → IsOpening plan files options first → AreKeptOf told first
+    opened_kept_of plan files options first opening = first_kept_of (opened plan files options []) first opening
+
+    both_always : AreAlways (Some told) (Both AreKeptWith (AreKeptOf told))
+    both_always = record {
+      opens = λ b first opening. ((kept_always (Some told)).opens b first opening, first_kept_of b first opening);
+      steps = λ b new slot action answer step h. ((kept_always (Some told)).steps b new slot action answer step h.0, step_kept_of b new slot action answer step h.0 h.1);
+    }
+
+    pub reached_kept_of : (b : SeenBook) → Reached (Some told) b → AreKeptOf told b
+    reached_kept_of b reached = (always_reached (Some told) (Both AreKeptWith (AreKeptOf told)) both_always b reached).1
+
+-- what was seen before each piece is known of books that runs reach, whatever the plan
+seen_always : (told : List FileText) → AreAlways (Some told) (Both IsSane (AreSeenBefore told))
+seen_always told = record {
+  opens = λ b first opening. ((sane_always (Some told)).opens b first opening, (keeps_seen told).opens b first opening);
+  steps = λ b new slot action answer step h. (
+    step_sane (Some told) b new slot action answer step h.0,
+    step_keeps (Some told) AreWithin (AreSeenBefore told) (keeps_seen told) b new slot action answer step h.0.attempted h.1,
+  );
+}
+
+pub reached_seen : (told : List FileText) (b : SeenBook) → Reached (Some told) b → AreSeenBefore told b
+reached_seen told b reached = (always_reached (Some told) (Both IsSane (AreSeenBefore told)) (seen_always told) b reached).1
 
 -- ---- honest runs are runs
 
-honest_run : (known : Surroundings) (steps : List MadeStep) (b end : BookData) → HonestRun known b steps end → Run known.told b steps end
+honest_run : (known : Surroundings) (steps : List MadeStep) (b end : SeenBook) → HonestRun known b steps end → Run known.told b steps end
 honest_run known [] b end run = run
 honest_run known (made ∷ later) b end run = (run.0, run.1, honest_run known later run.0 end run.3)
 
-pub honest_reached : (known : Surroundings) (b : BookData) → HonestlyReached known b → Reached known.told b
+pub honest_reached : (known : Surroundings) (b : SeenBook) → HonestlyReached known b → Reached known.told b
 honest_reached known b h = record { first = h.first; opening = h.opening; steps = h.steps; run = honest_run known h.steps h.first b h.run }

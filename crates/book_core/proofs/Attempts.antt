@@ -7,9 +7,9 @@ use Rattle.beam_values.specs.declared.piece.Piece.{Piece}
 use Rattle.beam_ports.specs.Counts.{greatest_count}
 use Rattle.split_core.specs.Order.{with_piece}
 use Rattle.split_core.proofs.Ordered.{All-with_piece}
-use Rattle.book_core.specs.Book.{BookData, piece_of, batch_of, live_pieces, live_batches}
+use Rattle.book_core.specs.Book.{SeenBook, piece_of, batch_of}
 use Rattle.book_core.specs.Changes.{with_slot, with_residual}
-use Rattle.book_core.specs.Facts.{AreAttemptsCounted, IsStopNoted, IsWellFormed}
+use Rattle.book_core.specs.Facts.{IsStopNoted, IsWellFormed}
 use Rattle.book_core.specs.Jobs.{GivenBack, Oldest, without_due, first_pane}
 use Rattle.book_core.specs.Steps.{IsRunning}
 use Rattle.book_core.specs.declared.live.Batch.{Batch}
@@ -25,37 +25,25 @@ abbrev pub MayBeWorked : ℕ → ℕ → ℕ → Type 0
 MayBeWorked limit total attempts = (attempts < limit) × (attempts ≤ total)
 
 pub record AreCounted (limit total : ℕ) (running : Type 0) (pending : List Piece) (returned : List Batch) (slots : List (Option Live)) : Type 0 where
-  pub worked_pieces : All (λ piece. MayBeWorked limit total piece.attempts) (flat_map piece_of slots)
+  pub worked_pieces : All (λ piece. piece.attempts < limit) (flat_map piece_of slots)
   pub worked_batches : All (λ batch. MayBeWorked limit total batch.attempts) (flat_map batch_of slots)
   pub pending_below : running → All (λ piece. piece.attempts < limit) pending
   pub returned_below : running → All (λ batch. batch.attempts < limit) returned
-  pub pending_most : All (λ piece. piece.attempts ≤ total) pending
-  pub returned_most : All (λ batch. batch.attempts ≤ total) returned
+  pub pending_most : All (λ piece. piece.attempts ≤ limit) pending
+  pub returned_most : All (λ batch. (batch.attempts ≤ limit) × (batch.attempts ≤ total)) returned
 
-abbrev pub CountsOf : BookData → Type 0
+abbrev pub CountsOf : SeenBook → Type 0
 CountsOf b = AreCounted b.options.attempts (b.calls + b.reads) (IsRunning b) b.pending b.returned b.slots
 
-pub record IsCounted (b : BookData) : Type 0 where
+pub record IsCounted (b : SeenBook) : Type 0 where
   pub counts : CountsOf b
   pub stop : IsStopNoted b b.stopped
   pub calls : b.calls ≤ greatest_count
   pub reads : b.reads ≤ greatest_count
 
-pub attempts_counted : (b : BookData) → CountsOf b → AreAttemptsCounted b
-attempts_counted b h = record {
-  worked_pieces = All-weaker (λ piece. MayBeWorked b.options.attempts (b.calls + b.reads) piece.attempts) (λ piece. piece.attempts < b.options.attempts) (λ piece k. k.0) (live_pieces b) h.worked_pieces;
-  worked_batches = All-weaker (λ batch. MayBeWorked b.options.attempts (b.calls + b.reads) batch.attempts) (λ batch. batch.attempts < b.options.attempts) (λ batch k. k.0) (live_batches b) h.worked_batches;
-  pending = h.pending_below;
-  returned = h.returned_below;
-  pieces = All-append (λ (piece : Piece). piece.attempts ≤ b.calls + b.reads) b.pending (live_pieces b) h.pending_most
-      (All-weaker (λ piece. MayBeWorked b.options.attempts (b.calls + b.reads) piece.attempts) (λ piece. piece.attempts ≤ b.calls + b.reads) (λ piece k. k.1) (live_pieces b) h.worked_pieces);
-  batches = All-append (λ (batch : Batch). batch.attempts ≤ b.calls + b.reads) b.returned (live_batches b) h.returned_most
-      (All-weaker (λ batch. MayBeWorked b.options.attempts (b.calls + b.reads) batch.attempts) (λ batch. batch.attempts ≤ b.calls + b.reads) (λ batch k. k.1) (live_batches b) h.worked_batches);
-}
-
 module _ (limit total : ℕ) (running : Type 0) where
   abbrev pub IsPiece : Piece → Type 0
-  IsPiece piece = MayBeWorked limit total piece.attempts
+  IsPiece piece = piece.attempts < limit
 
   abbrev pub IsBatch : Batch → Type 0
   IsBatch batch = MayBeWorked limit total batch.attempts
@@ -67,10 +55,10 @@ module _ (limit total : ℕ) (running : Type 0) where
   IsBatchBelow batch = batch.attempts < limit
 
   abbrev pub IsPieceMost : Piece → Type 0
-  IsPieceMost piece = piece.attempts ≤ total
+  IsPieceMost piece = piece.attempts ≤ limit
 
   abbrev pub IsBatchMost : Batch → Type 0
-  IsBatchMost batch = batch.attempts ≤ total
+  IsBatchMost batch = (batch.attempts ≤ limit) × (batch.attempts ≤ total)
 
   module _ (pending : List Piece) (returned : List Batch) (slots : List (Option Live)) (h : AreCounted limit total running pending returned slots) where
     -- a slot is set
@@ -103,16 +91,16 @@ module _ (limit total : ℕ) (running : Type 0) where
     -- more failed, and the run may have stopped
     pub more_counted : (more : ℕ) (runs : Type 0) → total ≤ more → (runs → running) → AreCounted limit more runs pending returned slots
     more_counted more runs rise still = record {
-      worked_pieces = All-weaker IsPiece (λ piece. MayBeWorked limit more piece.attempts) (λ piece k. (k.0, omega (arith, k.1))) (flat_map piece_of slots) h.worked_pieces;
+      worked_pieces = h.worked_pieces;
       worked_batches = All-weaker IsBatch (λ batch. MayBeWorked limit more batch.attempts) (λ batch k. (k.0, omega (arith, k.1))) (flat_map batch_of slots) h.worked_batches;
       pending_below = λ r. h.pending_below (still r);
       returned_below = λ r. h.returned_below (still r);
-      pending_most = All-weaker IsPieceMost (λ piece. piece.attempts ≤ more) (λ piece k. omega arith) pending h.pending_most;
-      returned_most = All-weaker IsBatchMost (λ batch. batch.attempts ≤ more) (λ batch k. omega arith) returned h.returned_most;
+      pending_most = h.pending_most;
+      returned_most = All-weaker IsBatchMost (λ batch. (batch.attempts ≤ limit) × (batch.attempts ≤ more)) (λ batch k. (k.0, omega (arith, k.1))) returned h.returned_most;
     }
 
     -- a job is given back
-    pub piece_back : (piece : Piece) → (running → piece.attempts < limit) → piece.attempts ≤ total → AreCounted limit total running (with_piece piece pending) returned slots
+    pub piece_back : (piece : Piece) → (running → piece.attempts < limit) → piece.attempts ≤ limit → AreCounted limit total running (with_piece piece pending) returned slots
     piece_back piece below most = record {
       worked_pieces = h.worked_pieces;
       worked_batches = h.worked_batches;
@@ -122,7 +110,7 @@ module _ (limit total : ℕ) (running : Type 0) where
       returned_most = h.returned_most;
     }
 
-    pub batch_back : (batch : Batch) → (running → batch.attempts < limit) → batch.attempts ≤ total → AreCounted limit total running pending (returned ++ batch ∷ []) slots
+    pub batch_back : (batch : Batch) → (running → batch.attempts < limit) → (batch.attempts ≤ limit) × (batch.attempts ≤ total) → AreCounted limit total running pending (returned ++ batch ∷ []) slots
     batch_back batch below most = record {
       worked_pieces = h.worked_pieces;
       worked_batches = h.worked_batches;
@@ -134,7 +122,7 @@ module _ (limit total : ℕ) (running : Type 0) where
 
 -- ---- a take
 
-module _ (b : BookData) (slot : ℕ) (formed : IsWellFormed b) (h : IsCounted b) (running : IsRunning b) where
+module _ (b : SeenBook) (slot : ℕ) (formed : IsWellFormed b) (h : IsCounted b) (running : IsRunning b) where
   abbrev pub limit : ℕ
   limit = b.options.attempts
 
@@ -159,7 +147,7 @@ module _ (b : BookData) (slot : ℕ) (formed : IsWellFormed b) (h : IsCounted b)
           pending_most = k.pending_most;
           returned_most = All-filter (λ (other : Batch). not (first_pane other == first_pane batch)) (IsBatchMost limit total (IsRunning b)) b.returned k.returned_most;
         }) slot (Some (live.Batch batch)) (All-nil (IsPiece limit total (IsRunning b)))
-            (All-cons (IsBatch limit total (IsRunning b)) batch [] (below, most) (All-nil (IsBatch limit total (IsRunning b))));
+            (All-cons (IsBatch limit total (IsRunning b)) batch [] (below, most.1) (All-nil (IsBatch limit total (IsRunning b))));
         stop = h.stop;
         calls = h.calls;
         reads = h.reads;
@@ -191,7 +179,7 @@ module _ (b : BookData) (slot : ℕ) (formed : IsWellFormed b) (h : IsCounted b)
           pending_most = All-tail (IsPieceMost limit total (IsRunning b)) piece later most;
           returned_most = k.returned_most;
         }) slot (Some (live.Span piece None))
-            (All-cons (IsPiece limit total (IsRunning b)) piece [] (All-head (IsPieceBelow limit total (IsRunning b)) piece later below, All-head (IsPieceMost limit total (IsRunning b)) piece later most) (All-nil (IsPiece limit total (IsRunning b))))
+            (All-cons (IsPiece limit total (IsRunning b)) piece [] (All-head (IsPieceBelow limit total (IsRunning b)) piece later below) (All-nil (IsPiece limit total (IsRunning b))))
             (All-nil (IsBatch limit total (IsRunning b)));
         stop = h.stop;
         calls = h.calls;

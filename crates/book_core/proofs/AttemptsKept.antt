@@ -14,22 +14,22 @@ use Rattle.beam_values.specs.declared.piece.Piece.{Piece}
 use Rattle.beam_ports.specs.Counts.{raised, greatest_count}
 use Rattle.bundle_commit.specs.declared.job.Receipt.{Receipt}
 use Rattle.split_core.specs.Order.{with_piece}
-use Rattle.book_core.specs.Book.{BookData, piece_of, batch_of}
+use Rattle.book_core.specs.Book.{SeenBook, piece_of, batch_of}
 use Rattle.book_core.specs.Changes.{with_slot, cut_to, rest_of, given_back, tried_piece, tried_batch, counted, stopped_where, ends_run, is_at_limit, note_of, or_stopped, pending_after, residual_of}
-use Rattle.book_core.specs.Facts.{AreAttemptsCounted, IsStopNoted, IsWellFormed}
+use Rattle.book_core.specs.Facts.{IsStopNoted, IsWellFormed}
 use Rattle.book_core.specs.Jobs.{Next}
-use Rattle.book_core.specs.Runs.{Reached, IsOpening, pieces_of}
+use Rattle.book_core.specs.Runs.{IsOpening, pieces_of}
 use Rattle.book_core.specs.Steps.{IsWorking, IsRunning}
 use Rattle.book_core.specs.Work.{worked_to}
 use Rattle.book_core.specs.declared.live.Batch.{Batch}
 use Rattle.book_core.specs.declared.live.Live.{Live}
 use Rattle.book_core.specs.declared.live.Live.TheVariants as live
-use Rattle.book_core.proofs.Cases.{Keeps, AreAlways, Both, kept_with, always_reached}
+use Rattle.book_core.proofs.Cases.{Keeps, AreAlways, Both, kept_with}
 use Rattle.book_core.proofs.Formed.{formed_always}
 use Rattle.book_core.proofs.OpenedPieces.{all_pieces, enrolled_of}
 use Rattle.book_core.proofs.Slotted.{All-flat_at}
 use Rattle.book_core.proofs.Taking.{take_cases}
-use Rattle.book_core.proofs.Attempts.{AreCounted, IsCounted, MayBeWorked, IsPiece, IsBatch, attempts_counted, set_counted, fresh_counted, residual_counted, more_counted, piece_back, batch_back, given_counted, waits_counted, pending_counted}
+use Rattle.book_core.proofs.Attempts.{AreCounted, IsCounted, MayBeWorked, IsPiece, IsBatch, set_counted, fresh_counted, residual_counted, more_counted, piece_back, batch_back, given_counted, waits_counted, pending_counted}
 
 -- ---- a fail
 
@@ -46,14 +46,14 @@ tried_read : (attempts calls reads : ℕ) → attempts ≤ calls + reads → att
 tried_read attempts calls reads h few = omega arith
 
 -- with the note that stops the run where the job is given up
-record IsFailedTo (spent : Bool) (y : BookData) (note : FaultNote) : Type 0 where
+record IsFailedTo (spent : Bool) (y : SeenBook) (note : FaultNote) : Type 0 where
   counts : AreCounted y.options.attempts (y.calls + y.reads) ((spent ≡ false) × IsRunning y) y.pending y.returned y.slots
   stop : IsStopNoted y y.stopped
   noted : spent ≡ true → note.attempt ≡ y.options.attempts
   calls : y.calls ≤ greatest_count
   reads : y.reads ≤ greatest_count
 
-stop_is_noted : (y : BookData) (old : Option StopCause) (note : FaultNote) → IsStopNoted y old → note.attempt ≡ y.options.attempts → IsStopNoted y (or_stopped old (stop.Spent note))
+stop_is_noted : (y : SeenBook) (old : Option StopCause) (note : FaultNote) → IsStopNoted y old → note.attempt ≡ y.options.attempts → IsStopNoted y (or_stopped old (stop.Spent note))
 stop_is_noted y (Some cause) note h e = h
 stop_is_noted y None note h e = e
 
@@ -61,7 +61,7 @@ never_none : (old : Option StopCause) (cause : StopCause) → or_stopped old cau
 never_none (Some kept) cause e = absurd (cc)
 never_none None cause e = absurd (cc)
 
-finish_counted : (spent : Bool) (y : BookData) (note : FaultNote) → IsFailedTo spent y note → IsCounted (stopped_where spent y note)
+finish_counted : (spent : Bool) (y : SeenBook) (note : FaultNote) → IsFailedTo spent y note → IsCounted (stopped_where spent y note)
 finish_counted true y note h = record {
   counts = more_counted y.options.attempts (y.calls + y.reads) ((true ≡ false) × IsRunning y) y.pending y.returned y.slots h.counts (y.calls + y.reads) (or_stopped y.stopped (stop.Spent note) ≡ None)
       (omega arith) (λ none. absurd (never_none y.stopped (stop.Spent note) none));
@@ -84,7 +84,7 @@ below_again limit attempts e = grind (arith, nat_tests)
 just_spent : (limit attempts : ℕ) → attempts < limit → nat_le limit (attempts + 1) ≡ true → attempts + 1 ≡ limit
 just_spent limit attempts less e = grind (arith, nat_tests)
 
-module _ (b : BookData) (slot at : ℕ) (formed : IsWellFormed b) (h : IsCounted b) where
+module _ (b : SeenBook) (slot at : ℕ) (formed : IsWellFormed b) (h : IsCounted b) where
   abbrev most_tried : ℕ
   most_tried = b.options.attempts
 
@@ -99,22 +99,22 @@ module _ (b : BookData) (slot at : ℕ) (formed : IsWellFormed b) (h : IsCounted
       (All-nil (IsPiece most_tried more runs)) (All-nil (IsBatch most_tried more runs))
 
   span_back : (piece : Piece) (attempted : Option ℕ) → IsWorking b slot (live.Span piece attempted) → (spent : Bool) → is_at_limit b (live.Span piece attempted) ≡ spent
-      → (more : ℕ) → so_far ≤ more → piece.attempts + 1 ≤ more
+      → (more : ℕ) → so_far ≤ more → piece.attempts < most_tried
       → AreCounted most_tried more ((spent ≡ false) × IsRunning b) (with_piece (tried_piece piece) b.pending) b.returned (slice_set b.slots slot None)
-  span_back piece attempted works spent ends more rise tried =
+  span_back piece attempted works spent ends more rise below =
       piece_back most_tried more ((spent ≡ false) × IsRunning b) b.pending b.returned (slice_set b.slots slot None)
       (freed more ((spent ≡ false) × IsRunning b) rise (λ r. r.1)) (tried_piece piece)
-      (λ r. below_again most_tried piece.attempts (ends ∙ r.0)) tried
+      (λ r. below_again most_tried piece.attempts (ends ∙ r.0)) (omega (arith, below))
 
   batch_given : (batch : Batch) → IsWorking b slot (live.Batch batch) → (spent : Bool) → is_at_limit b (live.Batch batch) ≡ spent
-      → (more : ℕ) → so_far ≤ more → batch.attempts + 1 ≤ more
+      → (more : ℕ) → so_far ≤ more → batch.attempts < most_tried → batch.attempts + 1 ≤ more
       → AreCounted most_tried more ((spent ≡ false) × IsRunning b) b.pending (b.returned ++ tried_batch batch ∷ []) (slice_set b.slots slot None)
-  batch_given batch works spent ends more rise tried =
+  batch_given batch works spent ends more rise below tried =
       batch_back most_tried more ((spent ≡ false) × IsRunning b) b.pending b.returned (slice_set b.slots slot None)
       (freed more ((spent ≡ false) × IsRunning b) rise (λ r. r.1)) (tried_batch batch)
-      (λ r. below_again most_tried batch.attempts (ends ∙ r.0)) tried
+      (λ r. below_again most_tried batch.attempts (ends ∙ r.0)) (omega (arith, below), tried)
 
-  worked_piece : (piece : Piece) (attempted : Option ℕ) → IsWorking b slot (live.Span piece attempted) → MayBeWorked most_tried so_far piece.attempts
+  worked_piece : (piece : Piece) (attempted : Option ℕ) → IsWorking b slot (live.Span piece attempted) → piece.attempts < most_tried
   worked_piece piece attempted works =
       All-head (IsPiece most_tried so_far (IsRunning b)) piece []
       (All-flat_at piece_of b.slots slot (IsPiece most_tried so_far (IsRunning b)) (Some (live.Span piece attempted)) works h.counts.worked_pieces)
@@ -128,29 +128,29 @@ module _ (b : BookData) (slot at : ℕ) (formed : IsWellFormed b) (h : IsCounted
   few_tries attempts may = let limits = formed.allowed.attempts.1 in omega (arith, may.0, limits)
 
   failed_to : (job : Live) (cause : Cause) → IsWorking b slot job → (spent : Bool) → is_at_limit b job ≡ spent
-      → IsFailedTo spent (counted (given_back (with_slot b slot None) job) cause) (note_of job at cause)
+      → IsFailedTo spent (counted (given_back (with_slot b slot None) job at cause) cause) (note_of job at cause)
   failed_to (live.Span piece attempted) Call works spent ends =
       let may = worked_piece piece attempted works in
       record {
-        counts = span_back piece attempted works spent ends (raised b.calls + b.reads) (rises_call b.calls b.reads h.calls) (tried_call piece.attempts b.calls b.reads may.1 (few_tries piece.attempts may));
+        counts = span_back piece attempted works spent ends (raised b.calls + b.reads) (rises_call b.calls b.reads h.calls) may;
         stop = h.stop;
-        noted = λ e. just_spent most_tried piece.attempts may.0 (ends ∙ e);
+        noted = λ e. just_spent most_tried piece.attempts may (ends ∙ e);
         calls = omega arith;
         reads = h.reads;
       }
   failed_to (live.Span piece attempted) Read works spent ends =
       let may = worked_piece piece attempted works in
       record {
-        counts = span_back piece attempted works spent ends (b.calls + raised b.reads) (rises_read b.calls b.reads h.reads) (tried_read piece.attempts b.calls b.reads may.1 (few_tries piece.attempts may));
+        counts = span_back piece attempted works spent ends (b.calls + raised b.reads) (rises_read b.calls b.reads h.reads) may;
         stop = h.stop;
-        noted = λ e. just_spent most_tried piece.attempts may.0 (ends ∙ e);
+        noted = λ e. just_spent most_tried piece.attempts may (ends ∙ e);
         calls = h.calls;
         reads = omega arith;
       }
   failed_to (live.Batch batch) Call works spent ends =
       let may = worked_batch batch works in
       record {
-        counts = batch_given batch works spent ends (raised b.calls + b.reads) (rises_call b.calls b.reads h.calls) (tried_call batch.attempts b.calls b.reads may.1 (few_tries batch.attempts may));
+        counts = batch_given batch works spent ends (raised b.calls + b.reads) (rises_call b.calls b.reads h.calls) may.0 (tried_call batch.attempts b.calls b.reads may.1 (few_tries batch.attempts may));
         stop = h.stop;
         noted = λ e. just_spent most_tried batch.attempts may.0 (ends ∙ e);
         calls = omega arith;
@@ -159,7 +159,7 @@ module _ (b : BookData) (slot at : ℕ) (formed : IsWellFormed b) (h : IsCounted
   failed_to (live.Batch batch) Read works spent ends =
       let may = worked_batch batch works in
       record {
-        counts = batch_given batch works spent ends (b.calls + raised b.reads) (rises_read b.calls b.reads h.reads) (tried_read batch.attempts b.calls b.reads may.1 (few_tries batch.attempts may));
+        counts = batch_given batch works spent ends (b.calls + raised b.reads) (rises_read b.calls b.reads h.reads) may.0 (tried_read batch.attempts b.calls b.reads may.1 (few_tries batch.attempts may));
         stop = h.stop;
         noted = λ e. just_spent most_tried batch.attempts may.0 (ends ∙ e);
         calls = h.calls;
@@ -189,34 +189,34 @@ commit_counted limit total running pending returned slots slot (live.Batch batch
 abbrev IsUntried : Piece → Type 0
 IsUntried piece = piece.attempts ≡ 0
 
-opening_counted : (b first : BookData) → IsOpening b.plan b.files b.options first → IsCounted first
+opening_counted : (b first : SeenBook) → IsOpening b.plan b.files b.options first → IsCounted first
 opening_counted b first opening =
     let some = opening.allowed.attempts.0 in
     let untried = all_pieces IsUntried (λ node item chunk len i. refl) b.options.chunk b.files [] (All-nil IsUntried) in
     subst IsCounted (sym opening.is) (record {
       counts = record {
-        worked_pieces = All-nil (λ piece. MayBeWorked b.options.attempts (0 + 0) piece.attempts);
+        worked_pieces = All-nil (λ piece. piece.attempts < b.options.attempts);
         worked_batches = All-nil (λ batch. MayBeWorked b.options.attempts (0 + 0) batch.attempts);
         pending_below = λ runs. All-weaker IsUntried (λ piece. piece.attempts < b.options.attempts) (λ piece e. omega (arith, e, some)) (pieces_of b.options.chunk b.files) untried;
         returned_below = λ runs. All-nil (λ batch. batch.attempts < b.options.attempts);
-        pending_most = All-weaker IsUntried (λ piece. piece.attempts ≤ 0 + 0) (λ piece e. omega (arith, e)) (pieces_of b.options.chunk b.files) untried;
-        returned_most = All-nil (λ batch. batch.attempts ≤ 0 + 0);
+        pending_most = All-weaker IsUntried (λ piece. piece.attempts ≤ b.options.attempts) (λ piece e. omega (arith, e)) (pieces_of b.options.chunk b.files) untried;
+        returned_most = All-nil (λ batch. (batch.attempts ≤ b.options.attempts) × (batch.attempts ≤ 0 + 0));
       };
       stop = tt;
       calls = omega arith;
       reads = omega arith;
     })
 
-stop_no_memory : (y : BookData) (old : Option StopCause) → IsStopNoted y old → IsStopNoted y (or_stopped old stop.NoMemory)
+stop_no_memory : (y : SeenBook) (old : Option StopCause) → IsStopNoted y old → IsStopNoted y (or_stopped old stop.NoMemory)
 stop_no_memory y (Some cause) h = h
 stop_no_memory y None h = tt
 
-keeps_counted : (told : Option (List FileText)) → Keeps told IsWellFormed IsCounted
+pub keeps_counted : (told : Option (List FileText)) → Keeps told IsWellFormed IsCounted
 keeps_counted told = record {
   opens = opening_counted;
   enrolls = λ b formed h within. record {
     counts = record {
-      worked_pieces = subst (All (λ piece. MayBeWorked b.options.attempts (b.calls + b.reads) piece.attempts)) (sym (enrolled_of piece_of b.slots refl)) h.counts.worked_pieces;
+      worked_pieces = subst (All (λ piece. piece.attempts < b.options.attempts)) (sym (enrolled_of piece_of b.slots refl)) h.counts.worked_pieces;
       worked_batches = subst (All (λ batch. MayBeWorked b.options.attempts (b.calls + b.reads) batch.attempts)) (sym (enrolled_of batch_of b.slots refl)) h.counts.worked_batches;
       pending_below = h.counts.pending_below;
       returned_below = h.counts.returned_below;
@@ -227,7 +227,7 @@ keeps_counted told = record {
     calls = h.calls;
     reads = h.reads;
   };
-  takes = λ b slot next formed h running free is.
+  takes = λ b slot next formed h running free is within.
       take_cases b (λ (n : Next). IsCounted (with_slot n.rest slot (Some n.job)))
       (given_counted b slot formed h running) (waits_counted b slot formed h running) (pending_counted b slot formed h running) next is;
   claims = λ b slot p piece attempted formed h works may. record {
@@ -257,7 +257,7 @@ keeps_counted told = record {
     reads = h.reads;
   };
   fails = λ b slot at job cause formed h works.
-      finish_counted (ends_run b job cause) (counted (given_back (with_slot b slot None) job) cause) (note_of job at cause)
+      finish_counted (ends_run b job cause) (counted (given_back (with_slot b slot None) job at cause) cause) (note_of job at cause)
       (failed_to b slot at formed h job cause works (ends_run b job cause) refl);
   stops = λ b formed h. record {
     counts = more_counted b.options.attempts (b.calls + b.reads) (IsRunning b) b.pending b.returned b.slots h.counts (b.calls + b.reads) (or_stopped b.stopped stop.NoMemory ≡ None)
@@ -270,9 +270,3 @@ keeps_counted told = record {
 
 pub counted_always : (told : Option (List FileText)) → AreAlways told (Both IsWellFormed IsCounted)
 counted_always told = kept_with told IsWellFormed IsCounted (formed_always told) (keeps_counted told)
-
-pub reached_counted : (told : Option (List FileText)) (b : BookData) → Reached told b → AreAttemptsCounted b
-reached_counted told b reached = attempts_counted b (always_reached told (Both IsWellFormed IsCounted) (counted_always told) b reached).1.counts
-
-pub reached_noted : (told : Option (List FileText)) (b : BookData) → Reached told b → IsStopNoted b b.stopped
-reached_noted told b reached = (always_reached told (Both IsWellFormed IsCounted) (counted_always told) b reached).1.stop

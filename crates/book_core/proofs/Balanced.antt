@@ -26,7 +26,7 @@ use Rattle.beam_model.specs.Positions.{SourceItem, items}
 use Rattle.beam_model.specs.Spread.{spread_range}
 use Rattle.bundle_commit.specs.declared.job.Receipt.{Receipt}
 use Rattle.group_cells.proofs.Counting.{All-unmap}
-use Rattle.book_core.specs.Book.{BookData, HeldPane, batch_of, held, held_in, panes_of, queued, live_batches, last_marks}
+use Rattle.book_core.specs.Book.{SeenBook, HeldPane, batch_of, held, held_in, panes_of, queued, live_batches, last_marks}
 use Rattle.book_core.specs.Changes.{committed, done_after, done_cmp, done_of, with_done}
 use Rattle.book_core.specs.Facts.{AreHeldOnce, IsBalanced, IsHeldPane, IsWellFormed, held_chains}
 use Rattle.book_core.specs.Jobs.{attempted_of, job_of}
@@ -36,7 +36,8 @@ use Rattle.book_core.specs.declared.live.Batch.{Batch}
 use Rattle.book_core.specs.declared.live.Live.{Live}
 use Rattle.book_core.specs.declared.live.Live.TheVariants as live
 use Rattle.book_core.specs.declared.live.WaitingPane.{WaitingPane}
-use Rattle.book_core.proofs.Cases.{Commits}
+use Rattle.book_core.proofs.Cases.{Commits, LegalIn}
+use Rattle.book_core.proofs.CellsAlways.{commit_entries}
 use Rattle.book_core.proofs.Ends.{IsEnd, IsEnded, arrivals_added, panes_ended, spread_ended}
 use Rattle.book_core.proofs.HeldMoves.{fired_held}
 use Rattle.book_core.proofs.HeldOnce.{commit_bag, get_at_end, get_front}
@@ -72,13 +73,13 @@ module _ (plan : Plan) (w : Output → ℕ) where
   held_reads panes h pane at =
       ap read_weight at ∙ omega (arith, sum_by-append w (chain plan pane.node pane.element) [])
 
-  pub chains_weigh : (b : BookData) → b.plan ≡ plan → sum_by w (held_chains b) ≡ sum_by (held_weight b.panes) (held b)
+  pub chains_weigh : (b : SeenBook) → b.plan ≡ plan → sum_by w (held_chains b) ≡ sum_by (held_weight b.panes) (held b)
   chains_weigh b same =
       subst (λ (p : Plan). sum_by w (flat_map (λ h. pane_chains p (panes_of b.panes (h.waiting ∷ []))) (held b)) ≡ sum_by (held_weight b.panes) (held b)) (sym same)
       (sum_by-flat_map w (λ (h : HeldPane). pane_chains plan (panes_of b.panes (h.waiting ∷ []))) (held b))
 
   -- those that are panes already stay what they are
-  same_later : (b : BookData) (more : List Pane) (hs : List HeldPane) → All (IsHeldPane b) hs → sum_by (held_weight (b.panes ++ more)) hs ≡ sum_by (held_weight b.panes) hs
+  same_later : (b : SeenBook) (more : List Pane) (hs : List HeldPane) → All (IsHeldPane b) hs → sum_by (held_weight (b.panes ++ more)) hs ≡ sum_by (held_weight b.panes) hs
   same_later b more [] all = refl
   same_later b more (h ∷ hs) all =
       let first = All-head (IsHeldPane b) h hs all in
@@ -110,7 +111,7 @@ module _ (plan : Plan) (w : Output → ℕ) where
       )
 
   -- the outputs of a batch are the chains of its panes
-  batch_flow : (b : BookData) (node : ℕ) (panes : List WaitingPane) → All (IsHeldPane b) (map (λ waiting. record { node = node; waiting = waiting }) panes)
+  batch_flow : (b : SeenBook) (node : ℕ) (panes : List WaitingPane) → All (IsHeldPane b) (map (λ waiting. record { node = node; waiting = waiting }) panes)
       → sum_by (held_weight b.panes) (map (λ waiting. record { node = node; waiting = waiting }) panes) ≡ sum_by w (batch_outputs plan node (panes_of b.panes panes))
   batch_flow b node [] all = refl
   batch_flow b node (p ∷ ps) all =
@@ -131,7 +132,7 @@ module _ (plan : Plan) (w : Output → ℕ) where
 -- ---- a commit
 
 -- all panes of a batch that is worked are held
-batch_held : (b : BookData) (slot : ℕ) → AreHeldOnce b → (batch : Batch) → IsWorking b slot (live.Batch batch) → All (IsHeldPane b) (held_in batch)
+batch_held : (b : SeenBook) (slot : ℕ) → AreHeldOnce b → (batch : Batch) → IsWorking b slot (live.Batch batch) → All (IsHeldPane b) (held_in batch)
 batch_held b slot once batch works =
     let live_held = All-append_right (IsHeldPane b) (flat_map held_in b.returned) (flat_map held_in (live_batches b))
     (All-append_right (IsHeldPane b) (queued b) (flat_map held_in b.returned ++ flat_map held_in (live_batches b)) once.panes) in
@@ -139,13 +140,13 @@ batch_held b slot once batch works =
     All-head (λ (x : Batch). All (IsHeldPane b) (held_in x)) batch [] (All-flat_at batch_of b.slots slot (λ (x : Batch). All (IsHeldPane b) (held_in x)) (Some (live.Batch batch)) works each)
 
 -- the arrivals of a receipt are the outputs of its range, which is done now, or of its batch
-pub record IsReceiptBalanced (told : List FileText) (b : BookData) (job : Live) (receipt : Receipt) : Type 0 where
+pub record IsReceiptBalanced (told : List FileText) (b : SeenBook) (job : Live) (receipt : Receipt) : Type 0 where
   pub ends : All (IsEnd b.plan) receipt.arrivals
   pub weighs : (w : Output → ℕ)
       → sum_by w (spread_dones b.plan (items told b.plan) (done_after b.done job)) + sum_by (held_weight b.plan w b.panes) (flat_map held_in (batch_of (Some job)))
       ≡ sum_by w (spread_dones b.plan (items told b.plan) b.done) + sum_by w (map Arrives receipt.arrivals)
 
-module _ (told : List FileText) (b : BookData) (slot : ℕ) (receipt : Receipt) (no_stateful : (n : ℕ) → is_stateful b.plan n ≡ false) (once : AreHeldOnce b) where
+module _ (told : List FileText) (b : SeenBook) (slot : ℕ) (receipt : Receipt) (no_stateful : (n : ℕ) → is_stateful b.plan n ≡ false) (once : AreHeldOnce b) where
   ended : (outputs : List Output) → map Arrives receipt.arrivals ≡ outputs → All (IsEnded b.plan) outputs → All (IsEnd b.plan) receipt.arrivals
   ended outputs same all = All-unmap (IsEnded b.plan) Arrives receipt.arrivals (subst (All (IsEnded b.plan)) (sym same) all)
 
@@ -197,10 +198,10 @@ module _ (told : List FileText) (b : BookData) (slot : ℕ) (receipt : Receipt) 
   job_balanced (live.Batch batch) works given =
       batch_balanced batch (batch_held b slot once batch works) given.0
 
-module _ (told : List FileText) (b : BookData) (slot : ℕ) (job : Live) (receipt : Receipt) (cells : List Cell) (fired : List Pane) (marks : List StageMarks)
+module _ (told : List FileText) (b : SeenBook) (slot : ℕ) (job : Live) (receipt : Receipt) (cells : List Cell) (fired : List Pane) (marks : List StageMarks)
     (no_stateful : (n : ℕ) → is_stateful b.plan n ≡ false)
-    (formed : IsWellFormed b) (once : AreHeldOnce b) (made : Commits (Some told) b slot job receipt cells fired marks) (was : IsBalanced told b) where
-  abbrev after : BookData
+    (formed : IsWellFormed b) (once : AreHeldOnce b) (legal : LegalIn b) (made : Commits (Some told) b slot job receipt cells fired marks) (was : IsBalanced told b) where
+  abbrev after : SeenBook
   after = committed b slot job receipt cells fired marks
 
   abbrev receipt_balanced : IsReceiptBalanced told b job receipt
@@ -231,7 +232,7 @@ module _ (told : List FileText) (b : BookData) (slot : ℕ) (job : Live) (receip
           sum_by-map w Arrives (arrivals_of b.cells b.dropped [] b.written),
           sum_by-map w Arrives (arrivals_of after.cells after.dropped [] after.written),
           sum_by-map w Arrives receipt.arrivals,
-          arrivals_added v b.plan (last_marks b) (length b.commits) receipt.arrivals b.cells cells b.dropped b.written made.entries receipt_balanced.ends,
+          arrivals_added v b.plan (last_marks b) (length b.commits) receipt.arrivals b.cells cells b.dropped b.written (commit_entries (Some told) b slot job receipt cells fired marks legal made) receipt_balanced.ends,
           chains_weigh b.plan w b refl,
           chains_weigh b.plan w after refl,
           (commit_bag (Some told) b slot job receipt cells fired marks formed once made).weighs hw,

@@ -21,23 +21,24 @@ use Rattle.beam_model.specs.Chains.{Output, Arrives}
 use Rattle.beam_model.specs.Coverings.{spread_dones}
 use Rattle.beam_model.specs.Flow.{pane_chains}
 use Rattle.beam_model.specs.Positions.{items}
-use Rattle.book_core.specs.Book.{BookData, HeldPane, held, panes_of}
+use Rattle.book_core.specs.Book.{SeenBook, HeldPane, held, panes_of}
 use Rattle.book_core.specs.Changes.{with_slot, cut_to, split_off, failed, given_back, counted, stopped_where, ends_run, note_of}
-use Rattle.book_core.specs.Facts.{AreHeldOnce, IsBalanced, IsWellFormed, held_chains}
+use Rattle.book_core.specs.Facts.{IsBalanced, held_chains}
 use Rattle.book_core.specs.Jobs.{Next, next_job}
-use Rattle.book_core.specs.Runs.{Reached, IsOpening, opened}
+use Rattle.book_core.specs.Runs.{IsOpening, opened}
+use Rattle.book_core.specs.Sane.{AreKeptWith}
 use Rattle.book_core.specs.Steps.{IsWorking}
 use Rattle.book_core.specs.declared.live.Live.{Live}
 use Rattle.book_core.specs.declared.live.Live.TheVariants as live
 use Rattle.book_core.proofs.Balanced.{commit_balanced}
-use Rattle.book_core.proofs.Cases.{Keeps, Both, kept_with, always_reached, enrolled}
-use Rattle.book_core.proofs.CellsAlways.{StaysCelled, take_stays, fail_stays}
+use Rattle.book_core.proofs.Cases.{Keeps, enrolled}
 use Rattle.book_core.proofs.HeldMoves.{take_moves, set_moves, enroll_moves, back_moves}
-use Rattle.book_core.proofs.HeldOnce.{held_always, none_held}
+use Rattle.book_core.proofs.HeldOnce.{none_held}
+use Rattle.book_core.proofs.SaneResults.{StaysCelled, take_stays, fail_stays}
 use Rattle.book_core.proofs.Taking.{take_cases}
 
 -- what a step leaves that is no commit
-record StaysBalanced (old new : BookData) : Type 0 where
+record StaysBalanced (old new : SeenBook) : Type 0 where
   same : StaysCelled old new
   done : new.done ≡ old.done
   held : IsSameBag (held new) (held old)
@@ -50,7 +51,7 @@ abbrev Balances : List FileText → Plan → List Done → List Pane → List Ce
 Balances told plan done panes cells dropped written held =
     IsSameBag (spread_dones plan (items told plan) done ++ pane_chains plan panes) (map Arrives (arrivals_of cells dropped [] written) ++ flat_map (flows_held plan panes) held)
 
-balanced_onward : (told : List FileText) (old new : BookData) → StaysBalanced old new → IsBalanced told old → IsBalanced told new
+balanced_onward : (told : List FileText) (old new : SeenBook) → StaysBalanced old new → IsBalanced told old → IsBalanced told new
 balanced_onward told old new s h =
     let moved : Balances told old.plan old.done old.panes old.cells old.dropped old.written (held new) =
     bag_trans (spread_dones old.plan (items told old.plan) old.done ++ pane_chains old.plan old.panes)
@@ -66,33 +67,33 @@ balanced_onward told old new s h =
     (subst (λ (l : List Dropped). Balances told old.plan old.done old.panes old.cells l new.written (held new)) (sym s.same.dropped)
     (subst (λ (l : List Arrival). Balances told old.plan old.done old.panes old.cells old.dropped l (held new)) (sym s.same.written) moved)))))
 
-take_done : (b : BookData) (slot : ℕ) (next : Next) → next_job b ≡ Some next → (with_slot next.rest slot (Some next.job)).done ≡ b.done
+take_done : (b : SeenBook) (slot : ℕ) (next : Next) → next_job b ≡ Some next → (with_slot next.rest slot (Some next.job)).done ≡ b.done
 take_done b slot next is = take_cases b (λ (n : Next). n.rest.done ≡ b.done) (λ batch among. refl) (λ batch oldest. refl) (λ piece later e. refl) next is
 
 -- ---- a fail
 
-stop_same : (spent : Bool) (x : BookData) (note : FaultNote) → (held (stopped_where spent x note) ≡ held x) × ((stopped_where spent x note).done ≡ x.done)
+stop_same : (spent : Bool) (x : SeenBook) (note : FaultNote) → (held (stopped_where spent x note) ≡ held x) × ((stopped_where spent x note).done ≡ x.done)
 stop_same true x note = (refl, refl)
 stop_same false x note = (refl, refl)
 
-counted_same : (x : BookData) (cause : Cause) → (held (counted x cause) ≡ held x) × ((counted x cause).done ≡ x.done)
+counted_same : (x : SeenBook) (cause : Cause) → (held (counted x cause) ≡ held x) × ((counted x cause).done ≡ x.done)
 counted_same x Call = (refl, refl)
 counted_same x Read = (refl, refl)
 
-back_done : (b : BookData) (slot : ℕ) (job : Live) → (given_back (with_slot b slot None) job).done ≡ b.done
-back_done b slot (live.Span piece attempted) = refl
-back_done b slot (live.Batch batch) = refl
+back_done : (b : SeenBook) (slot : ℕ) (job : Live) (at : ℕ) (cause : Cause) → (given_back (with_slot b slot None) job at cause).done ≡ b.done
+back_done b slot (live.Span piece attempted) at cause = refl
+back_done b slot (live.Batch batch) at cause = refl
 
-fail_balanced : (b : BookData) (slot at : ℕ) (job : Live) (cause : Cause) → IsWorking b slot job → StaysBalanced b (failed b slot job at cause)
+fail_balanced : (b : SeenBook) (slot at : ℕ) (job : Live) (cause : Cause) → IsWorking b slot job → StaysBalanced b (failed b slot job at cause)
 fail_balanced b slot at job cause works =
-    let back = given_back (with_slot b slot None) job in
+    let back = given_back (with_slot b slot None) job at cause in
     let more = counted back cause in
     let stopped = stop_same (ends_run b job cause) more (note_of job at cause) in
     record {
       same = fail_stays b slot at job cause;
-      done = stopped.1 ∙ (counted_same back cause).1 ∙ back_done b slot job;
+      done = stopped.1 ∙ (counted_same back cause).1 ∙ back_done b slot job at cause;
       held = bag_trans (held (failed b slot job at cause)) (held back) (held b)
-          (bag_from_same (held (failed b slot job at cause)) (held back) (stopped.0 ∙ (counted_same back cause).0)) (back_moves b slot job works);
+          (bag_from_same (held (failed b slot job at cause)) (held back) (stopped.0 ∙ (counted_same back cause).0)) (back_moves b slot job at cause works);
     }
 
 -- ---- each step
@@ -101,19 +102,19 @@ fail_balanced b slot at job cause works =
 abbrev pub NoStateful : Type 0
 NoStateful = (plan : Plan) (n : ℕ) → IsChecked plan → is_stateful plan n ≡ false
 
-opening_balanced : (told : List FileText) (b first : BookData) → IsOpening b.plan b.files b.options first → IsBalanced told first
+opening_balanced : (told : List FileText) (b first : SeenBook) → IsOpening b.plan b.files b.options first → IsBalanced told first
 opening_balanced told b first opening =
     subst (IsBalanced told) (sym opening.is)
     (bag_from_same [] (held_chains (opened b.plan b.files b.options opening.marks))
     (sym (ap (flat_map (flows_held b.plan [])) (none_held b opening.marks))))
 
-keeps_balanced : NoStateful → (told : List FileText) → Keeps (Some told) (Both IsWellFormed AreHeldOnce) (IsBalanced told)
+pub keeps_balanced : NoStateful → (told : List FileText) → Keeps (Some told) AreKeptWith (IsBalanced told)
 keeps_balanced no_stateful told = record {
   opens = opening_balanced told;
   enrolls = λ b known h within.
       balanced_onward told b (enrolled b) (record { same = record { plan = refl; commits = refl; cells = refl; dropped = refl; panes = refl; written = refl }; done = refl; held = enroll_moves b }) h;
-  takes = λ b slot next known h running free is.
-      balanced_onward told b (with_slot next.rest slot (Some next.job)) (record { same = take_stays b slot next is; done = take_done b slot next is; held = take_moves b slot free known.1 next is }) h;
+  takes = λ b slot next known h running free is within.
+      balanced_onward told b (with_slot next.rest slot (Some next.job)) (record { same = take_stays b slot next is; done = take_done b slot next is; held = take_moves b slot free known.sane.held next is }) h;
   claims = λ b slot p piece attempted known h works may.
       balanced_onward told b (with_slot b slot (Some (live.Span piece (Some p)))) (record {
         same = record { plan = refl; commits = refl; cells = refl; dropped = refl; panes = refl; written = refl };
@@ -127,12 +128,7 @@ keeps_balanced no_stateful told = record {
         held = set_moves b slot (Some (live.Span piece attempted)) (Some (live.Span (cut_to piece (record { from = piece.range.from; to = at })) attempted)) works refl refl;
       }) h;
   commits = λ b slot job receipt cells fired marks known h made.
-      commit_balanced told b slot job receipt cells fired marks (λ n. no_stateful b.plan n known.0.checked) known.0 known.1 made h;
+      commit_balanced told b slot job receipt cells fired marks (λ n. no_stateful b.plan n known.sane.formed.checked) known.sane.formed known.sane.held known.kept.cells.legal made h;
   fails = λ b slot at job cause known h works. balanced_onward told b (failed b slot job at cause) (fail_balanced b slot at job cause works) h;
   stops = λ b known h. h;
 }
-
-pub reached_balanced : NoStateful → (told : List FileText) (b : BookData) → Reached (Some told) b → IsBalanced told b
-reached_balanced no_stateful told b reached =
-    (always_reached (Some told) (Both (Both IsWellFormed AreHeldOnce) (IsBalanced told))
-    (kept_with (Some told) (Both IsWellFormed AreHeldOnce) (IsBalanced told) (held_always (Some told)) (keeps_balanced no_stateful told)) b reached).1

@@ -1,8 +1,6 @@
 -- The steps as a fact sees them: what the opening has and each kind of change keeps holds of every reached book.
 use Rattle.std.proofs.Common.{◌≡◌, ℕ, ◌<◌, ◌≤◌, List, [], ◌∷◌, ◌++◌, sym, subst, arith}
-use Rattle.std.specs.Prelude.{Option, Some, None, map, length}
-use Rattle.std.specs.List.{filter}
-use Rattle.beam_values.specs.Bags.{IsSameBag}
+use Rattle.std.specs.Prelude.{Option, Some, None, length}
 use Rattle.beam_values.specs.Tracking.{MayClaim, first_unattempted, split_point_of}
 use Rattle.beam_values.specs.declared.cell.Cell.{Cell}
 use Rattle.beam_values.specs.declared.cell.Pane.{Pane}
@@ -11,10 +9,10 @@ use Rattle.beam_values.specs.declared.file_text.FileText.{FileText}
 use Rattle.beam_values.specs.declared.marks.StageMarks.{StageMarks}
 use Rattle.beam_values.specs.declared.outcome.StopCause.TheVariants as stop
 use Rattle.beam_values.specs.declared.piece.Piece.{Piece}
-use Rattle.beam_model.specs.Panes.{taken_by, ArePanesLegal}
+use Rattle.beam_model.specs.Panes.{ArePanesLegal}
 use Rattle.bundle_commit.specs.declared.job.Receipt.{Receipt}
-use Rattle.group_cells.specs.Commits.{is_taken, taken_arrival}
-use Rattle.book_core.specs.Book.{BookData, tracker_of, last_marks, AreMarksOfBook}
+use Rattle.group_cells.specs.Commits.{AreRounds}
+use Rattle.book_core.specs.Book.{SeenBook, tracker_of, last_marks, AreMarksOfBook}
 use Rattle.book_core.specs.Changes.{with_slot, split_off, committed, failed, or_stopped}
 use Rattle.book_core.specs.Jobs.{Next, next_job, job_of, attempted_of}
 use Rattle.book_core.specs.Runs.{Reached, IsOpening}
@@ -24,60 +22,57 @@ use Rattle.book_core.specs.declared.live.Live.{Live}
 use Rattle.book_core.specs.declared.live.Live.TheVariants as live
 use Rattle.book_core.proofs.Kept.{reached_has}
 
-abbrev pub enrolled : BookData → BookData
+abbrev pub enrolled : SeenBook → SeenBook
 enrolled b = record b { slots = b.slots ++ None ∷ [] }
 
-abbrev pub LegalIn : BookData → Type 0
+abbrev pub LegalIn : SeenBook → Type 0
 LegalIn b = ArePanesLegal b.plan b.commits b.cells b.dropped b.panes
 
 -- a commit, with the book that it leaves
-pub record Commits (told : Option (List FileText)) (b : BookData) (slot : ℕ) (job : Live) (receipt : Receipt) (cells : List Cell) (fired : List Pane) (marks : List StageMarks) : Type 0 where
+pub record Commits (told : Option (List FileText)) (b : SeenBook) (slot : ℕ) (job : Live) (receipt : Receipt) (cells : List Cell) (fired : List Pane) (marks : List StageMarks) : Type 0 where
   pub works : IsWorking b slot job
   pub given : IsGiven told b.plan (job_of b.panes job) (attempted_of job) receipt
-  pub entries : IsSameBag (taken_by cells)
-      (taken_by b.cells ++ map (taken_arrival (length b.commits)) (filter (is_taken b.plan (last_marks b)) receipt.arrivals))
   pub marked : AreMarksOfBook (committed b slot job receipt cells fired marks) marks
-  pub legal : LegalIn (committed b slot job receipt cells fired marks)
+  pub rounds : AreRounds b.plan (length b.commits) (last_marks b) marks receipt.arrivals b.cells cells fired
   pub within : IsWithinLimits (committed b slot job receipt cells fired marks)
 
 -- what keeps a fact, where another one is known of the book before
-pub record Keeps (told : Option (List FileText)) (Premise Fact : BookData → Type 0) : Type 0 where
-  pub opens : (b first : BookData) → IsOpening b.plan b.files b.options first → Fact first
-  pub enrolls : (b : BookData) → Premise b → Fact b → IsWithinLimits (enrolled b) → Fact (enrolled b)
-  pub takes : (b : BookData) (slot : ℕ) (next : Next) → Premise b → Fact b → IsRunning b → IsFree b slot → next_job b ≡ Some next
-      → Fact (with_slot next.rest slot (Some next.job))
-  pub claims : (b : BookData) (slot p : ℕ) (piece : Piece) (attempted : Option ℕ) → Premise b → Fact b → IsWorking b slot (live.Span piece attempted)
+pub record Keeps (told : Option (List FileText)) (Premise Fact : SeenBook → Type 0) : Type 0 where
+  pub opens : (b first : SeenBook) → IsOpening b.plan b.files b.options first → Fact first
+  pub enrolls : (b : SeenBook) → Premise b → Fact b → IsWithinLimits (enrolled b) → Fact (enrolled b)
+  pub takes : (b : SeenBook) (slot : ℕ) (next : Next) → Premise b → Fact b → IsRunning b → IsFree b slot → next_job b ≡ Some next
+      → IsWithinLimits (with_slot next.rest slot (Some next.job)) → Fact (with_slot next.rest slot (Some next.job))
+  pub claims : (b : SeenBook) (slot p : ℕ) (piece : Piece) (attempted : Option ℕ) → Premise b → Fact b → IsWorking b slot (live.Span piece attempted)
       → MayClaim (tracker_of piece attempted) p → Fact (with_slot b slot (Some (live.Span piece (Some p))))
-  pub splits : (b : BookData) (slot at : ℕ) (piece : Piece) (attempted : Option ℕ) → Premise b → Fact b → IsWorking b slot (live.Span piece attempted)
+  pub splits : (b : SeenBook) (slot at : ℕ) (piece : Piece) (attempted : Option ℕ) → Premise b → Fact b → IsWorking b slot (live.Span piece attempted)
       → at < piece.range.to → first_unattempted piece.range.from attempted ≤ at → IsWithinLimits (split_off b slot piece attempted at) → Fact (split_off b slot piece attempted at)
-  pub commits : (b : BookData) (slot : ℕ) (job : Live) (receipt : Receipt) (cells : List Cell) (fired : List Pane) (marks : List StageMarks)
+  pub commits : (b : SeenBook) (slot : ℕ) (job : Live) (receipt : Receipt) (cells : List Cell) (fired : List Pane) (marks : List StageMarks)
       → Premise b → Fact b → Commits told b slot job receipt cells fired marks → Fact (committed b slot job receipt cells fired marks)
-  pub fails : (b : BookData) (slot at : ℕ) (job : Live) (cause : Cause) → Premise b → Fact b → IsWorking b slot job → Fact (failed b slot job at cause)
-  pub stops : (b : BookData) → Premise b → Fact b → Fact (record b { stopped = or_stopped b.stopped stop.NoMemory })
+  pub fails : (b : SeenBook) (slot at : ℕ) (job : Live) (cause : Cause) → Premise b → Fact b → IsWorking b slot job → Fact (failed b slot job at cause)
+  pub stops : (b : SeenBook) → Premise b → Fact b → Fact (record b { stopped = or_stopped b.stopped stop.NoMemory })
 
 -- a split lies behind the last attempted position
 behind_attempted : (piece : Piece) (attempted : Option ℕ) (num den at : ℕ) → at ≡ split_point_of (tracker_of piece attempted) num den → first_unattempted piece.range.from attempted ≤ at
 behind_attempted piece attempted num den at point = omega (arith, point)
 
-module _ (told : Option (List FileText)) (Premise Fact : BookData → Type 0) (keeps : Keeps told Premise Fact) where
-  commit_keeps : (b new : BookData) (slot : ℕ) (receipt : Receipt) → IsCommitting told b slot receipt new → IsWithinLimits new → Premise b → Fact b → Fact new
+module _ (told : Option (List FileText)) (Premise Fact : SeenBook → Type 0) (keeps : Keeps told Premise Fact) where
+  commit_keeps : (b new : SeenBook) (slot : ℕ) (receipt : Receipt) → IsCommitting told b slot receipt new → IsWithinLimits new → Premise b → Fact b → Fact new
   commit_keeps b new slot receipt step within known h =
       let made = step.commit in
       let after = committed b slot step.job receipt made.cells made.fired made.marks in
       subst Fact (sym made.is) (keeps.commits b slot step.job receipt made.cells made.fired made.marks known h (record {
         works = step.works;
         given = step.given;
-        entries = made.entries;
-        marked = subst (λ (x : BookData). AreMarksOfBook x made.marks) made.is made.marked;
-        legal = subst LegalIn made.is made.legal;
+        marked = subst (λ (x : SeenBook). AreMarksOfBook x made.marks) made.is made.marked;
+        rounds = made.rounds;
         within = subst IsWithinLimits made.is within;
       }))
 
-  pub step_keeps : (b new : BookData) (slot : ℕ) (action : Action) (answer : Answer) → Step told b slot action answer new → Premise b → Fact b → Fact new
+  pub step_keeps : (b new : SeenBook) (slot : ℕ) (action : Action) (answer : Answer) → Step told b slot action answer new → Premise b → Fact b → Fact new
   step_keeps b new slot Enroll (Enrolled number) step known h =
       subst Fact (sym step.2) (keeps.enrolls b known h (subst IsWithinLimits step.2 step.3))
   step_keeps b new slot Enroll NoMemory step known h = subst Fact (sym step) h
-  step_keeps b new slot Take (TakenJob job) step known h = subst Fact (sym step.is) (keeps.takes b slot step.next known h step.running step.free step.is_next)
+  step_keeps b new slot Take (TakenJob job) step known h = subst Fact (sym step.is) (keeps.takes b slot step.next known h step.running step.free step.is_next (subst IsWithinLimits step.is step.within))
   step_keeps b new slot Take Nothing step known h = subst Fact (sym step.4) h
   step_keeps b new slot Take Finished step known h = subst Fact (sym step.4) h
   step_keeps b new slot Take Stopped step known h = subst Fact (sym step.2) h
@@ -96,24 +91,24 @@ module _ (told : Option (List FileText)) (Premise Fact : BookData → Type 0) (k
   step_keeps b new slot _ _ step known h = absurd step
 
 -- every fact is kept where nothing else is known
-abbrev pub Anything : BookData → Type 0
+abbrev pub Anything : SeenBook → Type 0
 Anything b = Unit {0}
 
 -- two facts, of which one needs the other
-abbrev pub Both : (BookData → Type 0) → (BookData → Type 0) → BookData → Type 0
+abbrev pub Both : (SeenBook → Type 0) → (SeenBook → Type 0) → SeenBook → Type 0
 Both Premise Fact b = Premise b × Fact b
 
-pub record AreAlways (told : Option (List FileText)) (Fact : BookData → Type 0) : Type 0 where
-  pub opens : (b first : BookData) → IsOpening b.plan b.files b.options first → Fact first
-  pub steps : (b new : BookData) (slot : ℕ) (action : Action) (answer : Answer) → Step told b slot action answer new → Fact b → Fact new
+pub record AreAlways (told : Option (List FileText)) (Fact : SeenBook → Type 0) : Type 0 where
+  pub opens : (b first : SeenBook) → IsOpening b.plan b.files b.options first → Fact first
+  pub steps : (b new : SeenBook) (slot : ℕ) (action : Action) (answer : Answer) → Step told b slot action answer new → Fact b → Fact new
 
-pub kept_alone : (told : Option (List FileText)) (Fact : BookData → Type 0) → Keeps told Anything Fact → AreAlways told Fact
+pub kept_alone : (told : Option (List FileText)) (Fact : SeenBook → Type 0) → Keeps told Anything Fact → AreAlways told Fact
 kept_alone told Fact keeps = record {
   opens = keeps.opens;
   steps = λ b new slot action answer step h. step_keeps told Anything Fact keeps b new slot action answer step tt h;
 }
 
-pub kept_with : (told : Option (List FileText)) (Premise Fact : BookData → Type 0) → AreAlways told Premise → Keeps told Premise Fact → AreAlways told (Both Premise Fact)
+pub kept_with : (told : Option (List FileText)) (Premise Fact : SeenBook → Type 0) → AreAlways told Premise → Keeps told Premise Fact → AreAlways told (Both Premise Fact)
 kept_with told Premise Fact known keeps = record {
   opens = λ b first opening. (known.opens b first opening, keeps.opens b first opening);
   steps = λ b new slot action answer step h. (
@@ -122,5 +117,5 @@ kept_with told Premise Fact known keeps = record {
   );
 }
 
-pub always_reached : (told : Option (List FileText)) (Fact : BookData → Type 0) → AreAlways told Fact → (b : BookData) → Reached told b → Fact b
+pub always_reached : (told : Option (List FileText)) (Fact : SeenBook → Type 0) → AreAlways told Fact → (b : SeenBook) → Reached told b → Fact b
 always_reached told Fact always b reached = reached_has told Fact always.steps (λ first book. always.opens book first) b reached

@@ -24,7 +24,7 @@ use Rattle.beam_model.specs.Flow.{batch_outputs}
 use Rattle.bundle_commit.specs.declared.job.Receipt.{Receipt}
 use Rattle.group_cells.specs.Commits.{HasGap}
 use Rattle.group_cells.proofs.Counting.{All-unmap}
-use Rattle.book_core.specs.Book.{BookData, batch_of, held_in, live_batches, panes_of, queued}
+use Rattle.book_core.specs.Book.{SeenBook, batch_of, held_in, live_batches, panes_of, queued}
 use Rattle.book_core.specs.Facts.{AreHeldOnce, IsHeldPane}
 use Rattle.book_core.specs.Jobs.{job_of, attempted_of}
 use Rattle.book_core.specs.Steps.{IsWorking}
@@ -143,14 +143,14 @@ module _ (plan : Plan) (known : AreStrategies plan) where
 
 -- ---- a batch that is worked is of a Group
 
-pub nonempty_held : (b : BookData) (node : ℕ) (panes : List WaitingPane) → 1 ≤ length panes → All (IsHeldPane b) (map (λ waiting. record { node = node; waiting = waiting }) panes)
+pub nonempty_held : (b : SeenBook) (node : ℕ) (panes : List WaitingPane) → 1 ≤ length panes → All (IsHeldPane b) (map (λ waiting. record { node = node; waiting = waiting }) panes)
     → All (λ pane. is_group b.plan pane.node ≡ true) b.panes → is_group b.plan node ≡ true
 nonempty_held b node [] some all groups = absurd (omega arith)
 nonempty_held b node (p ∷ ps) some all groups =
     let first = All-head (IsHeldPane b) (record { node = node; waiting = p }) (map (λ waiting. record { node = node; waiting = waiting }) ps) all in
     subst (λ (n : ℕ). is_group b.plan n ≡ true) first.2 (All-slice_get (λ (pane : Pane). is_group b.plan pane.node ≡ true) b.panes p.pane first.0 first.1 groups)
 
-pub batch_at_group : (b : BookData) (slot : ℕ) (batch : Batch) → AreHeldOnce b → All (λ pane. is_group b.plan pane.node ≡ true) b.panes → IsWorking b slot (live.Batch batch)
+pub batch_at_group : (b : SeenBook) (slot : ℕ) (batch : Batch) → AreHeldOnce b → All (λ pane. is_group b.plan pane.node ≡ true) b.panes → IsWorking b slot (live.Batch batch)
     → is_group b.plan batch.node ≡ true
 batch_at_group b slot batch once groups works =
     let live_held = All-append_right (IsHeldPane b) (flat_map held_in b.returned) (flat_map held_in (live_batches b))
@@ -160,7 +160,7 @@ batch_at_group b slot batch once groups works =
     let some = All-head IsNonempty batch [] (All-flat_at batch_of b.slots slot IsNonempty (Some (live.Batch batch)) works (All-append_right IsNonempty b.returned (live_batches b) once.batches)) in
     nonempty_held b batch.node batch.panes some here groups
 
-pub given_gapped : (told : Option (List FileText)) (b : BookData) (slot : ℕ) (job : Live) (receipt : Receipt) → AreStrategies b.plan → AreHeldOnce b
+pub given_gapped : (told : Option (List FileText)) (b : SeenBook) (slot : ℕ) (job : Live) (receipt : Receipt) → AreStrategies b.plan → AreHeldOnce b
     → All (λ pane. is_group b.plan pane.node ≡ true) b.panes → IsWorking b slot job → IsGiven told b.plan (job_of b.panes job) (attempted_of job) receipt → All (HasGap b.plan) receipt.arrivals
 given_gapped told b slot (live.Span piece attempted) receipt known once groups works given =
     range_gapped b.plan known (is_known told b.plan piece.node) told piece (worked_to piece attempted) receipt given.0

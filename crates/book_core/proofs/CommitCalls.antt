@@ -15,9 +15,9 @@ use Rattle.beam_values.specs.declared.piece.Piece.{Piece}
 use Rattle.beam_values.specs.declared.plan.Plan.{Plan}
 use Rattle.beam_model.specs.Holds.{Hold, least_hold, pane_hold}
 use Rattle.bundle_commit.specs.declared.job.Receipt.{Receipt}
-use Rattle.group_cells.specs.Commits.{HasGap, IsCommitted, KeepsLegal, RisesFrom, SeenGroups, is_at_group}
+use Rattle.group_cells.specs.Commits.{AreRounds, HasGap, IsCommitted, RisesFrom, SeenGroups, is_at_group}
 use Rattle.watermarks.specs.Holds.{SeenHolds}
-use Rattle.book_core.specs.Book.{BookData, last_marks}
+use Rattle.book_core.specs.Book.{SeenBook, last_marks}
 use Rattle.book_core.specs.Changes.{with_fired, with_slot}
 use Rattle.book_core.specs.Committing.{node_of, job_holds, residual_in, residual_holds, HasRoom}
 use Rattle.book_core.specs.Facts.{IsAttemptedWithin}
@@ -29,22 +29,19 @@ use Rattle.book_core.specs.Work.{IsGiven, worked_to}
 use Rattle.book_core.specs.declared.live.Live.{Live}
 use Rattle.book_core.specs.declared.live.Live.TheVariants as live
 use Rattle.book_core.specs.declared.live.WaitingPane.{WaitingPane}
-use Rattle.book_core.proofs.CellsAlways.{StrategiesOfPlans, reached_cells}
+use Rattle.book_core.proofs.Gaps.{AreStrategies}
 use Rattle.book_core.proofs.CellsKept.{batch_at_group, given_gapped}
 use Rattle.book_core.proofs.CommitHolds.{kept_holds, kept_rise, without_job}
 use Rattle.book_core.proofs.CommitStep.{AreFired, no_longer}
-use Rattle.book_core.proofs.Formed.{reached_formed}
 use Rattle.book_core.proofs.HeldMarks.{held_as, least_held, marks_as}
-use Rattle.book_core.proofs.HeldOnce.{group_within, reached_held}
+use Rattle.book_core.proofs.HeldOnce.{group_within}
 use Rattle.book_core.proofs.Holding.{bag_held}
 use Rattle.book_core.proofs.Limits.{pieces_after}
-use Rattle.book_core.proofs.Partitioned.{reached_attempted}
-use Rattle.book_core.proofs.RisingMarks.{reached_marks}
 use Rattle.book_core.proofs.Slots.{All-slice_get}
 use Rattle.book_core.proofs.Splitting.{node_within}
 
 -- the receipt of a slot's job is given for this one
-pub given_there : (told : Option (List FileText)) (b : BookData) (slot : ℕ) (job : Live) (receipt : Receipt) → CanCommit told b slot receipt → IsWorking b slot job
+pub given_there : (told : Option (List FileText)) (b : SeenBook) (slot : ℕ) (job : Live) (receipt : Receipt) → CanCommit told b slot receipt → IsWorking b slot job
     → IsGiven told b.plan (job_of b.panes job) (attempted_of job) receipt
 given_there told b slot job receipt can mine =
     let works = can.works in
@@ -63,13 +60,13 @@ left_there P (live.Span piece attempted) receipt h = by (nat_lt (worked_to piece
     by false = λ x e. absurd (cc)
 
 -- a place is kept for it
-pub left_room : (b : BookData) (slot : ℕ) (job : Live) (receipt : Receipt) (held : List SeenHolds) (piece_room batch_room : ℕ) → IsWorking b slot job → IsIndexed b held piece_room batch_room
+pub left_room : (b : SeenBook) (slot : ℕ) (job : Live) (receipt : Receipt) (held : List SeenHolds) (piece_room batch_room : ℕ) → IsWorking b slot job → IsIndexed b held piece_room batch_room
     → ForSome (residual_in job receipt) (λ _. 0 < piece_room)
 left_room b slot (live.Batch batch) receipt held piece_room batch_room works k = λ x e. absurd (cc)
 left_room b slot (live.Span piece attempted) receipt held piece_room batch_room works k =
     left_there (λ n. 0 < piece_room) (live.Span piece attempted) receipt (omega (arith, k.pieces, pieces_after b.slots slot (Some (live.Span piece attempted)) None works))
 
-module _ (strategies : StrategiesOfPlans) (b : BookData) (slot : ℕ) (job : Live) (receipt : Receipt) (held : List SeenHolds) (piece_room batch_room : ℕ)
+module _ (b : SeenBook) (slot : ℕ) (job : Live) (receipt : Receipt) (held : List SeenHolds) (piece_room batch_room : ℕ)
     (works : IsWorking b slot job) (k : IsIndexed b held piece_room batch_room) where
   pub job_within : node_of job < length b.plan.nodes
   job_within = by job works
@@ -78,18 +75,17 @@ module _ (strategies : StrategiesOfPlans) (b : BookData) (slot : ℕ) (job : Liv
       by (live.Span piece attempted) works = omega (arith, node_within b held piece_room batch_room slot piece attempted works k, k.sized)
       by (live.Batch batch) works =
           group_within b.plan batch.node
-          (batch_at_group b slot batch (reached_held None b k.reached) (reached_cells strategies None b k.reached).legal.panes_at works)
+          (batch_at_group b slot batch k.sane.held k.sane.panes.at_groups works)
 
   pub job_attempted : IsAttemptedWithin (Some job)
-  job_attempted = All-slice_get IsAttemptedWithin b.slots slot (Some job) works (reached_attempted None b k.reached)
+  job_attempted = All-slice_get IsAttemptedWithin b.slots slot (Some job) works k.sane.attempted
 
-  pub gaps_there : IsGiven None b.plan (job_of b.panes job) (attempted_of job) receipt → All (HasGap b.plan) receipt.arrivals
-  gaps_there given =
-      let formed = reached_formed None b k.reached in
-      given_gapped None b slot job receipt (strategies b.plan formed.checked) (reached_held None b k.reached) (reached_cells strategies None b k.reached).legal.panes_at works given
+  pub gaps_there : AreStrategies b.plan → IsGiven None b.plan (job_of b.panes job) (attempted_of job) receipt → All (HasGap b.plan) receipt.arrivals
+  gaps_there strategies given =
+      given_gapped None b slot job receipt strategies k.sane.held k.sane.panes.at_groups works given
 
   pub marks_sized : length (last_marks b) ≡ length b.plan.nodes
-  marks_sized = (reached_marks None b k.reached).last.sized
+  marks_sized = k.sane.marks.last.sized
 
   pub job_held : (new : List SeenHolds) → ((n : ℕ) → marks_in new n ≡ marks_in held n) → AreHeldIn new (job_holds b.plan job ++ all_holds (with_slot b slot None))
   job_held new same =
@@ -117,14 +113,14 @@ module _ (strategies : StrategiesOfPlans) (b : BookData) (slot : ℕ) (job : Liv
   pub rises_there : (new : List SeenHolds) → IsGiven None b.plan (job_of b.panes job) (attempted_of job) receipt → AreHeldIn new (kept_holds b slot job receipt)
       → RisesFrom b.plan (least_in new) (last_marks b)
   rises_there new given h marks are =
-      let formed = reached_formed None b k.reached in
-      kept_rise None b slot job receipt formed.checked works given (reached_marks None b k.reached).last marks
+      let formed = k.sane.formed in
+      kept_rise None b slot job receipt formed.checked works given k.sane.marks.last marks
       (marks_as b.plan (least_in new) (least_hold (kept_holds b slot job receipt)) marks (least_held new (kept_holds b slot job receipt) h) are)
 
 -- ---- a refused commit
 
 -- lists that keep more room are the same lists
-pub same_data : (b : BookData) (queues : List (List WaitingPane)) (panes : List Pane) (done : List Done) (written : List Arrival) (commits : List CommitMarks)
+pub same_data : (b : SeenBook) (queues : List (List WaitingPane)) (panes : List Pane) (done : List Done) (written : List Arrival) (commits : List CommitMarks)
     → queues ≡ b.queues → panes ≡ b.panes → done ≡ b.done → written ≡ b.written → commits ≡ b.commits
     → record b { queues = queues; panes = panes; done = done; written = written; commits = commits } ≡ b
 same_data b queues panes done written commits e1 e2 e3 e4 e5 =
@@ -140,7 +136,7 @@ set_back (z ∷ xs) Rattle.std.proofs.Common.zero x y e = let same : z ≡ x = c
 set_back (z ∷ xs) (Rattle.std.proofs.Common.suc i) x y e = ap (λ l. z ∷ l) (set_back xs i x y e)
 
 -- the job is back in its slot, and the Groups are as before
-pub same_back : (b : BookData) (slot : ℕ) (job : Live) (old new : SeenGroups) (slots : List (Option Live)) (queues : List (List WaitingPane)) (panes : List Pane) (done : List Done) (written : List Arrival)
+pub same_back : (b : SeenBook) (slot : ℕ) (job : Live) (old new : SeenGroups) (slots : List (Option Live)) (queues : List (List WaitingPane)) (panes : List Pane) (done : List Done) (written : List Arrival)
     (commits : List CommitMarks) → IsWorking b slot job → slots ≡ slice_set b.slots slot None → new ≡ old → old.cells ≡ b.cells → old.dropped ≡ b.dropped
     → queues ≡ b.queues → panes ≡ b.panes → done ≡ b.done → written ≡ b.written → commits ≡ b.commits
     → record b { slots = slice_set slots slot (Some job); queues = queues; cells = new.cells; dropped = new.dropped; panes = panes; done = done; written = written; commits = commits } ≡ b
@@ -152,11 +148,11 @@ same_back b slot job old new slots queues panes done written commits works e0 g 
     ∙ same_data b queues panes done written commits e1 e2 e3 e4 e5
 
 -- the indexes of the same book, where as much is held
-pub indexed_as : (b new : BookData) (held after : List SeenHolds) (piece_room batch_room : ℕ) → new ≡ b → AreHeldIn after (all_holds b) → length after ≡ length held
+pub indexed_as : (b new : SeenBook) (held after : List SeenHolds) (piece_room batch_room : ℕ) → new ≡ b → AreHeldIn after (all_holds b) → length after ≡ length held
     → IsIndexed b held piece_room batch_room → IsIndexed new after piece_room batch_room
 indexed_as b new held after piece_room batch_room e holding sized k =
-    subst (λ (d : BookData). IsIndexed d after piece_room batch_room) (sym e) (record {
-      reached = k.reached;
+    subst (λ (d : SeenBook). IsIndexed d after piece_room batch_room) (sym e) (record {
+      sane = k.sane;
       sized = sized ∙ k.sized;
       holds_back = holding;
       marked = marks_as b.plan (least_in held) (least_in after) (last_marks b) (λ n. least_held held (all_holds b) k.holds_back n ∙ sym (least_held after (all_holds b) holding n)) k.marked;
@@ -164,7 +160,7 @@ indexed_as b new held after piece_room batch_room e holding sized k =
       batches = k.batches;
     })
 
-pub indexed_room : (b new : BookData) (held after : List SeenHolds) (piece_room batch_room : ℕ) → new ≡ b → ((n : ℕ) → marks_in after n ≡ marks_in held n) → length after ≡ length held
+pub indexed_room : (b new : SeenBook) (held after : List SeenHolds) (piece_room batch_room : ℕ) → new ≡ b → ((n : ℕ) → marks_in after n ≡ marks_in held n) → length after ≡ length held
     → IsIndexed b held piece_room batch_room → IsIndexed new after piece_room batch_room
 indexed_room b new held after piece_room batch_room e same sized k =
     indexed_as b new held after piece_room batch_room e (held_as held after (all_holds b) same k.holds_back) sized k
@@ -172,13 +168,13 @@ indexed_room b new held after piece_room batch_room e same sized k =
 -- ---- what the Groups gave
 
 -- in the words of the book
-pub are_fired : (b : BookData) (slot : ℕ) (job : Live) (receipt : Receipt) (old new : SeenGroups) (fired : List Pane) (marks : List StageMarks) (left : List Arrival) (held : List SeenHolds)
+pub are_fired : (b : SeenBook) (slot : ℕ) (job : Live) (receipt : Receipt) (old new : SeenGroups) (fired : List Pane) (marks : List StageMarks) (left : List Arrival) (held : List SeenHolds)
     (plan : Plan) (c : ℕ) (before : List StageMarks) → plan ≡ b.plan → c ≡ length b.commits → before ≡ last_marks b → IsWorking b slot job → old.cells ≡ b.cells → old.dropped ≡ b.dropped
-    → IsCommitted plan c before marks (least_in held) receipt.arrivals left old new fired → KeepsLegal plan c before marks old new fired
+    → IsCommitted plan c before marks (least_in held) receipt.arrivals left old new fired → AreRounds plan c before marks receipt.arrivals old.cells new.cells fired
     → length fired ≤ length old.cells + length receipt.arrivals → AreHeldIn held (kept_holds b slot job receipt)
     → length b.commits + 1 < 4294967295 → length b.panes + (length b.cells + length receipt.arrivals) < 4294967295 → length b.dropped + length receipt.arrivals < 4294967295
-    → AreFired b slot job receipt old new fired marks left held
-are_fired b slot job receipt old new fired marks left held plan c before e f g works cells dropped done legal few holding commits panes drops = record {
+    → length new.cells < 4294967295 → AreFired b slot job receipt old new fired marks left held
+are_fired b slot job receipt old new fired marks left held plan c before e f g works cells dropped done rounds few holding commits panes drops all_cells = record {
   works = works;
   cells = cells;
   dropped = dropped;
@@ -186,15 +182,16 @@ are_fired b slot job receipt old new fired marks left held plan c before e f g w
       subst (λ (p : Plan). IsCommitted p (length b.commits) (last_marks b) marks (least_in held) receipt.arrivals left old new fired) e
       (subst (λ (n : ℕ). IsCommitted plan n (last_marks b) marks (least_in held) receipt.arrivals left old new fired) f
       (subst (λ (l : List StageMarks). IsCommitted plan c l marks (least_in held) receipt.arrivals left old new fired) g done));
-  legal =
-      subst (λ (p : Plan). KeepsLegal p (length b.commits) (last_marks b) marks old new fired) e
-      (subst (λ (n : ℕ). KeepsLegal plan n (last_marks b) marks old new fired) f
-      (subst (λ (l : List StageMarks). KeepsLegal plan c l marks old new fired) g legal));
+  rounds =
+      subst (λ (p : Plan). AreRounds p (length b.commits) (last_marks b) marks receipt.arrivals old.cells new.cells fired) e
+      (subst (λ (n : ℕ). AreRounds plan n (last_marks b) marks receipt.arrivals old.cells new.cells fired) f
+      (subst (λ (l : List StageMarks). AreRounds plan c l marks receipt.arrivals old.cells new.cells fired) g rounds));
   few = omega (arith, few, ap length cells);
   holding = holding;
   few_commits = commits;
   few_panes = panes;
   few_dropped = drops;
+  few_cells = all_cells;
 }
 
 -- room for all of them

@@ -23,7 +23,7 @@ use Rattle.bundle_commit.specs.declared.job.Receipt.{Receipt}
 use Rattle.group_cells.specs.Commits.{RisesFrom}
 use Rattle.split_core.proofs.Ordered.{bag_with_piece}
 use Rattle.watermarks.proofs.Rising.{mark_of_rises}
-use Rattle.book_core.specs.Book.{BookData, last_marks, AreMarksOfBook}
+use Rattle.book_core.specs.Book.{SeenBook, last_marks, AreMarksOfBook}
 use Rattle.book_core.specs.Changes.{with_slot, committed, pending_after, with_residual}
 use Rattle.book_core.specs.Committing.{job_holds, residual_in, residual_holds}
 use Rattle.book_core.specs.Indexes.{all_holds}
@@ -55,7 +55,7 @@ job_weighs w plan (live.Batch batch) =
     )
 
 -- of what holds the book back, a part is held by the job of a slot
-pub without_job : (b : BookData) (slot : ℕ) (job : Live) → IsWorking b slot job
+pub without_job : (b : SeenBook) (slot : ℕ) (job : Live) → IsWorking b slot job
     → IsSameBag (all_holds b) (job_holds b.plan job ++ all_holds (with_slot b slot None))
 without_job b slot job works = record {
   weighs = λ w. omega (
@@ -102,7 +102,7 @@ numbered_all many n (p ∷ ps) h =
     All-cons (λ (x : ℕ × Pane). x.1.node < many) (n, p) (enumerate_from (n + 1) ps) (All-head (λ (pane : Pane). pane.node < many) p ps h)
     (numbered_all many (n + 1) ps (Rattle.std.proofs.lemmas.List.Elements.All-tail (λ (pane : Pane). pane.node < many) p ps h))
 
-module _ (b : BookData) (slot : ℕ) (job : Live) (receipt : Receipt) where
+module _ (b : SeenBook) (slot : ℕ) (job : Live) (receipt : Receipt) where
   -- all that holds the book back while its cells fire
   abbrev pub kept_holds : List Hold
   kept_holds = residual_holds b.plan (residual_in job receipt) ++ all_holds (with_slot b slot None)
@@ -182,7 +182,7 @@ module _ (plan : Plan) (before : List StageMarks) where
           (All-nil (IsHoldUp plan before))
       by false = All-nil (IsHoldUp plan before)
 
-pub kept_rise : (told : Option (List FileText)) (b : BookData) (slot : ℕ) (job : Live) (receipt : Receipt) → IsChecked b.plan → IsWorking b slot job
+pub kept_rise : (told : Option (List FileText)) (b : SeenBook) (slot : ℕ) (job : Live) (receipt : Receipt) → IsChecked b.plan → IsWorking b slot job
     → IsGiven told b.plan (job_of b.panes job) (attempted_of job) receipt → AreMarksOfBook b (last_marks b) → RisesFrom b.plan (least_hold (kept_holds b slot job receipt)) (last_marks b)
 unfolding IsHoldUp
 kept_rise told b slot job receipt checked works given was marks are =

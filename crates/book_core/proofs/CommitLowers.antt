@@ -1,6 +1,6 @@
 -- A commit of a job that goes on lowers what is left: at the job's node there is less, and before it as much as there was.
 use Rattle.std.proofs.Common.{◌≡◌, inl, inr, ℕ, zero, suc, ◌+◌, ◌-◌, ◌<◌, ◌≤◌, min, Bool, true, false, cond, List, [], ◌∷◌, ◌++◌, length, map, refl, sym, ap, subst, arith}
-use Rattle.std.specs.Prelude.{Option, Some, None, ◌==◌, nat_lt, slice_get}
+use Rattle.std.specs.Prelude.{Option, Some, None, ◌==◌, nat_lt}
 use Rattle.std.specs.List.{All, count_by, enumerate_from, flat_map, sum_by}
 use Rattle.std.proofs.lemmas.Bool.{cases_lt}
 use Rattle.std.proofs.lemmas.Bool.Decides.{nat_tests}
@@ -13,29 +13,28 @@ use Rattle.beam_values.specs.declared.cell.Pane.{Pane}
 use Rattle.beam_values.specs.declared.file_text.FileText.{FileText}
 use Rattle.beam_values.specs.declared.marks.StageMarks.{StageMarks}
 use Rattle.beam_values.specs.declared.piece.Piece.{Piece}
-use Rattle.beam_values.specs.declared.plan.Node.{Node}
 use Rattle.beam_values.specs.declared.plan.Plan.{Plan}
 use Rattle.bundle_commit.specs.declared.job.Receipt.{Receipt}
 use Rattle.group_cells.proofs.Counting.{count-append}
-use Rattle.pipeline_graph.specs.Rules.{HasSettings}
-use Rattle.book_core.specs.Book.{BookData, HeldPane, batch_of, held, held_at, held_in, last_marks}
+use Rattle.book_core.specs.Book.{SeenBook, HeldPane, batch_of, held, held_at, held_in, last_marks, live_pieces, piece_of}
 use Rattle.book_core.specs.Changes.{committed, residual_of, with_residual}
 use Rattle.book_core.specs.Committing.{node_of}
-use Rattle.book_core.specs.Facts.{AreHeldOnce, AreMarksKept, IsAttemptedWithin, IsWellFormed}
+use Rattle.book_core.specs.Facts.{IsAttemptedWithin}
 use Rattle.book_core.specs.Left.{GoesOn, IsBelow, attempts_left, left, left_at, offsets_and_one}
+use Rattle.book_core.specs.Sane.{IsSane}
 use Rattle.book_core.specs.Steps.{IsWorking}
 use Rattle.book_core.specs.Work.{worked_to}
 use Rattle.book_core.specs.declared.live.Batch.{Batch}
 use Rattle.book_core.specs.declared.live.Live.{Live}
 use Rattle.book_core.specs.declared.live.Live.TheVariants as live
 use Rattle.book_core.specs.declared.live.WaitingPane.{WaitingPane}
-use Rattle.book_core.proofs.Cases.{Commits, LegalIn}
+use Rattle.book_core.proofs.Cases.{Commits}
 use Rattle.book_core.proofs.CellsKept.{batch_at_group}
 use Rattle.book_core.proofs.HeldMoves.{IsNonempty, fired_held}
 use Rattle.book_core.proofs.HeldOnce.{commit_bag, group_within}
 use Rattle.book_core.proofs.HoldBags.{piece_set_weighs, with_piece_weight}
 use Rattle.book_core.proofs.Lowered.{at_node, left_at_weighs}
-use Rattle.book_core.proofs.PiecesPlaced.{ArePlaced, worked_placed}
+use Rattle.book_core.proofs.PiecesListed.{IsPlaced, placed_of}
 use Rattle.book_core.proofs.Queues.{held_fired}
 use Rattle.book_core.proofs.Settled.{NoneAt, none_fires}
 use Rattle.book_core.proofs.Slots.{All-slice_get}
@@ -55,7 +54,7 @@ below_from f g x y n start (suc count) low high same less = elim (cases_lt start
       inl (subst (λ (k : ℕ). f k < g k) (sym at) less)
 ]
 
-pub lower_at : (b new : BookData) (n : ℕ) → new.plan ≡ b.plan → n < length b.plan.nodes → ((m : ℕ) → m < n → left_at new m ≡ left_at b m) → left_at new n < left_at b n
+pub lower_at : (b new : SeenBook) (n : ℕ) → new.plan ≡ b.plan → n < length b.plan.nodes → ((m : ℕ) → m < n → left_at new m ≡ left_at b m) → left_at new n < left_at b n
     → IsBelow (left new) (left b)
 lower_at b new n plan inside same less =
     subst (λ (p : Plan). IsBelow (map (left_at new) (offsets 0 (length p.nodes)) ++ attempts_left new ∷ []) (left b)) (sym plan)
@@ -139,11 +138,9 @@ own a v = let same : (a == a) ≡ true = grind (arith, nat_tests) in ap (λ (t :
 
 -- ---- a commit
 
-module _ (told : Option (List FileText)) (b : BookData) (slot : ℕ) (job : Live) (receipt : Receipt) (cells : List Cell) (fired : List Pane) (marks : List StageMarks)
-    (settings : (n : ℕ) (node : Node) → slice_get b.plan.nodes n ≡ Some node → HasSettings node.kind)
-    (formed : IsWellFormed b) (once : AreHeldOnce b) (kept : AreMarksKept b) (some : 1 ≤ length b.commits) (legal : LegalIn b) (placed : ArePlaced b) (within : All IsAttemptedWithin b.slots)
-    (made : Commits told b slot job receipt cells fired marks) where
-  abbrev after : BookData
+module _ (told : Option (List FileText)) (b : SeenBook) (slot : ℕ) (job : Live) (receipt : Receipt) (cells : List Cell) (fired : List Pane) (marks : List StageMarks)
+    (sane : IsSane b) (made : Commits told b slot job receipt cells fired marks) where
+  abbrev after : SeenBook
   after = committed b slot job receipt cells fired marks
 
   abbrev of_node : ℕ → HeldPane → Bool
@@ -152,16 +149,16 @@ module _ (told : Option (List FileText)) (b : BookData) (slot : ℕ) (job : Live
   -- up to the job's node, panes are held as before but for those of its batch
   panes_upto : (m : ℕ) → m ≤ node_of job → count_by (of_node m) (held after) + count_by (of_node m) (flat_map held_in (batch_of (Some job))) ≡ count_by (of_node m) (held b)
   panes_upto m upto =
-      let none = held_none (last_marks b) m (length b.panes) fired (none_fires told b slot job receipt cells fired marks settings formed kept some legal made m upto) in
+      let none = held_none (last_marks b) m (length b.panes) fired (none_fires told b slot job receipt cells fired marks sane made m upto) in
       omega (
         arith,
         none,
-        bag_count (of_node m) (held after ++ flat_map held_in (batch_of (Some job))) (held b ++ fired_held b fired) (commit_bag told b slot job receipt cells fired marks formed once made),
+        bag_count (of_node m) (held after ++ flat_map held_in (batch_of (Some job))) (held b ++ fired_held b fired) (commit_bag told b slot job receipt cells fired marks sane.formed sane.held made),
         count-append (of_node m) (held after) (flat_map held_in (batch_of (Some job))),
         count-append (of_node m) (held b) (fired_held b fired),
       )
 
-span_left : (b : BookData) (slot : ℕ) (piece : Piece) (attempted : Option ℕ) (receipt : Receipt) (cells : List Cell) (fired : List Pane) (marks : List StageMarks)
+span_left : (b : SeenBook) (slot : ℕ) (piece : Piece) (attempted : Option ℕ) (receipt : Receipt) (cells : List Cell) (fired : List Pane) (marks : List StageMarks)
     → IsWorking b slot (live.Span piece attempted) → (m : ℕ)
     → count_by (λ (pane : HeldPane). pane.node == m) (held (committed b slot (live.Span piece attempted) receipt cells fired marks)) + 0 ≡ count_by (λ (pane : HeldPane). pane.node == m) (held b)
     → left_at (committed b slot (live.Span piece attempted) receipt cells fired marks) m + cond (piece.node == m) (offsets_and_one piece) 0
@@ -178,7 +175,7 @@ span_left b slot piece attempted receipt cells fired marks works m panes =
       one_weighs (at_node m) piece,
     )
 
-batch_left : (b : BookData) (slot : ℕ) (batch : Batch) (receipt : Receipt) (cells : List Cell) (fired : List Pane) (marks : List StageMarks)
+batch_left : (b : SeenBook) (slot : ℕ) (batch : Batch) (receipt : Receipt) (cells : List Cell) (fired : List Pane) (marks : List StageMarks)
     → IsWorking b slot (live.Batch batch) → (m : ℕ)
     → count_by (λ (pane : HeldPane). pane.node == m) (held (committed b slot (live.Batch batch) receipt cells fired marks)) + count_by (λ (pane : HeldPane). pane.node == m) (held_in batch ++ [])
     ≡ count_by (λ (pane : HeldPane). pane.node == m) (held b)
@@ -194,18 +191,17 @@ batch_left b slot batch receipt cells fired marks works m panes =
       batch_counts m batch.node batch.panes,
     )
 
-pub commit_lowers : (told : Option (List FileText)) (b : BookData) (slot : ℕ) (job : Live) (receipt : Receipt) (cells : List Cell) (fired : List Pane) (marks : List StageMarks)
-    → ((n : ℕ) (node : Node) → slice_get b.plan.nodes n ≡ Some node → HasSettings node.kind) → IsWellFormed b → AreHeldOnce b → AreMarksKept b → 1 ≤ length b.commits → LegalIn b → ArePlaced b
-    → All IsAttemptedWithin b.slots → Commits told b slot job receipt cells fired marks → GoesOn job → IsBelow (left (committed b slot job receipt cells fired marks)) (left b)
-commit_lowers told b slot (live.Span piece attempted) receipt cells fired marks settings formed once kept some legal placed within made goes =
+pub commit_lowers : (told : Option (List FileText)) (b : SeenBook) (slot : ℕ) (job : Live) (receipt : Receipt) (cells : List Cell) (fired : List Pane) (marks : List StageMarks)
+    → IsSane b → Commits told b slot job receipt cells fired marks → GoesOn job → IsBelow (left (committed b slot job receipt cells fired marks)) (left b)
+commit_lowers told b slot (live.Span piece attempted) receipt cells fired marks sane made goes =
     let job = live.Span piece attempted in
     let new = committed b slot job receipt cells fired marks in
     let at = λ (m : ℕ) (upto : m ≤ piece.node).
     span_left b slot piece attempted receipt cells fired marks made.works m
-    (panes_upto told b slot job receipt cells fired marks settings formed once kept some legal placed within made m upto) in
+    (panes_upto told b slot job receipt cells fired marks sane made m upto) in
     let rest = rest_size piece (worked_to piece attempted) in
-    let less = rest_less piece attempted (All-slice_get IsAttemptedWithin b.slots slot (Some job) made.works within) goes in
-    lower_at b new piece.node refl (worked_placed b placed slot piece attempted made.works).0
+    let less = rest_less piece attempted (All-slice_get IsAttemptedWithin b.slots slot (Some job) made.works sane.attempted) goes in
+    lower_at b new piece.node refl (All-head (IsPlaced b) piece [] (All-flat_at piece_of b.slots slot (IsPlaced b) (Some job) made.works (All-append_right (IsPlaced b) b.pending (live_pieces b) (placed_of b sane.formed sane.listed sane.partitioned)))).0
     (λ m low.
     let is = at m (omega (arith, low)) in
     let a = other piece.node m (offsets_and_one piece) low in
@@ -215,15 +211,15 @@ commit_lowers told b slot (live.Span piece attempted) receipt cells fired marks 
     let a = own piece.node (offsets_and_one piece) in
     let c = own piece.node rest in
     omega (arith, is, a, c, less))
-commit_lowers told b slot (live.Batch batch) receipt cells fired marks settings formed once kept some legal placed within made goes =
+commit_lowers told b slot (live.Batch batch) receipt cells fired marks sane made goes =
     let job = live.Batch batch in
     let new = committed b slot job receipt cells fired marks in
     let at = λ (m : ℕ) (upto : m ≤ batch.node).
     batch_left b slot batch receipt cells fired marks made.works m
-    (panes_upto told b slot job receipt cells fired marks settings formed once kept some legal placed within made m upto) in
+    (panes_upto told b slot job receipt cells fired marks sane made m upto) in
     let more : 1 ≤ length batch.panes =
-    All-head IsNonempty batch [] (All-flat_at batch_of b.slots slot IsNonempty (Some job) made.works (All-append_right IsNonempty b.returned _ once.batches)) in
-    lower_at b new batch.node refl (group_within b.plan batch.node (batch_at_group b slot batch once legal.panes_at made.works))
+    All-head IsNonempty batch [] (All-flat_at batch_of b.slots slot IsNonempty (Some job) made.works (All-append_right IsNonempty b.returned _ sane.held.batches)) in
+    lower_at b new batch.node refl (group_within b.plan batch.node (batch_at_group b slot batch sane.held sane.panes.at_groups made.works))
     (λ m low.
     let is = at m (omega (arith, low)) in
     let a = other batch.node m (length batch.panes) low in

@@ -6,7 +6,6 @@ use Rattle.std.specs.Option.{option_map}
 use Rattle.std.specs.List.{All, filter, enumerate_from}
 use Rattle.std.proofs.lemmas.List.{length-map, length-set}
 use Rattle.std.proofs.lemmas.List.Elements.{All-weaker}
-use Rattle.beam_values.specs.Bags.{IsSameBag}
 use Rattle.beam_values.specs.Marks.{AreMarks}
 use Rattle.beam_values.specs.Nodes.{is_group, is_write}
 use Rattle.beam_values.specs.declared.arrival.Arrival.{Arrival}
@@ -19,47 +18,44 @@ use Rattle.beam_values.specs.declared.marks.StageMarks.{StageMarks}
 use Rattle.beam_values.specs.declared.piece.Done.{Done}
 use Rattle.beam_values.specs.declared.piece.Piece.{Piece}
 use Rattle.beam_model.specs.Holds.{Hold, pane_hold, least_hold}
-use Rattle.beam_model.specs.Panes.{taken_by, ArePanesLegal}
 use Rattle.bundle_commit.specs.declared.job.Receipt.{Receipt}
-use Rattle.group_cells.specs.Commits.{as_commit, dropped_arrival, hold_with, is_dropped, is_taken, taken_arrival, HaveGaps, IsCommitted, KeepsLegal, NeverFalls, SeenGroups}
+use Rattle.group_cells.specs.Commits.{AreRounds, as_commit, dropped_arrival, hold_with, is_dropped, IsCommitted, SeenGroups}
 use Rattle.split_core.proofs.Ordered.{length-with_piece}
 use Rattle.watermarks.specs.Holds.{SeenHolds}
-use Rattle.book_core.specs.Book.{BookData, piece_of, live_pieces, last_marks, AreMarksOfBook}
+use Rattle.book_core.specs.Book.{SeenBook, piece_of, last_marks, AreMarksOfBook}
 use Rattle.book_core.specs.Changes.{committed, done_after, with_fired, with_residual, IsCommit}
 use Rattle.book_core.specs.Committing.{done_in, residual_in, with_done_in}
 use Rattle.book_core.specs.Indexes.{IsIndexed, AreHeldIn, least_in, all_holds}
-use Rattle.book_core.specs.Runs.{Reached}
+use Rattle.book_core.specs.Sane.{IsSane}
 use Rattle.book_core.specs.Steps.{Commit, Committed, CanCommit, IsCommitting, IsWorking, IsWithinLimits}
 use Rattle.book_core.specs.Work.{IsGiven, worked_to}
 use Rattle.book_core.specs.Jobs.{job_of, attempted_of}
 use Rattle.book_core.specs.declared.live.Live.{Live}
 use Rattle.book_core.specs.declared.live.Live.TheVariants as live
 use Rattle.book_core.specs.declared.live.WaitingPane.{WaitingPane}
-use Rattle.book_core.proofs.CellsAlways.{StrategiesOfPlans, reached_cells}
 use Rattle.book_core.proofs.CommitHolds.{kept_holds, after_commit, least_of_both, pending_is}
 use Rattle.book_core.proofs.CommitParts.{written_same}
-use Rattle.book_core.proofs.Formed.{reached_formed}
 use Rattle.book_core.proofs.HeldMarks.{least_held, marks_as}
 use Rattle.book_core.proofs.HeldOnce.{group_within, get_at_end}
 use Rattle.book_core.proofs.HoldBags.{least_of_bag}
 use Rattle.book_core.proofs.Holding.{bag_held}
-use Rattle.book_core.proofs.Limits.{pieces_after, batches_after, reached_within}
-use Rattle.book_core.proofs.Reaching.{reached_more}
-use Rattle.book_core.proofs.RisingMarks.{last_is, reached_marked}
+use Rattle.book_core.proofs.Limits.{pieces_after, batches_after}
+use Rattle.book_core.proofs.SaneAlways.{step_sane}
 
 -- what the Groups gave at a commit, while these marks were held
-pub record AreFired (b : BookData) (slot : ℕ) (job : Live) (receipt : Receipt) (old new : SeenGroups) (fired : List Pane) (marks : List StageMarks) (left : List Arrival) (held : List SeenHolds) : Type 0 where
+pub record AreFired (b : SeenBook) (slot : ℕ) (job : Live) (receipt : Receipt) (old new : SeenGroups) (fired : List Pane) (marks : List StageMarks) (left : List Arrival) (held : List SeenHolds) : Type 0 where
   pub works : IsWorking b slot job
   pub cells : old.cells ≡ b.cells
   pub dropped : old.dropped ≡ b.dropped
   pub committed : IsCommitted b.plan (length b.commits) (last_marks b) marks (least_in held) receipt.arrivals left old new fired
-  pub legal : KeepsLegal b.plan (length b.commits) (last_marks b) marks old new fired
+  pub rounds : AreRounds b.plan (length b.commits) (last_marks b) marks receipt.arrivals old.cells new.cells fired
   pub few : length fired ≤ length b.cells + length receipt.arrivals
   pub holding : AreHeldIn held (kept_holds b slot job receipt)
   -- and there are numbers for all places
   pub few_commits : length b.commits + 1 < 4294967295
   pub few_panes : length b.panes + (length b.cells + length receipt.arrivals) < 4294967295
   pub few_dropped : length b.dropped + length receipt.arrivals < 4294967295
+  pub few_cells : length new.cells < 4294967295
 
 pub no_longer : {X : Type 0} (p : X → Bool) (xs : List X) → length (filter p xs) ≤ length xs
 no_longer p [] = omega arith
@@ -81,15 +77,15 @@ pending_many : (residual : Option Piece) (pending : List Piece) → length (with
 pending_many None pending = omega arith
 pending_many (Some piece) pending = omega (arith, length-with_piece piece pending)
 
-module _ (strategies : StrategiesOfPlans) (b : BookData) (slot : ℕ) (job : Live) (receipt : Receipt) (old new : SeenGroups) (fired : List Pane) (marks : List StageMarks) (left : List Arrival)
-    (held : List SeenHolds) (h : AreFired b slot job receipt old new fired marks left held) (reached : Reached None b) where
-  abbrev after : BookData
+module _ (b : SeenBook) (slot : ℕ) (job : Live) (receipt : Receipt) (old new : SeenGroups) (fired : List Pane) (marks : List StageMarks) (left : List Arrival)
+    (held : List SeenHolds) (h : AreFired b slot job receipt old new fired marks left held) (sane : IsSane b) where
+  abbrev after : SeenBook
   after = committed b slot job receipt new.cells fired marks
 
   at_nodes : All (λ pane. pane.node < length b.queues) fired
   at_nodes =
       All-weaker (λ pane. is_group b.plan pane.node ≡ true) (λ pane. pane.node < length b.queues)
-      (λ pane e. subst (λ (n : ℕ). pane.node < n) (sym (reached_formed None b reached).queues) (group_within b.plan pane.node e)) fired h.committed.at_groups
+      (λ pane e. subst (λ (n : ℕ). pane.node < n) (sym sane.formed.queues) (group_within b.plan pane.node e)) fired h.committed.at_groups
 
   least_after : (n : ℕ) → hold_with (least_in held) (last_marks b) fired n ≡ least_hold (all_holds after) n
   least_after n =
@@ -100,38 +96,19 @@ module _ (strategies : StrategiesOfPlans) (b : BookData) (slot : ℕ) (job : Liv
   marked : AreMarksOfBook after marks
   marked = marks_as b.plan (hold_with (least_in held) (last_marks b) fired) (least_hold (all_holds after)) marks least_after h.committed.marks
 
-  legal_after : ArePanesLegal b.plan after.commits after.cells after.dropped after.panes
-  legal_after =
-      let m = reached_marked None b reached in
-      let kept = reached_cells strategies None b reached in
-      let commits_are : b.commits ≡ m.earlier ++ as_commit (last_marks b) ∷ [] = m.commits ∙ ap (λ (l : List StageMarks). m.earlier ++ as_commit l ∷ []) (sym (last_is b m)) in
-      let longer : b.commits ++ as_commit marks ∷ [] ≡ m.earlier ++ as_commit (last_marks b) ∷ as_commit marks ∷ [] =
-      ap (λ (l : List CommitMarks). l ++ as_commit marks ∷ []) commits_are ∙ append_assoc m.earlier (as_commit (last_marks b) ∷ []) (as_commit marks ∷ []) in
-      let dropped_are : new.dropped ≡ after.dropped =
-      h.committed.dropped ∙ ap (λ (l : List Dropped). l ++ map (dropped_arrival (length b.commits)) (filter (is_dropped b.plan (last_marks b)) receipt.arrivals)) h.dropped in
-      subst (λ (l : List CommitMarks). ArePanesLegal b.plan l new.cells after.dropped (b.panes ++ fired)) (sym longer)
-      (subst (λ (l : List Dropped). ArePanesLegal b.plan (m.earlier ++ as_commit (last_marks b) ∷ as_commit marks ∷ []) new.cells l (b.panes ++ fired)) dropped_are
-      (h.legal m.earlier b.panes (omega (arith, ap length commits_are, length-append m.earlier (as_commit (last_marks b) ∷ [])))
-      (subst NeverFalls commits_are m.never_fall)
-      (subst (λ (l : List Cell). HaveGaps b.plan (taken_by l)) (sym h.cells) kept.gaps)
-      (subst (λ (l : List CommitMarks). ArePanesLegal b.plan l old.cells old.dropped b.panes) commits_are
-      (subst (λ (l : List Cell). ArePanesLegal b.plan b.commits l old.dropped b.panes) (sym h.cells)
-      (subst (λ (l : List Dropped). ArePanesLegal b.plan b.commits b.cells l b.panes) (sym h.dropped) kept.legal)))))
-
   is_commit : IsCommit b slot job receipt after
   is_commit = record {
     cells = new.cells;
     fired = fired;
     marks = marks;
     is = refl;
-    entries = subst (λ (l : List Cell). IsSameBag (taken_by new.cells) (taken_by l ++ map (taken_arrival (length b.commits)) (filter (is_taken b.plan (last_marks b)) receipt.arrivals))) h.cells h.committed.entries;
     marked = marked;
-    legal = legal_after;
+    rounds = subst (λ (l : List Cell). AreRounds b.plan (length b.commits) (last_marks b) marks receipt.arrivals l new.cells fired) h.cells h.rounds;
   }
 
   within : IsWithinLimits after
   within =
-      let was = reached_within None b reached in
+      let was = sane.formed.within in
       record {
         commits = omega (arith, h.few_commits, length-append b.commits (as_commit marks ∷ []));
         panes = omega (arith, h.few_panes, h.few, length-append b.panes fired);
@@ -142,12 +119,11 @@ module _ (strategies : StrategiesOfPlans) (b : BookData) (slot : ℕ) (job : Liv
           length-map (filter (is_dropped b.plan (last_marks b)) receipt.arrivals) (dropped_arrival (length b.commits)),
           no_longer (is_dropped b.plan (last_marks b)) receipt.arrivals,
         );
+        cells = h.few_cells;
         slots = omega (arith, was.slots, length-set b.slots slot None);
         pieces = omega (
           arith,
           was.pieces,
-          length-append b.pending (live_pieces b),
-          length-append after.pending (live_pieces after),
           ap length (pending_is b.pending job receipt),
           pending_many (residual_in job receipt) b.pending,
           residual_many job receipt,
@@ -180,7 +156,7 @@ module _ (strategies : StrategiesOfPlans) (b : BookData) (slot : ℕ) (job : Liv
       ap (λ (n : ℕ). unwrap_or (option_map (λ (c : CommitMarks). c.marks) (slice_get after.commits n)) []) (omega (arith, length-append b.commits (as_commit marks ∷ [])))
       ∙ ap (λ (o : Option CommitMarks). unwrap_or (option_map (λ (c : CommitMarks). c.marks) o) []) (get_at_end b.commits (as_commit marks) []) in
       record {
-        reached = reached_more None b after slot Commit Committed (receipt, (commits_after None can).0, (commits_after None can).1) reached;
+        sane = step_sane None b after slot Commit Committed (receipt, (commits_after None can).0, (commits_after None can).1) sane;
         sized = sized ∙ k.sized;
         holds_back = holding;
         marked = subst (AreMarks b.plan (least_in after_held)) (sym last)
@@ -204,7 +180,7 @@ module _ (strategies : StrategiesOfPlans) (b : BookData) (slot : ℕ) (job : Liv
   done_is (live.Span piece attempted) done = refl
   done_is (live.Batch batch) done = refl
 
-  abbrev pub as_written : List (Option Live) → List Piece → List (List WaitingPane) → List Pane → List Done → List Arrival → List CommitMarks → BookData
+  abbrev pub as_written : List (Option Live) → List Piece → List (List WaitingPane) → List Pane → List Done → List Arrival → List CommitMarks → SeenBook
   as_written slots pending queues panes done written commits = record b {
     slots = slots;
     pending = pending;
@@ -237,11 +213,11 @@ module _ (strategies : StrategiesOfPlans) (b : BookData) (slot : ℕ) (job : Liv
 
     pub commit_written : (told : Option (List FileText)) → CanCommit told b slot receipt
         → IsCommitting told b slot receipt (as_written slots pending queues panes done written commits) × IsWithinLimits (as_written slots pending queues panes done written commits)
-    commit_written told can = subst (λ (d : BookData). IsCommitting told b slot receipt d × IsWithinLimits d) (sym written_is) (commits_after told can)
+    commit_written told can = subst (λ (d : SeenBook). IsCommitting told b slot receipt d × IsWithinLimits d) (sym written_is) (commits_after told can)
 
     pub commit_indexed : CanCommit None b slot receipt → (before after_held : List SeenHolds) (piece_room fewer batch_room : ℕ) → IsIndexed b before piece_room batch_room
         → ((holds : List Hold) → AreHeldIn held holds → AreHeldIn after_held (map (pane_hold (last_marks b)) fired ++ holds)) → length after_held ≡ length before
         → piece_room ≤ fewer + length (option_to_list (residual_in job receipt))
         → IsIndexed (as_written slots pending queues panes done written commits) after_held fewer batch_room
     commit_indexed can before after_held piece_room fewer batch_room k add sized room =
-        subst (λ (d : BookData). IsIndexed d after_held fewer batch_room) (sym written_is) (indexed_after can before after_held piece_room fewer batch_room k add sized room)
+        subst (λ (d : SeenBook). IsIndexed d after_held fewer batch_room) (sym written_is) (indexed_after can before after_held piece_room fewer batch_room k add sized room)

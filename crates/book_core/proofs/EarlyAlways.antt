@@ -36,28 +36,25 @@ use Rattle.bundle_commit.specs.declared.job.Receipt.{Receipt}
 use Rattle.group_cells.specs.Commits.{is_taken, taken_arrival}
 use Rattle.group_cells.proofs.Counting.{All-unmap}
 use Rattle.group_cells.proofs.WindowTests.{span_itself}
-use Rattle.book_core.specs.Book.{BookData, last_marks, pane_at, panes_of}
+use Rattle.book_core.specs.Book.{SeenBook, last_marks, pane_at, panes_of}
 use Rattle.book_core.specs.Changes.{with_slot, committed, failed}
-use Rattle.book_core.specs.Facts.{IsWellFormed}
+use Rattle.book_core.specs.Facts.{AreCellsKept, EndsEarly, IsEarly, IsEarlyBook, IsEarlyPane, IsWellFormed, greatest_end}
 use Rattle.book_core.specs.Jobs.{attempted_of, job_of}
-use Rattle.book_core.specs.Runs.{Reached}
+use Rattle.book_core.specs.Sane.{IsSane}
 use Rattle.book_core.specs.Work.{IsGiven, IsWorkOnItem, IsWorkOnRange, is_known, items_told, worked_to}
 use Rattle.book_core.specs.declared.live.Live.{Live}
 use Rattle.book_core.specs.declared.live.Live.TheVariants as live
 use Rattle.book_core.specs.declared.live.WaitingPane.{WaitingPane}
-use Rattle.book_core.proofs.Cases.{Keeps, Commits, LegalIn, Both, kept_with, always_reached}
-use Rattle.book_core.proofs.CellsAlways.{StaysCelled, fail_stays, take_stays}
+use Rattle.book_core.proofs.Cases.{Keeps, Commits, LegalIn, Both}
+use Rattle.book_core.proofs.CellsAlways.{StrategiesOfPlans, commit_entries, commit_legal}
 use Rattle.book_core.proofs.CellsKept.{found_has}
-use Rattle.book_core.proofs.EarlyEnds.{IsEarly, IsEarlyOutput, WindowsOfKind, batch_early, items_set, spread_early}
+use Rattle.book_core.proofs.EarlyEnds.{IsEarlyOutput, WindowsOfKind, batch_early, items_set, spread_early}
 use Rattle.book_core.proofs.Ended.{SettingsOfPlans}
-use Rattle.book_core.proofs.Formed.{formed_always}
 use Rattle.book_core.proofs.HeldOnce.{All-of_bag}
+use Rattle.book_core.proofs.SaneResults.{StaysCelled, fail_stays, take_stays}
 use Rattle.book_core.proofs.Shown.{stands_early}
 use Rattle.book_core.proofs.Slots.{All-slice_get}
-use Rattle.book_core.proofs.Through.{EndsEarly, greatest_end, passes_have}
-
-abbrev pub IsEarlyPane : Pane → Type 0
-IsEarlyPane pane = IsEarly pane.element
+use Rattle.book_core.proofs.Through.{passes_have}
 
 last_early : (w : Interval) → last_time w ≤ℤ greatest_time
 last_early w = by (int_lt greatest_time (w.end -ℤ pos 1)) (int_lt (w.end -ℤ pos 1) least_time) refl
@@ -102,7 +99,7 @@ module _ (rules : GroupRules) (node : ℕ) (key : Value) (mark : ℕ → ℤ) (l
 
 -- ---- all panes of a book
 
-pub legal_early : (b : BookData) → LegalIn b → All EndsEarly (taken_by b.cells) → All IsEarlyPane b.panes
+pub legal_early : (b : SeenBook) → LegalIn b → All EndsEarly (taken_by b.cells) → All IsEarlyPane b.panes
 legal_early b legal early k d inside =
     at (get_or b.panes k d) (legal.panes_at k d inside) (λ node key group. passes_have (is_pane_at_key node key) IsEarlyPane b.panes (of_key node key group) k d inside)
   where
@@ -133,7 +130,7 @@ panes_of_early panes all (w ∷ ws) = All-append IsEarlyPane (pane_at panes w) (
 abbrev pub HasEarlyEnd : Arrival → Type 0
 HasEarlyEnd arrival = arrival.element.span.end ≤ℤ greatest_end
 
-module _ (windows : WindowsOfKind) (settings : SettingsOfPlans) (told : Option (List FileText)) where
+module _ (strategies : StrategiesOfPlans) (windows : WindowsOfKind) (settings : SettingsOfPlans) (told : Option (List FileText)) where
   arrivals_early : (arrivals : List Arrival) (outputs : List Output) → map Arrives arrivals ≡ outputs → All IsEarlyOutput outputs → All HasEarlyEnd arrivals
   arrivals_early arrivals outputs same all =
       All-weaker (λ (a : Arrival). IsEarly a.element) HasEarlyEnd (λ a early. early.1) arrivals (All-unmap IsEarlyOutput Arrives arrivals (subst (All IsEarlyOutput) (sym same) all))
@@ -152,7 +149,7 @@ module _ (windows : WindowsOfKind) (settings : SettingsOfPlans) (told : Option (
   range_early plan piece upto receipt checked true work = item_early plan piece upto receipt checked (item_at (items_told told plan) piece.node piece.item) refl work
   range_early plan piece upto receipt checked false work = work.ends
 
-  given_early : (b : BookData) (job : Live) (receipt : Receipt) → IsWellFormed b → All IsEarlyPane b.panes → IsGiven told b.plan (job_of b.panes job) (attempted_of job) receipt
+  given_early : (b : SeenBook) (job : Live) (receipt : Receipt) → IsWellFormed b → All IsEarlyPane b.panes → IsGiven told b.plan (job_of b.panes job) (attempted_of job) receipt
       → All HasEarlyEnd receipt.arrivals
   given_early b (live.Span piece attempted) receipt formed panes given =
       range_early b.plan piece (worked_to piece attempted) receipt formed.checked (is_known told b.plan piece.node) given.0
@@ -162,11 +159,7 @@ module _ (windows : WindowsOfKind) (settings : SettingsOfPlans) (told : Option (
 
   -- ---- each step
 
-  pub record IsEarlyBook (b : BookData) : Type 0 where
-    pub taken : All EndsEarly (taken_by b.cells)
-    pub panes : All IsEarlyPane b.panes
-
-  early_onward : (old new : BookData) → StaysCelled old new → IsEarlyBook old → IsEarlyBook new
+  early_onward : (old new : SeenBook) → StaysCelled old new → IsEarlyBook old → IsEarlyBook new
   early_onward old new s h = record {
     taken = subst (λ (l : List Cell). All EndsEarly (taken_by l)) (sym s.cells) h.taken;
     panes = subst (All IsEarlyPane) (sym s.panes) h.panes;
@@ -194,24 +187,24 @@ module _ (windows : WindowsOfKind) (settings : SettingsOfPlans) (told : Option (
       (All-of_bag is_early both (taken_by new) (bag_sym (taken_by new) both entries)
       (All-weaker EndsEarly (λ t. is_early t ≡ true) (λ t h. early_test t.element.span.end h) both joined))
 
-  commit_early : (b : BookData) (slot : ℕ) (job : Live) (receipt : Receipt) (cells : List Cell) (fired : List Pane) (marks : List StageMarks) → IsWellFormed b → IsEarlyBook b
+  commit_early : (b : SeenBook) (slot : ℕ) (job : Live) (receipt : Receipt) (cells : List Cell) (fired : List Pane) (marks : List StageMarks) → IsSane b → AreCellsKept b → IsEarlyBook b
       → Commits told b slot job receipt cells fired marks → IsEarlyBook (committed b slot job receipt cells fired marks)
-  commit_early b slot job receipt cells fired marks formed h made =
-      let taken = commit_taken (length b.commits) receipt.arrivals (is_taken b.plan (last_marks b)) b.cells cells made.entries h.taken (given_early b job receipt formed h.panes made.given) in
-      record { taken = taken; panes = legal_early (committed b slot job receipt cells fired marks) made.legal taken }
+  commit_early b slot job receipt cells fired marks sane celled h made =
+      let entries = commit_entries told b slot job receipt cells fired marks celled.legal made in
+      let taken = commit_taken (length b.commits) receipt.arrivals (is_taken b.plan (last_marks b)) b.cells cells entries h.taken (given_early b job receipt sane.formed h.panes made.given) in
+      record {
+        taken = taken;
+        panes = legal_early (committed b slot job receipt cells fired marks) (commit_legal strategies told b slot job receipt cells fired marks sane celled made) taken;
+      }
 
-  keeps_early : Keeps told IsWellFormed IsEarlyBook
+  pub keeps_early : Keeps told (Both IsSane AreCellsKept) IsEarlyBook
   keeps_early = record {
     opens = λ b first opening. subst IsEarlyBook (sym opening.is) (record { taken = All-nil EndsEarly; panes = All-nil IsEarlyPane });
-    enrolls = λ b formed h within. record { taken = h.taken; panes = h.panes };
-    takes = λ b slot next formed h running free is. early_onward b (with_slot next.rest slot (Some next.job)) (take_stays b slot next is) h;
-    claims = λ b slot p piece attempted formed h works may. record { taken = h.taken; panes = h.panes };
-    splits = λ b slot at piece attempted formed h works inside behind within. record { taken = h.taken; panes = h.panes };
-    commits = λ b slot job receipt cells fired marks formed h made. commit_early b slot job receipt cells fired marks formed h made;
-    fails = λ b slot at job cause formed h works. early_onward b (failed b slot job at cause) (fail_stays b slot at job cause) h;
-    stops = λ b formed h. record { taken = h.taken; panes = h.panes };
+    enrolls = λ b known h within. record { taken = h.taken; panes = h.panes };
+    takes = λ b slot next known h running free is within. early_onward b (with_slot next.rest slot (Some next.job)) (take_stays b slot next is) h;
+    claims = λ b slot p piece attempted known h works may. record { taken = h.taken; panes = h.panes };
+    splits = λ b slot at piece attempted known h works inside behind within. record { taken = h.taken; panes = h.panes };
+    commits = λ b slot job receipt cells fired marks known h made. commit_early b slot job receipt cells fired marks known.0 known.1 h made;
+    fails = λ b slot at job cause known h works. early_onward b (failed b slot job at cause) (fail_stays b slot at job cause) h;
+    stops = λ b known h. record { taken = h.taken; panes = h.panes };
   }
-
-  pub reached_early : (b : BookData) → Reached told b → IsEarlyBook b
-  reached_early b reached =
-      (always_reached told (Both IsWellFormed IsEarlyBook) (kept_with told IsWellFormed IsEarlyBook (formed_always told) keeps_early) b reached).1

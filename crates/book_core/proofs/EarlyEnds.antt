@@ -30,14 +30,11 @@ use Rattle.beam_model.specs.Positions.{Emission, Emits, Poison, SourceItem, Time
 use Rattle.beam_model.specs.Spread.{emission_outputs, from_source, is_left_out, outputs_at}
 use Rattle.beam_model.specs.Flow.{batch_outputs}
 use Rattle.pipeline_graph.specs.Rules.{HasSettings}
+use Rattle.book_core.specs.Facts.{IsEarly, greatest_end}
 use Rattle.book_core.proofs.EarlyTimes.{IsEarlyEmission, emission_early, items_have}
 use Rattle.book_core.proofs.Gaps.{emits_given}
-use Rattle.book_core.proofs.Through.{greatest_end}
 
 -- ---- elements that are early
-
-abbrev pub IsEarly : Element → Type 0
-IsEarly e = (e.time ≤ℤ greatest_time) × (e.span.end ≤ℤ greatest_end)
 
 abbrev pub IsEarlyOutput : Output → Type 0
 IsEarlyOutput (Arrives arrival) = IsEarly arrival.element

@@ -1,6 +1,8 @@
 -- A job fails: what is kept of the book's indexes.
 use Rattle.std.proofs.Common.{◌≡◌, ℕ, ◌+◌, ◌≤◌, ◌<◌, Bool, true, false, List, [], ◌∷◌, length, refl, sym, ap, subst, ◌∙◌, arith}
-use Rattle.std.specs.Prelude.{slice_get, slice_set, cond, Option, Some, None}
+use Rattle.std.specs.Prelude.{slice_get, slice_set, cond, nat_le, nat_lt, Option, Some, None}
+use Rattle.std.proofs.lemmas.Bool.Decides.{nat_tests}
+use Rattle.std.proofs.lemmas.List.Elements.{All-head}
 use Rattle.std.specs.List.{flat_map}
 use Rattle.std.proofs.lemmas.List.Sums.{sum_by-cons, sum_by-append}
 use Rattle.beam_values.specs.Bags.{IsSameBag}
@@ -10,72 +12,96 @@ use Rattle.beam_values.specs.declared.fault.FaultNote.{FaultNote}
 use Rattle.beam_values.specs.declared.outcome.StopCause.{StopCause}
 use Rattle.beam_values.specs.declared.piece.Piece.{Piece}
 use Rattle.retry_core.specs.Shares.{share_after}
+use Rattle.retry_core.specs.declared.attempt.Next.{Next as Retried}
+use Rattle.retry_core.specs.declared.attempt.Next.TheVariants as retry
 use Rattle.retry_core.specs.declared.share.FaultShare.{FaultShare}
 use Rattle.split_core.proofs.Ordered.{bag_with_piece}
 use Rattle.watermarks.specs.Holds.{SeenHolds}
-use Rattle.book_core.specs.Book.{BookData, piece_of, batch_of}
+use Rattle.book_core.specs.Book.{SeenBook, piece_of, batch_of}
 use Rattle.book_core.specs.Calls.{Makes, CanFail, failure_of}
 use Rattle.book_core.specs.Changes.{with_slot, given_back, counted, stopped_where, failed, ends_run, note_of, tried_piece, tried_batch, attempts_of}
-use Rattle.book_core.specs.Indexes.{IsIndexed, all_holds, pieces_back, batches_back, stopped_after}
-use Rattle.book_core.specs.Runs.{Reached}
+use Rattle.book_core.specs.Indexes.{IsIndexed, all_holds, pieces_back, batches_back, is_spent, stopped_after}
+use Rattle.book_core.specs.Sane.{IsSane}
 use Rattle.book_core.specs.Steps.{Fail, Step, IsFailure}
 use Rattle.book_core.specs.declared.live.Batch.{Batch}
 use Rattle.book_core.specs.declared.live.Failure.TheVariants as failure
 use Rattle.book_core.specs.declared.live.Live.{Live}
 use Rattle.book_core.specs.declared.live.Live.TheVariants as live
-use Rattle.book_core.proofs.Tries.{reached_worked, reached_allowed}
+use Rattle.book_core.proofs.Slotted.{All-flat_at}
 use Rattle.book_core.proofs.Holding.{bag_held, all_weigh, piece_weight, batch_weight, slot_weight}
 use Rattle.book_core.proofs.Limits.{pieces_after, batches_after}
-use Rattle.book_core.proofs.Reaching.{reached_more}
+use Rattle.book_core.proofs.SaneAlways.{step_sane}
 use Rattle.book_core.proofs.Slots.{set_weighs}
 
 -- a slot that can fail works something
-pub can_job : (b : BookData) (slot : ℕ) (job : Option Live) → CanFail b slot → slice_get b.slots slot ≡ Some job → (work : Live) × (job ≡ Some work)
+pub can_job : (b : SeenBook) (slot : ℕ) (job : Option Live) → CanFail b slot → slice_get b.slots slot ≡ Some job → (work : Live) × (job ≡ Some work)
 can_job b slot job can at = let works = can.1 in (can.0, cc)
 
-pub few_attempts : (b : BookData) (slot : ℕ) (job : Live) → Reached None b → slice_get b.slots slot ≡ Some (Some job) → attempts_of job < 4294967295
-few_attempts b slot job reached works = omega (arith, reached_worked None b slot job reached works, reached_allowed None b reached)
+pub below_limit : (b : SeenBook) (slot : ℕ) (job : Live) → IsSane b → slice_get b.slots slot ≡ Some (Some job) → attempts_of job < b.options.attempts
+below_limit b slot (live.Span piece attempted) sane works =
+    All-head (λ (p : Piece). p.attempts < b.options.attempts) piece []
+    (All-flat_at piece_of b.slots slot (λ (p : Piece). p.attempts < b.options.attempts) (Some (live.Span piece attempted)) works sane.attempts.worked_pieces)
+below_limit b slot (live.Batch batch) sane works =
+    All-head (λ (x : Batch). x.attempts < b.options.attempts) batch []
+    (All-flat_at batch_of b.slots slot (λ (x : Batch). x.attempts < b.options.attempts) (Some (live.Batch batch)) works sane.attempts.worked_batches)
+
+pub few_attempts : (b : SeenBook) (slot : ℕ) (job : Live) → IsSane b → slice_get b.slots slot ≡ Some (Some job) → attempts_of job < 4294967295
+few_attempts b slot job sane works = omega (arith, below_limit b slot job sane works, sane.formed.allowed.attempts.1)
+
+-- a job is given up where `next_attempt` gives it up
+pub given_up : (attempts limit : ℕ) (next : Retried) → next ≡ cond (nat_lt (attempts + 1) limit) (retry.Retry (attempts + 1)) retry.Spent → is_spent next ≡ nat_le limit (attempts + 1)
+given_up attempts limit next is = by (nat_lt (attempts + 1) limit) refl is
+  where
+    more : nat_lt (attempts + 1) limit ≡ true → nat_le limit (attempts + 1) ≡ false
+    more e = grind (arith, nat_tests)
+
+    last : nat_lt (attempts + 1) limit ≡ false → nat_le limit (attempts + 1) ≡ true
+    last e = grind (arith, nat_tests)
+
+    by : (t : Bool) → nat_lt (attempts + 1) limit ≡ t → next ≡ cond t (retry.Retry (attempts + 1)) retry.Spent → is_spent next ≡ nat_le limit (attempts + 1)
+    by true e same = ap is_spent same ∙ sym (more e)
+    by false e same = ap is_spent same ∙ sym (last e)
 
 -- the parts of the book after a fail, as they are written
-abbrev written : BookData → ℕ → Live → Cause → Bool → FaultNote → FaultShare → BookData
-written b slot job cause spent note share = record b {
+abbrev written : SeenBook → ℕ → ℕ → Live → Cause → Bool → FaultNote → FaultShare → SeenBook
+written b slot at job cause spent note share = record b {
   slots = slice_set b.slots slot None;
-  pending = pieces_back b.pending job;
+  pending = pieces_back b.pending job at cause;
   returned = batches_back b.returned job;
   calls = share.calls;
   reads = share.reads;
   stopped = stopped_after spent b.stopped note;
 }
 
-abbrev share_of : BookData → FaultShare
+abbrev share_of : SeenBook → FaultShare
 share_of b = record { calls = b.calls; reads = b.reads }
 
-parts_are : (b : BookData) (slot : ℕ) (job : Live) (cause : Cause) (spent : Bool) (note : FaultNote)
-    → written b slot job cause spent note (share_after (share_of b) cause 1) ≡ stopped_where spent (counted (given_back (with_slot b slot None) job) cause) note
-parts_are b slot (live.Span piece attempted) Call true note = refl
-parts_are b slot (live.Span piece attempted) Call false note = refl
-parts_are b slot (live.Span piece attempted) Read true note = refl
-parts_are b slot (live.Span piece attempted) Read false note = refl
-parts_are b slot (live.Batch batch) Call true note = refl
-parts_are b slot (live.Batch batch) Call false note = refl
-parts_are b slot (live.Batch batch) Read true note = refl
-parts_are b slot (live.Batch batch) Read false note = refl
+parts_are : (b : SeenBook) (slot at : ℕ) (job : Live) (cause : Cause) (spent : Bool) (note : FaultNote)
+    → written b slot at job cause spent note (share_after (share_of b) cause 1) ≡ stopped_where spent (counted (given_back (with_slot b slot None) job at cause) cause) note
+parts_are b slot at (live.Span piece attempted) Call true note = refl
+parts_are b slot at (live.Span piece attempted) Call false note = refl
+parts_are b slot at (live.Span piece attempted) Read true note = refl
+parts_are b slot at (live.Span piece attempted) Read false note = refl
+parts_are b slot at (live.Batch batch) Call true note = refl
+parts_are b slot at (live.Batch batch) Call false note = refl
+parts_are b slot at (live.Batch batch) Read true note = refl
+parts_are b slot at (live.Batch batch) Read false note = refl
 
 -- all holds stay
-back_holds : (b : BookData) (slot : ℕ) (job : Live) → slice_get b.slots slot ≡ Some (Some job) → IsSameBag (all_holds b)
-    (all_holds (record b { slots = slice_set b.slots slot None; pending = pieces_back b.pending job; returned = batches_back b.returned job }))
-back_holds b slot (live.Span piece attempted) works = record {
+back_holds : (b : SeenBook) (slot : ℕ) (job : Live) (at : ℕ) (cause : Cause) → slice_get b.slots slot ≡ Some (Some job) → IsSameBag (all_holds b)
+    (all_holds (record b { slots = slice_set b.slots slot None; pending = pieces_back b.pending job at cause; returned = batches_back b.returned job }))
+back_holds b slot (live.Span piece attempted) at cause works = record {
   weighs = λ w. omega (
     arith,
     all_weigh w b,
-    all_weigh w (record b { slots = slice_set b.slots slot None; pending = pieces_back b.pending (live.Span piece attempted) }),
+    all_weigh w (record b { slots = slice_set b.slots slot None; pending = pieces_back b.pending (live.Span piece attempted) at cause }),
     set_weighs (slot_weight w b.plan) b.slots slot (Some (live.Span piece attempted)) None works,
     (bag_with_piece (tried_piece piece) b.pending).weighs (piece_weight w b.plan),
     sum_by-cons (piece_weight w b.plan) (tried_piece piece) b.pending,
     sum_by-cons (piece_weight w b.plan) piece [],
   );
 }
-back_holds b slot (live.Batch batch) works = record {
+back_holds b slot (live.Batch batch) at cause works = record {
   weighs = λ w. omega (
     arith,
     all_weigh w b,
@@ -87,12 +113,12 @@ back_holds b slot (live.Batch batch) works = record {
   );
 }
 
-answers : (b : BookData) (job : Live) (at : ℕ) (cause : Cause) (spent : Bool) → ends_run b job cause ≡ spent
+answers : (b : SeenBook) (job : Live) (at : ℕ) (cause : Cause) (spent : Bool) → ends_run b job cause ≡ spent
     → IsFailure b job at cause (failure_of (cond spent (failure.Spent (note_of job at cause)) failure.Retry))
 answers b job at cause true e = (e, refl)
 answers b job at cause false e = e
 
-makes_failed : (b : BookData) (slot at : ℕ) (job : Live) (cause : Cause) → slice_get b.slots slot ≡ Some (Some job)
+makes_failed : (b : SeenBook) (slot at : ℕ) (job : Live) (cause : Cause) → slice_get b.slots slot ≡ Some (Some job)
     → Makes b slot (Fail at cause) (failure_of (cond (ends_run b job cause) (failure.Spent (note_of job at cause)) failure.Retry)) (failed b slot job at cause)
 makes_failed b slot at job cause works = λ told. to_step told (ends_run b job cause) refl
   where
@@ -102,31 +128,31 @@ makes_failed b slot at job cause works = λ told. to_step told (ends_run b job c
     to_step told false e = record { job = job; works = works; answers = e; is = refl }
 
 -- what is written after a fail
-pub record IsWritten (b : BookData) (slot at : ℕ) (job : Live) (cause : Cause) (spent : Bool) (note : FaultNote) (slots : List (Option Live)) (pending : List Piece) (returned : List Batch) (share : FaultShare) (stopped : Option StopCause) : Type 0 where
+pub record IsWritten (b : SeenBook) (slot at : ℕ) (job : Live) (cause : Cause) (spent : Bool) (note : FaultNote) (slots : List (Option Live)) (pending : List Piece) (returned : List Batch) (share : FaultShare) (stopped : Option StopCause) : Type 0 where
   pub works : slice_get b.slots slot ≡ Some (Some job)
   pub spent_is : spent ≡ ends_run b job cause
   pub note_is : note ≡ note_of job at cause
   pub slots_are : slots ≡ slice_set b.slots slot None
-  pub pending_is : pending ≡ pieces_back b.pending job
+  pub pending_is : pending ≡ pieces_back b.pending job at cause
   pub returned_is : returned ≡ batches_back b.returned job
   pub share_is : share ≡ share_after (share_of b) cause 1
   pub stopped_is : stopped ≡ stopped_after spent b.stopped note
 
-abbrev as_written : BookData → List (Option Live) → List Piece → List Batch → FaultShare → Option StopCause → BookData
+abbrev as_written : SeenBook → List (Option Live) → List Piece → List Batch → FaultShare → Option StopCause → SeenBook
 as_written b slots pending returned share stopped =
     record b { slots = slots; pending = pending; returned = returned; calls = share.calls; reads = share.reads; stopped = stopped }
 
-module _ (b : BookData) (slot at : ℕ) (job : Live) (cause : Cause) (spent : Bool) (note : FaultNote) (slots : List (Option Live)) (pending : List Piece) (returned : List Batch)
+module _ (b : SeenBook) (slot at : ℕ) (job : Live) (cause : Cause) (spent : Bool) (note : FaultNote) (slots : List (Option Live)) (pending : List Piece) (returned : List Batch)
     (share : FaultShare) (stopped : Option StopCause) (h : IsWritten b slot at job cause spent note slots pending returned share stopped) where
   is_failed : as_written b slots pending returned share stopped ≡ failed b slot job at cause
   is_failed =
       ap (λ (x : List (Option Live)). as_written b x pending returned share stopped) h.slots_are
       ∙ ap (λ (x : List Piece). as_written b (slice_set b.slots slot None) x returned share stopped) h.pending_is
-      ∙ ap (λ (x : List Batch). as_written b (slice_set b.slots slot None) (pieces_back b.pending job) x share stopped) h.returned_is
-      ∙ ap (λ (x : FaultShare). as_written b (slice_set b.slots slot None) (pieces_back b.pending job) (batches_back b.returned job) x stopped) h.share_is
-      ∙ ap (λ (x : Option StopCause). as_written b (slice_set b.slots slot None) (pieces_back b.pending job) (batches_back b.returned job) (share_after (share_of b) cause 1) x)
+      ∙ ap (λ (x : List Batch). as_written b (slice_set b.slots slot None) (pieces_back b.pending job at cause) x share stopped) h.returned_is
+      ∙ ap (λ (x : FaultShare). as_written b (slice_set b.slots slot None) (pieces_back b.pending job at cause) (batches_back b.returned job) x stopped) h.share_is
+      ∙ ap (λ (x : Option StopCause). as_written b (slice_set b.slots slot None) (pieces_back b.pending job at cause) (batches_back b.returned job) (share_after (share_of b) cause 1) x)
       (h.stopped_is ∙ ap (λ (t : Bool). stopped_after t b.stopped note) h.spent_is ∙ ap (λ (n : FaultNote). stopped_after (ends_run b job cause) b.stopped n) h.note_is)
-      ∙ parts_are b slot job cause (ends_run b job cause) (note_of job at cause)
+      ∙ parts_are b slot at job cause (ends_run b job cause) (note_of job at cause)
 
   pub makes_fail : Makes b slot (Fail at cause) (failure_of (cond spent (failure.Spent note) failure.Retry)) (as_written b slots pending returned share stopped)
   makes_fail =
@@ -138,13 +164,13 @@ module _ (b : BookData) (slot at : ℕ) (job : Live) (cause : Cause) (spent : Bo
   pub fail_indexed : (held : List SeenHolds) (piece_room batch_room fewer fewer_batches : ℕ) → IsIndexed b held piece_room batch_room → piece_room ≤ fewer + length (piece_of (Some job))
       → batch_room ≤ fewer_batches + length (batch_of (Some job)) → IsIndexed (as_written b slots pending returned share stopped) held fewer fewer_batches
   fail_indexed held piece_room batch_room fewer fewer_batches k some some_batches = record {
-    reached = reached_more None b _ slot (Fail at cause) _ (makes_fail None) k.reached;
+    sane = step_sane None b _ slot (Fail at cause) _ (makes_fail None) k.sane;
     sized = k.sized;
     holds_back = bag_held held (all_holds b) (all_holds (record b { slots = slots; pending = pending; returned = returned }))
         (subst (λ (x : List (Option Live)). IsSameBag (all_holds b) (all_holds (record b { slots = x; pending = pending; returned = returned }))) (sym h.slots_are)
         (subst (λ (x : List Piece). IsSameBag (all_holds b) (all_holds (record b { slots = slice_set b.slots slot None; pending = x; returned = returned }))) (sym h.pending_is)
-        (subst (λ (x : List Batch). IsSameBag (all_holds b) (all_holds (record b { slots = slice_set b.slots slot None; pending = pieces_back b.pending job; returned = x }))) (sym h.returned_is)
-        (back_holds b slot job h.works)))) k.holds_back;
+        (subst (λ (x : List Batch). IsSameBag (all_holds b) (all_holds (record b { slots = slice_set b.slots slot None; pending = pieces_back b.pending job at cause; returned = x }))) (sym h.returned_is)
+        (back_holds b slot job at cause h.works)))) k.holds_back;
     marked = k.marked;
     pieces = omega (arith, k.pieces, some, pieces_after b.slots slot (Some job) None h.works, ap (λ (x : List (Option Live)). length (flat_map piece_of x)) h.slots_are);
     batches = omega (arith, k.batches, some_batches, batches_after b.slots slot (Some job) None h.works, ap (λ (x : List (Option Live)). length (flat_map batch_of x)) h.slots_are);

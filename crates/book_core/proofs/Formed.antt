@@ -1,5 +1,5 @@
--- Every reached book is well formed.
-use Rattle.std.proofs.Common.{◌≡◌, ℕ, zero, suc, get_or, ◌+◌, ◌≤◌, Bool, true, false, cond, List, [], ◌∷◌, length, refl, sym, ap, subst, ◌∙◌, length-append, arith}
+-- Every book is well formed: from the opening on.
+use Rattle.std.proofs.Common.{◌≡◌, ℕ, zero, suc, get_or, ◌+◌, ◌≤◌, Bool, true, false, cond, List, [], ◌∷◌, length, refl, sym, ap, subst, ◌∙◌, arith}
 use Rattle.std.specs.Prelude.{Option, Some, None, slice_get, fold}
 use Rattle.std.specs.List.{enumerate_from}
 use Rattle.std.specs.List.Sorted.{IsSorted}
@@ -24,16 +24,16 @@ use Rattle.beam_model.specs.Positions.{items}
 use Rattle.bundle_commit.specs.declared.job.Receipt.{Receipt}
 use Rattle.split_core.specs.Order.{IsAscending, with_pieces, first_pieces}
 use Rattle.split_core.proofs.Ordered.{ascending_with_piece, ascending_with_pieces, length-with_piece}
-use Rattle.book_core.specs.Book.{BookData, piece_of, live_pieces}
+use Rattle.book_core.specs.Book.{SeenBook, piece_of, live_pieces}
 use Rattle.book_core.specs.Changes.{with_slot, split_off, committed, or_stopped, with_done, done_cmp, done_of, done_after, residual_of, with_residual, pending_after, given_back, tried_piece, counted, stopped_where, ends_run, note_of}
 use Rattle.book_core.specs.Facts.{IsWellFormed}
 use Rattle.book_core.specs.Jobs.{GivenBack, Oldest, Next, next_job, without_due}
-use Rattle.book_core.specs.Runs.{Reached, IsOpening, AreOptions, AreLengthsOf}
-use Rattle.book_core.specs.Steps.{IsWorking, IsFree, IsWithinLimits}
+use Rattle.book_core.specs.Runs.{IsOpening, AreOptions, AreLengthsOf}
+use Rattle.book_core.specs.Steps.{IsWorking, IsWithinLimits}
 use Rattle.book_core.specs.declared.live.Batch.{Batch}
 use Rattle.book_core.specs.declared.live.Live.{Live}
 use Rattle.book_core.specs.declared.live.Live.TheVariants as live
-use Rattle.book_core.proofs.Cases.{Keeps, Anything, AreAlways, kept_alone, always_reached, enrolled}
+use Rattle.book_core.proofs.Cases.{Keeps, Anything, AreAlways, kept_alone, enrolled}
 use Rattle.book_core.proofs.Slotted.{flat_set_weighs, sum_ones}
 use Rattle.book_core.proofs.Taking.{IsAmong, IsOldest, take_cases}
 
@@ -89,7 +89,7 @@ sorted_with_done new (x ∷ xs) up = by (is_lt (done_cmp x new)) refl (sorted_wi
 -- ---- lists that don't grow
 
 -- a slot is set
-pieces_set : (b : BookData) (slot : ℕ) (old new : Option Live) → slice_get b.slots slot ≡ Some old
+pieces_set : (b : SeenBook) (slot : ℕ) (old new : Option Live) → slice_get b.slots slot ≡ Some old
     → length (live_pieces (with_slot b slot new)) + length (piece_of old) ≡ length (live_pieces b) + length (piece_of new)
 pieces_set b slot old new at =
     omega (
@@ -102,26 +102,28 @@ pieces_set b slot old new at =
     )
 
 -- the lists of one book are no longer than those of the other
-record AreWithin (old new : BookData) : Type 0 where
+record AreWithin (old new : SeenBook) : Type 0 where
   commits : length new.commits ≤ length old.commits
   panes : length new.panes ≤ length old.panes
   dropped : length new.dropped ≤ length old.dropped
+  cells : length new.cells ≤ length old.cells
   slots : length new.slots ≤ length old.slots
   pieces : length new.pending + length (live_pieces new) ≤ length old.pending + length (live_pieces old)
 
-limits_onward : (old new : BookData) → AreWithin old new → IsWithinLimits old → IsWithinLimits new
+limits_onward : (old new : SeenBook) → AreWithin old new → IsWithinLimits old → IsWithinLimits new
 limits_onward old new a h = record {
   commits = omega (arith, a.commits, h.commits);
   panes = omega (arith, a.panes, h.panes);
   dropped = omega (arith, a.dropped, h.dropped);
+  cells = omega (arith, a.cells, h.cells);
   slots = omega (arith, a.slots, h.slots);
-  pieces = omega (arith, a.pieces, h.pieces, length-append old.pending (live_pieces old), length-append new.pending (live_pieces new));
+  pieces = omega (arith, a.pieces, h.pieces);
 }
 
 -- ---- what doesn't change, and lists in order
 
 -- the same but for what is given
-record StaysFormed (old new : BookData) : Type 0 where
+record StaysFormed (old new : SeenBook) : Type 0 where
   plan : new.plan ≡ old.plan
   options : new.options ≡ old.options
   files : new.files ≡ old.files
@@ -129,7 +131,7 @@ record StaysFormed (old new : BookData) : Type 0 where
   ascending : IsAscending old.pending → IsAscending new.pending
   done : IsSorted done_cmp old.done → IsSorted done_cmp new.done
 
-formed_onward : (old new : BookData) → StaysFormed old new → IsWellFormed old → IsWithinLimits new → IsWellFormed new
+formed_onward : (old new : SeenBook) → StaysFormed old new → IsWellFormed old → IsWithinLimits new → IsWellFormed new
 formed_onward old new stays h within = record {
   checked = subst IsChecked (sym stays.plan) h.checked;
   allowed = subst AreOptions (sym stays.options) h.allowed;
@@ -142,60 +144,29 @@ formed_onward old new stays h within = record {
 
 -- ---- take
 
-take_formed : (b : BookData) (slot : ℕ) (next : Next) → IsWellFormed b → IsFree b slot → next_job b ≡ Some next
+take_formed : (b : SeenBook) (slot : ℕ) (next : Next) → IsWellFormed b → next_job b ≡ Some next → IsWithinLimits (with_slot next.rest slot (Some next.job))
     → IsWellFormed (with_slot next.rest slot (Some next.job))
-take_formed b slot next h free is = take_cases b (λ (n : Next). IsWellFormed (with_slot n.rest slot (Some n.job))) given waits pending next is
+take_formed b slot next h is =
+    take_cases b (λ (n : Next). IsWithinLimits (with_slot n.rest slot (Some n.job)) → IsWellFormed (with_slot n.rest slot (Some n.job))) given waits pending next is
   where
-    given : (batch : Batch) → IsAmong b.returned batch → IsWellFormed (with_slot (without_due b (GivenBack batch)).rest slot (Some (live.Batch batch)))
-    given batch among =
-        let new = with_slot (without_due b (GivenBack batch)).rest slot (Some (live.Batch batch)) in
-        formed_onward b new (record { plan = refl; options = refl; files = refl; queues = refl; ascending = λ up. up; done = λ up. up }) h
-        (limits_onward b new (record {
-          commits = omega arith;
-          panes = omega arith;
-          dropped = omega arith;
-          slots = omega (arith, length-set b.slots slot (Some (live.Batch batch)));
-          pieces = omega (arith, pieces_set b slot None (Some (live.Batch batch)) free);
-        }) h.within)
+    given : (batch : Batch) → IsAmong b.returned batch → IsWithinLimits (with_slot (without_due b (GivenBack batch)).rest slot (Some (live.Batch batch)))
+        → IsWellFormed (with_slot (without_due b (GivenBack batch)).rest slot (Some (live.Batch batch)))
+    given batch among within =
+        formed_onward b (with_slot (without_due b (GivenBack batch)).rest slot (Some (live.Batch batch)))
+        (record { plan = refl; options = refl; files = refl; queues = refl; ascending = λ up. up; done = λ up. up }) h within
 
-    waits : (batch : Batch) → IsOldest b batch → IsWellFormed (with_slot (without_due b (Oldest batch)).rest slot (Some (live.Batch batch)))
-    waits batch oldest =
-        let new = with_slot (without_due b (Oldest batch)).rest slot (Some (live.Batch batch)) in
-        formed_onward b new (record {
-          plan = refl;
-          options = refl;
-          files = refl;
-          queues = length-set b.queues batch.node _;
-          ascending = λ up. up;
-          done = λ up. up;
-        }) h
-        (limits_onward b new (record {
-          commits = omega arith;
-          panes = omega arith;
-          dropped = omega arith;
-          slots = omega (arith, length-set b.slots slot (Some (live.Batch batch)));
-          pieces = omega (arith, pieces_set b slot None (Some (live.Batch batch)) free);
-        }) h.within)
+    waits : (batch : Batch) → IsOldest b batch → IsWithinLimits (with_slot (without_due b (Oldest batch)).rest slot (Some (live.Batch batch)))
+        → IsWellFormed (with_slot (without_due b (Oldest batch)).rest slot (Some (live.Batch batch)))
+    waits batch oldest within =
+        formed_onward b (with_slot (without_due b (Oldest batch)).rest slot (Some (live.Batch batch)))
+        (record { plan = refl; options = refl; files = refl; queues = length-set b.queues batch.node _; ascending = λ up. up; done = λ up. up }) h within
 
     pending : (piece : Piece) (later : List Piece) → b.pending ≡ piece ∷ later
+        → IsWithinLimits (with_slot (record b { pending = later }) slot (Some (live.Span piece None)))
         → IsWellFormed (with_slot (record b { pending = later }) slot (Some (live.Span piece None)))
-    pending piece later e =
-        let new = with_slot (record b { pending = later }) slot (Some (live.Span piece None)) in
-        formed_onward b new (record {
-          plan = refl;
-          options = refl;
-          files = refl;
-          queues = refl;
-          ascending = λ up. (subst IsAscending e up).1;
-          done = λ up. up;
-        }) h
-        (limits_onward b new (record {
-          commits = omega arith;
-          panes = omega arith;
-          dropped = omega arith;
-          slots = omega (arith, length-set b.slots slot (Some (live.Span piece None)));
-          pieces = omega (arith, pieces_set b slot None (Some (live.Span piece None)) free, ap length e);
-        }) h.within)
+    pending piece later e within =
+        formed_onward b (with_slot (record b { pending = later }) slot (Some (live.Span piece None)))
+        (record { plan = refl; options = refl; files = refl; queues = refl; ascending = λ up. (subst IsAscending e up).1; done = λ up. up }) h within
 
 -- ---- a commit
 
@@ -213,9 +184,9 @@ done_up done (live.Batch batch) up = up
 
 -- ---- a fail
 
-back_formed : (b : BookData) (slot : ℕ) (job : Live) → IsWellFormed b → IsWorking b slot job → IsWellFormed (given_back (with_slot b slot None) job)
-back_formed b slot (live.Span piece attempted) h works =
-    let new = given_back (with_slot b slot None) (live.Span piece attempted) in
+back_formed : (b : SeenBook) (slot : ℕ) (job : Live) (at : ℕ) (cause : Cause) → IsWellFormed b → IsWorking b slot job → IsWellFormed (given_back (with_slot b slot None) job at cause)
+back_formed b slot (live.Span piece attempted) at cause h works =
+    let new = given_back (with_slot b slot None) (live.Span piece attempted) at cause in
     formed_onward b new (record {
       plan = refl;
       options = refl;
@@ -228,28 +199,30 @@ back_formed b slot (live.Span piece attempted) h works =
       commits = omega arith;
       panes = omega arith;
       dropped = omega arith;
+      cells = omega arith;
       slots = omega (arith, length-set b.slots slot None);
       pieces = omega (arith, pieces_set b slot (Some (live.Span piece attempted)) None works, length-with_piece (tried_piece piece) b.pending);
     }) h.within)
-back_formed b slot (live.Batch batch) h works =
-    let new = given_back (with_slot b slot None) (live.Batch batch) in
+back_formed b slot (live.Batch batch) at cause h works =
+    let new = given_back (with_slot b slot None) (live.Batch batch) at cause in
     formed_onward b new (record { plan = refl; options = refl; files = refl; queues = refl; ascending = λ up. up; done = λ up. up }) h
     (limits_onward b new (record {
       commits = omega arith;
       panes = omega arith;
       dropped = omega arith;
+      cells = omega arith;
       slots = omega (arith, length-set b.slots slot None);
       pieces = omega (arith, pieces_set b slot (Some (live.Batch batch)) None works);
     }) h.within)
 
-counted_formed : (b : BookData) (cause : Cause) → IsWellFormed b → IsWellFormed (counted b cause)
-counted_formed b Call h = record { checked = h.checked; allowed = h.allowed; lengths = h.lengths; queues = h.queues; ascending = h.ascending; done = h.done; within = limits_onward b (counted b Call) (record { commits = omega arith; panes = omega arith; dropped = omega arith; slots = omega arith; pieces = omega arith }) h.within }
-counted_formed b Read h = record { checked = h.checked; allowed = h.allowed; lengths = h.lengths; queues = h.queues; ascending = h.ascending; done = h.done; within = limits_onward b (counted b Read) (record { commits = omega arith; panes = omega arith; dropped = omega arith; slots = omega arith; pieces = omega arith }) h.within }
+counted_formed : (b : SeenBook) (cause : Cause) → IsWellFormed b → IsWellFormed (counted b cause)
+counted_formed b Call h = record { checked = h.checked; allowed = h.allowed; lengths = h.lengths; queues = h.queues; ascending = h.ascending; done = h.done; within = limits_onward b (counted b Call) (record { commits = omega arith; panes = omega arith; dropped = omega arith; cells = omega arith; slots = omega arith; pieces = omega arith }) h.within }
+counted_formed b Read h = record { checked = h.checked; allowed = h.allowed; lengths = h.lengths; queues = h.queues; ascending = h.ascending; done = h.done; within = limits_onward b (counted b Read) (record { commits = omega arith; panes = omega arith; dropped = omega arith; cells = omega arith; slots = omega arith; pieces = omega arith }) h.within }
 
-stop_formed : (b : BookData) (stopped : Option StopCause) → IsWellFormed b → IsWellFormed (record b { stopped = stopped })
-stop_formed b stopped h = record { checked = h.checked; allowed = h.allowed; lengths = h.lengths; queues = h.queues; ascending = h.ascending; done = h.done; within = limits_onward b (record b { stopped = stopped }) (record { commits = omega arith; panes = omega arith; dropped = omega arith; slots = omega arith; pieces = omega arith }) h.within }
+stop_formed : (b : SeenBook) (stopped : Option StopCause) → IsWellFormed b → IsWellFormed (record b { stopped = stopped })
+stop_formed b stopped h = record { checked = h.checked; allowed = h.allowed; lengths = h.lengths; queues = h.queues; ascending = h.ascending; done = h.done; within = limits_onward b (record b { stopped = stopped }) (record { commits = omega arith; panes = omega arith; dropped = omega arith; cells = omega arith; slots = omega arith; pieces = omega arith }) h.within }
 
-stop_where_formed : (spent : Bool) (b : BookData) (note : FaultNote) → IsWellFormed b → IsWellFormed (stopped_where spent b note)
+stop_where_formed : (spent : Bool) (b : SeenBook) (note : FaultNote) → IsWellFormed b → IsWellFormed (stopped_where spent b note)
 stop_where_formed true b note h = stop_formed b (or_stopped b.stopped (stop.Spent note)) h
 stop_where_formed false b note h = h
 
@@ -262,7 +235,7 @@ pieces_up chunk (file ∷ files) pending up =
     pieces_up chunk files (with_pieces (first_pieces file.node file.item file.len chunk) pending)
     (ascending_with_pieces (first_pieces file.node file.item file.len chunk) pending up)
 
-opening_formed : (b first : BookData) → IsOpening b.plan b.files b.options first → IsWellFormed first
+opening_formed : (b first : SeenBook) → IsOpening b.plan b.files b.options first → IsWellFormed first
 opening_formed b first opening = subst IsWellFormed (sym opening.is) (record {
   checked = opening.checked;
   allowed = opening.allowed;
@@ -273,12 +246,12 @@ opening_formed b first opening = subst IsWellFormed (sym opening.is) (record {
   within = subst IsWithinLimits opening.is opening.within;
 })
 
-keeps_formed : (told : Option (List FileText)) → Keeps told Anything IsWellFormed
+pub keeps_formed : (told : Option (List FileText)) → Keeps told Anything IsWellFormed
 keeps_formed told = record {
   opens = opening_formed;
   enrolls = λ b known h within.
       formed_onward b (enrolled b) (record { plan = refl; options = refl; files = refl; queues = refl; ascending = λ up. up; done = λ up. up }) h within;
-  takes = λ b slot next known h running free is. take_formed b slot next h free is;
+  takes = λ b slot next known h running free is within. take_formed b slot next h is within;
   claims = λ b slot p piece attempted known h works may.
       let new = with_slot b slot (Some (live.Span piece (Some p))) in
       formed_onward b new (record { plan = refl; options = refl; files = refl; queues = refl; ascending = λ up. up; done = λ up. up }) h
@@ -286,6 +259,7 @@ keeps_formed told = record {
         commits = omega arith;
         panes = omega arith;
         dropped = omega arith;
+        cells = omega arith;
         slots = omega (arith, length-set b.slots slot (Some (live.Span piece (Some p))));
         pieces = omega (arith, pieces_set b slot (Some (live.Span piece attempted)) (Some (live.Span piece (Some p))) works);
       }) h.within);
@@ -308,13 +282,10 @@ keeps_formed told = record {
         done = done_up b.done job;
       }) h made.within;
   fails = λ b slot at job cause known h works.
-      stop_where_formed (ends_run b job cause) (counted (given_back (with_slot b slot None) job) cause) (note_of job at cause)
-      (counted_formed (given_back (with_slot b slot None) job) cause (back_formed b slot job h works));
+      stop_where_formed (ends_run b job cause) (counted (given_back (with_slot b slot None) job at cause) cause) (note_of job at cause)
+      (counted_formed (given_back (with_slot b slot None) job at cause) cause (back_formed b slot job at cause h works));
   stops = λ b known h. stop_formed b (or_stopped b.stopped stop.NoMemory) h;
 }
 
 pub formed_always : (told : Option (List FileText)) → AreAlways told IsWellFormed
 formed_always told = kept_alone told IsWellFormed (keeps_formed told)
-
-pub reached_formed : (told : Option (List FileText)) (b : BookData) → Reached told b → IsWellFormed b
-reached_formed told = always_reached told IsWellFormed (formed_always told)

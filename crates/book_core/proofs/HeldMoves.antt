@@ -13,9 +13,10 @@ use Rattle.beam_values.proofs.Counts.{filter_all}
 use Rattle.beam_values.specs.declared.cell.Cell.{Cell}
 use Rattle.beam_values.specs.declared.cell.Pane.{Pane}
 use Rattle.beam_values.specs.declared.marks.StageMarks.{StageMarks}
+use Rattle.beam_values.specs.declared.fault.Cause.{Cause}
 use Rattle.beam_values.specs.declared.piece.Piece.{Piece}
 use Rattle.bundle_commit.specs.declared.job.Receipt.{Receipt}
-use Rattle.book_core.specs.Book.{BookData, HeldPane, batch_of, live_batches, held, held_at, held_in, queued, queue_at, last_marks}
+use Rattle.book_core.specs.Book.{SeenBook, HeldPane, batch_of, live_batches, held, held_at, held_in, queued, queue_at, last_marks}
 use Rattle.book_core.specs.Changes.{with_slot, committed, given_back, tried_batch}
 use Rattle.book_core.specs.Facts.{is_held_at, AreHeldOnce}
 use Rattle.book_core.specs.Jobs.{GivenBack, Oldest, Next, next_job, without_due, first_pane, first_in}
@@ -35,7 +36,7 @@ batch_weight w batch = sum_by w (held_in batch)
 abbrev pub batches_weight : (HeldPane → ℕ) → List Batch → ℕ
 batches_weight w batches = sum_by (batch_weight w) batches
 
-pub held_weighs : (w : HeldPane → ℕ) (b : BookData)
+pub held_weighs : (w : HeldPane → ℕ) (b : SeenBook)
     → sum_by w (held b) ≡ sum_by w (queued b) + batches_weight w b.returned + batches_weight w (live_batches b)
 held_weighs w b =
     omega (
@@ -47,7 +48,7 @@ held_weighs w b =
     )
 
 -- a slot is set
-pub batch_set_weighs : (w : HeldPane → ℕ) (b : BookData) (slot : ℕ) (old new : Option Live) → slice_get b.slots slot ≡ Some old
+pub batch_set_weighs : (w : HeldPane → ℕ) (b : SeenBook) (slot : ℕ) (old new : Option Live) → slice_get b.slots slot ≡ Some old
     → batches_weight w (live_batches (with_slot b slot new)) + batches_weight w (batch_of old) ≡ batches_weight w (live_batches b) + batches_weight w (batch_of new)
 batch_set_weighs w b slot old new at = flat_set_weighs batch_of b.slots slot (batch_weight w) old new at
 
@@ -132,7 +133,7 @@ split_at node queue most w =
 
 -- ---- a take
 
-module _ (b : BookData) (slot : ℕ) (free : IsFree b slot) (held_once : AreHeldOnce b) where
+module _ (b : SeenBook) (slot : ℕ) (free : IsFree b slot) (held_once : AreHeldOnce b) where
   returned_once : (place : ℕ) → batches_weight (λ held. cond (is_held_at place held) 1 0) b.returned ≤ 1
   returned_once place = let once = held_once.once place in omega (arith, once, held_weighs (λ held. cond (is_held_at place held) 1 0) b)
 
@@ -204,7 +205,7 @@ module _ (b : BookData) (slot : ℕ) (free : IsFree b slot) (held_once : AreHeld
 -- ---- the other steps
 
 -- a slot is set to what has no other batch
-pub set_moves : (b : BookData) (slot : ℕ) (old new : Option Live) → slice_get b.slots slot ≡ Some old → batch_of old ≡ [] → batch_of new ≡ []
+pub set_moves : (b : SeenBook) (slot : ℕ) (old new : Option Live) → slice_get b.slots slot ≡ Some old → batch_of old ≡ [] → batch_of new ≡ []
     → IsSameBag (held (with_slot b slot new)) (held b)
 set_moves b slot old new at none_old none_new = record {
   weighs = λ w. omega (
@@ -217,7 +218,7 @@ set_moves b slot old new at none_old none_new = record {
   );
 }
 
-pub enroll_moves : (b : BookData) → IsSameBag (held (record b { slots = b.slots ++ None ∷ [] })) (held b)
+pub enroll_moves : (b : SeenBook) → IsSameBag (held (record b { slots = b.slots ++ None ∷ [] })) (held b)
 enroll_moves b = record {
   weighs = λ w. omega (
     arith,
@@ -228,19 +229,19 @@ enroll_moves b = record {
   );
 }
 
-pub back_moves : (b : BookData) (slot : ℕ) (job : Live) → IsWorking b slot job → IsSameBag (held (given_back (with_slot b slot None) job)) (held b)
-back_moves b slot (live.Span piece attempted) works = record {
+pub back_moves : (b : SeenBook) (slot : ℕ) (job : Live) (at : ℕ) (cause : Cause) → IsWorking b slot job → IsSameBag (held (given_back (with_slot b slot None) job at cause)) (held b)
+back_moves b slot (live.Span piece attempted) at cause works = record {
   weighs = λ w. omega (
     arith,
-    held_weighs w (given_back (with_slot b slot None) (live.Span piece attempted)),
+    held_weighs w (given_back (with_slot b slot None) (live.Span piece attempted) at cause),
     held_weighs w b,
     batch_set_weighs w b slot (Some (live.Span piece attempted)) None works,
   );
 }
-back_moves b slot (live.Batch batch) works = record {
+back_moves b slot (live.Batch batch) at cause works = record {
   weighs = λ w. omega (
     arith,
-    held_weighs w (given_back (with_slot b slot None) (live.Batch batch)),
+    held_weighs w (given_back (with_slot b slot None) (live.Batch batch) at cause),
     held_weighs w b,
     batch_set_weighs w b slot (Some (live.Batch batch)) None works,
     sum_by-append (batch_weight w) b.returned (tried_batch batch ∷ []),
@@ -250,10 +251,10 @@ back_moves b slot (live.Batch batch) works = record {
 }
 
 -- the panes that a commit fires, as they wait
-abbrev pub fired_held : BookData → List Pane → List HeldPane
+abbrev pub fired_held : SeenBook → List Pane → List HeldPane
 fired_held b fired = map (held_fired (last_marks b)) (enumerate_from (length b.panes) fired)
 
-pub commit_moves : (b : BookData) (slot : ℕ) (job : Live) (receipt : Receipt) (cells : List Cell) (fired : List Pane) (marks : List StageMarks)
+pub commit_moves : (b : SeenBook) (slot : ℕ) (job : Live) (receipt : Receipt) (cells : List Cell) (fired : List Pane) (marks : List StageMarks)
     → IsWorking b slot job → All (λ pane. pane.node < length b.queues) fired
     → IsSameBag (held (committed b slot job receipt cells fired marks) ++ flat_map held_in (batch_of (Some job))) (held b ++ fired_held b fired)
 commit_moves b slot job receipt cells fired marks works at_nodes = record {

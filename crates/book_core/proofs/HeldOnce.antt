@@ -26,16 +26,16 @@ use Rattle.beam_values.specs.declared.plan.Node.{Node}
 use Rattle.beam_values.specs.declared.plan.Plan.{Plan}
 use Rattle.bundle_commit.specs.declared.job.Receipt.{Receipt}
 use Rattle.group_cells.proofs.Counting.{count_none, none_counted, count-append}
-use Rattle.book_core.specs.Book.{BookData, HeldPane, batch_of, live_batches, held, held_in, last_marks}
+use Rattle.book_core.specs.Book.{SeenBook, HeldPane, batch_of, live_batches, held, held_in, last_marks}
 use Rattle.book_core.specs.Changes.{with_slot, cut_to, committed, given_back, tried_batch, counted, stopped_where, ends_run, note_of, or_stopped}
 use Rattle.book_core.specs.Facts.{is_held_at, IsHeldPane, AreHeldOnce, IsWellFormed}
 use Rattle.book_core.specs.Jobs.{Next, next_job, first_pane}
-use Rattle.book_core.specs.Runs.{Reached, IsOpening, opened}
+use Rattle.book_core.specs.Runs.{IsOpening, opened}
 use Rattle.book_core.specs.Steps.{IsWorking, IsFree}
 use Rattle.book_core.specs.declared.live.Batch.{Batch}
 use Rattle.book_core.specs.declared.live.Live.{Live}
 use Rattle.book_core.specs.declared.live.Live.TheVariants as live
-use Rattle.book_core.proofs.Cases.{Keeps, Commits, AreAlways, Both, kept_with, always_reached, enrolled}
+use Rattle.book_core.proofs.Cases.{Keeps, Commits, AreAlways, Both, kept_with, enrolled}
 use Rattle.book_core.proofs.Formed.{formed_always}
 use Rattle.book_core.proofs.HeldMoves.{IsNonempty, All-middle, take_moves, set_moves, enroll_moves, back_moves, commit_moves, fired_held}
 use Rattle.book_core.proofs.Queues.{held_fired, queued_from}
@@ -78,18 +78,18 @@ well_is panes held h = by (slice_get panes held.waiting.pane) refl h
 abbrev AreWell : List Pane → List HeldPane → Type 0
 AreWell panes held = All (λ h. is_well panes h ≡ true) held
 
-all_well : (b : BookData) → All (IsHeldPane b) (held b) → AreWell b.panes (held b)
+all_well : (b : SeenBook) → All (IsHeldPane b) (held b) → AreWell b.panes (held b)
 all_well b h = All-weaker (IsHeldPane b) (λ x. is_well b.panes x ≡ true) (λ x k. well_from b.panes x k.0 k.1 k.2) (held b) h
 
-well_all : (b : BookData) → AreWell b.panes (held b) → All (IsHeldPane b) (held b)
+well_all : (b : SeenBook) → AreWell b.panes (held b) → All (IsHeldPane b) (held b)
 well_all b h = All-weaker (λ x. is_well b.panes x ≡ true) (IsHeldPane b) (λ x k. well_is b.panes x k) (held b) h
 
 -- ---- the same bag
 
-AreNonempty : BookData → Type 0
+AreNonempty : SeenBook → Type 0
 AreNonempty b = All IsNonempty (b.returned ++ live_batches b)
 
-held_onward : (b new : BookData) → IsSameBag (held new) (held b) → new.panes ≡ b.panes → All IsNonempty (new.returned ++ live_batches new) → AreHeldOnce b → AreHeldOnce new
+held_onward : (b new : SeenBook) → IsSameBag (held new) (held b) → new.panes ≡ b.panes → All IsNonempty (new.returned ++ live_batches new) → AreHeldOnce b → AreHeldOnce new
 held_onward b new same panes some h = record {
   panes = well_all new (subst (λ (l : List Pane). AreWell l (held new)) (sym panes)
       (All-of_bag (is_well b.panes) (held b) (held new) (bag_sym (held new) (held b) same) (all_well b h.panes)));
@@ -99,7 +99,7 @@ held_onward b new same panes some h = record {
 
 -- ---- batches have panes
 
-module _ (b : BookData) (h : AreHeldOnce b) where
+module _ (b : SeenBook) (h : AreHeldOnce b) where
   returned_some : All IsNonempty b.returned
   returned_some = All-append_left IsNonempty b.returned (live_batches b) h.batches
 
@@ -141,13 +141,13 @@ module _ (b : BookData) (h : AreHeldOnce b) where
       held_onward b (with_slot b slot new) (set_moves b slot old new at none_old none_new) refl
       (set_some b.returned slot new returned_some (subst (All IsNonempty) (sym none_new) (All-nil IsNonempty))) h
 
-  back_keeps : (slot : ℕ) (job : Live) → IsWorking b slot job → AreHeldOnce (given_back (with_slot b slot None) job)
-  back_keeps slot (live.Span piece attempted) works =
-      held_onward b (given_back (with_slot b slot None) (live.Span piece attempted)) (back_moves b slot (live.Span piece attempted) works) refl
+  back_keeps : (slot : ℕ) (job : Live) (at : ℕ) (cause : Cause) → IsWorking b slot job → AreHeldOnce (given_back (with_slot b slot None) job at cause)
+  back_keeps slot (live.Span piece attempted) at cause works =
+      held_onward b (given_back (with_slot b slot None) (live.Span piece attempted) at cause) (back_moves b slot (live.Span piece attempted) at cause works) refl
       (set_some b.returned slot None returned_some (All-nil IsNonempty)) h
-  back_keeps slot (live.Batch batch) works =
+  back_keeps slot (live.Batch batch) at cause works =
       let one = All-head IsNonempty batch [] (All-flat_at batch_of b.slots slot IsNonempty (Some (live.Batch batch)) works live_some) in
-      held_onward b (given_back (with_slot b slot None) (live.Batch batch)) (back_moves b slot (live.Batch batch) works) refl
+      held_onward b (given_back (with_slot b slot None) (live.Batch batch) at cause) (back_moves b slot (live.Batch batch) at cause works) refl
       (set_some (b.returned ++ tried_batch batch ∷ []) slot None
       (All-append IsNonempty b.returned (tried_batch batch ∷ []) returned_some (one_some (tried_batch batch) one)) (All-nil IsNonempty)) h
 
@@ -217,16 +217,16 @@ held_below panes place held high well =
     low : (h : HeldPane) → (pane : Pane) × (slice_get panes h.waiting.pane ≡ Some pane) × (pane.node ≡ h.node) → is_held_at place h ≡ false
     low h found = let less = slice_get_within panes h.waiting.pane found.0 found.1 in grind (arith, nat_tests)
 
-module _ (told : Option (List FileText)) (b : BookData) (slot : ℕ) (job : Live) (receipt : Receipt) (cells : List Cell) (fired : List Pane) (marks : List StageMarks)
+module _ (told : Option (List FileText)) (b : SeenBook) (slot : ℕ) (job : Live) (receipt : Receipt) (cells : List Cell) (fired : List Pane) (marks : List StageMarks)
     (formed : IsWellFormed b) (h : AreHeldOnce b) (made : Commits told b slot job receipt cells fired marks) where
-  abbrev after : BookData
+  abbrev after : SeenBook
   after = committed b slot job receipt cells fired marks
 
   fired_at_nodes : All (λ pane. pane.node < length b.queues) fired
   fired_at_nodes =
       All-weaker (λ pane. is_group b.plan pane.node ≡ true) (λ pane. pane.node < length b.queues)
       (λ pane e. subst (λ (n : ℕ). pane.node < n) (sym formed.queues) (group_within b.plan pane.node e)) fired
-      (All-append_right (λ pane. is_group b.plan pane.node ≡ true) b.panes fired made.legal.panes_at)
+      made.rounds.at_groups
 
   pub commit_bag : IsSameBag (held after ++ flat_map held_in (batch_of (Some job))) (held b ++ fired_held b fired)
   commit_bag = commit_moves b slot job receipt cells fired marks made.works fired_at_nodes
@@ -261,14 +261,14 @@ module _ (told : Option (List FileText)) (b : BookData) (slot : ℕ) (job : Live
 
 -- ---- each step
 
-counted_held : (b : BookData) (cause : Cause) → AreHeldOnce b → AreHeldOnce (counted b cause)
+counted_held : (b : SeenBook) (cause : Cause) → AreHeldOnce b → AreHeldOnce (counted b cause)
 counted_held b Call h = record { panes = h.panes; once = h.once; batches = h.batches }
 counted_held b Read h = record { panes = h.panes; once = h.once; batches = h.batches }
 
-stop_held : (b : BookData) (stopped : Option StopCause) → AreHeldOnce b → AreHeldOnce (record b { stopped = stopped })
+stop_held : (b : SeenBook) (stopped : Option StopCause) → AreHeldOnce b → AreHeldOnce (record b { stopped = stopped })
 stop_held b stopped h = record { panes = h.panes; once = h.once; batches = h.batches }
 
-stop_where_held : (spent : Bool) (b : BookData) (note : FaultNote) → AreHeldOnce b → AreHeldOnce (stopped_where spent b note)
+stop_where_held : (spent : Bool) (b : SeenBook) (note : FaultNote) → AreHeldOnce b → AreHeldOnce (stopped_where spent b note)
 stop_where_held true b note h = stop_held b (or_stopped b.stopped (stop.Spent note)) h
 stop_where_held false b note h = h
 
@@ -276,10 +276,10 @@ none_queued : (n : ℕ) (nodes : List Node) → queued_from n (map (λ node. [])
 none_queued n [] = refl
 none_queued n (node ∷ nodes) = none_queued (n + 1) nodes
 
-pub none_held : (b : BookData) (marks : List StageMarks) → held (opened b.plan b.files b.options marks) ≡ []
+pub none_held : (b : SeenBook) (marks : List StageMarks) → held (opened b.plan b.files b.options marks) ≡ []
 none_held b marks = ap (λ (l : List HeldPane). l ++ []) (none_queued 0 b.plan.nodes)
 
-opening_held : (b first : BookData) → IsOpening b.plan b.files b.options first → AreHeldOnce first
+opening_held : (b first : SeenBook) → IsOpening b.plan b.files b.options first → AreHeldOnce first
 opening_held b first opening =
     let empty = none_held b opening.marks in
     subst AreHeldOnce (sym opening.is) (record {
@@ -288,14 +288,14 @@ opening_held b first opening =
       batches = All-nil IsNonempty;
     })
 
-keeps_held : (told : Option (List FileText)) → Keeps told IsWellFormed AreHeldOnce
+pub keeps_held : (told : Option (List FileText)) → Keeps told IsWellFormed AreHeldOnce
 keeps_held told = record {
   opens = opening_held;
   enrolls = λ b formed h within.
       held_onward b (enrolled b) (enroll_moves b) refl
       (subst (λ (l : List Batch). All IsNonempty (b.returned ++ l)) (sym (flat_map-append batch_of b.slots (None ∷ [])))
       (All-append IsNonempty b.returned (live_batches b ++ []) (returned_some b h) (All-append IsNonempty (live_batches b) [] (live_some b h) (All-nil IsNonempty)))) h;
-  takes = λ b slot next formed h running free is. take_keeps b h formed slot next free is;
+  takes = λ b slot next formed h running free is within. take_keeps b h formed slot next free is;
   claims = λ b slot p piece attempted formed h works may.
       set_keeps b h slot (Some (live.Span piece attempted)) (Some (live.Span piece (Some p))) works refl refl;
   splits = λ b slot at piece attempted formed h works inside behind within.
@@ -303,13 +303,10 @@ keeps_held told = record {
       record { panes = set.panes; once = set.once; batches = set.batches };
   commits = λ b slot job receipt cells fired marks formed h made. commit_keeps_held told b slot job receipt cells fired marks formed h made;
   fails = λ b slot at job cause formed h works.
-      stop_where_held (ends_run b job cause) (counted (given_back (with_slot b slot None) job) cause) (note_of job at cause)
-      (counted_held (given_back (with_slot b slot None) job) cause (back_keeps b h slot job works));
+      stop_where_held (ends_run b job cause) (counted (given_back (with_slot b slot None) job at cause) cause) (note_of job at cause)
+      (counted_held (given_back (with_slot b slot None) job at cause) cause (back_keeps b h slot job at cause works));
   stops = λ b formed h. stop_held b (or_stopped b.stopped stop.NoMemory) h;
 }
 
 pub held_always : (told : Option (List FileText)) → AreAlways told (Both IsWellFormed AreHeldOnce)
 held_always told = kept_with told IsWellFormed AreHeldOnce (formed_always told) (keeps_held told)
-
-pub reached_held : (told : Option (List FileText)) (b : BookData) → Reached told b → AreHeldOnce b
-reached_held told b reached = (always_reached told (Both IsWellFormed AreHeldOnce) (held_always told) b reached).1

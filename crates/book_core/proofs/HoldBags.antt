@@ -11,13 +11,14 @@ use Rattle.beam_values.specs.Marks.{least_mark, node_marks, AreMarks}
 use Rattle.beam_values.specs.Times.{final_mark}
 use Rattle.beam_values.proofs.Bags.{bag_filter, bag_map, sum_by-map}
 use Rattle.beam_values.specs.declared.marks.StageMarks.{StageMarks}
+use Rattle.beam_values.specs.declared.fault.Cause.{Cause}
 use Rattle.beam_values.specs.declared.piece.Piece.{Piece}
 use Rattle.beam_values.specs.declared.plan.Plan.{Plan}
 use Rattle.beam_model.specs.Holds.{Hold, piece_hold, marks_held, least_hold}
 use Rattle.split_core.specs.Order.{with_piece}
 use Rattle.split_core.proofs.Ordered.{bag_with_piece}
 use Rattle.watermarks.proofs.BagMembers.{bag_least}
-use Rattle.book_core.specs.Book.{BookData, piece_of, live_pieces, held, hold_of, holds}
+use Rattle.book_core.specs.Book.{SeenBook, piece_of, live_pieces, held, hold_of, holds}
 use Rattle.book_core.specs.Changes.{with_slot, cut_to, rest_of, split_off, given_back, tried_piece}
 use Rattle.book_core.specs.Facts.{AreHeldOnce}
 use Rattle.book_core.specs.Jobs.{GivenBack, Oldest, Next, next_job, without_due}
@@ -61,7 +62,7 @@ marks_of_least plan hs ks marks same h = record {
 abbrev piece_weight : Plan → (Hold → ℕ) → Piece → ℕ
 piece_weight plan w piece = w (piece_hold plan piece)
 
-pub holds_weigh : (w : Hold → ℕ) (b : BookData)
+pub holds_weigh : (w : Hold → ℕ) (b : SeenBook)
     → sum_by w (all_holds b) ≡ sum_by (piece_weight b.plan w) b.pending + sum_by (piece_weight b.plan w) (live_pieces b) + sum_by (λ h. w (hold_of h)) (held b)
 holds_weigh w b =
     omega (
@@ -72,7 +73,7 @@ holds_weigh w b =
       sum_by-map w hold_of (held b),
     )
 
-pub piece_set_weighs : (w : Piece → ℕ) (b : BookData) (slot : ℕ) (old new : Option Live) → slice_get b.slots slot ≡ Some old
+pub piece_set_weighs : (w : Piece → ℕ) (b : SeenBook) (slot : ℕ) (old new : Option Live) → slice_get b.slots slot ≡ Some old
     → sum_by w (live_pieces (with_slot b slot new)) + sum_by w (piece_of old) ≡ sum_by w (live_pieces b) + sum_by w (piece_of new)
 piece_set_weighs w b slot old new at = flat_set_weighs piece_of b.slots slot w old new at
 
@@ -81,7 +82,7 @@ with_piece_weight w piece pending = (bag_with_piece piece pending).weighs w ∙ 
 
 -- ---- which steps leave the bag
 
-pub enroll_holds : (b : BookData) → IsSameBag (all_holds (record b { slots = b.slots ++ None ∷ [] })) (all_holds b)
+pub enroll_holds : (b : SeenBook) → IsSameBag (all_holds (record b { slots = b.slots ++ None ∷ [] })) (all_holds b)
 enroll_holds b = record {
   weighs = λ w. omega (
     arith,
@@ -93,7 +94,7 @@ enroll_holds b = record {
   );
 }
 
-pub take_holds : (b : BookData) (slot : ℕ) (next : Next) → AreHeldOnce b → IsFree b slot → next_job b ≡ Some next
+pub take_holds : (b : SeenBook) (slot : ℕ) (next : Next) → AreHeldOnce b → IsFree b slot → next_job b ≡ Some next
     → IsSameBag (all_holds (with_slot next.rest slot (Some next.job))) (all_holds b)
 take_holds b slot next once free is =
     take_cases b (λ (n : Next). IsSameBag (held (with_slot n.rest slot (Some n.job))) (held b) → IsSameBag (all_holds (with_slot n.rest slot (Some n.job))) (all_holds b))
@@ -129,7 +130,7 @@ take_holds b slot next once free is =
     })
     next is (take_moves b slot free once next is)
 
-pub claim_holds : (b : BookData) (slot p : ℕ) (piece : Piece) (attempted : Option ℕ) → IsWorking b slot (live.Span piece attempted)
+pub claim_holds : (b : SeenBook) (slot p : ℕ) (piece : Piece) (attempted : Option ℕ) → IsWorking b slot (live.Span piece attempted)
     → IsSameBag (all_holds (with_slot b slot (Some (live.Span piece (Some p))))) (all_holds b)
 claim_holds b slot p piece attempted works = record {
   weighs = λ w. omega (
@@ -141,38 +142,38 @@ claim_holds b slot p piece attempted works = record {
   );
 }
 
-pub back_holds : (b : BookData) (slot : ℕ) (job : Live) → IsWorking b slot job → IsSameBag (all_holds (given_back (with_slot b slot None) job)) (all_holds b)
-back_holds b slot (live.Span piece attempted) works = record {
+pub back_holds : (b : SeenBook) (slot : ℕ) (job : Live) (at : ℕ) (cause : Cause) → IsWorking b slot job → IsSameBag (all_holds (given_back (with_slot b slot None) job at cause)) (all_holds b)
+back_holds b slot (live.Span piece attempted) at cause works = record {
   weighs = λ w. omega (
     arith,
     holds_weigh w b,
-    holds_weigh w (given_back (with_slot b slot None) (live.Span piece attempted)),
-    (back_moves b slot (live.Span piece attempted) works).weighs (λ h. w (hold_of h)),
+    holds_weigh w (given_back (with_slot b slot None) (live.Span piece attempted) at cause),
+    (back_moves b slot (live.Span piece attempted) at cause works).weighs (λ h. w (hold_of h)),
     piece_set_weighs (piece_weight b.plan w) b slot (Some (live.Span piece attempted)) None works,
     with_piece_weight (piece_weight b.plan w) (tried_piece piece) b.pending,
     one_weighs (piece_weight b.plan w) piece,
   );
 }
-back_holds b slot (live.Batch batch) works = record {
+back_holds b slot (live.Batch batch) at cause works = record {
   weighs = λ w. omega (
     arith,
     holds_weigh w b,
-    holds_weigh w (given_back (with_slot b slot None) (live.Batch batch)),
-    (back_moves b slot (live.Batch batch) works).weighs (λ h. w (hold_of h)),
+    holds_weigh w (given_back (with_slot b slot None) (live.Batch batch) at cause),
+    (back_moves b slot (live.Batch batch) at cause works).weighs (λ h. w (hold_of h)),
     piece_set_weighs (piece_weight b.plan w) b slot (Some (live.Batch batch)) None works,
   );
 }
 
 -- ---- a split doubles the hold of its piece
 
-module _ (b : BookData) (slot at : ℕ) (piece : Piece) (attempted : Option ℕ) (works : IsWorking b slot (live.Span piece attempted)) where
+module _ (b : SeenBook) (slot at : ℕ) (piece : Piece) (attempted : Option ℕ) (works : IsWorking b slot (live.Span piece attempted)) where
   abbrev front : Piece
   front = cut_to piece (record { from = piece.range.from; to = at })
 
   abbrev rest : Piece
   rest = rest_of piece (record { from = at; to = piece.range.to })
 
-  abbrev others : BookData
+  abbrev others : SeenBook
   others = with_slot b slot None
 
   old_bag : IsSameBag (all_holds b) (piece_hold b.plan piece ∷ all_holds others)

@@ -10,7 +10,7 @@ use Rattle.beam_model.specs.Holds.{Hold, piece_hold, marks_held}
 use Rattle.split_core.specs.Order.{with_piece}
 use Rattle.split_core.proofs.Ordered.{bag_with_piece}
 use Rattle.watermarks.specs.Holds.{SeenHolds}
-use Rattle.book_core.specs.Book.{BookData, HeldPane, piece_of, batch_of, live_pieces, live_batches, held_in, held, queued, hold_of, holds}
+use Rattle.book_core.specs.Book.{SeenBook, HeldPane, piece_of, batch_of, live_pieces, live_batches, held_in, held, queued, hold_of, holds}
 use Rattle.book_core.specs.Changes.{with_slot, split_off, cut_to, rest_of}
 use Rattle.book_core.specs.Indexes.{marks_in, AreHeldIn, all_holds}
 use Rattle.book_core.specs.declared.live.Batch.{Batch}
@@ -54,7 +54,7 @@ slots_weigh w plan slots =
       sum_by-cons (λ x. sum_by (batch_weight w) (batch_of x)) x xs,
     )
 
-pub all_weigh : (w : Hold → ℕ) (b : BookData) → sum_by w (all_holds b)
+pub all_weigh : (w : Hold → ℕ) (b : SeenBook) → sum_by w (all_holds b)
     ≡ sum_by (piece_weight w b.plan) b.pending + sum_by (pane_weight w) (queued b) + sum_by (batch_weight w) b.returned + sum_by (slot_weight w b.plan) b.slots
 all_weigh w b = omega (
   arith,
@@ -70,13 +70,13 @@ all_weigh w b = omega (
 )
 
 -- a slot is set to what holds as much
-pub set_holds : (b : BookData) (slot : ℕ) (old new : Option Live) → slice_get b.slots slot ≡ Some old
+pub set_holds : (b : SeenBook) (slot : ℕ) (old new : Option Live) → slice_get b.slots slot ≡ Some old
     → ((w : Hold → ℕ) → slot_weight w b.plan new ≡ slot_weight w b.plan old) → IsSameBag (all_holds b) (all_holds (with_slot b slot new))
 set_holds b slot old new at same = record {
   weighs = λ w. omega (arith, all_weigh w b, all_weigh w (with_slot b slot new), set_weighs (slot_weight w b.plan) b.slots slot old new at, same w);
 }
 
-pub enroll_holds : (b : BookData) → IsSameBag (all_holds b) (all_holds (record b { slots = b.slots ++ None ∷ [] }))
+pub enroll_holds : (b : SeenBook) → IsSameBag (all_holds b) (all_holds (record b { slots = b.slots ++ None ∷ [] }))
 enroll_holds b = record {
   weighs = λ w. omega (
     arith,
@@ -92,7 +92,7 @@ with_piece_weight : (w : Hold → ℕ) (plan : Plan) (piece : Piece) (pending : 
 with_piece_weight w plan piece pending = (bag_with_piece piece pending).weighs (piece_weight w plan) ∙ sum_by-cons (piece_weight w plan) piece pending
 
 -- a split adds the hold of its piece once more
-pub split_holds : (b : BookData) (slot : ℕ) (piece : Piece) (attempted : Option ℕ) (at : ℕ) → slice_get b.slots slot ≡ Some (Some (live.Span piece attempted))
+pub split_holds : (b : SeenBook) (slot : ℕ) (piece : Piece) (attempted : Option ℕ) (at : ℕ) → slice_get b.slots slot ≡ Some (Some (live.Span piece attempted))
     → IsSameBag (piece_hold b.plan piece ∷ all_holds b) (all_holds (split_off b slot piece attempted at))
 split_holds b slot piece attempted at works = record {
   weighs = λ w. omega (
@@ -106,7 +106,7 @@ split_holds b slot piece attempted at works = record {
 }
 
 -- of what holds the book back one is the hold of a piece that a slot works
-pub free_holds : (b : BookData) (slot : ℕ) (piece : Piece) (attempted : Option ℕ) → slice_get b.slots slot ≡ Some (Some (live.Span piece attempted))
+pub free_holds : (b : SeenBook) (slot : ℕ) (piece : Piece) (attempted : Option ℕ) → slice_get b.slots slot ≡ Some (Some (live.Span piece attempted))
     → IsSameBag (all_holds b) (piece_hold b.plan piece ∷ all_holds (with_slot b slot None))
 free_holds b slot piece attempted works = record {
   weighs = λ w. omega (

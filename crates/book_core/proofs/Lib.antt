@@ -17,7 +17,6 @@ pub mod MarksKept
 pub mod RisingMarks
 pub mod Reaching
 pub mod Limits
-pub mod Tries
 pub mod Holding
 pub mod HeldMarks
 pub mod Estimating
@@ -31,7 +30,6 @@ pub mod Steady
 pub mod Gaps
 pub mod CellsKept
 pub mod CellsAlways
-pub mod AllKept
 pub mod Ends
 pub mod Balanced
 pub mod OpenedPieces
@@ -47,10 +45,7 @@ pub mod EarlyEnds
 pub mod EarlyAlways
 pub mod Lowered
 pub mod TakenLeft
-pub mod FiredNow
-pub mod Quiet
 pub mod Onward
-pub mod PiecesPlaced
 pub mod Settled
 pub mod CommitLowers
 pub mod Rounds
@@ -63,3 +58,9 @@ pub mod CommitHolds
 pub mod CommitStep
 pub mod CommitCalls
 pub mod Worked
+pub mod PiecesListed
+pub mod TriesSummed
+pub mod WaitingOrder
+pub mod SaneResults
+pub mod SaneAlways
+pub mod AllKept

@@ -10,7 +10,7 @@ use Rattle.beam_values.specs.declared.fault.Cause.{Cause}
 use Rattle.beam_values.specs.declared.fault.Cause.TheVariants.{Call, Read}
 use Rattle.beam_values.specs.declared.fault.FaultNote.{FaultNote}
 use Rattle.beam_values.specs.declared.piece.Piece.{Piece}
-use Rattle.book_core.specs.Book.{BookData, HeldPane, piece_of, batch_of, live_pieces, live_batches, held, queued}
+use Rattle.book_core.specs.Book.{SeenBook, HeldPane, piece_of, batch_of, live_pieces, live_batches, held, queued}
 use Rattle.book_core.specs.Changes.{with_slot, failed, given_back, counted, stopped_where, tried_piece, tried_batch, ends_run, note_of}
 use Rattle.book_core.specs.Facts.{AreAttemptsCounted}
 use Rattle.book_core.specs.Left.{IsBelow, attempts_left, left, left_at, left_of_batch, left_of_piece, offsets_and_one}
@@ -28,7 +28,7 @@ pub below_last : (xs : List ℕ) (m n : ℕ) → m < n → IsBelow (xs ++ m ∷ 
 below_last [] m n less = inl less
 below_last (x ∷ xs) m n less = inr (refl, below_last xs m n less)
 
-pub lower_last : (b new : BookData) → new.plan ≡ b.plan → ((node : ℕ) → left_at new node ≡ left_at b node) → attempts_left new < attempts_left b → IsBelow (left new) (left b)
+pub lower_last : (b new : SeenBook) → new.plan ≡ b.plan → ((node : ℕ) → left_at new node ≡ left_at b node) → attempts_left new < attempts_left b → IsBelow (left new) (left b)
 lower_last b new plan same less =
     subst (λ (xs : List ℕ). IsBelow (xs ++ attempts_left new ∷ []) (left b)) (sym nodes)
     (below_last (map (left_at b) (offsets 0 (length b.plan.nodes))) (attempts_left new) (attempts_left b) less)
@@ -43,7 +43,7 @@ lower_last b new plan same less =
 unfoldable pub at_node : ℕ → Piece → ℕ
 at_node node piece = cond (piece.node == node) (offsets_and_one piece) 0
 
-pub left_at_weighs : (b : BookData) (node : ℕ)
+pub left_at_weighs : (b : SeenBook) (node : ℕ)
     → left_at b node ≡ sum_by (at_node node) b.pending + sum_by (at_node node) (live_pieces b) + count_by (λ (pane : HeldPane). pane.node == node) (held b)
 unfolding at_node
 left_at_weighs b node =
@@ -54,7 +54,7 @@ left_at_weighs b node =
       length-filter (λ (pane : HeldPane). pane.node == node) (held b),
     )
 
-pub attempts_weigh : (b : BookData)
+pub attempts_weigh : (b : SeenBook)
     → attempts_left b
     ≡ sum_by (left_of_piece b.options.attempts) b.pending + sum_by (left_of_piece b.options.attempts) (live_pieces b)
     + (sum_by (left_of_batch b.options.attempts) b.returned + sum_by (left_of_batch b.options.attempts) (live_batches b)) + b.options.attempts * length (queued b)
@@ -67,9 +67,9 @@ attempts_weigh b =
 
 -- ---- a job is given back
 
-module _ (b : BookData) (slot : ℕ) (counts : AreAttemptsCounted b) where
-  abbrev back : Live → BookData
-  back job = given_back (with_slot b slot None) job
+module _ (b : SeenBook) (slot at : ℕ) (cause : Cause) (counts : AreAttemptsCounted b) where
+  abbrev back : Live → SeenBook
+  back job = given_back (with_slot b slot None) job at cause
 
   abbrev most : ℕ
   most = b.options.attempts
@@ -81,7 +81,7 @@ module _ (b : BookData) (slot : ℕ) (counts : AreAttemptsCounted b) where
         arith,
         left_at_weighs b node,
         left_at_weighs (back (live.Span piece attempted)) node,
-        bag_count (λ (pane : HeldPane). pane.node == node) (held (back (live.Span piece attempted))) (held b) (back_moves b slot (live.Span piece attempted) works),
+        bag_count (λ (pane : HeldPane). pane.node == node) (held (back (live.Span piece attempted))) (held b) (back_moves b slot (live.Span piece attempted) at cause works),
         piece_set_weighs (at_node node) b slot (Some (live.Span piece attempted)) None works,
         with_piece_weight (at_node node) (tried_piece piece) b.pending,
         one_weighs (at_node node) piece,
@@ -91,7 +91,7 @@ module _ (b : BookData) (slot : ℕ) (counts : AreAttemptsCounted b) where
         arith,
         left_at_weighs b node,
         left_at_weighs (back (live.Batch batch)) node,
-        bag_count (λ (pane : HeldPane). pane.node == node) (held (back (live.Batch batch))) (held b) (back_moves b slot (live.Batch batch) works),
+        bag_count (λ (pane : HeldPane). pane.node == node) (held (back (live.Batch batch))) (held b) (back_moves b slot (live.Batch batch) at cause works),
         piece_set_weighs (at_node node) b slot (Some (live.Batch batch)) None works,
       )
 
@@ -129,28 +129,28 @@ module _ (b : BookData) (slot : ℕ) (counts : AreAttemptsCounted b) where
 
 -- ---- counts and stops are no matter
 
-record IsAsLeft (x y : BookData) : Type 0 where
+record IsAsLeft (x y : SeenBook) : Type 0 where
   plan : y.plan ≡ x.plan
   nodes : (node : ℕ) → left_at y node ≡ left_at x node
   attempts : attempts_left y ≡ attempts_left x
 
-counted_left : (x : BookData) (cause : Cause) → IsAsLeft x (counted x cause)
+counted_left : (x : SeenBook) (cause : Cause) → IsAsLeft x (counted x cause)
 counted_left x Call = record { plan = refl; nodes = λ node. refl; attempts = refl }
 counted_left x Read = record { plan = refl; nodes = λ node. refl; attempts = refl }
 
-stop_left : (spent : Bool) (x : BookData) (note : FaultNote) → IsAsLeft x (stopped_where spent x note)
+stop_left : (spent : Bool) (x : SeenBook) (note : FaultNote) → IsAsLeft x (stopped_where spent x note)
 stop_left true x note = record { plan = refl; nodes = λ node. refl; attempts = refl }
 stop_left false x note = record { plan = refl; nodes = λ node. refl; attempts = refl }
 
-back_plan : (b : BookData) (slot : ℕ) (job : Live) → (given_back (with_slot b slot None) job).plan ≡ b.plan
-back_plan b slot (live.Span piece attempted) = refl
-back_plan b slot (live.Batch batch) = refl
+back_plan : (b : SeenBook) (slot : ℕ) (job : Live) (at : ℕ) (cause : Cause) → (given_back (with_slot b slot None) job at cause).plan ≡ b.plan
+back_plan b slot (live.Span piece attempted) at cause = refl
+back_plan b slot (live.Batch batch) at cause = refl
 
-pub fail_lowers : (b : BookData) (slot at : ℕ) (job : Live) (cause : Cause) → AreAttemptsCounted b → IsWorking b slot job → IsBelow (left (failed b slot job at cause)) (left b)
+pub fail_lowers : (b : SeenBook) (slot at : ℕ) (job : Live) (cause : Cause) → AreAttemptsCounted b → IsWorking b slot job → IsBelow (left (failed b slot job at cause)) (left b)
 fail_lowers b slot at job cause counts works =
-    let back = given_back (with_slot b slot None) job in
+    let back = given_back (with_slot b slot None) job at cause in
     let first = counted_left back cause in
     let then = stop_left (ends_run b job cause) (counted back cause) (note_of job at cause) in
-    lower_last b (failed b slot job at cause) (then.plan ∙ first.plan ∙ back_plan b slot job)
-    (λ node. then.nodes node ∙ first.nodes node ∙ back_nodes b slot counts job works node)
-    (omega (arith, then.attempts, first.attempts, back_lower b slot counts job works))
+    lower_last b (failed b slot job at cause) (then.plan ∙ first.plan ∙ back_plan b slot job at cause)
+    (λ node. then.nodes node ∙ first.nodes node ∙ back_nodes b slot at cause counts job works node)
+    (omega (arith, then.attempts, first.attempts, back_lower b slot at cause counts job works))

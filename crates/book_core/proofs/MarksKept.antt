@@ -22,7 +22,7 @@ use Rattle.bundle_commit.specs.declared.job.Receipt.{Receipt}
 use Rattle.group_cells.specs.Commits.{NoneFalls}
 use Rattle.split_core.proofs.Ordered.{All-with_piece}
 use Rattle.watermarks.proofs.Rising.{mark_of_rises, marks_rise, below_hold}
-use Rattle.book_core.specs.Book.{BookData, HeldPane, piece_of, batch_of, live_pieces, held, held_in, hold_of, holds, last_marks, AreMarksOfBook}
+use Rattle.book_core.specs.Book.{SeenBook, HeldPane, piece_of, batch_of, live_pieces, held, held_in, hold_of, holds, last_marks, AreMarksOfBook}
 use Rattle.book_core.specs.Changes.{committed, pending_after, residual_of, with_residual}
 use Rattle.book_core.specs.Facts.{AreHeldOnce, IsWellFormed}
 use Rattle.book_core.specs.Jobs.{job_of, attempted_of}
@@ -197,9 +197,9 @@ unmapped : {X Y : Type 0} (P : Y → Type 0) (f : X → Y) (xs : List X) → All
 unmapped P f [] h = All-nil (λ x. P (f x))
 unmapped P f (x ∷ xs) h = All-cons (λ y. P (f y)) x xs (All-head P (f x) (map f xs) h) (unmapped P f xs (All-tail P (f x) (map f xs) h))
 
-module _ (told : Option (List FileText)) (b : BookData) (slot : ℕ) (job : Live) (receipt : Receipt) (cells : List Cell) (fired : List Pane) (marks : List StageMarks)
+module _ (told : Option (List FileText)) (b : SeenBook) (slot : ℕ) (job : Live) (receipt : Receipt) (cells : List Cell) (fired : List Pane) (marks : List StageMarks)
     (formed : IsWellFormed b) (once : AreHeldOnce b) (made : Commits told b slot job receipt cells fired marks) (was : AreMarksOfBook b (last_marks b)) where
-  abbrev after : BookData
+  abbrev after : SeenBook
   after = committed b slot job receipt cells fired marks
 
   abbrev before : List StageMarks

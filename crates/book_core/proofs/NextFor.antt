@@ -5,7 +5,7 @@ use Rattle.std.proofs.lemmas.Bool.Decides.{nat_tests}
 use Rattle.std.proofs.lemmas.Option.{slice_get_within}
 use Rattle.beam_values.specs.Tracking.{split_point_of}
 use Rattle.beam_values.specs.declared.piece.Piece.{Piece}
-use Rattle.book_core.specs.Book.{BookData, tracker_of}
+use Rattle.book_core.specs.Book.{SeenBook, tracker_of}
 use Rattle.book_core.specs.NextFor.{IsLeftOf, better_of, IsBestOf, IsMostOf}
 use Rattle.book_core.specs.Steps.{left_behind, IsBefore, IsNextFor, WouldSplit}
 use Rattle.book_core.specs.declared.live.Live.{Live}
@@ -109,20 +109,20 @@ left_of : (piece : Piece) (attempted : Option ℕ) → split_point_of (tracker_o
 left_of piece None h = omega (arith, h)
 left_of piece (Some p) h = omega (arith, h)
 
-would_left : (b : BookData) (slot : ℕ) (piece : Piece) (attempted : Option ℕ) → WouldSplit b slot piece attempted → IsLeftOf b.slots slot (left_behind piece attempted - 1)
+would_left : (b : SeenBook) (slot : ℕ) (piece : Piece) (attempted : Option ℕ) → WouldSplit b slot piece attempted → IsLeftOf b.slots slot (left_behind piece attempted - 1)
 would_left b slot piece attempted h = record { piece = piece; attempted = attempted; works = h.works; splits = h.splits; is = left_of piece attempted h.splits }
 
-left_would : (b : BookData) (slot left : ℕ) (h : IsLeftOf b.slots slot left) → WouldSplit b slot h.piece h.attempted
+left_would : (b : SeenBook) (slot left : ℕ) (h : IsLeftOf b.slots slot left) → WouldSplit b slot h.piece h.attempted
 left_would b slot left h = record { works = h.works; splits = h.splits }
 
-slot_below : (b : BookData) (slot : ℕ) (piece : Piece) (attempted : Option ℕ) → WouldSplit b slot piece attempted → slot < length b.slots
+slot_below : (b : SeenBook) (slot : ℕ) (piece : Piece) (attempted : Option ℕ) → WouldSplit b slot piece attempted → slot < length b.slots
 slot_below b slot piece attempted h = slice_get_within b.slots slot (Some (live.Span piece attempted)) h.works
 
 before_of : (a i b j most left : ℕ) → most + 1 ≡ a → left + 1 ≡ b → IsBefore most i left j → IsBefore a i b j
 before_of a i b j most left e f (inl h) = inl (omega (arith, e, f, h))
 before_of a i b j most left e f (inr h) = inr (omega (arith, e, f, h.0), h.1)
 
-pub next_is : (b : BookData) (slot : ℕ) (result : Option ℕ) → IsMostOf b.slots slot (length b.slots) result → IsNextFor b slot result
+pub next_is : (b : SeenBook) (slot : ℕ) (result : Option ℕ) → IsMostOf b.slots slot (length b.slots) result → IsNextFor b slot result
 next_is b slot None h = λ other piece attempted ne would. h other (left_behind piece attempted - 1) (slot_below b other piece attempted would) ne (would_left b other piece attempted would)
 next_is b slot (Some chosen) h =
     let best = h.1 in

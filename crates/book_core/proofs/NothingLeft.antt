@@ -15,11 +15,12 @@ use Rattle.beam_values.specs.declared.piece.Piece.{Piece}
 use Rattle.beam_model.specs.Holds.{Hold, least_hold, piece_hold}
 use Rattle.watermarks.proofs.NodeMarks.{final_stage, marks_at-is}
 use Rattle.watermarks.proofs.Rising.{all_final}
-use Rattle.book_core.specs.Book.{BookData, HeldPane, held, held_at, held_in, hold_of, live_batches, live_pieces, queue_at, queued, last_marks, AreMarksOfBook}
+use Rattle.book_core.specs.Book.{SeenBook, HeldPane, batch_of, held, held_at, held_in, hold_of, live_batches, live_pieces, piece_of, queue_at, queued, last_marks, AreMarksOfBook}
 use Rattle.book_core.specs.Facts.{AreHeldOnce, IsHeldPane, IsWellFormed}
 use Rattle.book_core.specs.Jobs.{Due, due_at, due_or_piece, first_due, given_back_or, lower_batch, lowest_of, next_job, oldest, or_due, first_pane, without_first}
 use Rattle.book_core.specs.Steps.{IsIdle}
 use Rattle.book_core.specs.declared.live.Batch.{Batch}
+use Rattle.book_core.specs.declared.live.Live.{Live}
 use Rattle.book_core.specs.declared.live.WaitingPane.{WaitingPane}
 use Rattle.book_core.proofs.CellsKept.{nonempty_held}
 use Rattle.book_core.proofs.HeldMoves.{IsNonempty}
@@ -27,6 +28,21 @@ use Rattle.book_core.proofs.HeldOnce.{group_within}
 use Rattle.book_core.specs.Indexes.{all_holds}
 use Rattle.book_core.proofs.Queues.{queued_from}
 use Rattle.book_core.proofs.Slotted.{All-append_left, All-append_right, All-of_flat_map}
+
+-- ---- what no slot works
+
+none_in : {X : Type 0} (f : Option Live → List X) (slots : List (Option Live)) → f None ≡ [] → All (λ slot. slot ≡ None) slots → flat_map f slots ≡ []
+none_in f [] none idle = refl
+none_in f (slot ∷ slots) none idle =
+    ap (λ (s : Option Live). f s ++ flat_map f slots) (All-head (λ (s : Option Live). s ≡ None) slot slots idle)
+    ∙ ap (λ (l : List _). l ++ flat_map f slots) none
+    ∙ none_in f slots none (All-tail (λ (s : Option Live). s ≡ None) slot slots idle)
+
+pub idle_pieces : (b : SeenBook) → IsIdle b → live_pieces b ≡ []
+idle_pieces b idle = none_in piece_of b.slots refl idle
+
+pub idle_batches : (b : SeenBook) → IsIdle b → live_batches b ≡ []
+idle_batches b idle = none_in batch_of b.slots refl idle
 
 -- ---- no batch and no queue is due
 
@@ -50,11 +66,11 @@ none_oldest : (most node : ℕ) (queue : List WaitingPane) → oldest most node 
 none_oldest most node [] e = refl
 none_oldest most node (w ∷ ws) e = absurd (cc)
 
-due_stays : (b : BookData) (due : Due) (nodes : List ℕ) → fold (or_due b) (Some due) nodes ≡ None → ⊥
+due_stays : (b : SeenBook) (due : Due) (nodes : List ℕ) → fold (or_due b) (Some due) nodes ≡ None → ⊥
 due_stays b due [] e = none_some due e
 due_stays b due (node ∷ nodes) e = due_stays b due nodes e
 
-none_due : (b : BookData) (nodes : List ℕ) → fold (or_due b) None nodes ≡ None → All (λ node. due_at b node ≡ None) nodes
+none_due : (b : SeenBook) (nodes : List ℕ) → fold (or_due b) None nodes ≡ None → All (λ node. due_at b node ≡ None) nodes
 none_due b [] e = All-nil (λ node. due_at b node ≡ None)
 none_due b (node ∷ nodes) e = by (due_at b node) refl e (none_due b nodes)
   where
@@ -72,7 +88,7 @@ among_offsets P (suc count) from n low high all = elim (cases_lt from n) [
   | inr here ↦ let same : from ≡ n = omega arith in subst P same (All-head P from (offsets (suc from) count) all)
 ]
 
-module _ (b : BookData) (none : first_due b ≡ None) where
+module _ (b : SeenBook) (none : first_due b ≡ None) where
   node_none : (node : ℕ) → node < length b.plan.nodes → due_at b node ≡ None
   node_none node less = among_offsets (λ n. due_at b n ≡ None) (length b.plan.nodes) 0 node (omega arith) (omega arith) (none_due b (offsets 0 (length b.plan.nodes)) none)
 
@@ -113,7 +129,7 @@ none_of_none many (x ∷ xs) all none = absurd (by (x.node == x.node) here (none
     by true is e = cc
     by false is e = cc
 
-module _ (b : BookData) (formed : IsWellFormed b) (once : AreHeldOnce b) (groups : All (λ pane. is_group b.plan pane.node ≡ true) b.panes) where
+module _ (b : SeenBook) (formed : IsWellFormed b) (once : AreHeldOnce b) (groups : All (λ pane. is_group b.plan pane.node ≡ true) b.panes) where
   within_nodes : (batches : List Batch) → All IsNonempty batches → All (λ batch. All (IsHeldPane b) (held_in batch)) batches → All (λ batch. batch.node < length b.plan.nodes) batches
   within_nodes [] some all = All-nil (λ (batch : Batch). batch.node < length b.plan.nodes)
   within_nodes (x ∷ xs) some all =
@@ -152,12 +168,12 @@ module _ (b : BookData) (formed : IsWellFormed b) (once : AreHeldOnce b) (groups
     none_held =
         ap (λ (l : List HeldPane). l ++ (flat_map held_in b.returned ++ flat_map held_in (live_batches b))) (empty_from 0 b.queues queues_empty)
         ∙ ap (λ (l : List Batch). flat_map held_in l ++ flat_map held_in (live_batches b)) (none_of_none (length b.plan.nodes) b.returned returned_within (no_returned b no_due))
-        ∙ ap (flat_map held_in) idle.1
+        ∙ ap (flat_map held_in) (idle_batches b idle)
 
     no_holds : all_holds b ≡ []
     no_holds =
         ap (λ (l : List Piece). map (piece_hold b.plan) (l ++ live_pieces b) ++ map hold_of (held b)) none_pending
-        ∙ ap (λ (l : List Piece). map (piece_hold b.plan) l ++ map hold_of (held b)) idle.0
+        ∙ ap (λ (l : List Piece). map (piece_hold b.plan) l ++ map hold_of (held b)) (idle_pieces b idle)
         ∙ ap (map hold_of) none_held
 
     pub all_marks_final : AreMarksOfBook b (last_marks b) → (n : ℕ) → marks_at (last_marks b) n ≡ final_stage

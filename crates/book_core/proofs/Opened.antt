@@ -11,32 +11,26 @@ use Rattle.std.proofs.lemmas.Option.{slice_get-map}
 use Rattle.beam_values.specs.Bags.{IsSameBag}
 use Rattle.beam_values.proofs.Bags.{sum_by-map, bag_map, bag_sym, bag_middle, bag_from_same, bag_trans, bag_refl}
 use Rattle.beam_values.specs.Checked.{IsChecked}
-use Rattle.beam_values.specs.Lines.{offsets}
 use Rattle.beam_values.specs.Marks.{least_mark, AreMarks}
 use Rattle.beam_values.specs.Times.{final_mark}
-use Rattle.beam_values.specs.declared.file_text.FileText.{FileText}
 use Rattle.beam_values.specs.declared.marks.StageMarks.{StageMarks}
 use Rattle.beam_values.specs.declared.options.Options.{Options}
 use Rattle.beam_values.specs.declared.piece.FileLen.{FileLen}
 use Rattle.beam_values.specs.declared.piece.Piece.{Piece}
-use Rattle.beam_values.specs.declared.plan.Args.{Args}
 use Rattle.beam_values.specs.declared.plan.Node.{Node}
-use Rattle.beam_values.specs.declared.plan.NodeKind.{NodeKind}
-use Rattle.beam_values.specs.declared.plan.NodeKind.TheVariants.{Source, ParDo, Flatten, WindowInto, Group, Stateful, Write}
 use Rattle.beam_values.specs.declared.plan.Plan.{Plan}
-use Rattle.beam_values.specs.declared.plan.SourceKind.{SourceKind}
-use Rattle.beam_values.specs.declared.plan.SourceKind.TheVariants.{Lines, TimedLines, Count, Made}
 use Rattle.beam_model.specs.Holds.{Hold, piece_hold, least_hold}
-use Rattle.beam_model.specs.Positions.{SourceItem, items, items_of_node, items_of_kind, items_of_source, file_item, made_item}
-use Rattle.split_core.specs.Order.{with_piece, with_pieces, first_piece, first_pieces}
-use Rattle.split_core.proofs.Ordered.{All-with_piece, reverse-cons}
+use Rattle.beam_model.specs.Positions.{items}
+use Rattle.split_core.proofs.Ordered.{reverse-cons}
 use Rattle.watermarks.specs.Holds.{SeenHolds, hold_at}
 use Rattle.group_cells.specs.Commits.{as_commit}
-use Rattle.book_core.specs.Book.{BookData, HeldPane, held_at}
+use Rattle.book_core.specs.Book.{SeenBook, HeldPane, held_at}
 use Rattle.book_core.specs.Indexes.{IsIndexed, AreHeldIn, marks_in, least_in, all_holds}
 use Rattle.book_core.specs.Runs.{AreOptions, AreLengthsOf, IsOpening, opened, pieces_of}
 use Rattle.book_core.proofs.HeldMarks.{least_held, marks_as, held_as}
 use Rattle.book_core.proofs.Holding.{bag_held, all_weigh, pane_weight}
+use Rattle.book_core.proofs.OpenedPieces.{IsPieceOf, all_pieces_below}
+use Rattle.book_core.proofs.SaneAlways.{opened_sane}
 use Rattle.book_core.specs.declared.live.WaitingPane.{WaitingPane}
 
 -- ---- holds
@@ -84,69 +78,6 @@ marks_written plan held least old new count marks e h sized is =
     let all : marks ≡ new = is ∙ ap (λ (n : ℕ). take n (new ++ drop (length new) old)) (sym sized) ∙ take-append_seam new (drop (length new) old) in
     subst (AreMarks plan (least_in held)) (sym all)
     (marks_as plan (hold_at least) (least_in held) new (λ n. ap (λ (l : List ℤ). hold_at l n) e ∙ hold_at_least held n) h)
-
--- ---- the nodes of items and pieces
-
-abbrev IsItemBelow : ℕ → SourceItem → Type 0
-IsItemBelow limit item = item.node < limit
-
-source_below : (told : List FileText) (limit node : ℕ) (work : SourceKind) (args : Args) (names : List (List ℕ)) → node < limit
-    → All (IsItemBelow limit) (items_of_source told node work args names)
-source_below told limit node Lines args names h =
-    All-map (IsItemBelow limit) (file_item told node Lines args) (enumerate_from 0 names) (λ k d less. h)
-source_below told limit node TimedLines args names h =
-    All-map (IsItemBelow limit) (file_item told node TimedLines args) (enumerate_from 0 names) (λ k d less. h)
-source_below told limit node Count args names h = All-cons (IsItemBelow limit) (made_item node Count args) [] h (All-nil (IsItemBelow limit))
-source_below told limit node Made args names h = All-cons (IsItemBelow limit) (made_item node Made args) [] h (All-nil (IsItemBelow limit))
-
-kind_below : (told : List FileText) (limit node : ℕ) (kind : NodeKind) → node < limit → All (IsItemBelow limit) (items_of_kind told node kind)
-kind_below told limit node (Source work args files e) h = source_below told limit node work args files h
-kind_below told limit node (ParDo work args) h = All-nil (IsItemBelow limit)
-kind_below told limit node Flatten h = All-nil (IsItemBelow limit)
-kind_below told limit node (WindowInto strategy) h = All-nil (IsItemBelow limit)
-kind_below told limit node (Group trigger) h = All-nil (IsItemBelow limit)
-kind_below told limit node (Stateful work args log) h = All-nil (IsItemBelow limit)
-kind_below told limit node (Write label) h = All-nil (IsItemBelow limit)
-
-nodes_below : (told : List FileText) (limit start : ℕ) (nodes : List Node) → start + length nodes ≤ limit
-    → All (IsItemBelow limit) (flat_map (items_of_node told) (enumerate_from start nodes))
-nodes_below told limit start [] h = All-nil (IsItemBelow limit)
-nodes_below told limit start (node ∷ nodes) h =
-    All-append (IsItemBelow limit) (items_of_kind told start node.kind) (flat_map (items_of_node told) (enumerate_from (start + 1) nodes))
-    (kind_below told limit start node.kind (omega (arith, h))) (nodes_below told limit (start + 1) nodes (omega (arith, h)))
-
-abbrev IsFileBelow : ℕ → FileLen → Type 0
-IsFileBelow limit file = file.node < limit
-
-files_below : (limit : ℕ) (sources : List SourceItem) (files : List FileLen) → AreLengthsOf sources files → All (IsItemBelow limit) sources → All (IsFileBelow limit) files
-files_below limit [] [] h k = All-nil (IsFileBelow limit)
-files_below limit [] (file ∷ files) h k = absurd h
-files_below limit (source ∷ sources) [] h k = absurd h
-files_below limit (source ∷ sources) (file ∷ files) h k =
-    All-cons (IsFileBelow limit) file files (omega (arith, h.0.0, All-head (IsItemBelow limit) source sources k))
-    (files_below limit sources files h.1 (All-tail (IsItemBelow limit) source sources k))
-
-abbrev pub IsPieceOf : ℕ → Piece → Type 0
-IsPieceOf limit piece = piece.node < limit
-
-first_below : (limit node item len chunk : ℕ) (places : List ℕ) → node < limit → (pending : List Piece) → All (IsPieceOf limit) pending
-    → All (IsPieceOf limit) (with_pieces (map (first_piece node item chunk len) places) pending)
-first_below limit node item len chunk [] less pending h = h
-first_below limit node item len chunk (i ∷ places) less pending h =
-    first_below limit node item len chunk places less (with_piece (first_piece node item chunk len i) pending)
-    (All-with_piece (IsPieceOf limit) (first_piece node item chunk len i) pending less h)
-
-pieces_below : (limit chunk : ℕ) (files : List FileLen) (pending : List Piece) → All (IsFileBelow limit) files → All (IsPieceOf limit) pending
-    → All (IsPieceOf limit) (fold (λ pieces file. with_pieces (first_pieces file.node file.item file.len chunk) pieces) pending files)
-pieces_below limit chunk [] pending files h = h
-pieces_below limit chunk (file ∷ files) pending all h =
-    pieces_below limit chunk files (with_pieces (first_pieces file.node file.item file.len chunk) pending) (All-tail (IsFileBelow limit) file files all)
-    (first_below limit file.node file.item file.len chunk (offsets 0 _) (All-head (IsFileBelow limit) file files all) pending h)
-
-pub all_pieces_below : (plan : Plan) (files : List FileLen) (chunk : ℕ) → AreLengthsOf (items [] plan) files → All (IsPieceOf (length plan.nodes)) (pieces_of chunk files)
-all_pieces_below plan files chunk lengths =
-    pieces_below (length plan.nodes) chunk files [] (files_below (length plan.nodes) (items [] plan) files lengths (nodes_below [] (length plan.nodes) 0 plan.nodes (omega arith)))
-    (All-nil (IsPieceOf (length plan.nodes)))
 
 -- ---- the book
 
@@ -224,14 +155,15 @@ module _ (plan : Plan) (files : List FileLen) (options : Options) (held : List S
       commits = omega arith;
       panes = omega arith;
       dropped = omega arith;
+      cells = omega arith;
       slots = omega arith;
-      pieces = omega (arith, length-append (pieces_of options.chunk files) [], h.few, ap (length {A = Piece}) h.pending_is);
+      pieces = omega (arith, h.few, ap (length {A = Piece}) h.pending_is);
     };
   }
 
   pub is_indexed : (piece_room batch_room : ℕ) → IsIndexed (opened plan files options marks) held piece_room batch_room
   is_indexed piece_room batch_room = record {
-    reached = record { first = opened plan files options marks; opening = is_opening; steps = []; run = refl };
+    sane = opened_sane plan files options (opened plan files options marks) is_opening;
     sized = h.sized;
     holds_back = all_held;
     marked = h.marked;
@@ -240,7 +172,7 @@ module _ (plan : Plan) (files : List FileLen) (options : Options) (held : List S
   }
 
 -- the book as its fields are made
-pub opened_as : (plan : Plan) (files : List FileLen) (options : Options) (marks : List StageMarks) (b : BookData) → b.plan ≡ plan → b.files ≡ files → b.options ≡ options
+pub opened_as : (plan : Plan) (files : List FileLen) (options : Options) (marks : List StageMarks) (b : SeenBook) → b.plan ≡ plan → b.files ≡ files → b.options ≡ options
     → b.pending ≡ pieces_of options.chunk files → b.slots ≡ [] → b.queues ≡ map (λ (node : Node). []) plan.nodes → b.returned ≡ [] → b.cells ≡ [] → b.dropped ≡ [] → b.panes ≡ []
     → b.done ≡ [] → b.written ≡ [] → b.commits ≡ as_commit marks ∷ [] → b.calls ≡ 0 → b.reads ≡ 0 → b.stopped ≡ None → opened plan files options marks ≡ b
 opened_as plan files options marks b e1 e2 e3 e4 e5 e6 e7 e8 e9 e10 e11 e12 e13 e14 e15 e16 = sym (

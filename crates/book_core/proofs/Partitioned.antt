@@ -19,7 +19,7 @@ use Rattle.beam_values.specs.declared.piece.Piece.{Piece}
 use Rattle.split_core.specs.Order.{with_pieces, first_pieces}
 use Rattle.split_core.proofs.Chunks.{first_times}
 use Rattle.bundle_commit.specs.declared.job.Receipt.{Receipt}
-use Rattle.book_core.specs.Book.{BookData, live_pieces}
+use Rattle.book_core.specs.Book.{SeenBook, live_pieces}
 use Rattle.book_core.specs.Changes.{with_slot, split_off, done_of, with_residual, done_after, pending_after, given_back, counted, stopped_where, ends_run, note_of, or_stopped, tried_piece}
 use Rattle.book_core.specs.Facts.{ArePartitioned, IsAttemptedWithin}
 use Rattle.book_core.specs.Jobs.{Due, GivenBack, Oldest, Next, first_due, next_job, due_or_piece, without_due, without_first}
@@ -33,32 +33,32 @@ use Rattle.book_core.proofs.Slots.{set_weighs, All-slice_get}
 use Rattle.book_core.proofs.Weighing.{piece_at, slot_weight, live_weighs, with_piece_weighs, with_pieces_weigh, with_done_weighs, cut_weighs, empty_weighs}
 
 -- all that the book has at a place
-abbrev held_at_place : Place → BookData → ℕ
+abbrev held_at_place : Place → SeenBook → ℕ
 held_at_place place b = times_pending b.pending place + sum_by (slot_weight place) b.slots + times_done b.done place
 
-pub all_weighs : (place : Place) (b : BookData) → times_pending (b.pending ++ live_pieces b) place + times_done b.done place ≡ held_at_place place b
+pub all_weighs : (place : Place) (b : SeenBook) → times_pending (b.pending ++ live_pieces b) place + times_done b.done place ≡ held_at_place place b
 all_weighs place b = omega (arith, sum_by-append (piece_at place) b.pending (live_pieces b), live_weighs place b.slots)
 
 -- the same at every place
-pub record HasSame (old new : BookData) : Type 0 where
+pub record HasSame (old new : SeenBook) : Type 0 where
   pub held : (place : Place) → held_at_place place new ≡ held_at_place place old
   pub files : new.files ≡ old.files
   pub attempted : All IsAttemptedWithin old.slots → All IsAttemptedWithin new.slots
 
 -- ---- take
 
-pub record TakesOut (b : BookData) (next : Next) : Type 0 where
+pub record TakesOut (b : SeenBook) (next : Next) : Type 0 where
   pub weighs : (place : Place) → times_pending next.rest.pending place + slot_weight place (Some next.job) ≡ times_pending b.pending place
   pub slots : next.rest.slots ≡ b.slots
   pub done : next.rest.done ≡ b.done
   pub files : next.rest.files ≡ b.files
   pub fresh : IsAttemptedWithin (Some next.job)
 
-takes_due : (b : BookData) (due : Due) → TakesOut b (without_due b due)
+takes_due : (b : SeenBook) (due : Due) → TakesOut b (without_due b due)
 takes_due b (GivenBack batch) = record { weighs = λ place. omega arith; slots = refl; done = refl; files = refl; fresh = tt }
 takes_due b (Oldest batch) = record { weighs = λ place. omega arith; slots = refl; done = refl; files = refl; fresh = tt }
 
-takes_first : (b : BookData) (pieces : List Piece) (next : Next) → b.pending ≡ pieces → without_first b pieces ≡ Some next → TakesOut b next
+takes_first : (b : SeenBook) (pieces : List Piece) (next : Next) → b.pending ≡ pieces → without_first b pieces ≡ Some next → TakesOut b next
 takes_first b [] next e h = absurd (cc)
 takes_first b (piece ∷ later) next e h =
     let is : record { job = live.Span piece None; rest = record b { pending = later } } ≡ next = cc in
@@ -70,11 +70,11 @@ takes_first b (piece ∷ later) next e h =
       fresh = tt;
     })
 
-takes_out : (b : BookData) (due : Option Due) (next : Next) → due_or_piece b due ≡ Some next → TakesOut b next
+takes_out : (b : SeenBook) (due : Option Due) (next : Next) → due_or_piece b due ≡ Some next → TakesOut b next
 takes_out b (Some due) next h = let is : without_due b due ≡ next = cc in subst (TakesOut b) is (takes_due b due)
 takes_out b None next h = takes_first b b.pending next refl h
 
-keeps_take : (b new : BookData) (slot : ℕ) (next : Next) → slice_get b.slots slot ≡ Some None → next_job b ≡ Some next
+keeps_take : (b new : SeenBook) (slot : ℕ) (next : Next) → slice_get b.slots slot ≡ Some None → next_job b ≡ Some next
     → new ≡ with_slot next.rest slot (Some next.job) → HasSame b new
 keeps_take b new slot next free is_next e =
     let out = takes_out b (first_due b) next is_next in
@@ -99,7 +99,7 @@ one_piece : (place : Place) (piece : Piece) (attempted : Option ℕ) → slot_we
 one_piece place piece attempted = sum_by-cons (piece_at place) piece [] ∙ add-zero (piece_at place piece)
 
 -- a slot is set to a range that weighs the same
-keeps_set : (b : BookData) (slot : ℕ) (old new : Option Live) → slice_get b.slots slot ≡ Some old
+keeps_set : (b : SeenBook) (slot : ℕ) (old new : Option Live) → slice_get b.slots slot ≡ Some old
     → ((place : Place) → slot_weight place new ≡ slot_weight place old) → IsAttemptedWithin new → HasSame b (with_slot b slot new)
 keeps_set b slot old new at same within = record {
   held = λ place. omega (arith, set_weighs (slot_weight place) b.slots slot old new at, same place);
@@ -107,7 +107,7 @@ keeps_set b slot old new at same within = record {
   attempted = λ h. All-set IsAttemptedWithin b.slots slot new within h;
 }
 
-keeps_claim : (b new : BookData) (slot p : ℕ) (granted : Bool) → IsClaiming b slot p granted new → HasSame b new
+keeps_claim : (b new : SeenBook) (slot p : ℕ) (granted : Bool) → IsClaiming b slot p granted new → HasSame b new
 keeps_claim b new slot p granted claim =
     subst (HasSame b) (sym claim.is)
     (keeps_set b slot (span_of claim.piece claim.attempted) (span_of claim.piece (Some p)) claim.works (λ place. refl) claim.may.from_start)
@@ -120,7 +120,7 @@ same_attempt : (piece cut : Piece) (attempted : Option ℕ) → cut.range.from �
 same_attempt piece cut None e h = tt
 same_attempt piece cut (Some p) e h = omega (arith, e, h)
 
-module _ (b : BookData) (slot num den at : ℕ) (new : BookData) (split : IsSplitting b slot num den at new) (within : All IsAttemptedWithin b.slots) where
+module _ (b : SeenBook) (slot num den at : ℕ) (new : SeenBook) (split : IsSplitting b slot num den at new) (within : All IsAttemptedWithin b.slots) where
   abbrev all : Piece
   all = split.piece
 
@@ -204,7 +204,7 @@ commit_weighs (live.Span piece attempted) pending done receipt place within =
     )
 commit_weighs (live.Batch batch) pending done receipt place within = omega arith
 
-keeps_commit : (told : Option (List FileText)) (b new : BookData) (slot : ℕ) (receipt : Receipt) → IsCommitting told b slot receipt new
+keeps_commit : (told : Option (List FileText)) (b new : SeenBook) (slot : ℕ) (receipt : Receipt) → IsCommitting told b slot receipt new
     → All IsAttemptedWithin b.slots → HasSame b new
 keeps_commit told b new slot receipt step within =
     let job_within = All-slice_get IsAttemptedWithin b.slots slot (Some step.job) step.works within in
@@ -220,36 +220,36 @@ keeps_commit told b new slot receipt step within =
 
 -- ---- fail
 
-given_back_weighs : (b : BookData) (job : Live) (place : Place) → times_pending (given_back b job).pending place ≡ times_pending b.pending place + slot_weight place (Some job)
-given_back_weighs b (live.Span piece attempted) place = omega (arith, with_piece_weighs place (tried_piece piece) b.pending, one_piece place piece attempted)
-given_back_weighs b (live.Batch batch) place = omega arith
+given_back_weighs : (b : SeenBook) (job : Live) (at : ℕ) (cause : Cause) (place : Place) → times_pending (given_back b job at cause).pending place ≡ times_pending b.pending place + slot_weight place (Some job)
+given_back_weighs b (live.Span piece attempted) at cause place = omega (arith, with_piece_weighs place (tried_piece piece) b.pending, one_piece place piece attempted)
+given_back_weighs b (live.Batch batch) at cause place = omega arith
 
-given_back_keeps : (b : BookData) (job : Live) → ((given_back b job).slots ≡ b.slots) × ((given_back b job).done ≡ b.done) × ((given_back b job).files ≡ b.files)
-given_back_keeps b (live.Span piece attempted) = (refl, refl, refl)
-given_back_keeps b (live.Batch batch) = (refl, refl, refl)
+given_back_keeps : (b : SeenBook) (job : Live) (at : ℕ) (cause : Cause) → ((given_back b job at cause).slots ≡ b.slots) × ((given_back b job at cause).done ≡ b.done) × ((given_back b job at cause).files ≡ b.files)
+given_back_keeps b (live.Span piece attempted) at cause = (refl, refl, refl)
+given_back_keeps b (live.Batch batch) at cause = (refl, refl, refl)
 
-counted_same : (b : BookData) (cause : Cause) → HasSame b (counted b cause)
+counted_same : (b : SeenBook) (cause : Cause) → HasSame b (counted b cause)
 counted_same b Call = record { held = λ place. refl; files = refl; attempted = λ h. h }
 counted_same b Read = record { held = λ place. refl; files = refl; attempted = λ h. h }
 
-stopped_same : (spent : Bool) (b : BookData) (note : FaultNote) → HasSame b (stopped_where spent b note)
+stopped_same : (spent : Bool) (b : SeenBook) (note : FaultNote) → HasSame b (stopped_where spent b note)
 stopped_same true b note = record { held = λ place. refl; files = refl; attempted = λ h. h }
 stopped_same false b note = record { held = λ place. refl; files = refl; attempted = λ h. h }
 
-same_onward : (a b c : BookData) → HasSame a b → HasSame b c → HasSame a c
+same_onward : (a b c : SeenBook) → HasSame a b → HasSame b c → HasSame a c
 same_onward a b c p q = record {
   held = λ place. q.held place ∙ p.held place;
   files = q.files ∙ p.files;
   attempted = λ h. q.attempted (p.attempted h);
 }
 
-returned_same : (b : BookData) (slot : ℕ) (job : Live) → slice_get b.slots slot ≡ Some (Some job) → HasSame b (given_back (with_slot b slot None) job)
-returned_same b slot job works =
-    let kept = given_back_keeps (with_slot b slot None) job in
+returned_same : (b : SeenBook) (slot : ℕ) (job : Live) (at : ℕ) (cause : Cause) → slice_get b.slots slot ≡ Some (Some job) → HasSame b (given_back (with_slot b slot None) job at cause)
+returned_same b slot job at cause works =
+    let kept = given_back_keeps (with_slot b slot None) job at cause in
     record {
       held = λ place. omega (
         arith,
-        given_back_weighs (with_slot b slot None) job place,
+        given_back_weighs (with_slot b slot None) job at cause place,
         ap (λ (l : List (Option Live)). sum_by (slot_weight place) l) kept.0,
         ap (λ l. times_done l place) kept.1,
         set_weighs (slot_weight place) b.slots slot (Some job) None works,
@@ -258,41 +258,41 @@ returned_same b slot job works =
       attempted = λ h. subst (λ (l : List (Option Live)). All IsAttemptedWithin l) (sym kept.0) (All-set IsAttemptedWithin b.slots slot None tt h);
     }
 
-keeps_fail : (b new : BookData) (slot at : ℕ) (cause : Cause) (answer : Answer) → IsFailing b slot at cause answer new → HasSame b new
+keeps_fail : (b new : SeenBook) (slot at : ℕ) (cause : Cause) (answer : Answer) → IsFailing b slot at cause answer new → HasSame b new
 keeps_fail b new slot at cause answer step =
-    let back = given_back (with_slot b slot None) step.job in
+    let back = given_back (with_slot b slot None) step.job at cause in
     let more = counted back cause in
     subst (HasSame b) (sym step.is)
     (same_onward b more (stopped_where (ends_run b step.job cause) more (note_of step.job at cause))
-    (same_onward b back more (returned_same b slot step.job step.works) (counted_same back cause))
+    (same_onward b back more (returned_same b slot step.job at cause step.works) (counted_same back cause))
     (stopped_same (ends_run b step.job cause) more (note_of step.job at cause)))
 
 -- ---- each step
 
-pub record ArePartitionedWithin (b : BookData) : Type 0 where
+pub record ArePartitionedWithin (b : SeenBook) : Type 0 where
   pub times : (place : Place) → held_at_place place b ≡ times_listed b.files place
   pub attempted : All IsAttemptedWithin b.slots
 
-partitioned_onward : (b new : BookData) → HasSame b new → ArePartitionedWithin b → ArePartitionedWithin new
+partitioned_onward : (b new : SeenBook) → HasSame b new → ArePartitionedWithin b → ArePartitionedWithin new
 partitioned_onward b new same h = record {
   times = λ place. same.held place ∙ h.times place ∙ ap (λ files. times_listed files place) (sym same.files);
   attempted = same.attempted h.attempted;
 }
 
-unchanged : (b new : BookData) → new ≡ b → ArePartitionedWithin b → ArePartitionedWithin new
+unchanged : (b new : SeenBook) → new ≡ b → ArePartitionedWithin b → ArePartitionedWithin new
 unchanged b new e h = subst ArePartitionedWithin (sym e) h
 
-enrolled_same : (b : BookData) → HasSame b (record b { slots = b.slots ++ None ∷ [] })
+enrolled_same : (b : SeenBook) → HasSame b (record b { slots = b.slots ++ None ∷ [] })
 enrolled_same b = record {
   held = λ place. omega (arith, sum_by-append (slot_weight place) b.slots (None ∷ []), sum_by-cons (slot_weight place) None []);
   files = refl;
   attempted = λ h. All-append IsAttemptedWithin b.slots (None ∷ []) h (All-cons IsAttemptedWithin None [] tt (All-nil IsAttemptedWithin));
 }
 
-stop_same : (b : BookData) (cause : Option StopCause) → HasSame b (record b { stopped = cause })
+stop_same : (b : SeenBook) (cause : Option StopCause) → HasSame b (record b { stopped = cause })
 stop_same b cause = record { held = λ place. refl; files = refl; attempted = λ h. h }
 
-pub step_partitions : (told : Option (List FileText)) (b new : BookData) (slot : ℕ) (action : Action) (answer : Answer) → Step told b slot action answer new
+pub step_partitions : (told : Option (List FileText)) (b new : SeenBook) (slot : ℕ) (action : Action) (answer : Answer) → Step told b slot action answer new
     → ArePartitionedWithin b → ArePartitionedWithin new
 step_partitions told b new slot Enroll (Enrolled number) step h = subst ArePartitionedWithin (sym step.2) (partitioned_onward b _ (enrolled_same b) h)
 step_partitions told b new slot Enroll NoMemory step h = unchanged b new step h
@@ -326,16 +326,16 @@ pieces_weigh place chunk (file ∷ files) pending some =
       sum_by-cons (λ f. times_at f.node f.item (whole f.len) place) file files,
     )
 
-opening_partitioned : (first b : BookData) → IsOpening b.plan b.files b.options first → ArePartitionedWithin first
+pub opening_partitioned : (first b : SeenBook) → IsOpening b.plan b.files b.options first → ArePartitionedWithin first
 opening_partitioned first b opening = subst ArePartitionedWithin (sym opening.is) (record {
   times = λ place. omega (arith, pieces_weigh place b.options.chunk b.files [] opening.allowed.chunk.0);
   attempted = All-nil IsAttemptedWithin;
 })
 
-pub reached_partitioned : (told : Option (List FileText)) (b : BookData) → Reached told b → ArePartitioned b
-reached_partitioned told b reached =
-    let kept = reached_has told ArePartitionedWithin (step_partitions told) opening_partitioned b reached in
-    record { times = λ place. all_weighs place b ∙ kept.times place }
+-- ---- as it is said
 
-pub reached_attempted : (told : Option (List FileText)) (b : BookData) → Reached told b → All IsAttemptedWithin b.slots
-reached_attempted told b reached = (reached_has told ArePartitionedWithin (step_partitions told) opening_partitioned b reached).attempted
+pub parted_of : (b : SeenBook) → ArePartitioned b → All IsAttemptedWithin b.slots → ArePartitionedWithin b
+parted_of b h attempted = record { times = λ place. sym (all_weighs place b) ∙ h.times place; attempted = attempted }
+
+pub partitioned_of : (b : SeenBook) → ArePartitionedWithin b → ArePartitioned b
+partitioned_of b h = record { times = λ place. all_weighs place b ∙ h.times place }

@@ -9,7 +9,7 @@ use Rattle.beam_values.specs.declared.options.Options.{Options}
 use Rattle.beam_values.specs.declared.piece.FileLen.{FileLen}
 use Rattle.beam_values.specs.declared.piece.Piece.{Piece}
 use Rattle.beam_values.specs.declared.plan.Plan.{Plan}
-use Rattle.book_core.specs.Book.{BookData}
+use Rattle.book_core.specs.Book.{SeenBook}
 use Rattle.book_core.specs.Changes.{with_slot, given_back, counted, stopped_where, ends_run, note_of}
 use Rattle.book_core.specs.Jobs.{Due, GivenBack, Oldest, Next, first_due, due_or_piece, without_due, without_first}
 use Rattle.book_core.specs.Runs.{MadeStep, Run, Reached, IsOpening}
@@ -18,59 +18,59 @@ use Rattle.book_core.specs.declared.live.Live.{Live}
 use Rattle.book_core.specs.declared.live.Live.TheVariants as live
 
 -- what no step changes
-pub record HasSamePlan (b new : BookData) : Type 0 where
+pub record HasSamePlan (b new : SeenBook) : Type 0 where
   pub plan : new.plan ≡ b.plan
   pub files : new.files ≡ b.files
   pub options : new.options ≡ b.options
 
-same_itself : (b : BookData) → HasSamePlan b b
+same_itself : (b : SeenBook) → HasSamePlan b b
 same_itself b = record { plan = refl; files = refl; options = refl }
 
-same_where : (b new : BookData) → new ≡ b → HasSamePlan b new
+same_where : (b new : SeenBook) → new ≡ b → HasSamePlan b new
 same_where b new e = subst (HasSamePlan b) (sym e) (same_itself b)
 
-same_onward : (a b c : BookData) → HasSamePlan a b → HasSamePlan b c → HasSamePlan a c
+same_onward : (a b c : SeenBook) → HasSamePlan a b → HasSamePlan b c → HasSamePlan a c
 same_onward a b c p q = record { plan = q.plan ∙ p.plan; files = q.files ∙ p.files; options = q.options ∙ p.options }
 
-first_same : (b : BookData) (pieces : List Piece) (next : Next) → without_first b pieces ≡ Some next → HasSamePlan b next.rest
+first_same : (b : SeenBook) (pieces : List Piece) (next : Next) → without_first b pieces ≡ Some next → HasSamePlan b next.rest
 first_same b [] next h = absurd (cc)
 first_same b (piece ∷ later) next h =
     let is : record { job = live.Span piece None; rest = record b { pending = later } } ≡ next = cc in
     subst (λ (n : Next). HasSamePlan b n.rest) is (record { plan = refl; files = refl; options = refl })
 
-due_same : (b : BookData) (due : Due) → HasSamePlan b (without_due b due).rest
+due_same : (b : SeenBook) (due : Due) → HasSamePlan b (without_due b due).rest
 due_same b (GivenBack batch) = record { plan = refl; files = refl; options = refl }
 due_same b (Oldest batch) = record { plan = refl; files = refl; options = refl }
 
-next_same : (b : BookData) (due : Option Due) (next : Next) → due_or_piece b due ≡ Some next → HasSamePlan b next.rest
+next_same : (b : SeenBook) (due : Option Due) (next : Next) → due_or_piece b due ≡ Some next → HasSamePlan b next.rest
 next_same b (Some due) next h = let is : without_due b due ≡ next = cc in subst (λ (n : Next). HasSamePlan b n.rest) is (due_same b due)
 next_same b None next h = first_same b b.pending next h
 
-slot_same : (b : BookData) (slot : ℕ) (job : Option Live) → HasSamePlan b (with_slot b slot job)
+slot_same : (b : SeenBook) (slot : ℕ) (job : Option Live) → HasSamePlan b (with_slot b slot job)
 slot_same b slot job = record { plan = refl; files = refl; options = refl }
 
-back_same : (b : BookData) (job : Live) → HasSamePlan b (given_back b job)
-back_same b (live.Span piece attempted) = record { plan = refl; files = refl; options = refl }
-back_same b (live.Batch batch) = record { plan = refl; files = refl; options = refl }
+back_same : (b : SeenBook) (job : Live) (at : ℕ) (cause : Cause) → HasSamePlan b (given_back b job at cause)
+back_same b (live.Span piece attempted) at cause = record { plan = refl; files = refl; options = refl }
+back_same b (live.Batch batch) at cause = record { plan = refl; files = refl; options = refl }
 
-counted_same : (b : BookData) (cause : Cause) → HasSamePlan b (counted b cause)
+counted_same : (b : SeenBook) (cause : Cause) → HasSamePlan b (counted b cause)
 counted_same b Call = record { plan = refl; files = refl; options = refl }
 counted_same b Read = record { plan = refl; files = refl; options = refl }
 
-stopped_same : (spent : Bool) (b : BookData) (note : FaultNote) → HasSamePlan b (stopped_where spent b note)
+stopped_same : (spent : Bool) (b : SeenBook) (note : FaultNote) → HasSamePlan b (stopped_where spent b note)
 stopped_same true b note = record { plan = refl; files = refl; options = refl }
 stopped_same false b note = record { plan = refl; files = refl; options = refl }
 
-failed_same : (b : BookData) (slot at : ℕ) (job : Live) (cause : Cause)
-    → HasSamePlan b (stopped_where (ends_run b job cause) (counted (given_back (with_slot b slot None) job) cause) (note_of job at cause))
+failed_same : (b : SeenBook) (slot at : ℕ) (job : Live) (cause : Cause)
+    → HasSamePlan b (stopped_where (ends_run b job cause) (counted (given_back (with_slot b slot None) job at cause) cause) (note_of job at cause))
 failed_same b slot at job cause =
-    let back = given_back (with_slot b slot None) job in
+    let back = given_back (with_slot b slot None) job at cause in
     let more = counted back cause in
     same_onward b more _
-    (same_onward b back more (same_onward b (with_slot b slot None) back (slot_same b slot None) (back_same (with_slot b slot None) job)) (counted_same back cause))
+    (same_onward b back more (same_onward b (with_slot b slot None) back (slot_same b slot None) (back_same (with_slot b slot None) job at cause)) (counted_same back cause))
     (stopped_same (ends_run b job cause) more (note_of job at cause))
 
-pub step_same : (told : Option (List FileText)) (b new : BookData) (slot : ℕ) (action : Action) (answer : Answer) → Step told b slot action answer new → HasSamePlan b new
+pub step_same : (told : Option (List FileText)) (b new : SeenBook) (slot : ℕ) (action : Action) (answer : Answer) → Step told b slot action answer new → HasSamePlan b new
 step_same told b new slot Enroll (Enrolled number) step = subst (HasSamePlan b) (sym step.2) (record { plan = refl; files = refl; options = refl })
 step_same told b new slot Enroll NoMemory step = same_where b new step
 step_same told b new slot Take (TakenJob job) step =
@@ -90,18 +90,18 @@ step_same told b new slot (Fail at cause) answer step = subst (HasSamePlan b) (s
 step_same told b new slot Stop Noted step = subst (HasSamePlan b) (sym step) (record { plan = refl; files = refl; options = refl })
 step_same told b new slot _ _ step = absurd step
 
-run_more : (told : Option (List FileText)) (steps : List MadeStep) (b mid end : BookData) (made : MadeStep) → Run told b steps mid
+run_more : (told : Option (List FileText)) (steps : List MadeStep) (b mid end : SeenBook) (made : MadeStep) → Run told b steps mid
     → Step told mid made.slot made.action made.answer end → Run told b (steps ++ made ∷ []) end
-run_more told [] b mid end made run step = (end, subst (λ (x : BookData). Step told x made.slot made.action made.answer end) run step, refl)
+run_more told [] b mid end made run step = (end, subst (λ (x : SeenBook). Step told x made.slot made.action made.answer end) run step, refl)
 run_more told (first ∷ later) b mid end made run step = (run.0, run.1, run_more told later run.0 mid end made run.2 step)
 
-pub opening_of : (first b new : BookData) → HasSamePlan b new → IsOpening b.plan b.files b.options first → IsOpening new.plan new.files new.options first
+pub opening_of : (first b new : SeenBook) → HasSamePlan b new → IsOpening b.plan b.files b.options first → IsOpening new.plan new.files new.options first
 opening_of first b new same opening =
     subst (λ (p : Plan). IsOpening p new.files new.options first) (sym same.plan)
     (subst (λ (f : List FileLen). IsOpening b.plan f new.options first) (sym same.files)
     (subst (λ (o : Options). IsOpening b.plan b.files o first) (sym same.options) opening))
 
-pub reached_more : (told : Option (List FileText)) (b new : BookData) (slot : ℕ) (action : Action) (answer : Answer) → Step told b slot action answer new → Reached told b → Reached told new
+pub reached_more : (told : Option (List FileText)) (b new : SeenBook) (slot : ℕ) (action : Action) (answer : Answer) → Step told b slot action answer new → Reached told b → Reached told new
 reached_more told b new slot action answer step reached = record {
   first = reached.first;
   opening = opening_of reached.first b new (step_same told b new slot action answer step) reached.opening;
@@ -110,5 +110,5 @@ reached_more told b new slot action answer step reached = record {
 }
 
 -- what the opening gave holds of every reached book
-pub reached_opened : (told : Option (List FileText)) (b : BookData) (reached : Reached told b) → IsOpening b.plan b.files b.options reached.first
+pub reached_opened : (told : Option (List FileText)) (b : SeenBook) (reached : Reached told b) → IsOpening b.plan b.files b.options reached.first
 reached_opened told b reached = reached.opening

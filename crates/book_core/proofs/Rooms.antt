@@ -4,14 +4,14 @@ use Rattle.std.specs.Prelude.{slice_get, slice_set, unwrap_or, Option}
 use Rattle.std.specs.Option.{option_map}
 use Rattle.std.proofs.lemmas.List.{length-map, map-set}
 use Rattle.std.proofs.lemmas.Option.{slice_get-map, slice_get-get_or}
-use Rattle.book_core.specs.Book.{BookData, queue_at}
+use Rattle.book_core.specs.Book.{SeenBook, queue_at}
 use Rattle.book_core.specs.Queues.{SeenQueue}
 use Rattle.book_core.specs.declared.live.WaitingPane.{WaitingPane}
 
 abbrev pub lists_of : List SeenQueue → List (List WaitingPane)
 lists_of queues = map (λ q. q.panes) queues
 
-pub queue_in : (b : BookData) (node : ℕ) (queues : List SeenQueue) (queue : SeenQueue) → b.queues ≡ lists_of queues → node < length queues → queue ≡ get_or queues node queue
+pub queue_in : (b : SeenBook) (node : ℕ) (queues : List SeenQueue) (queue : SeenQueue) → b.queues ≡ lists_of queues → node < length queues → queue ≡ get_or queues node queue
     → queue_at b node ≡ queue.panes
 queue_in b node queues queue e within is =
     ap (λ (o : Option (List WaitingPane)). unwrap_or o [])

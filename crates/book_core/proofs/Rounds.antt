@@ -2,6 +2,7 @@
 use Rattle.std.proofs.Common.{◌≡◌, inl, inr, ℕ, zero, suc, ◌+◌, ◌-◌, ◌*◌, ◌<◌, ◌≤◌, Bool, true, false, cond, List, [], ◌∷◌, ◌++◌, length, map, get_or, ap, subst, ◌∙◌, mul-le-mul_left, length-append, arith}
 use Rattle.std.specs.Prelude.{◌==◌, fold, nat_lt}
 use Rattle.std.specs.List.{All, count_by, filter, flat_map, sum_by}
+use Rattle.std.proofs.lemmas.Bool.{cases_lt}
 use Rattle.std.proofs.lemmas.Bool.Decides.{nat_tests}
 use Rattle.std.proofs.lemmas.List.{length-map}
 use Rattle.std.proofs.lemmas.List.Elements.{All-nil, All-cons, All-head, All-tail, All-append, All-map, All-weaker}
@@ -13,13 +14,14 @@ use Rattle.beam_values.specs.declared.piece.FileLen.{FileLen}
 use Rattle.beam_values.specs.declared.piece.Piece.{Piece}
 use Rattle.beam_values.specs.declared.plan.Plan.{Plan}
 use Rattle.group_cells.proofs.Counting.{count_none, filter_all}
-use Rattle.book_core.specs.Book.{BookData, HeldPane, held, held_in, live_batches, live_pieces, queued}
+use Rattle.book_core.specs.Book.{SeenBook, HeldPane, held, held_in, live_batches, live_pieces, queued}
 use Rattle.book_core.specs.Facts.{AreHeldOnce, IsHeldPane, IsWellFormed, is_held_at}
 use Rattle.book_core.specs.Left.{IsBelow, above_each, all_lengths, attempts_left, left, left_at, left_of_batch, left_of_piece, offsets_and_one, rounds_left}
+use Rattle.book_core.specs.Sane.{IsSane}
 use Rattle.book_core.specs.declared.live.Batch.{Batch}
 use Rattle.book_core.specs.declared.live.WaitingPane.{WaitingPane}
 use Rattle.book_core.proofs.HeldMoves.{IsNonempty}
-use Rattle.book_core.proofs.PiecesPlaced.{ArePlaced, IsPlaced}
+use Rattle.book_core.proofs.PiecesListed.{ArePlaced, IsPlaced, placed_of}
 use Rattle.book_core.proofs.Reaching.{HasSamePlan}
 use Rattle.book_core.proofs.Slotted.{All-append_left, All-append_right}
 
@@ -77,7 +79,7 @@ count_few hs once zero =
     never k = grind (arith, nat_tests)
 count_few hs once (suc n) = omega (arith, count_upto n hs, once n, count_few hs once n)
 
-pub held_few : (b : BookData) → AreHeldOnce b → length (held b) ≤ length b.panes
+pub held_few : (b : SeenBook) → AreHeldOnce b → length (held b) ≤ length b.panes
 held_few b once =
     let all : filter (λ (h : HeldPane). nat_lt h.waiting.pane (length b.panes)) (held b) ≡ held b =
     filter_all (λ (h : HeldPane). nat_lt h.waiting.pane (length b.panes)) (held b)
@@ -115,18 +117,36 @@ sum_most f most (x ∷ xs) each =
     let whole : most * (1 + length xs) ≡ most + most * length xs = grind arith in
     omega (arith, whole, each x, sum_most f most xs each, sum_by-cons f x xs)
 
-pieces_most : (p : Piece → Bool) (most : ℕ) (xs : List Piece) → All (λ (piece : Piece). piece.range.to ≤ most) xs → sum_by offsets_and_one (filter p xs) ≤ (most + 1) * length xs
+abbrev EndsBy : ℕ → Piece → Type 0
+EndsBy most piece = piece.range.from < piece.range.to → piece.range.to ≤ most
+
+one_most : (most from to : ℕ) → (from < to → to ≤ most) → to - from + 1 ≤ most + 1
+one_most most from to ends = elim (cases_lt from to) [
+  | inl some ↦ let low = ends some in omega (arith, low)
+  | inr none ↦ omega (arith, none)
+]
+
+pieces_most : (p : Piece → Bool) (most : ℕ) (xs : List Piece) → All (EndsBy most) xs → sum_by offsets_and_one (filter p xs) ≤ (most + 1) * length xs
 pieces_most p most [] all = omega arith
-pieces_most p most (x ∷ xs) all = by (p x) (pieces_most p most xs (All-tail (λ (piece : Piece). piece.range.to ≤ most) x xs all))
+pieces_most p most (x ∷ xs) all = by (p x) (pieces_most p most xs (All-tail (EndsBy most) x xs all))
   where
     whole : (n : ℕ) → (most + 1) * (1 + n) ≡ (most + 1) + (most + 1) * n
     whole n = grind arith
 
     by : (t : Bool) → sum_by offsets_and_one (filter p xs) ≤ (most + 1) * length xs → sum_by offsets_and_one (cond t (x ∷ filter p xs) (filter p xs)) ≤ (most + 1) * length (x ∷ xs)
-    by true few = omega (arith, few, whole (length xs), sum_by-cons offsets_and_one x (filter p xs), All-head (λ (piece : Piece). piece.range.to ≤ most) x xs all)
+    by true few = omega (arith, few, whole (length xs), sum_by-cons offsets_and_one x (filter p xs), one_most most x.range.from x.range.to (All-head (EndsBy most) x xs all))
     by false few = omega (arith, few, whole (length xs))
 
-module _ (b : BookData) (formed : IsWellFormed b) (once : AreHeldOnce b) (placed : ArePlaced b) where
+module _ (b : SeenBook) (sane : IsSane b) where
+  abbrev formed : IsWellFormed b
+  formed = sane.formed
+
+  abbrev once : AreHeldOnce b
+  once = sane.held
+
+  placed : ArePlaced b
+  placed = placed_of b sane.formed sane.listed sane.partitioned
+
   few_held : length (held b) < 4294967295
   few_held = omega (arith, held_few b once, formed.within.panes)
 
@@ -134,8 +154,8 @@ module _ (b : BookData) (formed : IsWellFormed b) (once : AreHeldOnce b) (placed
   node_below m =
       let pieces = b.pending ++ live_pieces b in
       let most = all_lengths b in
-      let sum = pieces_most (λ (piece : Piece). piece.node == m) most pieces (All-weaker (IsPlaced b) (λ (piece : Piece). piece.range.to ≤ most) (λ piece is. is.1) pieces placed) in
-      let all : (most + 1) * length pieces ≤ (most + 1) * 4294967295 = mul-le-mul_left {m = length pieces} {n = 4294967295} (most + 1) (omega (arith, formed.within.pieces)) in
+      let sum = pieces_most (λ (piece : Piece). piece.node == m) most pieces (All-weaker (IsPlaced b) (EndsBy most) (λ piece is. is.1) pieces placed) in
+      let all : (most + 1) * length pieces ≤ (most + 1) * 4294967295 = mul-le-mul_left {m = length pieces} {n = 4294967295} (most + 1) (omega (arith, formed.within.pieces, length-append b.pending (live_pieces b))) in
       let panes = filtered_few (λ (pane : HeldPane). pane.node == m) (held b) in
       bounded most b.options.attempts (length (filter (λ (pane : HeldPane). pane.node == m) (held b))) (omega (arith, panes, few_held)) (omega (arith, sum, all))
     where
@@ -159,7 +179,7 @@ module _ (b : BookData) (formed : IsWellFormed b) (once : AreHeldOnce b) (placed
         batches_few b.returned (All-append_left IsNonempty b.returned (live_batches b) once.batches),
         batches_few (live_batches b) (All-append_right IsNonempty b.returned (live_batches b) once.batches),
       ) in
-      bounded (all_lengths b) limit (product limit (length pieces) (omega (arith, formed.within.pieces))) (product limit (length batches) (omega (arith, few_batches, few_held)))
+      bounded (all_lengths b) limit (product limit (length pieces) (omega (arith, formed.within.pieces, length-append b.pending (live_pieces b)))) (product limit (length batches) (omega (arith, few_batches, few_held)))
       (product limit (length (queued b)) (omega (arith, few_queued, few_held))) first second
     where
       less : (limit attempts : ℕ) → limit - attempts ≤ limit
@@ -179,12 +199,12 @@ module _ (b : BookData) (formed : IsWellFormed b) (once : AreHeldOnce b) (placed
       (All-cons (λ x. x < above_each b) (attempts_left b) [] attempts_below (All-nil (λ x. x < above_each b)))
 
 -- the base stays while the plan, the files and the options do
-base_same : (b new : BookData) → HasSamePlan b new → above_each new ≡ above_each b
+base_same : (b new : SeenBook) → HasSamePlan b new → above_each new ≡ above_each b
 base_same b new same =
     ap (λ (files : List FileLen). 4294967296 * (sum_by (λ file. file.len) files + 3 * new.options.attempts + 2)) same.files
     ∙ ap (λ (options : Options). 4294967296 * (all_lengths b + 3 * options.attempts + 2)) same.options
 
-as_many : (b new : BookData) → new.plan ≡ b.plan → length (left new) ≡ length (left b)
+as_many : (b new : SeenBook) → new.plan ≡ b.plan → length (left new) ≡ length (left b)
 as_many b new plan =
     omega (
       arith,
@@ -195,11 +215,11 @@ as_many b new plan =
       ap (λ (p : Plan). length (offsets 0 (length p.nodes))) plan,
     )
 
-pub fewer_rounds : (b new : BookData) → HasSamePlan b new → IsWellFormed new → AreHeldOnce new → ArePlaced new → IsBelow (left new) (left b) → rounds_left new < rounds_left b
-fewer_rounds b new same formed once placed below =
+pub fewer_rounds : (b new : SeenBook) → HasSamePlan b new → IsSane new → IsBelow (left new) (left b) → rounds_left new < rounds_left b
+fewer_rounds b new same sane below =
     let base = base_same b new same in
-    let read = below_reads (above_each new) (left new) (left b) 0 (as_many b new same.plan) (digits new formed once placed) below in
+    let read = below_reads (above_each new) (left new) (left b) 0 (as_many b new same.plan) (digits new sane) below in
     subst (λ (n : ℕ). rounds_left new < read_from n 0 (left b)) base read
 
-pub same_rounds : (b new : BookData) → HasSamePlan b new → left new ≡ left b → rounds_left new ≡ rounds_left b
+pub same_rounds : (b new : SeenBook) → HasSamePlan b new → left new ≡ left b → rounds_left new ≡ rounds_left b
 same_rounds b new same is = ap (λ (n : ℕ). read_from n 0 (left new)) (base_same b new same) ∙ ap (read_from (above_each b) 0) is

@@ -1,4 +1,4 @@
--- From the opening on: live ranges were attempted within, and where the files are told, what was seen before each piece is known.
+-- From the opening on, where the files are told, what was seen before each piece is known.
 use Rattle.std.proofs.Common.{◌≡◌, ℕ, ◌<◌, ◌≤◌, Bool, true, false, cond, List, [], ◌∷◌, ◌++◌, refl, sym, subst, arith}
 use Rattle.std.specs.Prelude.{Option, Some, None, nat_lt, slice_set}
 use Rattle.std.specs.List.{All, flat_map}
@@ -16,16 +16,16 @@ use Rattle.beam_model.specs.Positions.{SourceItem, items}
 use Rattle.bundle_commit.specs.declared.job.Receipt.{Receipt}
 use Rattle.split_core.specs.Order.{with_piece}
 use Rattle.split_core.proofs.Ordered.{All-with_piece}
-use Rattle.book_core.specs.Book.{BookData, piece_of, live_pieces}
+use Rattle.book_core.specs.Book.{SeenBook, piece_of, live_pieces}
 use Rattle.book_core.specs.Changes.{with_slot, cut_to, rest_of, split_off, given_back, tried_piece, counted, stopped_where, ends_run, note_of, pending_after, residual_of, with_residual}
 use Rattle.book_core.specs.Facts.{AreSeenBefore, IsAttemptedWithin, IsSeenOf}
 use Rattle.book_core.specs.Jobs.{Next, attempted_of, job_of}
-use Rattle.book_core.specs.Runs.{Reached, IsOpening, opened, pieces_of}
+use Rattle.book_core.specs.Runs.{IsOpening, opened, pieces_of}
 use Rattle.book_core.specs.Steps.{IsWorking}
 use Rattle.book_core.specs.Work.{IsGiven, IsWorkOnItem, worked_to}
 use Rattle.book_core.specs.declared.live.Live.{Live}
 use Rattle.book_core.specs.declared.live.Live.TheVariants as live
-use Rattle.book_core.proofs.Cases.{Keeps, AreAlways, Anything, Both, kept_alone, kept_with, always_reached}
+use Rattle.book_core.proofs.Cases.{Keeps}
 use Rattle.book_core.proofs.OpenedPieces.{all_pieces, enrolled_of}
 use Rattle.book_core.proofs.SeenBefore.{seen_cut, seen_least, seen_left}
 use Rattle.book_core.proofs.Slots.{All-slice_get}
@@ -34,65 +34,26 @@ use Rattle.book_core.proofs.Taking.{take_cases}
 
 -- ---- live ranges were attempted within
 
-abbrev pub AreWithin : BookData → Type 0
+abbrev pub AreWithin : SeenBook → Type 0
 AreWithin b = All IsAttemptedWithin b.slots
-
-same_start : (piece cut : Piece) (attempted : Option ℕ) → cut.range.from ≡ piece.range.from → IsAttemptedWithin (Some (live.Span piece attempted)) → IsAttemptedWithin (Some (live.Span cut attempted))
-same_start piece cut None e h = tt
-same_start piece cut (Some p) e h = omega (arith, e, h)
 
 starts : (piece : Piece) (attempted : Option ℕ) → IsAttemptedWithin (Some (live.Span piece attempted)) → piece.range.from ≤ first_unattempted piece.range.from attempted
 starts piece None h = omega arith
 starts piece (Some p) h = omega (arith, h)
 
-set_within : (b : BookData) (slot : ℕ) (new : Option Live) → IsAttemptedWithin new → AreWithin b → All IsAttemptedWithin (slice_set b.slots slot new)
-set_within b slot new one h = All-set IsAttemptedWithin b.slots slot new one h
-
-back_within : (b : BookData) (slot : ℕ) (job : Live) (cause : Cause) → AreWithin b → AreWithin (counted (given_back (with_slot b slot None) job) cause)
-back_within b slot (live.Span piece attempted) Call h = set_within b slot None tt h
-back_within b slot (live.Span piece attempted) Read h = set_within b slot None tt h
-back_within b slot (live.Batch batch) Call h = set_within b slot None tt h
-back_within b slot (live.Batch batch) Read h = set_within b slot None tt h
-
-stop_within : (spent : Bool) (x : BookData) (note : FaultNote) → AreWithin x → AreWithin (stopped_where spent x note)
-stop_within true x note h = h
-stop_within false x note h = h
-
-keeps_within : (told : Option (List FileText)) → Keeps told Anything AreWithin
-keeps_within told = record {
-  opens = λ b first opening. subst AreWithin (sym opening.is) (All-nil IsAttemptedWithin);
-  enrolls = λ b known h within. All-append IsAttemptedWithin b.slots (None ∷ []) h (All-cons IsAttemptedWithin None [] tt (All-nil IsAttemptedWithin));
-  takes = λ b slot next known h running free is.
-      take_cases b (λ (n : Next). AreWithin (with_slot n.rest slot (Some n.job)))
-      (λ batch among. set_within b slot (Some (live.Batch batch)) tt h) (λ batch oldest. set_within b slot (Some (live.Batch batch)) tt h)
-      (λ piece later e. set_within b slot (Some (live.Span piece None)) tt h) next is;
-  claims = λ b slot p piece attempted known h works may. set_within b slot (Some (live.Span piece (Some p))) may.from_start h;
-  splits = λ b slot at piece attempted known h works inside behind within.
-      let front = cut_to piece (record { from = piece.range.from; to = at }) in
-      set_within b slot (Some (live.Span front attempted))
-      (same_start piece front attempted refl (All-slice_get IsAttemptedWithin b.slots slot (Some (live.Span piece attempted)) works h)) h;
-  commits = λ b slot job receipt cells fired marks known h made. set_within b slot None tt h;
-  fails = λ b slot at job cause known h works.
-      stop_within (ends_run b job cause) (counted (given_back (with_slot b slot None) job) cause) (note_of job at cause) (back_within b slot job cause h);
-  stops = λ b known h. h;
-}
-
-within_always : (told : Option (List FileText)) → AreAlways told AreWithin
-within_always told = kept_alone told AreWithin (keeps_within told)
-
 -- ---- what was seen
 
 module _ (told : List FileText) where
-  abbrev found_in : BookData → Piece → Option SourceItem
+  abbrev found_in : SeenBook → Piece → Option SourceItem
   found_in b piece = item_at (items told b.plan) piece.node piece.item
 
-  abbrev SeenOf : BookData → Piece → Type 0
+  abbrev SeenOf : SeenBook → Piece → Type 0
   SeenOf b piece = IsSeenOf b (found_in b piece) piece
 
-  abbrev Seen : BookData → Type 0
+  abbrev Seen : SeenBook → Type 0
   Seen b = All (SeenOf b) (b.pending ++ live_pieces b)
 
-  module _ (b : BookData) (h : Seen b) where
+  module _ (b : SeenBook) (h : Seen b) where
     pending_seen : All (SeenOf b) b.pending
     pending_seen = All-append_left (SeenOf b) b.pending (live_pieces b) h
 
@@ -147,37 +108,37 @@ module _ (told : List FileText) where
         set_seen (with_residual (residual_of piece attempted receipt) b.pending) slot None (residual_seen slot piece attempted receipt within works given.0) (All-nil (SeenOf b))
     commit_seen slot (live.Batch batch) receipt within works given = set_seen b.pending slot None pending_seen (All-nil (SeenOf b))
 
-    back_seen : (slot : ℕ) (job : Live) (cause : Cause) → IsWorking b slot job → Seen (counted (given_back (with_slot b slot None) job) cause)
-    back_seen slot (live.Span piece attempted) Call works =
+    back_seen : (slot : ℕ) (job : Live) (at : ℕ) (cause : Cause) → IsWorking b slot job → Seen (counted (given_back (with_slot b slot None) job at cause) cause)
+    back_seen slot (live.Span piece attempted) at Call works =
         set_seen (with_piece (tried_piece piece) b.pending) slot None
         (All-with_piece (SeenOf b) (tried_piece piece) b.pending (seen_cut b (found_in b piece) piece (tried_piece piece) refl refl (omega arith) (worked_seen slot piece attempted works)) pending_seen) (All-nil (SeenOf b))
-    back_seen slot (live.Span piece attempted) Read works =
+    back_seen slot (live.Span piece attempted) at Read works =
         set_seen (with_piece (tried_piece piece) b.pending) slot None
         (All-with_piece (SeenOf b) (tried_piece piece) b.pending (seen_cut b (found_in b piece) piece (tried_piece piece) refl refl (omega arith) (worked_seen slot piece attempted works)) pending_seen) (All-nil (SeenOf b))
-    back_seen slot (live.Batch batch) Call works = set_seen b.pending slot None pending_seen (All-nil (SeenOf b))
-    back_seen slot (live.Batch batch) Read works = set_seen b.pending slot None pending_seen (All-nil (SeenOf b))
+    back_seen slot (live.Batch batch) at Call works = set_seen b.pending slot None pending_seen (All-nil (SeenOf b))
+    back_seen slot (live.Batch batch) at Read works = set_seen b.pending slot None pending_seen (All-nil (SeenOf b))
 
-  stop_seen : (spent : Bool) (x : BookData) (note : FaultNote) → Seen x → Seen (stopped_where spent x note)
+  stop_seen : (spent : Bool) (x : SeenBook) (note : FaultNote) → Seen x → Seen (stopped_where spent x note)
   stop_seen true x note h = h
   stop_seen false x note h = h
 
-  first_seen : (b first : BookData) → IsOpening b.plan b.files b.options first → Seen first
+  first_seen : (b first : SeenBook) → IsOpening b.plan b.files b.options first → Seen first
   first_seen b first opening =
       let x = opened b.plan b.files b.options opening.marks in
       subst Seen (sym opening.is)
       (All-append (SeenOf x) x.pending []
       (all_pieces_least x b.options.chunk) (All-nil (SeenOf x)))
     where
-      all_pieces_least : (x : BookData) (chunk : ℕ) → All (SeenOf x) (pieces_of chunk b.files)
+      all_pieces_least : (x : SeenBook) (chunk : ℕ) → All (SeenOf x) (pieces_of chunk b.files)
       all_pieces_least x chunk =
           All-weaker (λ (piece : Piece). piece.seen ≡ least_time) (SeenOf x) (λ piece e. seen_least x (found_in x piece) piece e) (pieces_of chunk b.files)
           (all_pieces (λ (piece : Piece). piece.seen ≡ least_time) (λ node item chunk len i. refl) chunk b.files [] (All-nil (λ (piece : Piece). piece.seen ≡ least_time)))
 
-  keeps_seen : Keeps (Some told) AreWithin Seen
+  pub keeps_seen : Keeps (Some told) AreWithin Seen
   keeps_seen = record {
     opens = first_seen;
     enrolls = λ b known h within. subst (λ (l : List Piece). All (SeenOf b) (b.pending ++ l)) (sym (enrolled_of piece_of b.slots refl)) h;
-    takes = λ b slot next known h running free is.
+    takes = λ b slot next known h running free is within.
         take_cases b (λ (n : Next). Seen (with_slot n.rest slot (Some n.job)))
         (λ batch among. set_seen b h b.pending slot (Some (live.Batch batch)) (pending_seen b h) (All-nil (SeenOf b)))
         (λ batch oldest. set_seen b h b.pending slot (Some (live.Batch batch)) (pending_seen b h) (All-nil (SeenOf b)))
@@ -187,10 +148,6 @@ module _ (told : List FileText) where
     splits = λ b slot at piece attempted known h works inside behind within. split_seen b h slot at piece attempted known works behind;
     commits = λ b slot job receipt cells fired marks known h made. commit_seen b h slot job receipt known made.works made.given;
     fails = λ b slot at job cause known h works.
-        stop_seen (ends_run b job cause) (counted (given_back (with_slot b slot None) job) cause) (note_of job at cause) (back_seen b h slot job cause works);
+        stop_seen (ends_run b job cause) (counted (given_back (with_slot b slot None) job at cause) cause) (note_of job at cause) (back_seen b h slot job at cause works);
     stops = λ b known h. h;
   }
-
-  pub reached_seen : (b : BookData) → Reached (Some told) b → AreSeenBefore told b
-  reached_seen b reached =
-      (always_reached (Some told) (Both AreWithin Seen) (kept_with (Some told) AreWithin Seen (within_always (Some told)) keeps_seen) b reached).1

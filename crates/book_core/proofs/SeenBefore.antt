@@ -14,7 +14,7 @@ use Rattle.beam_model.specs.Estimators.{declared_marks, emission_at, observed_ti
 use Rattle.beam_model.specs.Holds.{estimator_of}
 use Rattle.beam_model.specs.Positions.{Emission, Emits, Poison, SourceItem, TimedValue}
 use Rattle.bundle_commit.specs.declared.job.Receipt.{Receipt}
-use Rattle.book_core.specs.Book.{BookData}
+use Rattle.book_core.specs.Book.{SeenBook}
 use Rattle.book_core.specs.Facts.{IsSeenBefore, IsSeenOf}
 use Rattle.book_core.specs.Work.{IsWorkOnItem, seen_over}
 
@@ -91,7 +91,7 @@ module _ (e : Estimator) (item : SourceItem) where
 
 -- ---- of a piece, wherever its range is cut
 
-module _ (b : BookData) where
+module _ (b : SeenBook) where
   -- a later start, with what was seen before
   pub seen_cut : (found : Option SourceItem) (piece new : Piece) → new.node ≡ piece.node → new.seen ≡ piece.seen → piece.range.from ≤ new.range.from → IsSeenOf b found piece → IsSeenOf b found new
   seen_cut None piece new node seen later h = tt

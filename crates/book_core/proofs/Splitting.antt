@@ -12,25 +12,25 @@ use Rattle.beam_model.specs.Holds.{Hold, piece_hold}
 use Rattle.split_core.specs.Order.{with_piece}
 use Rattle.split_core.proofs.Ordered.{length-with_piece}
 use Rattle.watermarks.specs.Holds.{SeenHolds}
-use Rattle.book_core.specs.Book.{BookData, piece_of, live_pieces, tracker_of, last_marks}
+use Rattle.book_core.specs.Book.{SeenBook, piece_of, live_pieces, tracker_of, last_marks}
 use Rattle.book_core.specs.Calls.{Makes}
 use Rattle.book_core.specs.Changes.{with_slot, split_off, cut_to, rest_of}
 use Rattle.book_core.specs.Indexes.{IsIndexed, AreHeldIn, marks_in, least_in, all_holds}
-use Rattle.book_core.specs.Runs.{Reached}
+use Rattle.book_core.specs.Sane.{IsSane}
 use Rattle.book_core.specs.Steps.{Split, SplitAt, IsWithinLimits}
 use Rattle.book_core.specs.declared.live.Live.{Live}
 use Rattle.book_core.specs.declared.live.Live.TheVariants as live
 use Rattle.book_core.proofs.HeldMarks.{held_within, held_as, marks_as, least_held, least_twice}
 use Rattle.book_core.proofs.Holding.{bag_held, free_holds, split_holds}
-use Rattle.book_core.proofs.Limits.{pieces_after, batches_after, reached_within}
-use Rattle.book_core.proofs.Reaching.{reached_more}
+use Rattle.book_core.proofs.Limits.{pieces_after, batches_after}
+use Rattle.book_core.proofs.SaneAlways.{step_sane}
 
 -- ---- what is refused changes only the room
 
-pub indexed_room : (b : BookData) (held new : List SeenHolds) (piece_room batch_room more : ℕ) → ((n : ℕ) → marks_in new n ≡ marks_in held n) → length new ≡ length held
+pub indexed_room : (b : SeenBook) (held new : List SeenHolds) (piece_room batch_room more : ℕ) → ((n : ℕ) → marks_in new n ≡ marks_in held n) → length new ≡ length held
     → piece_room ≤ more → IsIndexed b held piece_room batch_room → IsIndexed b new more batch_room
 indexed_room b held new piece_room batch_room more same sized enough h = record {
-  reached = h.reached;
+  sane = h.sane;
   sized = sized ∙ h.sized;
   holds_back = held_as held new (all_holds b) same h.holds_back;
   marked = marks_as b.plan (least_in held) (least_in new) (last_marks b) (λ n. ap Rattle.beam_values.specs.Marks.least_mark (sym (same n))) h.marked;
@@ -38,14 +38,14 @@ indexed_room b held new piece_room batch_room more same sized enough h = record 
   batches = h.batches;
 }
 
-pub indexed_pending : (b : BookData) (held : List SeenHolds) (piece_room batch_room : ℕ) (pending : List Piece) → pending ≡ b.pending
+pub indexed_pending : (b : SeenBook) (held : List SeenHolds) (piece_room batch_room : ℕ) (pending : List Piece) → pending ≡ b.pending
     → IsIndexed b held piece_room batch_room → IsIndexed (record b { pending = pending }) held piece_room batch_room
 indexed_pending b held piece_room batch_room pending e h =
     subst (λ (p : List Piece). IsIndexed (record b { pending = p }) held piece_room batch_room) (sym e) h
 
 -- ---- a split
 
-pub node_within : (b : BookData) (held : List SeenHolds) (piece_room batch_room slot : ℕ) (piece : Piece) (attempted : Option ℕ)
+pub node_within : (b : SeenBook) (held : List SeenHolds) (piece_room batch_room slot : ℕ) (piece : Piece) (attempted : Option ℕ)
     → slice_get b.slots slot ≡ Some (Some (live.Span piece attempted)) → IsIndexed b held piece_room batch_room → piece.node < length held
 node_within b held piece_room batch_room slot piece attempted works h =
     held_within held (piece_hold b.plan piece) (all_holds (with_slot b slot None))
@@ -79,7 +79,7 @@ is_cut piece attempted num den at rest front after answer e of_after of_rest =
       front_is = of_after ∙ ap (λ (t : Tracked). t.range) e ∙ ap (λ (n : ℕ). record { from = piece.range.from; to = n }) (least ∙ sym same);
     }
 
-split_within : (b : BookData) (slot : ℕ) (piece : Piece) (attempted : Option ℕ) (at : ℕ) → slice_get b.slots slot ≡ Some (Some (live.Span piece attempted))
+split_within : (b : SeenBook) (slot : ℕ) (piece : Piece) (attempted : Option ℕ) (at : ℕ) → slice_get b.slots slot ≡ Some (Some (live.Span piece attempted))
     → length b.pending + length (live_pieces b) + 1 < 4294967295 → IsWithinLimits b → IsWithinLimits (split_off b slot piece attempted at)
 split_within b slot piece attempted at works less h =
     let rest = rest_of piece (record { from = at; to = piece.range.to }) in
@@ -88,24 +88,24 @@ split_within b slot piece attempted at works less h =
       commits = h.commits;
       panes = h.panes;
       dropped = h.dropped;
+      cells = h.cells;
       slots = omega (arith, h.slots, length-set b.slots slot front);
       pieces = omega (
         arith,
         less,
-        length-append (with_piece rest b.pending) (flat_map piece_of (slice_set b.slots slot front)),
         length-with_piece rest b.pending,
         pieces_after b.slots slot (Some (live.Span piece attempted)) front works,
       );
     }
 
-pub makes_split : (b : BookData) (slot num den at : ℕ) (piece : Piece) (attempted : Option ℕ) → slice_get b.slots slot ≡ Some (Some (live.Span piece attempted))
-    → at ≡ split_point_of (tracker_of piece attempted) num den → at < piece.range.to → length b.pending + length (live_pieces b) + 1 < 4294967295 → Reached None b
+pub makes_split : (b : SeenBook) (slot num den at : ℕ) (piece : Piece) (attempted : Option ℕ) → slice_get b.slots slot ≡ Some (Some (live.Span piece attempted))
+    → at ≡ split_point_of (tracker_of piece attempted) num den → at < piece.range.to → length b.pending + length (live_pieces b) + 1 < 4294967295 → IsSane b
     → Makes b slot (Split num den) (SplitAt (Some at)) (split_off b slot piece attempted at)
-makes_split b slot num den at piece attempted works point inside less reached = λ told.
-    (record { piece = piece; attempted = attempted; works = works; point = point; inside = inside; is = refl }, split_within b slot piece attempted at works less (reached_within None b reached))
+makes_split b slot num den at piece attempted works point inside less sane = λ told.
+    (record { piece = piece; attempted = attempted; works = works; point = point; inside = inside; is = refl }, split_within b slot piece attempted at works less sane.formed.within)
 
 -- the book after a split, as its parts are written
-parts_are : (b : BookData) (slot at : ℕ) (piece : Piece) (attempted : Option ℕ) (point : ℕ) (rest front : Offsets) (pending : List Piece) (slots : List (Option Live)) → IsCut piece point at rest front
+parts_are : (b : SeenBook) (slot at : ℕ) (piece : Piece) (attempted : Option ℕ) (point : ℕ) (rest front : Offsets) (pending : List Piece) (slots : List (Option Live)) → IsCut piece point at rest front
     → pending ≡ with_piece (record piece { range = rest; attempts = 0 }) b.pending
     → slots ≡ slice_set b.slots slot (Some (live.Span (record piece { range = front }) attempted))
     → record b { pending = pending; slots = slots } ≡ split_off b slot piece attempted at
@@ -115,17 +115,17 @@ parts_are b slot at piece attempted point rest front pending slots cut of_pendin
     ap (λ (p : List Piece). record b { pending = p; slots = slots }) pending_is
     ∙ ap (λ (s : List (Option Live)). record b { pending = with_piece (rest_of piece (record { from = at; to = piece.range.to })) b.pending; slots = s }) slots_are
 
-pub makes_cut : (b : BookData) (slot num den at : ℕ) (piece : Piece) (attempted : Option ℕ) (rest front : Offsets) (pending : List Piece) (slots : List (Option Live))
+pub makes_cut : (b : SeenBook) (slot num den at : ℕ) (piece : Piece) (attempted : Option ℕ) (rest front : Offsets) (pending : List Piece) (slots : List (Option Live))
     → slice_get b.slots slot ≡ Some (Some (live.Span piece attempted)) → IsCut piece (split_point_of (tracker_of piece attempted) num den) at rest front
     → pending ≡ with_piece (record piece { range = rest; attempts = 0 }) b.pending
     → slots ≡ slice_set b.slots slot (Some (live.Span (record piece { range = front }) attempted))
-    → length b.pending + length (live_pieces b) + 1 < 4294967295 → Reached None b
+    → length b.pending + length (live_pieces b) + 1 < 4294967295 → IsSane b
     → Makes b slot (Split num den) (SplitAt (Some at)) (record b { pending = pending; slots = slots })
-makes_cut b slot num den at piece attempted rest front pending slots works cut of_pending of_slots less reached =
+makes_cut b slot num den at piece attempted rest front pending slots works cut of_pending of_slots less sane =
     subst (Makes b slot (Split num den) (SplitAt (Some at))) (sym (parts_are b slot at piece attempted _ rest front pending slots cut of_pending of_slots))
-    (makes_split b slot num den at piece attempted works cut.at_point cut.inside less reached)
+    (makes_split b slot num den at piece attempted works cut.at_point cut.inside less sane)
 
-off_indexed : (b : BookData) (held kept new : List SeenHolds) (piece_room more batch_room slot num den at : ℕ) (piece : Piece) (attempted : Option ℕ)
+off_indexed : (b : SeenBook) (held kept new : List SeenHolds) (piece_room more batch_room slot num den at : ℕ) (piece : Piece) (attempted : Option ℕ)
     → slice_get b.slots slot ≡ Some (Some (live.Span piece attempted))
     → Makes b slot (Split num den) (SplitAt (Some at)) (split_off b slot piece attempted at)
     → ((n : ℕ) → marks_in kept n ≡ marks_in held n)
@@ -137,7 +137,7 @@ off_indexed b held kept new piece_room more batch_room slot num den at piece att
     let old_held = bag_held kept (all_holds b) (hold ∷ rest) (free_holds b slot piece attempted works) (held_as held kept (all_holds b) same h.holds_back) in
     let new_held = add (hold ∷ rest) old_held in
     record {
-      reached = reached_more None b (split_off b slot piece attempted at) slot (Split num den) (SplitAt (Some at)) (step None) h.reached;
+      sane = step_sane None b (split_off b slot piece attempted at) slot (Split num den) (SplitAt (Some at)) (step None) h.sane;
       sized = sized ∙ h.sized;
       holds_back = bag_held new (hold ∷ all_holds b) (all_holds (split_off b slot piece attempted at)) (split_holds b slot piece attempted at works)
           (add (all_holds b) (held_as held kept (all_holds b) same h.holds_back));
@@ -146,7 +146,7 @@ off_indexed b held kept new piece_room more batch_room slot num den at piece att
       batches = omega (arith, h.batches, batches_after b.slots slot (Some (live.Span piece attempted)) (Some (live.Span (cut_to piece (record { from = piece.range.from; to = at })) attempted)) works);
     }
 
-pub cut_indexed : (b : BookData) (held kept new : List SeenHolds) (piece_room more batch_room slot num den at : ℕ) (piece : Piece) (attempted : Option ℕ) (rest front : Offsets)
+pub cut_indexed : (b : SeenBook) (held kept new : List SeenHolds) (piece_room more batch_room slot num den at : ℕ) (piece : Piece) (attempted : Option ℕ) (rest front : Offsets)
     (pending : List Piece) (slots : List (Option Live))
     → slice_get b.slots slot ≡ Some (Some (live.Span piece attempted)) → IsCut piece (split_point_of (tracker_of piece attempted) num den) at rest front
     → pending ≡ with_piece (record piece { range = rest; attempts = 0 }) b.pending
@@ -156,6 +156,6 @@ pub cut_indexed : (b : BookData) (held kept new : List SeenHolds) (piece_room mo
     → ((holds : List Hold) → AreHeldIn kept holds → AreHeldIn new (piece_hold b.plan piece ∷ holds)) → length new ≡ length held → piece_room ≤ more
     → IsIndexed b held piece_room batch_room → IsIndexed (record b { pending = pending; slots = slots }) new more batch_room
 cut_indexed b held kept new piece_room more batch_room slot num den at piece attempted rest front pending slots works cut of_pending of_slots less same add sized enough h =
-    subst (λ (d : BookData). IsIndexed d new more batch_room) (sym (parts_are b slot at piece attempted _ rest front pending slots cut of_pending of_slots))
+    subst (λ (d : SeenBook). IsIndexed d new more batch_room) (sym (parts_are b slot at piece attempted _ rest front pending slots cut of_pending of_slots))
     (off_indexed b held kept new piece_room more batch_room slot num den at piece attempted works
-    (makes_split b slot num den at piece attempted works cut.at_point cut.inside less h.reached) same add sized enough h)
+    (makes_split b slot num den at piece attempted works cut.at_point cut.inside less h.sane) same add sized enough h)

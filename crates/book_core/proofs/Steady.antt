@@ -10,41 +10,39 @@ use Rattle.beam_values.specs.declared.outcome.StopCause.{StopCause}
 use Rattle.beam_values.specs.declared.outcome.StopCause.TheVariants as stop
 use Rattle.beam_values.specs.declared.piece.Piece.{Piece}
 use Rattle.watermarks.specs.Holds.{SeenHolds}
-use Rattle.book_core.specs.Book.{BookData, piece_of, tracker_of}
+use Rattle.book_core.specs.Book.{SeenBook, piece_of, tracker_of}
 use Rattle.book_core.specs.Calls.{CanClaim, Makes}
 use Rattle.book_core.specs.Changes.{with_slot, or_stopped}
 use Rattle.book_core.specs.Facts.{IsAttemptedWithin}
 use Rattle.book_core.specs.Indexes.{IsIndexed, all_holds}
-use Rattle.book_core.specs.Runs.{Reached}
+use Rattle.book_core.specs.Sane.{IsSane}
 use Rattle.book_core.specs.Steps.{Action, Answer, Enroll, Enrolled, Claim, Claimed, Stop, Noted, IsWithinLimits}
 use Rattle.book_core.specs.declared.live.Live.{Live}
 use Rattle.book_core.specs.declared.live.Live.TheVariants as live
 use Rattle.book_core.proofs.Holding.{bag_held, enroll_holds, set_holds}
-use Rattle.book_core.proofs.Limits.{pieces_in, batches_in, live_count, batch_count, pieces_after, batches_after, reached_within}
-use Rattle.book_core.proofs.Partitioned.{reached_attempted}
-use Rattle.book_core.proofs.Reaching.{reached_more}
+use Rattle.book_core.proofs.Limits.{pieces_in, batches_in, live_count, batch_count, pieces_after, batches_after}
+use Rattle.book_core.proofs.SaneAlways.{step_sane}
 use Rattle.book_core.proofs.Slots.{All-slice_get}
 
 -- a step from a book as contracts see it
-pub makes_seen : (b seen new : BookData) (slot : ℕ) (action : Action) (answer : Answer) → b ≡ seen → Makes b slot action answer new → Makes seen slot action answer new
-makes_seen b seen new slot action answer e h = subst (λ (d : BookData). Makes d slot action answer new) e h
+pub makes_seen : (b seen new : SeenBook) (slot : ℕ) (action : Action) (answer : Answer) → b ≡ seen → Makes b slot action answer new → Makes seen slot action answer new
+makes_seen b seen new slot action answer e h = subst (λ (d : SeenBook). Makes d slot action answer new) e h
 
 -- ---- enroll
 
-abbrev enrolled : BookData → BookData
+abbrev enrolled : SeenBook → SeenBook
 enrolled b = record b { slots = b.slots ++ None ∷ [] }
 
-enrolled_within : (b : BookData) → length b.slots + 1 < 4294967295 → IsWithinLimits b → IsWithinLimits (enrolled b)
+enrolled_within : (b : SeenBook) → length b.slots + 1 < 4294967295 → IsWithinLimits b → IsWithinLimits (enrolled b)
 enrolled_within b less h = record {
   commits = h.commits;
   panes = h.panes;
   dropped = h.dropped;
+  cells = h.cells;
   slots = omega (arith, length-append b.slots (None ∷ []), less);
   pieces = omega (
     arith,
     h.pieces,
-    length-append b.pending (flat_map piece_of (b.slots ++ None ∷ [])),
-    length-append b.pending (flat_map piece_of b.slots),
     live_count (b.slots ++ None ∷ []),
     live_count b.slots,
     sum_by-append pieces_in b.slots (None ∷ []),
@@ -52,19 +50,19 @@ enrolled_within b less h = record {
   );
 }
 
-makes_enrolled : (b : BookData) → length b.slots + 1 < 4294967295 → Reached None b → Makes b (length b.slots) Enroll (Enrolled (length b.slots)) (enrolled b)
-makes_enrolled b less reached = λ told. (refl, refl, refl, enrolled_within b less (reached_within None b reached))
+makes_enrolled : (b : SeenBook) → length b.slots + 1 < 4294967295 → IsSane b → Makes b (length b.slots) Enroll (Enrolled (length b.slots)) (enrolled b)
+makes_enrolled b less sane = λ told. (refl, refl, refl, enrolled_within b less sane.formed.within)
 
-pub makes_enroll : (b : BookData) (slots : List (Option Live)) (number : ℕ) → length b.slots + 1 < 4294967295 → slots ≡ b.slots ++ None ∷ [] → number ≡ length b.slots → Reached None b
+pub makes_enroll : (b : SeenBook) (slots : List (Option Live)) (number : ℕ) → length b.slots + 1 < 4294967295 → slots ≡ b.slots ++ None ∷ [] → number ≡ length b.slots → IsSane b
     → Makes b number Enroll (Enrolled number) (record b { slots = slots })
-makes_enroll b slots number less e is reached =
+makes_enroll b slots number less e is sane =
     subst (λ n. Makes b n Enroll (Enrolled n) (record b { slots = slots })) (sym is)
-    (subst (λ (s : List (Option Live)). Makes b (length b.slots) Enroll (Enrolled (length b.slots)) (record b { slots = s })) (sym e) (makes_enrolled b less reached))
+    (subst (λ (s : List (Option Live)). Makes b (length b.slots) Enroll (Enrolled (length b.slots)) (record b { slots = s })) (sym e) (makes_enrolled b less sane))
 
-enrolled_indexed : (b : BookData) (held : List SeenHolds) (piece_room batch_room : ℕ) → length b.slots + 1 < 4294967295
+enrolled_indexed : (b : SeenBook) (held : List SeenHolds) (piece_room batch_room : ℕ) → length b.slots + 1 < 4294967295
     → IsIndexed b held piece_room batch_room → IsIndexed (enrolled b) held piece_room batch_room
 enrolled_indexed b held piece_room batch_room less h = record {
-  reached = reached_more None b (enrolled b) (length b.slots) Enroll (Enrolled (length b.slots)) (makes_enrolled b less h.reached None) h.reached;
+  sane = step_sane None b (enrolled b) (length b.slots) Enroll (Enrolled (length b.slots)) (makes_enrolled b less h.sane None) h.sane;
   sized = h.sized;
   holds_back = bag_held held (all_holds b) (all_holds (enrolled b)) (enroll_holds b) h.holds_back;
   marked = h.marked;
@@ -72,22 +70,22 @@ enrolled_indexed b held piece_room batch_room less h = record {
   batches = omega (arith, h.batches, batch_count (b.slots ++ None ∷ []), batch_count b.slots, sum_by-append batches_in b.slots (None ∷ []), sum_by-cons batches_in None []);
 }
 
-pub enroll_indexed : (b : BookData) (held : List SeenHolds) (piece_room batch_room : ℕ) (slots : List (Option Live)) → length b.slots + 1 < 4294967295
+pub enroll_indexed : (b : SeenBook) (held : List SeenHolds) (piece_room batch_room : ℕ) (slots : List (Option Live)) → length b.slots + 1 < 4294967295
     → slots ≡ b.slots ++ None ∷ [] → IsIndexed b held piece_room batch_room → IsIndexed (record b { slots = slots }) held piece_room batch_room
 enroll_indexed b held piece_room batch_room slots less e h =
     subst (λ (s : List (Option Live)). IsIndexed (record b { slots = s }) held piece_room batch_room) (sym e) (enrolled_indexed b held piece_room batch_room less h)
 
 -- ---- claim
 
-pub attempted_within : (b : BookData) (slot : ℕ) (piece : Piece) (attempted : Option ℕ) → Reached None b → slice_get b.slots slot ≡ Some (Some (live.Span piece attempted))
+pub attempted_within : (b : SeenBook) (slot : ℕ) (piece : Piece) (attempted : Option ℕ) → IsSane b → slice_get b.slots slot ≡ Some (Some (live.Span piece attempted))
     → IsAttemptedWithin (Some (live.Span piece attempted))
-attempted_within b slot piece attempted reached works =
-    All-slice_get IsAttemptedWithin b.slots slot (Some (live.Span piece attempted)) works (reached_attempted None b reached)
+attempted_within b slot piece attempted sane works =
+    All-slice_get IsAttemptedWithin b.slots slot (Some (live.Span piece attempted)) works sane.attempted
 
-pub works_within : (b : BookData) (slot : ℕ) (job : Live) → slice_get b.slots slot ≡ Some (Some job) → slot < length b.slots
+pub works_within : (b : SeenBook) (slot : ℕ) (job : Live) → slice_get b.slots slot ≡ Some (Some job) → slot < length b.slots
 works_within b slot job works = slice_get_within b.slots slot (Some job) works
 
-pub may_claim : (b : BookData) (slot p : ℕ) (piece : Piece) (attempted : Option ℕ) → slice_get b.slots slot ≡ Some (Some (live.Span piece attempted)) → CanClaim b slot p
+pub may_claim : (b : SeenBook) (slot p : ℕ) (piece : Piece) (attempted : Option ℕ) → slice_get b.slots slot ≡ Some (Some (live.Span piece attempted)) → CanClaim b slot p
     → MayClaim (tracker_of piece attempted) p
 may_claim b slot p piece attempted works can =
     let works_too = can.works in
@@ -96,15 +94,15 @@ may_claim b slot p piece attempted works can =
     subst (λ (q : Piece). MayClaim (tracker_of q attempted) p) piece_is
     (subst (λ (a : Option ℕ). MayClaim (tracker_of can.piece a) p) attempted_is can.may)
 
-claimed_indexed : (b : BookData) (held : List SeenHolds) (piece_room batch_room : ℕ) (slot p : ℕ) (piece : Piece) (attempted : Option ℕ)
+claimed_indexed : (b : SeenBook) (held : List SeenHolds) (piece_room batch_room : ℕ) (slot p : ℕ) (piece : Piece) (attempted : Option ℕ)
     → slice_get b.slots slot ≡ Some (Some (live.Span piece attempted)) → MayClaim (tracker_of piece attempted) p
     → IsIndexed b held piece_room batch_room → IsIndexed (with_slot b slot (Some (live.Span piece (Some p)))) held piece_room batch_room
 claimed_indexed b held piece_room batch_room slot p piece attempted works may h =
     let old = Some (live.Span piece attempted) in
     let new = Some (live.Span piece (Some p)) in
     record {
-      reached = reached_more None b (with_slot b slot new) slot (Claim p) (Claimed (is_granted (tracker_of piece attempted) p))
-          (record { piece = piece; attempted = attempted; works = works; may = may; answer = refl; is = refl }) h.reached;
+      sane = step_sane None b (with_slot b slot new) slot (Claim p) (Claimed (is_granted (tracker_of piece attempted) p))
+          (record { piece = piece; attempted = attempted; works = works; may = may; answer = refl; is = refl }) h.sane;
       sized = h.sized;
       holds_back = bag_held held (all_holds b) (all_holds (with_slot b slot new)) (set_holds b slot old new works (λ w. refl)) h.holds_back;
       marked = h.marked;
@@ -112,7 +110,7 @@ claimed_indexed b held piece_room batch_room slot p piece attempted works may h 
       batches = omega (arith, h.batches, batches_after b.slots slot old new works);
     }
 
-pub claim_indexed : (b : BookData) (held : List SeenHolds) (piece_room batch_room : ℕ) (slot p : ℕ) (piece : Piece) (attempted : Option ℕ) (slots : List (Option Live))
+pub claim_indexed : (b : SeenBook) (held : List SeenHolds) (piece_room batch_room : ℕ) (slot p : ℕ) (piece : Piece) (attempted : Option ℕ) (slots : List (Option Live))
     → slice_get b.slots slot ≡ Some (Some (live.Span piece attempted)) → CanClaim b slot p → slots ≡ slice_set b.slots slot (Some (live.Span piece (Some p)))
     → IsIndexed b held piece_room batch_room → IsIndexed (record b { slots = slots }) held piece_room batch_room
 claim_indexed b held piece_room batch_room slot p piece attempted slots works can e h =
@@ -121,10 +119,10 @@ claim_indexed b held piece_room batch_room slot p piece attempted slots works ca
 
 -- ---- stop
 
-pub stop_indexed : (b : BookData) (held : List SeenHolds) (piece_room batch_room : ℕ) (cause : Option StopCause) → cause ≡ or_stopped b.stopped stop.NoMemory
+pub stop_indexed : (b : SeenBook) (held : List SeenHolds) (piece_room batch_room : ℕ) (cause : Option StopCause) → cause ≡ or_stopped b.stopped stop.NoMemory
     → IsIndexed b held piece_room batch_room → IsIndexed (record b { stopped = cause }) held piece_room batch_room
 stop_indexed b held piece_room batch_room cause e h = record {
-  reached = reached_more None b (record b { stopped = cause }) 0 Stop Noted (ap (λ (s : Option StopCause). record b { stopped = s }) e) h.reached;
+  sane = step_sane None b (record b { stopped = cause }) 0 Stop Noted (ap (λ (s : Option StopCause). record b { stopped = s }) e) h.sane;
   sized = h.sized;
   holds_back = h.holds_back;
   marked = h.marked;

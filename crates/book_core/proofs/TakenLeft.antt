@@ -8,7 +8,7 @@ use Rattle.std.proofs.lemmas.List.Sums.{sum_by-cons, sum_by-append}
 use Rattle.beam_values.specs.Lines.{offsets}
 use Rattle.beam_values.proofs.Bags.{bag_count}
 use Rattle.beam_values.specs.declared.piece.Piece.{Piece}
-use Rattle.book_core.specs.Book.{BookData, HeldPane, batch_of, held, held_at, live_pieces, queue_at, queued}
+use Rattle.book_core.specs.Book.{SeenBook, HeldPane, batch_of, held, held_at, live_pieces, queue_at, queued}
 use Rattle.book_core.specs.Changes.{with_slot}
 use Rattle.book_core.specs.Facts.{AreHeldOnce, IsWellFormed}
 use Rattle.book_core.specs.Jobs.{GivenBack, Oldest, Next, next_job, without_due}
@@ -25,12 +25,12 @@ use Rattle.book_core.proofs.Slotted.{flat_set_weighs, one_weighs, sum_ones}
 use Rattle.book_core.proofs.Taking.{IsAmong, IsOldest, take_cases}
 
 -- what a take leaves
-record IsNoMore (b new : BookData) : Type 0 where
+record IsNoMore (b new : SeenBook) : Type 0 where
   plan : new.plan ≡ b.plan
   nodes : (node : ℕ) → left_at new node ≡ left_at b node
   attempts : attempts_left new ≤ attempts_left b
 
-no_higher : (b new : BookData) → IsNoMore b new → IsBelow (left new) (left b) ⊎ (left new ≡ left b)
+no_higher : (b new : SeenBook) → IsNoMore b new → IsBelow (left new) (left b) ⊎ (left new ≡ left b)
 no_higher b new h = elim (cases_lt (attempts_left new) (attempts_left b)) [
   | inl less ↦ inl (lower_last b new h.plan h.nodes less)
   | inr most ↦
@@ -49,11 +49,11 @@ one_batch m q k some =
     let whole : m * (q + 1) ≡ m * q + m = grind arith in
     omega (arith, more, whole)
 
-module _ (b : BookData) (slot : ℕ) (formed : IsWellFormed b) (once : AreHeldOnce b) (free : IsFree b slot) where
+module _ (b : SeenBook) (slot : ℕ) (formed : IsWellFormed b) (once : AreHeldOnce b) (free : IsFree b slot) where
   abbrev most : ℕ
   most = b.options.attempts
 
-  nodes_by : (new : BookData) → ((node : ℕ) → sum_by (at_node node) new.pending + sum_by (at_node node) (live_pieces new) ≡ sum_by (at_node node) b.pending + sum_by (at_node node) (live_pieces b))
+  nodes_by : (new : SeenBook) → ((node : ℕ) → sum_by (at_node node) new.pending + sum_by (at_node node) (live_pieces new) ≡ sum_by (at_node node) b.pending + sum_by (at_node node) (live_pieces b))
       → ((node : ℕ) → count_by (λ (pane : HeldPane). pane.node == node) (held new) ≡ count_by (λ (pane : HeldPane). pane.node == node) (held b)) → (node : ℕ) → left_at new node ≡ left_at b node
   nodes_by new pieces panes node = omega (arith, left_at_weighs new node, left_at_weighs b node, pieces node, panes node)
 

@@ -4,7 +4,7 @@ use Rattle.std.specs.Prelude.{◌==◌, Option, Some, None, fold, take, slice_ge
 use Rattle.std.specs.List.{filter}
 use Rattle.beam_values.specs.Lines.{offsets}
 use Rattle.beam_values.specs.declared.piece.Piece.{Piece}
-use Rattle.book_core.specs.Book.{BookData, queue_at}
+use Rattle.book_core.specs.Book.{SeenBook, queue_at}
 use Rattle.book_core.specs.Jobs.{Due, GivenBack, Oldest, Next, first_due, next_job, due_at, due_or_piece, or_due, oldest, given_back_or, lowest_of, lower_batch, first_pane, without_due, without_first}
 use Rattle.book_core.specs.declared.live.Batch.{Batch}
 use Rattle.book_core.specs.declared.live.Live.TheVariants as live
@@ -61,18 +61,18 @@ lowest_among xs batch e = elim (lower_among xs None batch e) [ inl none ↦ absu
 -- ---- what is due
 
 -- the oldest panes of the queue of a node
-pub record IsOldest (b : BookData) (batch : Batch) : Type 0 where
+pub record IsOldest (b : SeenBook) (batch : Batch) : Type 0 where
   pub first : WaitingPane
   pub later : List WaitingPane
   pub queue : slice_get b.queues batch.node ≡ Some (first ∷ later)
   pub panes : batch.panes ≡ take b.options.bundle (first ∷ later)
   pub attempts : batch.attempts ≡ 0
 
-abbrev pub IsDue : BookData → Due → Type 0
+abbrev pub IsDue : SeenBook → Due → Type 0
 IsDue b (GivenBack batch) = IsAmong b.returned batch
 IsDue b (Oldest batch) = IsOldest b batch
 
-oldest_is : (b : BookData) (node : ℕ) (found : Option (List WaitingPane)) (due : Due) → slice_get b.queues node ≡ found
+oldest_is : (b : SeenBook) (node : ℕ) (found : Option (List WaitingPane)) (due : Due) → slice_get b.queues node ≡ found
     → oldest b.options.bundle node (unwrap_or found []) ≡ Some due → IsDue b due
 oldest_is b node None due at e = absurd (cc)
 oldest_is b node (Some []) due at e = absurd (cc)
@@ -80,18 +80,18 @@ oldest_is b node (Some (first ∷ later)) due at e =
     let is : Oldest (record { node = node; panes = take b.options.bundle (first ∷ later); attempts = 0 }) ≡ due = cc in
     subst (IsDue b) is (record { first = first; later = later; queue = at; panes = refl; attempts = refl })
 
-due_there : (b : BookData) (node : ℕ) (lowest : Option Batch) (due : Due) → lowest_of (filter (λ batch. batch.node == node) b.returned) ≡ lowest
+due_there : (b : SeenBook) (node : ℕ) (lowest : Option Batch) (due : Due) → lowest_of (filter (λ batch. batch.node == node) b.returned) ≡ lowest
     → given_back_or lowest (oldest b.options.bundle node (queue_at b node)) ≡ Some due → IsDue b due
 due_there b node None due low e = oldest_is b node (slice_get b.queues node) due refl e
 due_there b node (Some batch) due low e =
     let is : GivenBack batch ≡ due = cc in
     subst (IsDue b) is (among_filter (λ other. other.node == node) b.returned batch (lowest_among (filter (λ other. other.node == node) b.returned) batch low))
 
-fold_due : (b : BookData) (nodes : List ℕ) (due : Due) → fold (or_due b) (Some due) nodes ≡ Some due
+fold_due : (b : SeenBook) (nodes : List ℕ) (due : Due) → fold (or_due b) (Some due) nodes ≡ Some due
 fold_due b [] due = refl
 fold_due b (node ∷ nodes) due = fold_due b nodes due
 
-due_among : (b : BookData) (nodes : List ℕ) (due : Due) → fold (or_due b) None nodes ≡ Some due → IsDue b due
+due_among : (b : SeenBook) (nodes : List ℕ) (due : Due) → fold (or_due b) None nodes ≡ Some due → IsDue b due
 due_among b [] due e = absurd (cc)
 due_among b (node ∷ nodes) due e = by (due_at b node) refl e (due_among b nodes due)
   where
@@ -101,11 +101,11 @@ due_among b (node ∷ nodes) due e = by (due_at b node) refl e (due_among b node
 
 -- ---- the next job
 
-pub first_is_due : (b : BookData) (due : Due) → first_due b ≡ Some due → IsDue b due
+pub first_is_due : (b : SeenBook) (due : Due) → first_due b ≡ Some due → IsDue b due
 first_is_due b due e = due_among b (offsets 0 (length b.plan.nodes)) due e
 
 -- A job that can be taken is one of three.
-module _ (b : BookData) (P : Next → Type 0)
+module _ (b : SeenBook) (P : Next → Type 0)
     (given_back : (batch : Batch) → IsAmong b.returned batch → P (without_due b (GivenBack batch)))
     (waits : (batch : Batch) → IsOldest b batch → P (without_due b (Oldest batch)))
     (pending : (piece : Piece) (later : List Piece) → b.pending ≡ piece ∷ later → P (record { job = live.Span piece None; rest = record b { pending = later } })) where

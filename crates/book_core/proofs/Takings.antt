@@ -1,10 +1,10 @@
 -- A job is taken: where what is due is found, and what is kept of the book's indexes.
-use Rattle.std.proofs.Common.{◌≡◌, ◌⊎◌, inl, inr, ℕ, zero, suc, ◌+◌, ◌≤◌, ◌<◌, Bool, true, false, cond, List, [], ◌∷◌, ◌++◌, length, take, drop, get_or, refl, sym, ap, subst, ◌∙◌, arith}
+use Rattle.std.proofs.Common.{◌≡◌, ◌⊎◌, inl, inr, ℕ, is_none, zero, suc, ◌+◌, ◌≤◌, ◌<◌, Bool, true, false, cond, List, [], ◌∷◌, ◌++◌, length, take, drop, get_or, refl, sym, ap, subst, ◌∙◌, arith}
 use Rattle.std.specs.Prelude.{slice_get, slice_set, ◌==◌, not, nat_lt, Option, Some, None}
-use Rattle.std.specs.List.{All, sum_by, flat_map, filter, fold, remove}
+use Rattle.std.specs.List.{All, sum_by, flat_map, filter, fold, list_all, remove}
 use Rattle.std.proofs.lemmas.Bool.Decides.{nat_tests}
 use Rattle.std.proofs.lemmas.List.{take_more}
-use Rattle.std.proofs.lemmas.List.Elements.{filter-append}
+use Rattle.std.proofs.lemmas.List.Elements.{filter-append, All-nil, All-cons, All-head, All-tail}
 use Rattle.std.proofs.lemmas.List.Sums.{fold-append}
 use Rattle.std.proofs.Math.Seq.{split_at}
 use Rattle.std.proofs.lemmas.Option.{slice_get-get_or, slice_get_within, get_or_from_slice_get}
@@ -20,14 +20,14 @@ use Rattle.beam_values.specs.declared.plan.Plan.{Plan}
 use Rattle.bundle_commit.specs.declared.job.Job.{Job}
 use Rattle.bundle_commit.specs.declared.job.Job.TheVariants as job
 use Rattle.watermarks.specs.Holds.{SeenHolds}
-use Rattle.book_core.specs.Book.{BookData, HeldPane, held_in, piece_of, batch_of, live_pieces, live_batches, queue_at, pane_at}
+use Rattle.book_core.specs.Book.{SeenBook, HeldPane, held_in, piece_of, batch_of, live_pieces, live_batches, queue_at, pane_at}
 use Rattle.book_core.specs.Calls.{Makes, answer_of}
 use Rattle.book_core.specs.Changes.{with_slot}
 use Rattle.book_core.specs.DueAt.{IsBatchAt, IsDueAs}
 use Rattle.book_core.specs.Facts.{AreHeldOnce, is_held_at}
 use Rattle.book_core.specs.Indexes.{IsIndexed, all_holds}
 use Rattle.book_core.specs.Jobs.{Due, GivenBack, Oldest, Next, first_due, due_at, or_due, due_or_piece, without_due, without_first, next_job, first_pane, lower_batch, lowest_of, job_of}
-use Rattle.book_core.specs.Runs.{Reached}
+use Rattle.book_core.specs.Sane.{IsSane}
 use Rattle.book_core.specs.Steps.{Take, TakenJob, IsRunning, IsFree, Step}
 use Rattle.book_core.specs.declared.due.DueAt.{DueAt}
 use Rattle.book_core.specs.declared.due.DueAt.TheVariants as at
@@ -37,27 +37,26 @@ use Rattle.book_core.specs.declared.live.Live.TheVariants as live
 use Rattle.book_core.specs.declared.live.Taken.TheVariants as taken
 use Rattle.book_core.specs.declared.live.WaitingPane.{WaitingPane}
 use Rattle.book_core.proofs.HeldMoves.{IsNonempty, without_one, held_weighs}
-use Rattle.book_core.proofs.HeldOnce.{reached_held}
 use Rattle.book_core.proofs.HoldBags.{take_holds}
 use Rattle.book_core.proofs.Holding.{bag_held}
-use Rattle.book_core.proofs.Limits.{pieces_after, batches_after}
-use Rattle.book_core.proofs.Reaching.{reached_more}
+use Rattle.book_core.proofs.Limits.{pieces_after, batches_after, take_within}
+use Rattle.book_core.proofs.SaneAlways.{step_sane}
 use Rattle.book_core.proofs.Slotted.{All-append_left}
 use Rattle.book_core.proofs.Taking.{first_is_due}
 
 -- ---- what is due first
 
-some_stays : (b : BookData) (due : Due) (nodes : List ℕ) → fold (or_due b) (Some due) nodes ≡ Some due
+some_stays : (b : SeenBook) (due : Due) (nodes : List ℕ) → fold (or_due b) (Some due) nodes ≡ Some due
 some_stays b due [] = refl
 some_stays b due (node ∷ nodes) = some_stays b due nodes
 
-none_due : (b : BookData) (from n : ℕ) → ((k : ℕ) → k < from + n → due_at b k ≡ None) → fold (or_due b) None (offsets from n) ≡ None
+none_due : (b : SeenBook) (from n : ℕ) → ((k : ℕ) → k < from + n → due_at b k ≡ None) → fold (or_due b) None (offsets from n) ≡ None
 unfolding offsets
 none_due b from zero none = refl
 none_due b from (suc n) none =
     ap (λ (o : Option Due). fold (or_due b) o (offsets (suc from) n)) (none from (omega arith)) ∙ none_due b (suc from) n (λ k less. none k (omega (arith, less)))
 
-some_due : (b : BookData) (from n k : ℕ) (due : Due) → from ≤ k → k < from + n → ((j : ℕ) → j < k → due_at b j ≡ None) → due_at b k ≡ Some due
+some_due : (b : SeenBook) (from n k : ℕ) (due : Due) → from ≤ k → k < from + n → ((j : ℕ) → j < k → due_at b j ≡ None) → due_at b k ≡ Some due
     → fold (or_due b) None (offsets from n) ≡ Some due
 unfolding offsets
 some_due b from zero k due low high none here = absurd (omega arith)
@@ -70,16 +69,16 @@ some_due b from (suc n) k due low high none here = by (here_or_later from k low)
     by (inl e) onward = ap (λ (o : Option Due). fold (or_due b) o (offsets (suc from) n)) (ap (due_at b) e ∙ here) ∙ some_stays b due (offsets (suc from) n)
     by (inr later) onward = ap (λ (o : Option Due). fold (or_due b) o (offsets (suc from) n)) (none from later) ∙ onward later
 
-pub found_first : (b : BookData) (node : ℕ) (place : DueAt) → node < length b.plan.nodes → ((k : ℕ) → k < node → due_at b k ≡ None) → IsDueAs b (due_at b node) (Some place)
+pub found_first : (b : SeenBook) (node : ℕ) (place : DueAt) → node < length b.plan.nodes → ((k : ℕ) → k < node → due_at b k ≡ None) → IsDueAs b (due_at b node) (Some place)
     → IsDueAs b (first_due b) (Some place)
 found_first b node (at.GivenBack place) less none h =
     (h.0, h.1, some_due b 0 (length b.plan.nodes) node (GivenBack h.0) (omega arith) (omega (arith, less)) none h.2)
 found_first b node (at.Oldest other) less none h = some_due b 0 (length b.plan.nodes) node _ (omega arith) (omega (arith, less)) none h
 
-pub found_none : (b : BookData) → ((k : ℕ) → k < length b.plan.nodes → due_at b k ≡ None) → IsDueAs b (first_due b) None
+pub found_none : (b : SeenBook) → ((k : ℕ) → k < length b.plan.nodes → due_at b k ≡ None) → IsDueAs b (first_due b) None
 found_none b none = none_due b 0 (length b.plan.nodes) (λ k less. none k (omega (arith, less)))
 
-pub none_more : (b : BookData) (node : ℕ) (found : Option DueAt) → found ≡ None → IsDueAs b (due_at b node) found → ((k : ℕ) → k < node → due_at b k ≡ None)
+pub none_more : (b : SeenBook) (node : ℕ) (found : Option DueAt) → found ≡ None → IsDueAs b (due_at b node) found → ((k : ℕ) → k < node → due_at b k ≡ None)
     → (k : ℕ) → k < node + 1 → due_at b k ≡ None
 none_more b node found e h none k less = by (below_or_at k node less)
   where
@@ -119,7 +118,7 @@ pane_none panes waiting e = ap (λ (o : Option Pane). elim o [ Some pane ↦ pan
 
 -- ---- a batch is taken out
 
-removed_is : (b : BookData) (place : ℕ) (batch : Batch) → AreHeldOnce b → slice_get b.returned place ≡ Some batch
+removed_is : (b : SeenBook) (place : ℕ) (batch : Batch) → AreHeldOnce b → slice_get b.returned place ≡ Some batch
     → filter (λ other. not (first_pane other == first_pane batch)) b.returned ≡ remove b.returned place
 removed_is b place batch once here =
     let within = slice_get_within b.returned place batch here in
@@ -134,25 +133,33 @@ removed_is b place batch once here =
 
 -- ---- the steps
 
-makes_take : (b : BookData) (slot : ℕ) (next : Next) → IsRunning b → IsFree b slot → next_job b ≡ Some next
+makes_take : (b : SeenBook) (slot : ℕ) (next : Next) → IsRunning b → IsFree b slot → next_job b ≡ Some next → IsSane b
     → Makes b slot Take (TakenJob (job_of b.panes next.job)) (with_slot next.rest slot (Some next.job))
-makes_take b slot next running free is = λ told. record { running = running; free = free; next = next; is_next = is; handed = refl; is = refl }
+makes_take b slot next running free is sane = λ told. record {
+  running = running;
+  free = free;
+  next = next;
+  is_next = is;
+  handed = refl;
+  is = refl;
+  within = take_within b slot next free is sane.formed.within;
+}
 
-next_given : (b : BookData) (place : ℕ) → (h : IsDueAs b (first_due b) (Some (at.GivenBack place))) → next_job b ≡ Some (without_due b (GivenBack h.0))
+next_given : (b : SeenBook) (place : ℕ) → (h : IsDueAs b (first_due b) (Some (at.GivenBack place))) → next_job b ≡ Some (without_due b (GivenBack h.0))
 next_given b place h = ap (due_or_piece b) h.2
 
 -- a batch that was given back is taken
-module _ (b : BookData) (slot place : ℕ) (running : IsRunning b) (free : IsFree b slot) (h : IsDueAs b (first_due b) (Some (at.GivenBack place))) (reached : Reached None b) where
-  abbrev after_given : BookData
+module _ (b : SeenBook) (slot place : ℕ) (running : IsRunning b) (free : IsFree b slot) (h : IsDueAs b (first_due b) (Some (at.GivenBack place))) (sane : IsSane b) where
+  abbrev after_given : SeenBook
   after_given = with_slot (record b { returned = remove b.returned place }) slot (Some (live.Batch h.0))
 
   given_is : with_slot (without_due b (GivenBack h.0)).rest slot (Some (live.Batch h.0)) ≡ after_given
-  given_is = ap (λ (l : List Batch). with_slot (record b { returned = l }) slot (Some (live.Batch h.0))) (removed_is b place h.0 (reached_held None b reached) h.1)
+  given_is = ap (λ (l : List Batch). with_slot (record b { returned = l }) slot (Some (live.Batch h.0))) (removed_is b place h.0 sane.held h.1)
 
   makes_given : Makes b slot Take (TakenJob (job_of b.panes (live.Batch h.0))) after_given
   makes_given =
       subst (Makes b slot Take (TakenJob (job_of b.panes (live.Batch h.0)))) given_is
-      (makes_take b slot (without_due b (GivenBack h.0)) running free (next_given b place h))
+      (makes_take b slot (without_due b (GivenBack h.0)) running free (next_given b place h) sane)
 
   pub makes_returned : (batch : Batch) (job : Job) (returned : List Batch) (slots : List (Option Live)) → slice_get b.returned place ≡ Some batch → job ≡ job_of b.panes (live.Batch batch)
       → returned ≡ remove b.returned place → slots ≡ slice_set b.slots slot (Some (live.Batch batch))
@@ -176,24 +183,24 @@ module _ (b : BookData) (slot place : ℕ) (running : IsRunning b) (free : IsFre
       let alike : after_given ≡ record b { returned = returned; slots = slots } =
       ap (λ (l : List Batch). record b { returned = l; slots = slice_set b.slots slot (Some (live.Batch h.0)) }) (sym f)
       ∙ ap (λ (s : List (Option Live)). record b { returned = returned; slots = s }) (ap (λ (x : Batch). slice_set b.slots slot (Some (live.Batch x))) same ∙ sym g) in
-      let bag = take_holds b slot (without_due b (GivenBack h.0)) (reached_held None b reached) free (next_given b place h) in
+      let bag = take_holds b slot (without_due b (GivenBack h.0)) sane.held free (next_given b place h) in
       record {
-        reached = reached_more None b _ slot Take (TakenJob (job_of b.panes (live.Batch batch))) (step None) reached;
+        sane = step_sane None b _ slot Take (TakenJob (job_of b.panes (live.Batch batch))) (step None) sane;
         sized = k.sized;
         holds_back = bag_held held_marks (all_holds b) (all_holds (record b { returned = returned; slots = slots }))
             (bag_sym (all_holds (record b { returned = returned; slots = slots })) (all_holds b)
-            (subst (λ (d : BookData). IsSameBag (all_holds d) (all_holds b)) (given_is ∙ alike) bag)) k.holds_back;
+            (subst (λ (d : SeenBook). IsSameBag (all_holds d) (all_holds b)) (given_is ∙ alike) bag)) k.holds_back;
         marked = k.marked;
         pieces = omega (arith, k.pieces, pieces_after b.slots slot None (Some (live.Batch batch)) free, ap (λ (s : List (Option Live)). length (flat_map piece_of s)) g);
         batches = omega (arith, k.batches, room, batches_after b.slots slot None (Some (live.Batch batch)) free, ap (λ (s : List (Option Live)). length (flat_map batch_of s)) g);
       }
 
 -- the oldest panes of a queue are taken
-abbrev pub oldest_batch : BookData → ℕ → Batch
+abbrev pub oldest_batch : SeenBook → ℕ → Batch
 oldest_batch b node = record { node = node; panes = take b.options.bundle (queue_at b node); attempts = 0 }
 
-module _ (b : BookData) (slot node : ℕ) (running : IsRunning b) (free : IsFree b slot) (h : IsDueAs b (first_due b) (Some (at.Oldest node))) where
-  abbrev after_oldest : BookData
+module _ (b : SeenBook) (slot node : ℕ) (running : IsRunning b) (free : IsFree b slot) (h : IsDueAs b (first_due b) (Some (at.Oldest node))) (sane : IsSane b) where
+  abbrev after_oldest : SeenBook
   after_oldest = with_slot (record b { queues = slice_set b.queues node (drop b.options.bundle (queue_at b node)) }) slot (Some (live.Batch (oldest_batch b node)))
 
   next_oldest : next_job b ≡ Some (without_due b (Oldest (oldest_batch b node)))
@@ -210,28 +217,28 @@ module _ (b : BookData) (slot node : ℕ) (running : IsRunning b) (free : IsFree
       → Makes b slot Take (TakenJob job) (record b { queues = queues; slots = slots })
   makes_oldest job queues slots e f g =
       subst (Makes b slot Take (TakenJob job)) (sym (oldest_as queues slots f g))
-      (subst (λ (j : Job). Makes b slot Take (TakenJob j) after_oldest) (sym e) (makes_take b slot (without_due b (Oldest (oldest_batch b node))) running free next_oldest))
+      (subst (λ (j : Job). Makes b slot Take (TakenJob j) after_oldest) (sym e) (makes_take b slot (without_due b (Oldest (oldest_batch b node))) running free next_oldest sane))
 
   pub oldest_indexed : (held_marks : List SeenHolds) (piece_room batch_room more : ℕ) (queues : List (List WaitingPane)) (slots : List (Option Live))
       → queues ≡ slice_set b.queues node (drop b.options.bundle (queue_at b node)) → slots ≡ slice_set b.slots slot (Some (live.Batch (oldest_batch b node)))
       → length (live_batches b) + 1 ≤ more
       → IsIndexed b held_marks piece_room batch_room → IsIndexed (record b { queues = queues; slots = slots }) held_marks piece_room more
   oldest_indexed held_marks piece_room batch_room more queues slots f g room k =
-      let bag = take_holds b slot (without_due b (Oldest (oldest_batch b node))) (reached_held None b k.reached) free next_oldest in
+      let bag = take_holds b slot (without_due b (Oldest (oldest_batch b node))) k.sane.held free next_oldest in
       record {
-        reached = reached_more None b _ slot Take (TakenJob (job_of b.panes (live.Batch (oldest_batch b node)))) (makes_oldest (job_of b.panes (live.Batch (oldest_batch b node))) queues slots refl f g None) k.reached;
+        sane = step_sane None b _ slot Take (TakenJob (job_of b.panes (live.Batch (oldest_batch b node)))) (makes_oldest (job_of b.panes (live.Batch (oldest_batch b node))) queues slots refl f g None) k.sane;
         sized = k.sized;
         holds_back = bag_held held_marks (all_holds b) (all_holds (record b { queues = queues; slots = slots }))
             (bag_sym (all_holds (record b { queues = queues; slots = slots })) (all_holds b)
-            (subst (λ (d : BookData). IsSameBag (all_holds d) (all_holds b)) (sym (oldest_as queues slots f g)) bag)) k.holds_back;
+            (subst (λ (d : SeenBook). IsSameBag (all_holds d) (all_holds b)) (sym (oldest_as queues slots f g)) bag)) k.holds_back;
         marked = k.marked;
         pieces = omega (arith, k.pieces, pieces_after b.slots slot None (Some (live.Batch (oldest_batch b node))) free, ap (λ (s : List (Option Live)). length (flat_map piece_of s)) g);
         batches = omega (arith, room, batches_after b.slots slot None (Some (live.Batch (oldest_batch b node))) free, ap (λ (s : List (Option Live)). length (flat_map batch_of s)) g);
       }
 
 -- the lowest piece is taken
-module _ (b : BookData) (slot : ℕ) (piece : Piece) (pending : List Piece) (slots : List (Option Live)) (running : IsRunning b) (free : IsFree b slot) (none : first_due b ≡ None)
-    (parts : b.pending ≡ piece ∷ pending) (g : slots ≡ slice_set b.slots slot (Some (live.Span piece None))) where
+module _ (b : SeenBook) (slot : ℕ) (piece : Piece) (pending : List Piece) (slots : List (Option Live)) (running : IsRunning b) (free : IsFree b slot) (none : first_due b ≡ None)
+    (parts : b.pending ≡ piece ∷ pending) (g : slots ≡ slice_set b.slots slot (Some (live.Span piece None))) (sane : IsSane b) where
   abbrev rest_next : Next
   rest_next = record { job = live.Span piece None; rest = record b { pending = pending } }
 
@@ -241,7 +248,7 @@ module _ (b : BookData) (slot : ℕ) (piece : Piece) (pending : List Piece) (slo
   pub makes_piece : Makes b slot Take (TakenJob (job.Span piece)) (record b { pending = pending; slots = slots })
   makes_piece =
       subst (λ (s : List (Option Live)). Makes b slot Take (TakenJob (job.Span piece)) (record b { pending = pending; slots = s })) (sym g)
-      (makes_take b slot rest_next running free next_piece)
+      (makes_take b slot rest_next running free next_piece sane)
 
   pub takes_piece : (handed : Job) → handed ≡ job.Span piece → Makes b slot Take (TakenJob handed) (record b { pending = pending; slots = slots })
   takes_piece handed e = subst (λ (j : Job). Makes b slot Take (TakenJob j) (record b { pending = pending; slots = slots })) (sym e) makes_piece
@@ -249,9 +256,9 @@ module _ (b : BookData) (slot : ℕ) (piece : Piece) (pending : List Piece) (slo
   pub piece_indexed : (held_marks : List SeenHolds) (piece_room batch_room more : ℕ) → piece_room + 1 ≤ more
       → IsIndexed b held_marks piece_room batch_room → IsIndexed (record b { pending = pending; slots = slots }) held_marks more batch_room
   piece_indexed held_marks piece_room batch_room more room k =
-      let bag = take_holds b slot rest_next (reached_held None b k.reached) free next_piece in
+      let bag = take_holds b slot rest_next k.sane.held free next_piece in
       record {
-        reached = reached_more None b _ slot Take (TakenJob (job.Span piece)) (makes_piece None) k.reached;
+        sane = step_sane None b _ slot Take (TakenJob (job.Span piece)) (makes_piece None) k.sane;
         sized = k.sized;
         holds_back = bag_held held_marks (all_holds b) (all_holds (record b { pending = pending; slots = slots }))
             (bag_sym (all_holds (record b { pending = pending; slots = slots })) (all_holds b)
@@ -262,44 +269,41 @@ module _ (b : BookData) (slot : ℕ) (piece : Piece) (pending : List Piece) (slo
       }
 
 -- nothing is taken
-nothing_there : {X : Type 0} (xs : List X) → length xs ≡ 0 → xs ≡ []
-nothing_there [] e = refl
-nothing_there (x ∷ xs) e = absurd (omega (arith, e))
+idle_if : (slots : List (Option Live)) → list_all is_none slots ≡ true → All (λ slot. slot ≡ None) slots
+idle_if [] e = All-nil (λ (s : Option Live). s ≡ None)
+idle_if (None ∷ slots) e = All-cons (λ (s : Option Live). s ≡ None) None slots refl (idle_if slots e)
+idle_if (Some job ∷ slots) e = absurd (cc)
 
-pub makes_nothing : (b : BookData) (slot : ℕ) → IsRunning b → IsFree b slot → first_due b ≡ None → b.pending ≡ []
-    → Makes b slot Take (answer_of (cond (length (live_pieces b) + length (live_batches b) == 0) taken.Finished taken.Nothing)) b
-makes_nothing b slot running free none empty told = by (length (live_pieces b) + length (live_batches b) == 0) refl
+not_idle : (slots : List (Option Live)) → list_all is_none slots ≡ false → All (λ slot. slot ≡ None) slots → ⊥
+not_idle [] e idle = absurd (cc)
+not_idle (None ∷ slots) e idle = not_idle slots e (All-tail (λ (s : Option Live). s ≡ None) None slots idle)
+not_idle (Some job ∷ slots) e idle = let none = All-head (λ (s : Option Live). s ≡ None) (Some job) slots idle in absurd (cc)
+
+pub makes_nothing : (b : SeenBook) (slot : ℕ) → IsRunning b → IsFree b slot → first_due b ≡ None → b.pending ≡ []
+    → Makes b slot Take (answer_of (cond (list_all is_none b.slots) taken.Finished taken.Nothing)) b
+makes_nothing b slot running free none empty told = by (list_all is_none b.slots) refl
   where
     next_none : next_job b ≡ None
     next_none = ap (due_or_piece b) none ∙ ap (without_first b) empty
 
-    zero_sum : (m n : ℕ) → (m + n == 0) ≡ true → (m ≡ 0) × (n ≡ 0)
-    zero_sum m n e = (grind (arith, nat_tests), grind (arith, nat_tests))
-
-    some_sum : (m n : ℕ) → (m + n == 0) ≡ false → m ≡ 0 → n ≡ 0 → ⊥
-    some_sum m n e f g = grind (arith, nat_tests)
-
-    by : (t : Bool) → (length (live_pieces b) + length (live_batches b) == 0) ≡ t → Step told b slot Take (answer_of (cond t taken.Finished taken.Nothing)) b
-    by true e =
-        let sums = zero_sum (length (live_pieces b)) (length (live_batches b)) e in
-        (running, free, next_none, (nothing_there (live_pieces b) sums.0, nothing_there (live_batches b) sums.1), refl)
-    by false e =
-        (running, free, next_none, (λ idle. some_sum (length (live_pieces b)) (length (live_batches b)) e (ap (length {A = Piece}) idle.0) (ap (length {A = Batch}) idle.1)), refl)
+    by : (t : Bool) → list_all is_none b.slots ≡ t → Step told b slot Take (answer_of (cond t taken.Finished taken.Nothing)) b
+    by true e = (running, free, next_none, idle_if b.slots e, refl)
+    by false e = (running, free, next_none, not_idle b.slots e, refl)
 
 -- ---- what the code finds
 
-pub oldest_within : (b : BookData) (node : ℕ) → IsDueAs b (first_due b) (Some (at.Oldest node)) → node < length b.queues
+pub oldest_within : (b : SeenBook) (node : ℕ) → IsDueAs b (first_due b) (Some (at.Oldest node)) → node < length b.queues
 oldest_within b node h =
     let there = first_is_due b (Oldest (oldest_batch b node)) h in
     slice_get_within b.queues node (there.first ∷ there.later) there.queue
 
-pub more_batches : (b : BookData) (held_marks : List SeenHolds) (piece_room batch_room more : ℕ) (returned : List Batch) → returned ≡ b.returned → batch_room ≤ more
+pub more_batches : (b : SeenBook) (held_marks : List SeenHolds) (piece_room batch_room more : ℕ) (returned : List Batch) → returned ≡ b.returned → batch_room ≤ more
     → IsIndexed b held_marks piece_room batch_room → IsIndexed (record b { returned = returned }) held_marks piece_room more
 more_batches b held_marks piece_room batch_room more returned e room k =
     subst (λ (l : List Batch). IsIndexed (record b { returned = l }) held_marks piece_room more) (sym e)
-    (record { reached = k.reached; sized = k.sized; holds_back = k.holds_back; marked = k.marked; pieces = k.pieces; batches = omega (arith, k.batches, room) })
+    (record { sane = k.sane; sized = k.sized; holds_back = k.holds_back; marked = k.marked; pieces = k.pieces; batches = omega (arith, k.batches, room) })
 
-pub batch_is : (b : BookData) (node : ℕ) (panes queue : List WaitingPane) → panes ≡ take b.options.bundle queue → queue_at b node ≡ queue
+pub batch_is : (b : SeenBook) (node : ℕ) (panes queue : List WaitingPane) → panes ≡ take b.options.bundle queue → queue_at b node ≡ queue
     → record { node = node; panes = panes; attempts = 0 } ≡ oldest_batch b node
 batch_is b node panes queue e f = ap (λ (l : List WaitingPane). record { node = node; panes = l; attempts = 0 }) (e ∙ ap (take b.options.bundle) (sym f))
 
@@ -316,6 +320,6 @@ few_of n false false rest e f h = grind (arith, nat_tests)
 pub few_nodes : (plan : Plan) → IsChecked plan → length plan.nodes ≤ 64
 few_nodes plan checked = few_of (length plan.nodes) (length plan.nodes == 0) (nat_lt 64 (length plan.nodes)) _ refl refl checked.unrefused
 
-pub same_returned : (b new : BookData) (slot : ℕ) (handed : Job) (returned : List Batch) → returned ≡ new.returned → Makes b slot Take (TakenJob handed) new
+pub same_returned : (b new : SeenBook) (slot : ℕ) (handed : Job) (returned : List Batch) → returned ≡ new.returned → Makes b slot Take (TakenJob handed) new
     → Makes b slot Take (TakenJob handed) (record new { returned = returned })
 same_returned b new slot handed returned e h = subst (λ (l : List Batch). Makes b slot Take (TakenJob handed) (record new { returned = l })) (sym e) h

@@ -29,17 +29,11 @@ use Rattle.beam_model.specs.Plans.{default_trigger}
 use Rattle.group_cells.proofs.Counting.{All-unmap, count_none, filter_where, none_counted}
 use Rattle.pipeline_graph.specs.Rules.{HasSettings}
 use Rattle.watermarks.proofs.NodeMarks.{final_stage}
-use Rattle.book_core.specs.Book.{BookData, last_marks}
+use Rattle.book_core.specs.Book.{SeenBook, last_marks}
+use Rattle.book_core.specs.Facts.{EndsEarly, greatest_end}
 use Rattle.book_core.specs.Runs.{AreAllShown}
 use Rattle.book_core.proofs.Cases.{LegalIn}
 use Rattle.book_core.proofs.Shown.{IsIts, by_firing, stands_early}
-
--- no own window ends later: the greatest time and the greatest length of a window
-abbrev pub greatest_end : ℤ
-greatest_end = greatest_time +ℤ greatest_length
-
-abbrev pub EndsEarly : Taken → Type 0
-EndsEarly t = t.element.span.end ≤ℤ greatest_end
 
 -- ---- one cell
 
@@ -136,7 +130,7 @@ late_group plan settings n group = by (slice_get plan.nodes n) refl group
         subst (λ (f : Option Node). (pos 0 ≤ℤ (unwrap_or (option_map (λ x. trigger_in x.kind) f) default_trigger).lateness) × ((unwrap_or (option_map (λ x. trigger_in x.kind) f) default_trigger).lateness ≤ℤ greatest_length)) (sym at)
         (of_kind node.kind is (settings n node at))
 
-module _ (b : BookData) (legal : LegalIn b) (final : (n : ℕ) → marks_at (last_marks b) n ≡ final_stage) (early : All EndsEarly (taken_by b.cells))
+module _ (b : SeenBook) (legal : LegalIn b) (final : (n : ℕ) → marks_at (last_marks b) n ≡ final_stage) (early : All EndsEarly (taken_by b.cells))
     (late : (n : ℕ) → is_group b.plan n ≡ true → IsLate b.plan n) where
   at_cell : (cell : Cell) → is_group b.plan cell.node ≡ true
       → (is_cell_at_key cell.node cell.key cell ≡ true

@@ -21,14 +21,14 @@ use Rattle.bundle_commit.specs.declared.job.Job.{Job}
 use Rattle.bundle_commit.specs.declared.job.Job.TheVariants as job
 use Rattle.bundle_commit.specs.declared.job.Receipt.{Receipt}
 use Rattle.group_cells.specs.Commits.{HasGap, HasLength}
-use Rattle.book_core.specs.Book.{BookData}
+use Rattle.book_core.specs.Book.{SeenBook}
 use Rattle.book_core.specs.Changes.{with_slot}
 use Rattle.book_core.specs.Jobs.{Next, attempted_of, job_of}
 use Rattle.book_core.specs.Steps.{CanCommit, IsClaiming, IsCommitting, IsFree, IsTaking, IsWorking}
 use Rattle.book_core.specs.Work.{is_known, worked_to, IsGiven, IsPlausible, IsWorkOnRange}
 use Rattle.book_core.specs.declared.live.Live.{Live}
 use Rattle.book_core.specs.declared.live.Live.TheVariants as live
-use Rattle.book_core.proofs.CellsAlways.{take_stays}
+use Rattle.book_core.proofs.SaneResults.{take_stays}
 use Rattle.book_core.proofs.HeldMarks.{slice_get-set_same}
 use Rattle.book_core.proofs.HeldOnce.{get_at_end}
 use Rattle.book_core.proofs.Taking.{take_cases}
@@ -36,15 +36,15 @@ use Rattle.book_core.proofs.Taking.{take_cases}
 set_works : (slots : List (Option Live)) (slot : ℕ) (old : Option Live) (new : Option Live) → slice_get slots slot ≡ Some old → slice_get (slice_set slots slot new) slot ≡ Some new
 set_works slots slot old new at = slice_get-set_same slots slot new (slice_get_within slots slot old at)
 
-pub enrolled_free : (b new : BookData) (number : ℕ) → number ≡ length b.slots → new ≡ record b { slots = b.slots ++ None ∷ [] } → IsFree new number
+pub enrolled_free : (b new : SeenBook) (number : ℕ) → number ≡ length b.slots → new ≡ record b { slots = b.slots ++ None ∷ [] } → IsFree new number
 enrolled_free b new number e is =
-    subst (λ (d : BookData). IsFree d number) (sym is)
+    subst (λ (d : SeenBook). IsFree d number) (sym is)
     (subst (λ (n : ℕ). slice_get (b.slots ++ None ∷ []) n ≡ Some None) (sym e) (get_at_end b.slots None []))
 
-module _ (b new : BookData) (slot : ℕ) where
+module _ (b new : SeenBook) (slot : ℕ) where
   pub taken_range : (piece : Piece) → IsTaking b slot (job.Span piece) new → IsWorking new slot (live.Span piece None)
   taken_range piece step =
-      subst (λ (d : BookData). IsWorking d slot (live.Span piece None)) (sym step.is)
+      subst (λ (d : SeenBook). IsWorking d slot (live.Span piece None)) (sym step.is)
       (take_cases b (λ (n : Next). job.Span piece ≡ job_of b.panes n.job → IsWorking (with_slot n.rest slot (Some n.job)) slot (live.Span piece None))
       (λ batch among e. absurd (cc))
       (λ batch oldest e. absurd (cc))
@@ -55,18 +55,18 @@ module _ (b new : BookData) (slot : ℕ) where
 
   pub taken_plan : (handed : Job) → IsTaking b slot handed new → new.plan ≡ b.plan
   taken_plan handed step =
-      ap (λ (d : BookData). d.plan) step.is ∙ (take_stays b slot step.next step.is_next).plan
+      ap (λ (d : SeenBook). d.plan) step.is ∙ (take_stays b slot step.next step.is_next).plan
 
   pub taken_batch : (handed : Job) → IsTaking b slot handed new → (works : Live) × IsWorking new slot works × (handed ≡ job_of new.panes works)
   taken_batch handed step = (
     step.next.job,
-    subst (λ (d : BookData). IsWorking d slot step.next.job) (sym step.is)
+    subst (λ (d : SeenBook). IsWorking d slot step.next.job) (sym step.is)
         (take_cases b (λ (n : Next). IsWorking (with_slot n.rest slot (Some n.job)) slot n.job)
         (λ batch among. set_works b.slots slot None (Some (live.Batch batch)) step.free)
         (λ batch oldest. set_works b.slots slot None (Some (live.Batch batch)) step.free)
         (λ first later parts. set_works b.slots slot None (Some (live.Span first None)) step.free)
         step.next step.is_next),
-    step.handed ∙ ap (λ (l : List Pane). job_of l step.next.job) (sym (ap (λ (d : BookData). d.panes) step.is ∙ (take_stays b slot step.next step.is_next).panes)),
+    step.handed ∙ ap (λ (l : List Pane). job_of l step.next.job) (sym (ap (λ (d : SeenBook). d.panes) step.is ∙ (take_stays b slot step.next step.is_next).panes)),
   )
 
   pub claimed_works : (p : ℕ) (piece : Piece) (granted : Bool) → IsWorking b slot (live.Span piece None) → IsClaiming b slot p granted new
@@ -74,15 +74,15 @@ module _ (b new : BookData) (slot : ℕ) where
   claimed_works p piece granted works step =
       let there = step.works in
       let same : step.piece ≡ piece = cc in (
-        subst (λ (d : BookData). IsWorking d slot (live.Span piece (Some p))) (sym step.is)
+        subst (λ (d : SeenBook). IsWorking d slot (live.Span piece (Some p))) (sym step.is)
             (set_works b.slots slot (Some (live.Span piece None)) (Some (live.Span step.piece (Some p))) works ∙ ap (λ (x : Piece). Some (Some (live.Span x (Some p)))) same),
-        ap (λ (d : BookData). d.plan) step.is,
+        ap (λ (d : SeenBook). d.plan) step.is,
       )
 
   pub committed_free : (told : Option (List FileText)) (receipt : Receipt) → IsCommitting told b slot receipt new → IsFree new slot × (new.plan ≡ b.plan)
   committed_free told receipt step = (
-    subst (λ (d : BookData). IsFree d slot) (sym step.commit.is) (set_works b.slots slot (Some step.job) None step.works),
-    ap (λ (d : BookData). d.plan) step.commit.is,
+    subst (λ (d : SeenBook). IsFree d slot) (sym step.commit.is) (set_works b.slots slot (Some step.job) None step.works),
+    ap (λ (d : SeenBook). d.plan) step.commit.is,
   )
 
 -- what each pane's element brings alone
@@ -94,7 +94,7 @@ each_arrives plan node to (pane ∷ panes) h =
     ∙ ap (λ (l : List Output). l ++ batch_outputs plan node panes) (sym (h pane.element))
 
 -- a batch that is worked, as it was handed out
-pub batch_given : (b : BookData) (node first attempts : ℕ) (panes : List Pane) (works : Live) → job.Batch node first panes attempts ≡ job_of b.panes works
+pub batch_given : (b : SeenBook) (node first attempts : ℕ) (panes : List Pane) (works : Live) → job.Batch node first panes attempts ≡ job_of b.panes works
     → (P : Job → Option ℕ → Type 0) → P (job.Batch node first panes attempts) None → P (job_of b.panes works) (attempted_of works)
 batch_given b node first attempts panes (live.Span piece attempted) e P h = absurd (cc)
 batch_given b node first attempts panes (live.Batch batch) e P h = subst (λ (j : Job). P j None) e h
@@ -102,7 +102,7 @@ batch_given b node first attempts panes (live.Batch batch) e P h = subst (λ (j 
 -- ---- receipts that may be placed
 
 -- what came of the panes of a batch, each alone
-pub batch_can : (b new : BookData) (slot node first attempts to : ℕ) (panes : List Pane) (receipt : Receipt) → IsTaking b slot (job.Batch node first panes attempts) new
+pub batch_can : (b new : SeenBook) (slot node first attempts to : ℕ) (panes : List Pane) (receipt : Receipt) → IsTaking b slot (job.Batch node first panes attempts) new
     → ((e : Element) → chain b.plan node e ≡ Arrives (record { node = to; element = e }) ∷ [])
     → receipt.arrivals ≡ map (λ (pane : Pane). record { node = to; element = pane.element }) panes → receipt.logged ≡ None → CanCommit None new slot receipt
 batch_can b new slot node first attempts to panes receipt step onward is none =
@@ -117,7 +117,7 @@ batch_can b new slot node first attempts to panes receipt step onward is none =
     }
 
 -- what came of a range of a file that isn't told
-pub range_can : (b new claimed : BookData) (slot p : ℕ) (piece : Piece) (granted : Bool) (receipt : Receipt) → IsTaking b slot (job.Span piece) new → IsClaiming new slot p granted claimed
+pub range_can : (b new claimed : SeenBook) (slot p : ℕ) (piece : Piece) (granted : Bool) (receipt : Receipt) → IsTaking b slot (job.Span piece) new → IsClaiming new slot p granted claimed
     → is_known None b.plan piece.node ≡ false → IsPlausible b.plan piece receipt → receipt.logged ≡ None → CanCommit None claimed slot receipt
 range_can b new claimed slot p piece granted receipt step claim unknown plausible none =
     let after = claimed_works new claimed slot p piece granted (taken_range b new slot piece step) claim in

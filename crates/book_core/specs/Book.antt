@@ -22,7 +22,7 @@ use Rattle.book_core.specs.declared.live.Live.{Live}
 use Rattle.book_core.specs.declared.live.Live.TheVariants as live
 use Rattle.book_core.specs.declared.live.WaitingPane.{WaitingPane}
 
-pub record BookData : Type 0 where
+pub record SeenBook : Type 0 where
   pub plan : Plan
   -- the source items and their lengths, by node and item
   pub files : List FileLen
@@ -60,13 +60,17 @@ abbrev pub batch_of : Option Live → List Batch
 batch_of (Some (live.Batch batch)) = batch ∷ []
 batch_of _ = []
 
-abbrev pub live_pieces : BookData → List Piece
+abbrev pub live_pieces : SeenBook → List Piece
 live_pieces b = flat_map piece_of b.slots
 
-abbrev pub live_batches : BookData → List Batch
+abbrev pub live_batches : SeenBook → List Batch
 live_batches b = flat_map batch_of b.slots
 
-abbrev pub slot_at : BookData → ℕ → Option (Option Live)
+-- so many places are kept among the pending pieces: one for each piece that is worked, since it may come back
+abbrev pub places_kept : SeenBook → ℕ
+places_kept b = length (live_pieces b)
+
+abbrev pub slot_at : SeenBook → ℕ → Option (Option Live)
 slot_at b slot = slice_get b.slots slot
 
 -- the tracker of a range that is worked
@@ -86,14 +90,14 @@ held_at node panes = map (λ waiting. record { node = node; waiting = waiting })
 abbrev pub held_in : Batch → List HeldPane
 held_in batch = held_at batch.node batch.panes
 
-abbrev pub queue_at : BookData → ℕ → List WaitingPane
+abbrev pub queue_at : SeenBook → ℕ → List WaitingPane
 queue_at b node = unwrap_or (slice_get b.queues node) []
 
-abbrev pub queued : BookData → List HeldPane
+abbrev pub queued : SeenBook → List HeldPane
 queued b = flat_map (λ (node, panes). held_at node panes) (enumerate_from 0 b.queues)
 
 -- the panes that wait, were given back, or are worked: those whose elements haven't gone on yet
-abbrev pub held : BookData → List HeldPane
+abbrev pub held : SeenBook → List HeldPane
 held b = queued b ++ (flat_map held_in b.returned ++ flat_map held_in (live_batches b))
 
 abbrev pub pane_at : List Pane → WaitingPane → List Pane
@@ -108,16 +112,16 @@ abbrev pub hold_of : HeldPane → Hold
 hold_of held = record { node = held.node; mark = held.waiting.hold }
 
 -- all holds but those of pieces
-abbrev pub holds : BookData → List Hold
+abbrev pub holds : SeenBook → List Hold
 holds b = map hold_of (held b)
 
 -- the marks that follow from all that isn't committed: pending and live pieces, and panes that aren't through
-abbrev pub AreMarksOfBook : BookData → List StageMarks → Type 0
+abbrev pub AreMarksOfBook : SeenBook → List StageMarks → Type 0
 AreMarksOfBook b marks = AreMarksOf b.plan (b.pending ++ live_pieces b) (holds b) marks
 
-abbrev pub last_commit : BookData → ℕ
+abbrev pub last_commit : SeenBook → ℕ
 last_commit b = length b.commits - 1
 
 -- the marks after the last commit
-abbrev pub last_marks : BookData → List StageMarks
+abbrev pub last_marks : SeenBook → List StageMarks
 last_marks b = unwrap_or (option_map (λ commit. commit.marks) (slice_get b.commits (last_commit b))) []

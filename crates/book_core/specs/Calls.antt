@@ -6,8 +6,8 @@ use Rattle.beam_values.specs.Tracking.{MayClaim}
 use Rattle.beam_values.specs.declared.file_text.FileText.{FileText}
 use Rattle.beam_values.specs.declared.outcome.Outcome.{Outcome}
 use Rattle.beam_values.specs.declared.piece.Piece.{Piece}
-use Rattle.book_core.specs.Book.{BookData, slot_at, tracker_of}
-use Rattle.book_core.specs.Steps.{Action, Answer, TakenJob, Nothing, Finished, Stopped, Retried, Spent, Step, IsWorking}
+use Rattle.book_core.specs.Book.{SeenBook, slot_at, tracker_of}
+use Rattle.book_core.specs.Steps.{Action, Answer, TakenJob, Nothing, Finished, Stopped, Retried, Spent, Step, MayWorkOn}
 use Rattle.book_core.specs.declared.live.Failure.{Failure}
 use Rattle.book_core.specs.declared.live.Failure.TheVariants as failure
 use Rattle.book_core.specs.declared.live.Live.{Live}
@@ -16,18 +16,18 @@ use Rattle.book_core.specs.declared.live.Taken.{Taken}
 use Rattle.book_core.specs.declared.live.Taken.TheVariants as taken
 
 -- the slot works a range whose tracker may claim the position
-pub record CanClaim (b : BookData) (slot p : ℕ) : Type 0 where
+pub record CanClaim (b : SeenBook) (slot p : ℕ) : Type 0 where
   pub piece : Piece
   pub attempted : Option ℕ
-  pub works : IsWorking b slot (live.Span piece attempted)
+  pub works : MayWorkOn b slot (live.Span piece attempted)
   pub may : MayClaim (tracker_of piece attempted) p
 
--- the slot works something
-abbrev pub CanFail : BookData → ℕ → Type 0
-CanFail b slot = (job : Live) × IsWorking b slot job
+-- the slot works something that may fail
+abbrev pub CanFail : SeenBook → ℕ → Type 0
+CanFail b slot = (job : Live) × MayWorkOn b slot job
 
 -- a step whatever the files are
-abbrev pub Makes : BookData → ℕ → Action → Answer → BookData → Type 0
+abbrev pub Makes : SeenBook → ℕ → Action → Answer → SeenBook → Type 0
 Makes b slot action answer new = (told : Option (List FileText)) → Step told b slot action answer new
 
 abbrev pub answer_of : Taken → Answer
@@ -45,11 +45,11 @@ abbrev pub piece_in : Option (Option Live) → Option Piece
 piece_in (Some (Some (live.Span piece attempted))) = Some piece
 piece_in _ = None
 
-abbrev pub live_piece : BookData → ℕ → Option Piece
+abbrev pub live_piece : SeenBook → ℕ → Option Piece
 live_piece b slot = piece_in (slot_at b slot)
 
 -- an outcome is the book's own data; its cells stand in their order
-pub record IsOutcomeOf (b : BookData) (o : Outcome) : Type 0 where
+pub record IsOutcomeOf (b : SeenBook) (o : Outcome) : Type 0 where
   pub plan : o.plan ≡ b.plan
   pub files : o.files ≡ b.files
   pub done : o.done ≡ b.done

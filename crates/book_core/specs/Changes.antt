@@ -3,7 +3,6 @@ use Rattle.std.specs.Prelude.{◌≡◌, ℕ, ◌+◌, ◌==◌, Bool, true, fal
 use Rattle.std.specs.List.{filter, enumerate_from}
 use Rattle.std.specs.declared.cmp.Ordering.{Ordering}
 use Rattle.std.specs.Ordering.{on, then_cmp, nat_cmp, is_lt}
-use Rattle.beam_values.specs.Bags.{IsSameBag}
 use Rattle.beam_values.specs.Nodes.{is_write}
 use Rattle.beam_values.specs.Intervals.{Offsets}
 use Rattle.beam_values.specs.declared.arrival.Arrival.{Arrival}
@@ -18,12 +17,11 @@ use Rattle.beam_values.specs.declared.outcome.StopCause.TheVariants as stop
 use Rattle.beam_values.specs.declared.piece.Done.{Done}
 use Rattle.beam_values.specs.declared.piece.Piece.{Piece}
 use Rattle.beam_model.specs.Holds.{pane_hold}
-use Rattle.beam_model.specs.Panes.{taken_by, ArePanesLegal}
 use Rattle.beam_ports.specs.Counts.{raised}
 use Rattle.bundle_commit.specs.declared.job.Receipt.{Receipt}
-use Rattle.group_cells.specs.Commits.{as_commit, dropped_arrival, is_dropped, is_taken, taken_arrival}
+use Rattle.group_cells.specs.Commits.{AreRounds, as_commit, dropped_arrival, is_dropped}
 use Rattle.split_core.specs.Order.{with_piece}
-use Rattle.book_core.specs.Book.{BookData, last_marks, AreMarksOfBook}
+use Rattle.book_core.specs.Book.{SeenBook, last_marks, AreMarksOfBook}
 use Rattle.book_core.specs.Jobs.{first_pane}
 use Rattle.book_core.specs.Work.{worked_to}
 use Rattle.book_core.specs.declared.live.Batch.{Batch}
@@ -32,7 +30,7 @@ use Rattle.book_core.specs.declared.live.Live.TheVariants as live
 use Rattle.book_core.specs.declared.live.WaitingPane.{WaitingPane}
 
 -- a slot works this, or nothing
-abbrev pub with_slot : BookData → ℕ → Option Live → BookData
+abbrev pub with_slot : SeenBook → ℕ → Option Live → SeenBook
 with_slot b slot job = record b { slots = slice_set b.slots slot job }
 
 -- ---- parts of a range
@@ -46,7 +44,7 @@ abbrev pub rest_of : Piece → Offsets → Piece
 rest_of piece range = record piece { range = range; attempts = 0 }
 
 -- a live range is split: it goes on up to there, and the rest is pending
-abbrev pub split_off : BookData → ℕ → Piece → Option ℕ → ℕ → BookData
+abbrev pub split_off : SeenBook → ℕ → Piece → Option ℕ → ℕ → SeenBook
 split_off b slot piece attempted at =
     record (with_slot b slot (Some (live.Span (cut_to piece (record { from = piece.range.from; to = at })) attempted))) {
       pending = with_piece (rest_of piece (record { from = at; to = piece.range.to })) b.pending;
@@ -61,9 +59,10 @@ tried_piece piece = record piece { attempts = piece.attempts + 1 }
 abbrev pub tried_batch : Batch → Batch
 tried_batch batch = record batch { attempts = batch.attempts + 1 }
 
-abbrev pub given_back : BookData → Live → BookData
-given_back b (live.Span piece attempted) = record b { pending = with_piece (tried_piece piece) b.pending }
-given_back b (live.Batch batch) = record b { returned = b.returned ++ tried_batch batch ∷ [] }
+-- where it failed and why don't matter
+abbrev pub given_back : SeenBook → Live → ℕ → Cause → SeenBook
+given_back b (live.Span piece attempted) at cause = record b { pending = with_piece (tried_piece piece) b.pending }
+given_back b (live.Batch batch) at cause = record b { returned = b.returned ++ tried_batch batch ∷ [] }
 
 abbrev pub attempts_of : Live → ℕ
 attempts_of (live.Span piece attempted) = piece.attempts
@@ -76,7 +75,7 @@ note_of (live.Batch batch) at cause =
     record { node = batch.node; item = first_pane batch; at = at; attempt = batch.attempts + 1; cause = cause }
 
 -- one more fail brings a job to the limit of its attempts
-abbrev pub is_at_limit : BookData → Live → Bool
+abbrev pub is_at_limit : SeenBook → Live → Bool
 is_at_limit b job = nat_le b.options.attempts (attempts_of job + 1)
 
 -- the first cause of a stop is kept
@@ -84,20 +83,20 @@ abbrev pub or_stopped : Option StopCause → StopCause → Option StopCause
 or_stopped (Some kept) new = Some kept
 or_stopped None new = Some new
 
-abbrev pub counted : BookData → Cause → BookData
+abbrev pub counted : SeenBook → Cause → SeenBook
 counted b Call = record b { calls = raised b.calls }
 counted b Read = record b { reads = raised b.reads }
 
-abbrev pub stopped_where : Bool → BookData → FaultNote → BookData
+abbrev pub stopped_where : Bool → SeenBook → FaultNote → SeenBook
 stopped_where true b note = record b { stopped = or_stopped b.stopped (stop.Spent note) }
 stopped_where false b note = b
 
 -- a fail ends the run: the job is given up
-abbrev pub ends_run : BookData → Live → Cause → Bool
+abbrev pub ends_run : SeenBook → Live → Cause → Bool
 ends_run b job cause = is_at_limit b job
 
-abbrev pub failed : BookData → ℕ → Live → ℕ → Cause → BookData
-failed b slot job at cause = stopped_where (ends_run b job cause) (counted (given_back (with_slot b slot None) job) cause) (note_of job at cause)
+abbrev pub failed : SeenBook → ℕ → Live → ℕ → Cause → SeenBook
+failed b slot job at cause = stopped_where (ends_run b job cause) (counted (given_back (with_slot b slot None) job at cause) cause) (note_of job at cause)
 
 -- ---- commits
 
@@ -149,15 +148,15 @@ fired_at node fired = filter (λ numbered. numbered.1.node == node) fired
 abbrev pub with_fired : List StageMarks → List (ℕ × Pane) → (ℕ × List WaitingPane) → List WaitingPane
 with_fired before fired (node, queue) = queue ++ map (as_waiting before) (fired_at node fired)
 
-abbrev pub queues_after : BookData → List Pane → List (List WaitingPane)
+abbrev pub queues_after : SeenBook → List Pane → List (List WaitingPane)
 queues_after b fired = map (with_fired (last_marks b) (enumerate_from (length b.panes) fired)) (enumerate_from 0 b.queues)
 
 -- arrivals at Writes are written
-abbrev pub written_by : BookData → Receipt → List Arrival
+abbrev pub written_by : SeenBook → Receipt → List Arrival
 written_by b receipt = filter (λ arrival. is_write b.plan arrival.node) receipt.arrivals
 
 -- the book after a commit that left these cells, fired these panes and has these marks
-abbrev pub committed : BookData → ℕ → Live → Receipt → List Cell → List Pane → List StageMarks → BookData
+abbrev pub committed : SeenBook → ℕ → Live → Receipt → List Cell → List Pane → List StageMarks → SeenBook
 committed b slot job receipt cells fired marks = record (with_slot b slot None) {
   pending = pending_after b.pending job receipt;
   queues = queues_after b fired;
@@ -169,13 +168,12 @@ committed b slot job receipt cells fired marks = record (with_slot b slot None) 
   commits = b.commits ++ as_commit marks ∷ [];
 }
 
--- A commit places a receipt: each arrival in time is an entry, and none is lost; the marks are those of the book after it; and the panes are legal with it.
-pub record IsCommit (b : BookData) (slot : ℕ) (job : Live) (receipt : Receipt) (new : BookData) : Type 0 where
+-- A commit places a receipt in one round of each Group and key, and its marks are those of the book after it. That rounds lose no entry and keep what is legal
+-- are laws of theirs.
+pub record IsCommit (b : SeenBook) (slot : ℕ) (job : Live) (receipt : Receipt) (new : SeenBook) : Type 0 where
   pub cells : List Cell
   pub fired : List Pane
   pub marks : List StageMarks
   pub is : new ≡ committed b slot job receipt cells fired marks
-  pub entries : IsSameBag (taken_by cells)
-      (taken_by b.cells ++ map (taken_arrival (length b.commits)) (filter (is_taken b.plan (last_marks b)) receipt.arrivals))
   pub marked : AreMarksOfBook new marks
-  pub legal : ArePanesLegal new.plan new.commits new.cells new.dropped new.panes
+  pub rounds : AreRounds b.plan (length b.commits) (last_marks b) marks receipt.arrivals b.cells cells fired

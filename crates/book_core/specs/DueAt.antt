@@ -1,6 +1,6 @@
 -- Where what is due is found in the book.
 use Rattle.std.specs.Prelude.{◌≡◌, ℕ, List, slice_get, take, Option, Some, None}
-use Rattle.book_core.specs.Book.{BookData, queue_at}
+use Rattle.book_core.specs.Book.{SeenBook, queue_at}
 use Rattle.book_core.specs.Jobs.{Due, GivenBack, Oldest}
 use Rattle.book_core.specs.declared.due.DueAt.{DueAt}
 use Rattle.book_core.specs.declared.due.DueAt.TheVariants as at
@@ -13,7 +13,7 @@ IsBatchAt batches (Some at) (Some batch) = slice_get batches at ≡ Some batch
 IsBatchAt batches _ _ = ⊥
 
 -- `found` is the job that is due, and stands at this place; where none is due there is no place
-abbrev pub IsDueAs : BookData → Option Due → Option DueAt → Type 0
+abbrev pub IsDueAs : SeenBook → Option Due → Option DueAt → Type 0
 IsDueAs b found None = found ≡ None
 IsDueAs b found (Some (at.GivenBack place)) =
     (batch : Batch) × (slice_get b.returned place ≡ Some batch) × (found ≡ Some (GivenBack batch))

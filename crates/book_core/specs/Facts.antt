@@ -1,13 +1,15 @@
--- What holds of every reached book: of each part of it one record.
-use Rattle.std.specs.Prelude.{◌≡◌, ◌⊎◌, ℕ, ◌+◌, ◌<◌, ◌≤◌, ◌==◌, Bool, true, List, [], ◌∷◌, ◌++◌, length, map, slice_get, count_by, Contains, Option, Some, None}
+-- What holds of a book, of each part of it one record.
+use Rattle.std.specs.Prelude.{◌≡◌, ◌⊎◌, ℕ, ◌+◌, ◌<◌, ◌≤◌, ◌==◌, ℤ, ◌≤ℤ◌, ◌+ℤ◌, Bool, true, List, [], ◌∷◌, ◌++◌, length, map, slice_get, count_by, sum_by, Contains, Option, Some, None}
 use Rattle.std.specs.List.{All, flat_map}
 use Rattle.std.specs.List.Sorted.{IsSorted}
 use Rattle.beam_values.specs.Bags.{IsSameBag}
 use Rattle.beam_values.specs.Cover.{Place, times_done, times_listed, times_pending}
 use Rattle.beam_values.specs.Checked.{IsChecked}
 use Rattle.beam_values.specs.Nodes.{is_write}
-use Rattle.beam_values.specs.Times.{least_time}
+use Rattle.beam_values.specs.Strategies.{greatest_length}
+use Rattle.beam_values.specs.Times.{greatest_time, least_time}
 use Rattle.beam_values.specs.declared.cell.Pane.{Pane}
+use Rattle.beam_values.specs.declared.element.Element.{Element}
 use Rattle.beam_values.specs.declared.file_text.FileText.{FileText}
 use Rattle.beam_values.specs.declared.outcome.StopCause.{StopCause}
 use Rattle.beam_values.specs.declared.outcome.StopCause.TheVariants as cause
@@ -18,10 +20,11 @@ use Rattle.beam_model.specs.Coverings.{item_at, spread_dones}
 use Rattle.beam_model.specs.Flow.{pane_chains}
 use Rattle.beam_model.specs.Estimators.{emission_at, observed_times}
 use Rattle.beam_model.specs.Holds.{estimator_of}
-use Rattle.beam_model.specs.Panes.{taken_by, ArePanesLegal}
+use Rattle.beam_model.specs.Panes.{Taken, taken_by, ArePanesLegal}
 use Rattle.beam_model.specs.Positions.{SourceItem, items}
+use Rattle.beam_ports.specs.Counts.{greatest_count}
 use Rattle.group_cells.specs.Commits.{HaveGaps, NeverFalls}
-use Rattle.book_core.specs.Book.{BookData, HeldPane, held, panes_of, live_pieces, live_batches, last_marks, AreMarksOfBook}
+use Rattle.book_core.specs.Book.{SeenBook, HeldPane, held, panes_of, live_pieces, live_batches, last_marks, AreMarksOfBook}
 use Rattle.book_core.specs.Changes.{done_cmp}
 use Rattle.book_core.specs.Runs.{AreOptions, AreLengthsOf}
 use Rattle.book_core.specs.Steps.{IsRunning, IsWithinLimits}
@@ -31,7 +34,7 @@ use Rattle.book_core.specs.declared.live.Live.{Live}
 use Rattle.book_core.specs.declared.live.Live.TheVariants as live
 
 -- each offset of each item lies in exactly one pending, live or done range, and no other offset does
-pub record ArePartitioned (b : BookData) : Type 0 where
+pub record ArePartitioned (b : SeenBook) : Type 0 where
   pub times : (place : Place) → times_pending (b.pending ++ live_pieces b) place + times_done b.done place ≡ times_listed b.files place
 
 -- a live range was attempted at its start or behind it, or not at all
@@ -39,13 +42,15 @@ abbrev pub IsAttemptedWithin : Option Live → Type 0
 IsAttemptedWithin (Some (live.Span piece (Some p))) = piece.range.from ≤ p
 IsAttemptedWithin _ = Unit {0}
 
--- The last marks are those of the book, and no mark falls from commit to commit.
-pub record AreMarksKept (b : BookData) : Type 0 where
+-- There is a commit, each has one pair of marks for each node, the last marks are those of the book, and no mark falls from commit to commit.
+pub record AreMarksKept (b : SeenBook) : Type 0 where
+  pub some : 1 ≤ length b.commits
+  pub sized : All (λ commit. length commit.marks ≡ length b.plan.nodes) b.commits
   pub last : AreMarksOfBook b (last_marks b)
   pub never_fall : NeverFalls b.commits
 
 -- what came to the Groups is legal, and own windows of sessions are as long as the gap
-pub record AreCellsKept (b : BookData) : Type 0 where
+pub record AreCellsKept (b : SeenBook) : Type 0 where
   pub legal : ArePanesLegal b.plan b.commits b.cells b.dropped b.panes
   pub gaps : HaveGaps b.plan (taken_by b.cells)
 
@@ -53,62 +58,67 @@ pub record AreCellsKept (b : BookData) : Type 0 where
 abbrev pub is_held_at : ℕ → HeldPane → Bool
 is_held_at place held = held.waiting.pane == place
 
-abbrev pub IsHeldPane : BookData → HeldPane → Type 0
+abbrev pub IsHeldPane : SeenBook → HeldPane → Type 0
 IsHeldPane b held = (pane : Pane) × (slice_get b.panes held.waiting.pane ≡ Some pane) × (pane.node ≡ held.node)
 
-pub record AreHeldOnce (b : BookData) : Type 0 where
+pub record AreHeldOnce (b : SeenBook) : Type 0 where
   pub panes : All (IsHeldPane b) (held b)
   pub once : (place : ℕ) → count_by (is_held_at place) (held b) ≤ 1
   pub batches : All (λ batch. 1 ≤ length batch.panes) (b.returned ++ live_batches b)
 
 -- the chains of the panes that aren't through
-abbrev pub held_chains : BookData → List Output
+abbrev pub held_chains : SeenBook → List Output
 held_chains b = flat_map (λ held. pane_chains b.plan (panes_of b.panes (held.waiting ∷ []))) (held b)
 
 -- where the files are told: the arrivals and the chains of the panes that aren't through are the outputs of the done ranges and the chains of all panes, and
 -- none of them is poison
-abbrev pub IsBalanced : List FileText → BookData → Type 0
+abbrev pub IsBalanced : List FileText → SeenBook → Type 0
 IsBalanced told b =
     IsSameBag (spread_dones b.plan (items_told (Some told) b.plan) b.done ++ pane_chains b.plan b.panes)
     (map Arrives (arrivals_of b.cells b.dropped [] b.written) ++ held_chains b)
 
 -- written elements are at Writes
-pub record AreAtWrites (b : BookData) : Type 0 where
+pub record AreAtWrites (b : SeenBook) : Type 0 where
   pub written : All (λ arrival. is_write b.plan arrival.node ≡ true) b.written
 
 -- Where the files are told: what was seen before a piece is the least time, or what its estimator looked at in a position below its start.
-abbrev pub IsSeenBefore : BookData → SourceItem → Piece → Type 0
+abbrev pub IsSeenBefore : SeenBook → SourceItem → Piece → Type 0
 IsSeenBefore b item piece =
     (piece.seen ≡ least_time)
     ⊎ ((p : ℕ) × (p < piece.range.from) × Contains (observed_times (estimator_of b.plan piece.node) (emission_at item p)) piece.seen)
 
-abbrev pub IsSeenOf : BookData → Option SourceItem → Piece → Type 0
+abbrev pub IsSeenOf : SeenBook → Option SourceItem → Piece → Type 0
 IsSeenOf b None piece = Unit {0}
 IsSeenOf b (Some item) piece = IsSeenBefore b item piece
 
-abbrev pub AreSeenBefore : List FileText → BookData → Type 0
+abbrev pub AreSeenBefore : List FileText → SeenBook → Type 0
 AreSeenBefore told b =
     All (λ piece. IsSeenOf b (item_at (items_told (Some told) b.plan) piece.node piece.item) piece) (b.pending ++ live_pieces b)
 
--- A job that is worked has failed less often than it may, and so has one that isn't worked, unless the book is stopped. No job has failed more often than jobs
--- failed at all.
-abbrev pub IsBelowLimit : BookData → ℕ → Type 0
+-- A job that is worked has failed less often than it may, and so has one that isn't worked, unless the book is stopped: then it may have failed as often. All
+-- pieces together have failed no more often than jobs failed at all, and so has each batch. After two calls and a read failed, pieces with 2 and 1 attempts may be
+-- there, or one with 3, but none beside it with 1.
+abbrev pub IsBelowLimit : SeenBook → ℕ → Type 0
 IsBelowLimit b attempts = attempts < b.options.attempts
 
-pub record AreAttemptsCounted (b : BookData) : Type 0 where
+pub record AreAttemptsCounted (b : SeenBook) : Type 0 where
   pub worked_pieces : All (λ piece. IsBelowLimit b piece.attempts) (live_pieces b)
   pub worked_batches : All (λ batch. IsBelowLimit b batch.attempts) (live_batches b)
   pub pending : IsRunning b → All (λ piece. IsBelowLimit b piece.attempts) b.pending
   pub returned : IsRunning b → All (λ batch. IsBelowLimit b batch.attempts) b.returned
-  pub pieces : All (λ piece. piece.attempts ≤ b.calls + b.reads) (b.pending ++ live_pieces b)
+  pub pending_most : All (λ piece. piece.attempts ≤ b.options.attempts) b.pending
+  pub returned_most : All (λ batch. batch.attempts ≤ b.options.attempts) b.returned
+  pub pieces : sum_by (λ piece. piece.attempts) (b.pending ++ live_pieces b) ≤ b.calls + b.reads
   pub batches : All (λ batch. batch.attempts ≤ b.calls + b.reads) (b.returned ++ live_batches b)
+  pub calls : b.calls ≤ greatest_count
+  pub reads : b.reads ≤ greatest_count
 
-abbrev pub IsStopNoted : BookData → Option StopCause → Type 0
+abbrev pub IsStopNoted : SeenBook → Option StopCause → Type 0
 IsStopNoted b (Some (cause.Spent note)) = note.attempt ≡ b.options.attempts
 IsStopNoted b _ = Unit {0}
 
 -- what doesn't change while a run goes on, and the lists that are kept in order
-pub record IsWellFormed (b : BookData) : Type 0 where
+pub record IsWellFormed (b : SeenBook) : Type 0 where
   pub checked : IsChecked b.plan
   pub allowed : AreOptions b.options
   pub lengths : AreLengthsOf (items [] b.plan) b.files
@@ -117,8 +127,28 @@ pub record IsWellFormed (b : BookData) : Type 0 where
   pub done : IsSorted done_cmp b.done
   pub within : IsWithinLimits b
 
+-- ---- windows end early: no later than one of the longest that begins at the greatest time
+
+abbrev pub greatest_end : ℤ
+greatest_end = greatest_time +ℤ greatest_length
+
+abbrev pub EndsEarly : Taken → Type 0
+EndsEarly t = t.element.span.end ≤ℤ greatest_end
+
+abbrev pub IsEarly : Element → Type 0
+IsEarly e = (e.time ≤ℤ greatest_time) × (e.span.end ≤ℤ greatest_end)
+
+abbrev pub IsEarlyPane : Pane → Type 0
+IsEarlyPane pane = IsEarly pane.element
+
+pub record IsEarlyBook (b : SeenBook) : Type 0 where
+  pub taken : All EndsEarly (taken_by b.cells)
+  pub panes : All IsEarlyPane b.panes
+
+-- ---- together
+
 -- of every reached book
-pub record AreKept (b : BookData) : Type 0 where
+pub record AreKept (b : SeenBook) : Type 0 where
   pub partitioned : ArePartitioned b
   pub attempted : All IsAttemptedWithin b.slots
   pub marks : AreMarksKept b
@@ -130,6 +160,6 @@ pub record AreKept (b : BookData) : Type 0 where
   pub stop : IsStopNoted b b.stopped
 
 -- and where the files are told
-pub record AreKeptOf (told : List FileText) (b : BookData) : Type 0 where
+pub record AreKeptOf (told : List FileText) (b : SeenBook) : Type 0 where
   pub balanced : IsBalanced told b
   pub seen : AreSeenBefore told b

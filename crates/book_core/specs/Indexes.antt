@@ -3,16 +3,19 @@ use Rattle.std.specs.Prelude.{◌≡◌, Bool, true, false, ℕ, ◌≤◌, ℤ,
 use Rattle.std.specs.Option.{option_map}
 use Rattle.beam_values.specs.Bags.{IsSameBag}
 use Rattle.beam_values.specs.Marks.{least_mark, AreMarks}
+use Rattle.beam_values.specs.declared.fault.Cause.{Cause}
 use Rattle.beam_values.specs.declared.fault.FaultNote.{FaultNote}
 use Rattle.beam_values.specs.declared.outcome.StopCause.{StopCause}
 use Rattle.beam_values.specs.declared.outcome.StopCause.TheVariants as stop
 use Rattle.beam_values.specs.declared.piece.Piece.{Piece}
 use Rattle.beam_model.specs.Holds.{Hold, piece_hold, marks_held}
+use Rattle.retry_core.specs.declared.attempt.Next.{Next}
+use Rattle.retry_core.specs.declared.attempt.Next.TheVariants.{Retry, Spent}
 use Rattle.split_core.specs.Order.{with_piece}
 use Rattle.watermarks.specs.Holds.{SeenHolds}
-use Rattle.book_core.specs.Book.{BookData, live_pieces, live_batches, holds, last_marks}
+use Rattle.book_core.specs.Book.{SeenBook, live_pieces, live_batches, holds, last_marks, places_kept}
 use Rattle.book_core.specs.Changes.{tried_piece, tried_batch, or_stopped}
-use Rattle.book_core.specs.Runs.{Reached}
+use Rattle.book_core.specs.Sane.{IsSane}
 use Rattle.book_core.specs.declared.live.Batch.{Batch}
 use Rattle.book_core.specs.declared.live.Live.{Live}
 use Rattle.book_core.specs.declared.live.Live.TheVariants as live
@@ -30,16 +33,16 @@ pub record AreHeldIn (held : List SeenHolds) (holds : List Hold) : Type 0 where
   pub each : (node : ℕ) → IsSameBag (marks_in held node) (marks_held holds node)
 
 -- all that holds nodes of the book back
-abbrev pub all_holds : BookData → List Hold
+abbrev pub all_holds : SeenBook → List Hold
 all_holds b = map (piece_hold b.plan) (b.pending ++ live_pieces b) ++ holds b
 
--- a reached book, with the marks that hold its nodes back, and a place kept for each piece and each batch that is worked
-pub record IsIndexed (b : BookData) (held : List SeenHolds) (piece_room batch_room : ℕ) : Type 0 where
-  pub reached : Reached None b
+-- a sane book, with the marks that hold its nodes back, and a place kept for each piece and each batch that is worked
+pub record IsIndexed (b : SeenBook) (held : List SeenHolds) (piece_room batch_room : ℕ) : Type 0 where
+  pub sane : IsSane b
   pub sized : length held ≡ length b.plan.nodes
   pub holds_back : AreHeldIn held (all_holds b)
   pub marked : AreMarks b.plan (least_in held) (last_marks b)
-  pub pieces : length (live_pieces b) ≤ piece_room
+  pub pieces : places_kept b ≤ piece_room
   pub batches : length (live_batches b) ≤ batch_room
 
 -- how many more marks can be held at a node before memory is asked for
@@ -47,13 +50,18 @@ abbrev pub room_in : List SeenHolds → ℕ → ℕ
 room_in held node = unwrap_or (option_map (λ h. h.room) (slice_get held node)) 0
 
 -- the pending pieces, the batches and the cause of a stop after a fail
-abbrev pub pieces_back : List Piece → Live → List Piece
-pieces_back pending (live.Span piece attempted) = with_piece (tried_piece piece) pending
-pieces_back pending (live.Batch batch) = pending
+abbrev pub pieces_back : List Piece → Live → ℕ → Cause → List Piece
+pieces_back pending (live.Span piece attempted) at cause = with_piece (tried_piece piece) pending
+pieces_back pending (live.Batch batch) at cause = pending
 
 abbrev pub batches_back : List Batch → Live → List Batch
 batches_back returned (live.Span piece attempted) = returned
 batches_back returned (live.Batch batch) = returned ++ tried_batch batch ∷ []
+
+-- the retry rule gave the job up
+abbrev pub is_spent : Next → Bool
+is_spent (Retry attempts) = false
+is_spent Spent = true
 
 abbrev pub stopped_after : Bool → Option StopCause → FaultNote → Option StopCause
 stopped_after true kept note = or_stopped kept (stop.Spent note)

@@ -1,10 +1,10 @@
 -- What contracts see of a book, and what it keeps.
 use Rattle.std.specs.Prelude.{◌≡◌, map}
-use Rattle.book_core.specs.Book.{BookData}
+use Rattle.book_core.specs.Book.{SeenBook}
 use Rattle.book_core.specs.Indexes.{IsIndexed}
 use Rattle.book_core.specs.declared.book.Book.TheInside.{Inside}
 
-abbrev pub data_of : Inside → BookData
+abbrev pub data_of : Inside → SeenBook
 data_of b = record {
   plan = b.graph;
   files = b.files;

@@ -6,7 +6,7 @@ use Rattle.beam_values.specs.declared.cell.Pane.{Pane}
 use Rattle.beam_values.specs.declared.piece.Piece.{Piece}
 use Rattle.bundle_commit.specs.declared.job.Job.{Job}
 use Rattle.bundle_commit.specs.declared.job.Job.TheVariants as job
-use Rattle.book_core.specs.Book.{BookData, queue_at, panes_of}
+use Rattle.book_core.specs.Book.{SeenBook, queue_at, panes_of}
 use Rattle.book_core.specs.declared.live.Batch.{Batch}
 use Rattle.book_core.specs.declared.live.Live.{Live}
 use Rattle.book_core.specs.declared.live.Live.TheVariants as live
@@ -42,24 +42,24 @@ abbrev pub given_back_or : Option Batch → Option Due → Option Due
 given_back_or (Some batch) other = Some (GivenBack batch)
 given_back_or None other = other
 
-abbrev pub due_at : BookData → ℕ → Option Due
+abbrev pub due_at : SeenBook → ℕ → Option Due
 due_at b node =
     given_back_or (lowest_of (filter (λ batch. batch.node == node) b.returned)) (oldest b.options.bundle node (queue_at b node))
 
-abbrev pub or_due : BookData → Option Due → ℕ → Option Due
+abbrev pub or_due : SeenBook → Option Due → ℕ → Option Due
 or_due b (Some due) node = Some due
 or_due b None node = due_at b node
 
 -- the first that is due, in the order of the nodes
-abbrev pub first_due : BookData → Option Due
+abbrev pub first_due : SeenBook → Option Due
 first_due b = fold (or_due b) None (offsets 0 (length b.plan.nodes))
 
 -- a job that can be taken, as it is worked from the start, and the book without it
 pub record Next : Type 0 where
   pub job : Live
-  pub rest : BookData
+  pub rest : SeenBook
 
-abbrev pub without_due : BookData → Due → Next
+abbrev pub without_due : SeenBook → Due → Next
 without_due b (GivenBack batch) = record {
   job = live.Batch batch;
   rest = record b { returned = filter (λ other. not (first_pane other == first_pane batch)) b.returned };
@@ -69,16 +69,16 @@ without_due b (Oldest batch) = record {
   rest = record b { queues = slice_set b.queues batch.node (drop b.options.bundle (queue_at b batch.node)) };
 }
 
-abbrev pub without_first : BookData → List Piece → Option Next
+abbrev pub without_first : SeenBook → List Piece → Option Next
 without_first b [] = None
 without_first b (piece ∷ later) = Some (record { job = live.Span piece None; rest = record b { pending = later } })
 
-abbrev pub due_or_piece : BookData → Option Due → Option Next
+abbrev pub due_or_piece : SeenBook → Option Due → Option Next
 due_or_piece b (Some due) = Some (without_due b due)
 due_or_piece b None = without_first b b.pending
 
 -- The next job. Of panes 0 and 3 waiting at node 3, panes 1 and 2 given back there, and panes waiting at node 6, it is the batch of 1 and 2.
-abbrev pub next_job : BookData → Option Next
+abbrev pub next_job : SeenBook → Option Next
 next_job b = due_or_piece b (first_due b)
 
 -- the last position of it that was attempted, of a range

@@ -6,7 +6,7 @@
 use Rattle.std.specs.Prelude.{◌≡◌, ◌⊎◌, ℕ, ◌+◌, ◌*◌, ◌-◌, ◌<◌, ◌≤◌, ◌==◌, List, [], ◌∷◌, ◌++◌, length, map, fold, sum_by, filter, Some, None}
 use Rattle.beam_values.specs.Lines.{offsets}
 use Rattle.beam_values.specs.declared.piece.Piece.{Piece}
-use Rattle.book_core.specs.Book.{BookData, live_pieces, live_batches, held, queued}
+use Rattle.book_core.specs.Book.{SeenBook, live_pieces, live_batches, held, queued}
 use Rattle.book_core.specs.Steps.{IsWorking}
 use Rattle.book_core.specs.declared.live.Batch.{Batch}
 use Rattle.book_core.specs.declared.live.Live.{Live}
@@ -17,7 +17,7 @@ abbrev pub offsets_and_one : Piece → ℕ
 offsets_and_one piece = piece.range.to - piece.range.from + 1
 
 -- of a node: the offsets and pieces of a source, the panes of a Group
-abbrev pub left_at : BookData → ℕ → ℕ
+abbrev pub left_at : SeenBook → ℕ → ℕ
 left_at b node =
     sum_by offsets_and_one (filter (λ piece. piece.node == node) (b.pending ++ live_pieces b))
     + length (filter (λ pane. pane.node == node) (held b))
@@ -29,14 +29,14 @@ abbrev pub left_of_batch : ℕ → Batch → ℕ
 left_of_batch limit batch = limit - batch.attempts
 
 -- the attempts that remain of pieces and batches, and of each pane that is in no batch all that are allowed
-abbrev pub attempts_left : BookData → ℕ
+abbrev pub attempts_left : SeenBook → ℕ
 attempts_left b =
     sum_by (left_of_piece b.options.attempts) (b.pending ++ live_pieces b)
     + sum_by (left_of_batch b.options.attempts) (b.returned ++ live_batches b)
     + b.options.attempts * length (queued b)
 
 -- node after node, and then the attempts
-abbrev pub left : BookData → List ℕ
+abbrev pub left : SeenBook → List ℕ
 left b = map (left_at b) (offsets 0 (length b.plan.nodes)) ++ attempts_left b ∷ []
 
 -- one list of numbers is below another of the same length: the first number that differs is lower
@@ -53,18 +53,18 @@ GoesOn (live.Span piece None) = piece.range.to ≤ piece.range.from
 GoesOn (live.Span piece (Some p)) = Unit {0}
 GoesOn (live.Batch batch) = Unit {0}
 
-abbrev pub GoesOnAt : BookData → ℕ → Type 0
+abbrev pub GoesOnAt : SeenBook → ℕ → Type 0
 GoesOnAt b slot = (job : Live) → IsWorking b slot job → GoesOn job
 
 -- ---- how many rounds there can be
 
-abbrev pub all_lengths : BookData → ℕ
+abbrev pub all_lengths : SeenBook → ℕ
 all_lengths b = sum_by (λ file. file.len) b.files
 
 -- No number of what is left comes near, since pieces and panes are numbered with 32 bits. It stays through a run.
-abbrev pub above_each : BookData → ℕ
+abbrev pub above_each : SeenBook → ℕ
 above_each b = 4294967296 * (all_lengths b + 3 * b.options.attempts + 2)
 
 -- So many rounds of a take and a commit, or a take and a fail, are left at most: what is left, read as the digits of one number.
-abbrev pub rounds_left : BookData → ℕ
+abbrev pub rounds_left : SeenBook → ℕ
 rounds_left b = fold (λ rounds digit. above_each b * rounds + digit) 0 (left b)

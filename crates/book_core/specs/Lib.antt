@@ -7,6 +7,7 @@ pub mod Runs
 pub mod Left
 pub mod Calls
 pub mod Facts
+pub mod Sane
 pub mod Indexes
 pub mod Queues
 pub mod Committing

@@ -13,7 +13,7 @@ use Rattle.beam_values.specs.declared.plan.Plan.{Plan}
 use Rattle.beam_model.specs.Positions.{SourceItem, items, item_len, len_of}
 use Rattle.group_cells.specs.Commits.{as_commit}
 use Rattle.split_core.specs.Order.{first_pieces, with_pieces}
-use Rattle.book_core.specs.Book.{BookData, AreMarksOfBook, held, last_marks}
+use Rattle.book_core.specs.Book.{SeenBook, AreMarksOfBook, held, last_marks}
 use Rattle.book_core.specs.Jobs.{job_of, attempted_of}
 use Rattle.book_core.specs.Steps.{Action, Fail, Answer, Step, IsWorking, IsIdle, IsRunning, IsWithinLimits}
 use Rattle.book_core.specs.Work.{Surroundings, IsHonest}
@@ -24,7 +24,7 @@ abbrev pub pieces_of : ℕ → List FileLen → List Piece
 pieces_of chunk files = fold (λ pending file. with_pieces (first_pieces file.node file.item file.len chunk) pending) [] files
 
 -- a book before its first step: nothing is worked yet, and it has no slot
-abbrev pub opened : Plan → List FileLen → Options → List StageMarks → BookData
+abbrev pub opened : Plan → List FileLen → Options → List StageMarks → SeenBook
 opened plan files options marks = record {
   plan = plan;
   files = files;
@@ -65,10 +65,10 @@ AreLengthsOf (item ∷ items) (file ∷ files) = IsLengthOf item file × AreLeng
 AreLengthsOf _ _ = ⊥
 
 -- where the files are told, the lengths are theirs
-abbrev pub AreTold : List FileText → BookData → Type 0
+abbrev pub AreTold : List FileText → SeenBook → Type 0
 AreTold told b = b.files ≡ map item_len (items told b.plan)
 
-pub record IsOpening (plan : Plan) (files : List FileLen) (options : Options) (b : BookData) : Type 0 where
+pub record IsOpening (plan : Plan) (files : List FileLen) (options : Options) (b : SeenBook) : Type 0 where
   pub checked : IsChecked plan
   pub lengths : AreLengthsOf (items [] plan) files
   pub allowed : AreOptions options
@@ -84,30 +84,30 @@ pub record MadeStep : Type 0 where
   pub answer : Answer
 
 -- the steps lead from one book to another, one after another
-abbrev pub Run : Option (List FileText) → BookData → List MadeStep → BookData → Type 0
+abbrev pub Run : Option (List FileText) → SeenBook → List MadeStep → SeenBook → Type 0
 Run told b [] end = end ≡ b
-Run told b (made ∷ later) end = (next : BookData) × Step told b made.slot made.action made.answer next × Run told next later end
+Run told b (made ∷ later) end = (next : SeenBook) × Step told b made.slot made.action made.answer next × Run told next later end
 
 -- a run leads there from the opening of its own plan, lengths and options
-pub record Reached (told : Option (List FileText)) (b : BookData) : Type 0 where
-  pub first : BookData
+pub record Reached (told : Option (List FileText)) (b : SeenBook) : Type 0 where
+  pub first : SeenBook
   pub opening : IsOpening b.plan b.files b.options first
   pub steps : List MadeStep
   pub run : Run told first steps b
 
 -- the fails of a run were honest
-abbrev pub IsHonestAction : Surroundings → BookData → ℕ → Action → Type 0
+abbrev pub IsHonestAction : Surroundings → SeenBook → ℕ → Action → Type 0
 IsHonestAction known b slot (Fail at cause) =
     (job : Live) → IsWorking b slot job → IsHonest known b.plan (job_of b.panes job) (attempted_of job) at cause
 IsHonestAction known b slot _ = Unit {0}
 
-abbrev pub HonestRun : Surroundings → BookData → List MadeStep → BookData → Type 0
+abbrev pub HonestRun : Surroundings → SeenBook → List MadeStep → SeenBook → Type 0
 HonestRun known b [] end = end ≡ b
 HonestRun known b (made ∷ later) end =
-    (next : BookData) × Step known.told b made.slot made.action made.answer next × IsHonestAction known b made.slot made.action × HonestRun known next later end
+    (next : SeenBook) × Step known.told b made.slot made.action made.answer next × IsHonestAction known b made.slot made.action × HonestRun known next later end
 
-pub record HonestlyReached (known : Surroundings) (b : BookData) : Type 0 where
-  pub first : BookData
+pub record HonestlyReached (known : Surroundings) (b : SeenBook) : Type 0 where
+  pub first : SeenBook
   pub opening : IsOpening b.plan b.files b.options first
   pub steps : List MadeStep
   pub run : HonestRun known first steps b
@@ -116,7 +116,7 @@ abbrev pub AreAllShown : Cell → Type 0
 AreAllShown cell = All (λ entry. entry.shown ≡ true) cell.entries
 
 -- Nothing is left to do: nothing is pending, worked or waiting, every entry is shown, and every mark is FINAL.
-pub record IsThrough (b : BookData) : Type 0 where
+pub record IsThrough (b : SeenBook) : Type 0 where
   pub pending : b.pending ≡ []
   pub idle : IsIdle b
   pub held : held b ≡ []
@@ -124,6 +124,6 @@ pub record IsThrough (b : BookData) : Type 0 where
   pub final : All (λ marks. (marks.mark_in ≡ final_mark) × (marks.mark_out ≡ final_mark)) (last_marks b)
 
 -- the same, and it isn't stopped
-pub record IsEnded (b : BookData) : Type 0 where
+pub record IsEnded (b : SeenBook) : Type 0 where
   pub running : IsRunning b
   pub through : IsThrough b

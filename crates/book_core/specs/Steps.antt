@@ -1,5 +1,6 @@
 -- The steps of a book: enroll, take, claim, split, commit, fail and stop, each a case of one relation. A running worker makes one step in a turn.
 use Rattle.std.specs.Prelude.{◌≡◌, ◌≢◌, ◌⊎◌, ℕ, ◌+◌, ◌-◌, ◌<◌, ◌≤◌, Bool, true, false, List, [], ◌∷◌, ◌++◌, length, Option, Some, None}
+use Rattle.std.specs.List.{All}
 use Rattle.beam_values.specs.Tracking.{MayClaim, first_unattempted, is_granted, split_point_of}
 use Rattle.beam_values.specs.declared.fault.Cause.{Cause}
 use Rattle.beam_values.specs.declared.fault.FaultNote.{FaultNote}
@@ -8,7 +9,7 @@ use Rattle.beam_values.specs.declared.outcome.StopCause.TheVariants as stop
 use Rattle.beam_values.specs.declared.piece.Piece.{Piece}
 use Rattle.bundle_commit.specs.declared.job.Job.{Job}
 use Rattle.bundle_commit.specs.declared.job.Receipt.{Receipt}
-use Rattle.book_core.specs.Book.{BookData, slot_at, tracker_of, live_pieces, live_batches}
+use Rattle.book_core.specs.Book.{SeenBook, places_kept, slot_at, tracker_of}
 use Rattle.book_core.specs.Changes.{with_slot, split_off, failed, ends_run, note_of, or_stopped, IsCommit}
 use Rattle.book_core.specs.Jobs.{Next, next_job, job_of, attempted_of}
 use Rattle.book_core.specs.Work.{IsGiven}
@@ -40,88 +41,96 @@ pub data Answer : Type 0 where
   NoMemory : Answer
 
 -- the slot works nothing
-abbrev pub IsFree : BookData → ℕ → Type 0
+abbrev pub IsFree : SeenBook → ℕ → Type 0
 IsFree b slot = slot_at b slot ≡ Some None
 
-abbrev pub IsWorking : BookData → ℕ → Live → Type 0
+abbrev pub IsWorking : SeenBook → ℕ → Live → Type 0
 IsWorking b slot job = slot_at b slot ≡ Some (Some job)
 
--- no slot works
-abbrev pub IsIdle : BookData → Type 0
-IsIdle b = (live_pieces b ≡ []) × (live_batches b ≡ [])
+-- the slot works this job, and may claim in it, split it or fail it
+abbrev pub MayWorkOn : SeenBook → ℕ → Live → Type 0
+MayWorkOn b slot job = IsWorking b slot job
 
-abbrev pub IsRunning : BookData → Type 0
+-- no slot works
+abbrev pub IsIdle : SeenBook → Type 0
+IsIdle b = All (λ slot. slot ≡ None) b.slots
+
+abbrev pub IsRunning : SeenBook → Type 0
 IsRunning b = b.stopped ≡ None
 
 -- a live range of the slot can't be split there
-abbrev pub IsUnsplit : BookData → ℕ → ℕ → ℕ → Type 0
+abbrev pub IsUnsplit : SeenBook → ℕ → ℕ → ℕ → Type 0
 IsUnsplit b slot num den =
-    (piece : Piece) (attempted : Option ℕ) → IsWorking b slot (live.Span piece attempted)
+    (piece : Piece) (attempted : Option ℕ) → MayWorkOn b slot (live.Span piece attempted)
     → piece.range.to ≤ split_point_of (tracker_of piece attempted) num den
 
+-- ---- limits
+
+-- lists whose places are numbered with 32 bits, the places that are kept counted in
+pub record IsWithinLimits (b : SeenBook) : Type 0 where
+  pub commits : length b.commits < 4294967295
+  pub panes : length b.panes < 4294967295
+  pub dropped : length b.dropped < 4294967295
+  pub cells : length b.cells < 4294967295
+  pub slots : length b.slots < 4294967295
+  pub pieces : length b.pending + places_kept b < 4294967295
+
+-- ---- what steps change
+
 -- a job is taken: the next one
-pub record IsTaking (b : BookData) (slot : ℕ) (job : Job) (new : BookData) : Type 0 where
+pub record IsTaking (b : SeenBook) (slot : ℕ) (job : Job) (new : SeenBook) : Type 0 where
   pub running : IsRunning b
   pub free : IsFree b slot
   pub next : Next
   pub is_next : next_job b ≡ Some next
   pub handed : job ≡ job_of b.panes next.job
   pub is : new ≡ with_slot next.rest slot (Some next.job)
+  pub within : IsWithinLimits new
 
-pub record IsClaiming (b : BookData) (slot p : ℕ) (granted : Bool) (new : BookData) : Type 0 where
+pub record IsClaiming (b : SeenBook) (slot p : ℕ) (granted : Bool) (new : SeenBook) : Type 0 where
   pub piece : Piece
   pub attempted : Option ℕ
-  pub works : IsWorking b slot (live.Span piece attempted)
+  pub works : MayWorkOn b slot (live.Span piece attempted)
   pub may : MayClaim (tracker_of piece attempted) p
   pub answer : granted ≡ is_granted (tracker_of piece attempted) p
   pub is : new ≡ with_slot b slot (Some (live.Span piece (Some p)))
 
-pub record IsSplitting (b : BookData) (slot num den at : ℕ) (new : BookData) : Type 0 where
+pub record IsSplitting (b : SeenBook) (slot num den at : ℕ) (new : SeenBook) : Type 0 where
   pub piece : Piece
   pub attempted : Option ℕ
-  pub works : IsWorking b slot (live.Span piece attempted)
+  pub works : MayWorkOn b slot (live.Span piece attempted)
   pub point : at ≡ split_point_of (tracker_of piece attempted) num den
   pub inside : at < piece.range.to
   pub is : new ≡ split_off b slot piece attempted at
 
 -- the receipt is what the plan gives for the slot's job
-pub record CanCommit (told : Option (List FileText)) (b : BookData) (slot : ℕ) (receipt : Receipt) : Type 0 where
+pub record CanCommit (told : Option (List FileText)) (b : SeenBook) (slot : ℕ) (receipt : Receipt) : Type 0 where
   pub job : Live
   pub works : IsWorking b slot job
   pub given : IsGiven told b.plan (job_of b.panes job) (attempted_of job) receipt
 
-pub record IsCommitting (told : Option (List FileText)) (b : BookData) (slot : ℕ) (receipt : Receipt) (new : BookData) : Type 0 where
+pub record IsCommitting (told : Option (List FileText)) (b : SeenBook) (slot : ℕ) (receipt : Receipt) (new : SeenBook) : Type 0 where
   pub job : Live
   pub works : IsWorking b slot job
   pub given : IsGiven told b.plan (job_of b.panes job) (attempted_of job) receipt
   pub commit : IsCommit b slot job receipt new
 
 -- whether the job is tried again is what is answered
-abbrev pub IsFailure : BookData → Live → ℕ → Cause → Answer → Type 0
+abbrev pub IsFailure : SeenBook → Live → ℕ → Cause → Answer → Type 0
 IsFailure b job at cause Retried = ends_run b job cause ≡ false
 IsFailure b job at cause (Spent note) = (ends_run b job cause ≡ true) × (note ≡ note_of job at cause)
 IsFailure b job at cause _ = ⊥
 
-pub record IsFailing (b : BookData) (slot at : ℕ) (cause : Cause) (answer : Answer) (new : BookData) : Type 0 where
+pub record IsFailing (b : SeenBook) (slot at : ℕ) (cause : Cause) (answer : Answer) (new : SeenBook) : Type 0 where
   pub job : Live
-  pub works : IsWorking b slot job
+  pub works : MayWorkOn b slot job
   pub answers : IsFailure b job at cause answer
   pub is : new ≡ failed b slot job at cause
-
--- ---- limits
-
--- lists whose places are numbered with 32 bits
-pub record IsWithinLimits (b : BookData) : Type 0 where
-  pub commits : length b.commits < 4294967295
-  pub panes : length b.panes < 4294967295
-  pub dropped : length b.dropped < 4294967295
-  pub slots : length b.slots < 4294967295
-  pub pieces : length (b.pending ++ live_pieces b) < 4294967295
 
 -- ---- the steps
 
 -- From b, this action of a slot may have this answer and lead to that book. `told` are the files, where they are.
-abbrev pub Step : Option (List FileText) → BookData → ℕ → Action → Answer → BookData → Type 0
+abbrev pub Step : Option (List FileText) → SeenBook → ℕ → Action → Answer → SeenBook → Type 0
 Step told b slot Enroll (Enrolled number) new =
     (number ≡ length b.slots) × (slot ≡ number) × (new ≡ record b { slots = b.slots ++ None ∷ [] }) × IsWithinLimits new
 Step told b slot Take (TakenJob job) new = IsTaking b slot job new
@@ -144,8 +153,8 @@ Step told b slot _ _ new = ⊥
 -- ---- whose range an idle slot splits
 
 -- a slot works a range that would split at a half
-pub record WouldSplit (b : BookData) (slot : ℕ) (piece : Piece) (attempted : Option ℕ) : Type 0 where
-  pub works : IsWorking b slot (live.Span piece attempted)
+pub record WouldSplit (b : SeenBook) (slot : ℕ) (piece : Piece) (attempted : Option ℕ) : Type 0 where
+  pub works : MayWorkOn b slot (live.Span piece attempted)
   pub splits : split_point_of (tracker_of piece attempted) 1 2 < piece.range.to
 
 -- how much of a range lies behind its last attempted position, that position's own offset counted too
@@ -156,7 +165,7 @@ left_behind piece attempted = piece.range.to + 1 - first_unattempted piece.range
 abbrev pub IsBefore : ℕ → ℕ → ℕ → ℕ → Type 0
 IsBefore left slot other_left other = (other_left < left) ⊎ ((left ≡ other_left) × (slot ≤ other))
 
-pub record IsMostLeft (b : BookData) (slot chosen : ℕ) : Type 0 where
+pub record IsMostLeft (b : SeenBook) (slot chosen : ℕ) : Type 0 where
   pub another : chosen ≢ slot
   pub piece : Piece
   pub attempted : Option ℕ
@@ -165,6 +174,6 @@ pub record IsMostLeft (b : BookData) (slot chosen : ℕ) : Type 0 where
       → IsBefore (left_behind piece attempted) chosen (left_behind third last) other
 
 -- the slot whose range an idle one splits at a half: another one, that with the most left, and of these the lowest
-abbrev pub IsNextFor : BookData → ℕ → Option ℕ → Type 0
+abbrev pub IsNextFor : SeenBook → ℕ → Option ℕ → Type 0
 IsNextFor b slot (Some chosen) = IsMostLeft b slot chosen
 IsNextFor b slot None = (other : ℕ) (piece : Piece) (attempted : Option ℕ) → other ≢ slot → WouldSplit b other piece attempted → ⊥

@@ -2,12 +2,13 @@ ghost use Rattle.std.specs.Prelude.{◌≡◌, ℕ, ◌≤◌, ◌<◌, [], reve
 ghost use Rattle.std.specs.Prelude.{None, IfOk, IfErr, OnOk, OnErr};
 ghost use Rattle.beam_values.specs.declared.file_text.FileText.{FileText};
 ghost use Rattle.beam_model.specs.Positions.{items};
-ghost use Rattle.book_core.specs.Book.{BookData};
+ghost use Rattle.book_core.specs.Book.{SeenBook};
 ghost use Rattle.book_core.specs.Calls.{Makes, CanClaim, CanFail, answer_of, failure_of};
 ghost use Rattle.book_core.specs.Calls.{live_piece, IsOutcomeOf};
 ghost use Rattle.book_core.specs.DueAt.{IsDueAs};
 ghost use Rattle.book_core.specs.Jobs.{first_due};
-ghost use Rattle.book_core.specs.Runs.{AreOptions, AreLengthsOf, IsOpening, Reached};
+ghost use Rattle.book_core.specs.Runs.{AreOptions, AreLengthsOf, IsOpening};
+ghost use Rattle.book_core.specs.Sane.{IsSane};
 ghost use Rattle.book_core.specs.Steps.{Enroll, Take, Claim, Split, Fail, Stop, Enrolled, Claimed};
 ghost use Rattle.book_core.specs.Steps.{SplitAt, Noted, IsFree, IsRunning, IsNextFor, CanCommit};
 ghost use Rattle.book_core.specs.Steps.{IsCommitting, IsWithinLimits};
@@ -17,7 +18,7 @@ use crate::committing::{
     hold_residual, keep_room, own_in, put_back, residual_of, wait_all,
 };
 use crate::due::{DueAt, batch_job, first_due, piece_job, started};
-use crate::failing::{failure_where, give_back, is_spent, note_of, stopped_after, take_out};
+use crate::failing::{attempts_of, failure_of, give_back, note_of, stopped_after, take_out};
 use crate::held::{NodeHolds, mark_of_piece};
 use crate::live::{Batch, Failure, Live, Taken, Unplaced};
 use crate::opening::{cut_files, empty_queues, hold_pieces, mark_nodes};
@@ -34,7 +35,7 @@ use bundle_commit::{Job, Receipt};
 use group_cells::Groups;
 use pipeline_graph::Graph;
 use pipeline_graph::laws::{nodes_take_elements_of_their_strategy, strategies_follow_kinds};
-use retry_core::FaultShare;
+use retry_core::{FaultShare, next_attempt};
 use split_core::Pieces;
 use std::alloc::Global;
 use std::marker::Model;
@@ -61,10 +62,10 @@ pub struct Book {
 
 impl Model for Book {
     ghost use Rattle.beam_values.specs.contracts.value.Value as value;
-    ghost use Rattle.book_core.specs.Book.{BookData};
+    ghost use Rattle.book_core.specs.Book.{SeenBook};
     ghost use Rattle.std.specs.Coded.{codes};
 
-    ghost Value = { BookData };
+    ghost Value = { SeenBook };
 
     ghost coded = { Prim.hlevel (codes, value.the_row.coded) };
 
@@ -164,8 +165,8 @@ impl Book {
     }
 
     /// A law: what every book is.
-    pub fn is_reached(&self)
-        ensures { Reached None self.now }
+    pub fn is_sane(&self)
+        ensures { IsSane self.now }
     {
         let _ = &self.faults;
     }
@@ -404,11 +405,11 @@ impl Book {
             unreachable!()
         };
         let note = note_of(&job, at, cause);
-        let spent = is_spent(&job, self.options.attempts);
-        give_back(&mut self.pieces, &mut self.returned, job);
+        let next = next_attempt(attempts_of(&job), self.options.attempts);
+        give_back(&mut self.pieces, &mut self.returned, job, at, cause);
         self.faults.rise(cause, 1);
-        self.stopped = stopped_after(self.stopped, spent, note);
-        failure_where(spent, note)
+        self.stopped = stopped_after(self.stopped, next, note);
+        failure_of(next, note)
     }
 
     /// No job is given out any more. Takes no memory.

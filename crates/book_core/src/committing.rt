@@ -7,7 +7,7 @@ ghost use Rattle.beam_model.specs.Holds.{Hold, pane_hold, piece_hold};
 ghost use Rattle.beam_values.specs.Checked.{IsChecked};
 ghost use Rattle.beam_values.specs.Nodes.{is_group, is_group_kind};
 ghost use Rattle.beam_values.specs.declared.plan.Node.{Node};
-ghost use Rattle.group_cells.specs.Commits.{HasGap, IsCommitted, KeepsLegal, RisesFrom};
+ghost use Rattle.group_cells.specs.Commits.{AreRounds, HasGap, IsCommitted, RisesFrom};
 ghost use Rattle.book_core.specs.Changes.{as_waiting, done_of, residual_of, with_fired};
 ghost use Rattle.book_core.specs.Changes.{with_residual};
 ghost use Rattle.book_core.specs.Committing.{node_of, count_of, pane_holds, job_holds, residual_in};
@@ -39,6 +39,7 @@ pub fn has_numbers(results: &Results, groups: &Groups, arrivals: usize) -> bool
     requires commits { length results.now.commits.items < 4294967295 }
     requires panes { length results.now.panes.items < 4294967295 }
     requires dropped { length groups.now.dropped < 4294967295 }
+    ensures cells { result ≡ true → length groups.now.cells + arrivals < 4294967295 }
     ensures commits { result ≡ true → length results.now.commits.items + 1 < 4294967295 }
     ensures panes { result ≡ true
         → length results.now.panes.items + (length groups.now.cells + arrivals) < 4294967295 }
@@ -373,13 +374,15 @@ pub fn fire(
     requires marks { length before.now ≡ length plan.now.nodes }
     requires gaps { All (HasGap plan.now) arrivals.old }
     requires rises { RisesFrom plan.now (least_in held.now) before.now }
-    ensures legal { IfOk result (λ fired.
-        KeepsLegal plan.now commit before.now fired.marks groups.old groups.new fired.panes) }
+    ensures rounds { IfOk result (λ fired. AreRounds plan.now commit before.now fired.marks
+        arrivals.old groups.old.cells groups.new.cells fired.panes) }
     ensures committed { IfOk result (λ fired. IsCommitted plan.now commit before.now fired.marks
         (least_in held.now) arrivals.old arrivals.new
         groups.old groups.new fired.panes) }
     ensures few { IfOk result
         (λ fired. length fired.panes ≤ length groups.old.cells + length arrivals.old) }
+    ensures grown { OnOk result
+        (length groups.new.cells ≤ length groups.old.cells + length arrivals.old) }
     ensures err { OnErr result ((groups.new ≡ groups.old) × (arrivals.new ≡ arrivals.old)) }
 {
     let holds = held.least(alloc)?;

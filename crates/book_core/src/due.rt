@@ -1,7 +1,7 @@
 ghost use Rattle.std.specs.Prelude.{◌≡◌, ◌<◌, ◌==◌, ◌++◌, Option, Some, None, length, map};
 ghost use Rattle.std.specs.Prelude.{slice_get, if◌then◌else◌, IfOk, OnOk};
 ghost use Rattle.std.specs.List.{filter};
-ghost use Rattle.book_core.specs.Book.{BookData, panes_of, pane_at, queue_at};
+ghost use Rattle.book_core.specs.Book.{SeenBook, panes_of, pane_at, queue_at};
 ghost use Rattle.book_core.specs.DueAt.{IsBatchAt, IsDueAs};
 ghost use Rattle.book_core.specs.Jobs.{first_due, due_at, lowest_of, lower_batch, job_of};
 ghost use Rattle.book_core.specs.declared.live.Batch.{Batch};
@@ -26,7 +26,7 @@ pub enum DueAt {
 /// What is due first, in the order of the nodes.
 pub fn first_due(returned: &[Batch], queues: &[Queue]) -> Option<DueAt>
     requires { length queues.now < 4294967296 }
-    ensures { (b : BookData) → b.returned ≡ returned.now
+    ensures { (b : SeenBook) → b.returned ≡ returned.now
         → b.queues ≡ map (λ q. q.panes) queues.now → length b.plan.nodes ≡ length queues.now
         → IsDueAs b (first_due b) result }
 {
@@ -39,7 +39,7 @@ pub fn first_due(returned: &[Batch], queues: &[Queue]) -> Option<DueAt>
 }
 
 fn due_at(returned: &[Batch], node: u32, queue: &Queue) -> Option<DueAt>
-    ensures { (b : BookData) → b.returned ≡ returned.now
+    ensures { (b : SeenBook) → b.returned ≡ returned.now
         → queue_at b node ≡ queue.now.panes → IsDueAs b (due_at b node) result }
 {
     match lowest_at(returned, node) {

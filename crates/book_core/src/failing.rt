@@ -1,12 +1,13 @@
-ghost use Rattle.std.specs.Prelude.{◌≡◌, ◌<◌, ◌≤◌, ◌+◌, ◌++◌, ◌∷◌, [], nat_le, if◌then◌else◌};
+ghost use Rattle.std.specs.Prelude.{◌≡◌, ◌<◌, ◌≤◌, ◌+◌, ◌++◌, ◌∷◌, [], if◌then◌else◌};
 ghost use Rattle.std.specs.Prelude.{length, Some, None, slice_get, slice_set};
 ghost use Rattle.book_core.specs.Book.{piece_of, batch_of};
 ghost use Rattle.book_core.specs.Changes.{attempts_of, note_of};
-ghost use Rattle.book_core.specs.Indexes.{pieces_back, batches_back, stopped_after};
+ghost use Rattle.book_core.specs.Indexes.{pieces_back, batches_back, is_spent, stopped_after};
 ghost use Rattle.book_core.specs.Jobs.{first_pane};
 
 use crate::live::{Batch, Failure, Live};
 use beam_values::{Cause, FaultNote, Piece, RoomyList, StopCause};
+use retry_core::Next;
 use split_core::Pieces;
 
 /// Takes what a slot works, and leaves it free.
@@ -52,24 +53,28 @@ pub fn note_of(job: &Live, at: u32, cause: Cause) -> FaultNote
     }
 }
 
-/// One more fail brings the job to the limit.
-pub fn is_spent(job: &Live, limit: u32) -> bool
-    requires { attempts_of job.now < 4294967295 }
-    ensures { result ≡ nat_le limit (attempts_of job.now + 1) }
+/// How often the work of a job has failed.
+pub fn attempts_of(job: &Live) -> u32
+    ensures { result ≡ attempts_of job.now }
 {
-    let attempts = match job {
+    match job {
         Live::Span { piece, .. } => piece.attempts,
         Live::Batch(batch) => batch.attempts,
-    };
-    limit <= attempts + 1
+    }
 }
 
-/// Gives a job back, with one more attempt, into the place that is kept for it.
-pub fn give_back(pieces: &mut Pieces, returned: &mut RoomyList<Batch>, job: Live)
+/// Gives a job back that failed at a node, with one more attempt, into the place that is kept for it.
+pub fn give_back(
+    pieces: &mut Pieces,
+    returned: &mut RoomyList<Batch>,
+    job: Live,
+    at: u32,
+    cause: Cause,
+)
     requires attempts { attempts_of job < 4294967295 }
     requires pieces { length (piece_of (Some job)) ≤ pieces.old.room }
     requires batches { length (batch_of (Some job)) ≤ returned.old.room }
-    ensures pending { pieces.new.pending ≡ pieces_back pieces.old.pending job }
+    ensures pending { pieces.new.pending ≡ pieces_back pieces.old.pending job at cause }
     ensures returned { returned.new.items ≡ batches_back returned.old.items job }
     ensures pieces_room { pieces.old.room ≤ pieces.new.room + length (piece_of (Some job)) }
     ensures batches_room { returned.old.room ≤ returned.new.room + length (batch_of (Some job)) }
@@ -109,23 +114,21 @@ fn put_kept(returned: &mut RoomyList<Batch>, batch: Batch)
 }
 
 /// The first cause of a stop is kept.
-pub fn stopped_after(kept: Option<StopCause>, spent: bool, note: FaultNote) -> Option<StopCause>
-    ensures { result ≡ stopped_after spent kept note }
+pub fn stopped_after(kept: Option<StopCause>, next: Next, note: FaultNote) -> Option<StopCause>
+    ensures { result ≡ stopped_after (is_spent next) kept note }
 {
-    if spent && kept.is_none() {
-        Some(StopCause::Spent(note))
-    } else {
-        kept
+    match next {
+        Next::Retry(_) => kept,
+        Next::Spent => kept.or(Some(StopCause::Spent(note))),
     }
 }
 
-/// What comes of a job that failed, where `spent` says whether that was as often as it may.
-pub fn failure_where(spent: bool, note: FaultNote) -> Failure
-    ensures { result ≡ (if spent then Failure.Spent note else Failure.Retry) }
+/// What comes of a job that failed.
+pub fn failure_of(next: Next, note: FaultNote) -> Failure
+    ensures { result ≡ (if is_spent next then Failure.Spent note else Failure.Retry) }
 {
-    if spent {
-        Failure::Spent(note)
-    } else {
-        Failure::Retry
+    match next {
+        Next::Retry(_) => Failure::Retry,
+        Next::Spent => Failure::Spent(note),
     }
 }

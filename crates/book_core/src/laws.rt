@@ -1,19 +1,24 @@
 //! What every list of steps keeps. Each function does nothing, but for calling the laws that its own
-//! rests on: its contract is the law.
+//! rests on: its contract is the law. [`books_are_sane`], [`books_are_kept`] and [`told_books_are_kept`]
+//! have all facts of a book in three levels; those after them single some out.
 
 ghost use Rattle.std.specs.Prelude.{◌≡◌, ◌⊎◌, ◌<◌, ◌≤◌, ℕ, Bool, List, Option, Some, None};
 ghost use Rattle.beam_values.specs.declared.fault.Cause.{Cause};
 ghost use Rattle.beam_values.specs.declared.file_text.FileText.{FileText};
+ghost use Rattle.beam_values.specs.declared.options.Options.{Options};
+ghost use Rattle.beam_values.specs.declared.piece.FileLen.{FileLen};
+ghost use Rattle.beam_values.specs.declared.plan.Plan.{Plan};
 ghost use Rattle.bundle_commit.specs.declared.job.Job.{Job};
-ghost use Rattle.book_core.specs.Book.{BookData};
+ghost use Rattle.book_core.specs.Book.{SeenBook};
 ghost use Rattle.book_core.specs.Facts.{AreAtWrites, AreAttemptsCounted, AreCellsKept, AreHeldOnce};
 ghost use Rattle.book_core.specs.Facts.{AreKept, AreKeptOf, AreMarksKept, ArePartitioned};
 ghost use Rattle.book_core.specs.Facts.{IsStopNoted, IsWellFormed};
 ghost use Rattle.book_core.specs.Jobs.{next_job};
 ghost use Rattle.book_core.specs.Left.{GoesOnAt, IsBelow, left, rounds_left};
-ghost use Rattle.book_core.specs.Runs.{HonestlyReached, IsThrough, Reached};
-ghost use Rattle.book_core.specs.Steps.{Answer, Commit, Committed, IsClaiming, IsFailing, IsIdle};
-ghost use Rattle.book_core.specs.Steps.{IsTaking, Step};
+ghost use Rattle.book_core.specs.Runs.{HonestlyReached, IsOpening, IsThrough, Reached};
+ghost use Rattle.book_core.specs.Sane.{AreKeptWith, IsSane};
+ghost use Rattle.book_core.specs.Steps.{Action, Answer, Commit, Committed, IsClaiming, IsFailing};
+ghost use Rattle.book_core.specs.Steps.{IsIdle, IsTaking, Step};
 ghost use Rattle.book_core.specs.Work.{Surroundings};
 
 use pipeline_graph::laws::{
@@ -22,70 +27,108 @@ use pipeline_graph::laws::{
 };
 use windowing::laws::windows_hold_their_time;
 
+/// Every book is sane, whatever the files are: the opening is, and each step leads from a sane book to a
+/// sane one. So it goes on like a book that a run reached, however it came about.
+pub fn books_are_sane()
+    ensures opening { (plan : Plan) (files : List FileLen) (options : Options) (b : SeenBook)
+        → IsOpening plan files options b → IsSane b }
+    ensures step { (told : Option (List FileText)) (b new : SeenBook)
+        (slot : ℕ) (action : Action) (answer : Answer)
+        → Step told b slot action answer new → IsSane b → IsSane new }
+    ensures reached { (told : Option (List FileText)) (b : SeenBook)
+        → Reached told b → IsSane b }
+{}
+
+/// What else holds of each book that a run reached, whatever the files are.
+pub fn books_are_kept()
+    ensures opening { (plan : Plan) (files : List FileLen) (options : Options) (b : SeenBook)
+        → IsOpening plan files options b → AreKeptWith b }
+    ensures step { (told : Option (List FileText)) (b new : SeenBook)
+        (slot : ℕ) (action : Action) (answer : Answer)
+        → Step told b slot action answer new → AreKeptWith b → AreKeptWith new }
+    ensures reached { (told : Option (List FileText)) (b : SeenBook)
+        → Reached told b → AreKeptWith b }
+{
+    nodes_take_elements_of_their_strategy();
+    strategies_follow_kinds();
+    nodes_have_inputs_and_settings_of_their_kind();
+    windows_hold_their_time();
+}
+
+/// And what holds of it where the files are told: the arrivals and the chains of the panes that aren't
+/// through are the outputs of the done ranges and the chains of all panes; and each time that a piece's
+/// estimator has seen stands at a position below the piece.
+pub fn told_books_are_kept()
+    ensures opening { (told : List FileText) (plan : Plan) (files : List FileLen)
+        (options : Options) (b : SeenBook)
+        → IsOpening plan files options b → AreKeptOf told b }
+    ensures step { (told : List FileText) (b new : SeenBook)
+        (slot : ℕ) (action : Action) (answer : Answer)
+        → Step (Some told) b slot action answer new
+        → AreKeptWith b → AreKeptOf told b → AreKeptOf told new }
+    ensures reached { (told : List FileText) (b : SeenBook)
+        → Reached (Some told) b → AreKeptOf told b }
+{
+    no_node_is_stateful();
+    nodes_take_elements_of_their_strategy();
+    strategies_follow_kinds();
+    nodes_have_inputs_and_settings_of_their_kind();
+    windows_hold_their_time();
+}
+
 /// Each offset of each item lies in exactly one pending, live or done range, whatever is split or fails.
 pub fn reached_books_are_partitioned()
-    ensures { (told : Option (List FileText)) (b : BookData) → Reached told b → ArePartitioned b }
+    ensures { (told : Option (List FileText)) (b : SeenBook) → Reached told b → ArePartitioned b }
 {}
 
 /// A book stands on one checked plan, with options within their limits and a length for each item; its
 /// lists are in order, and none is longer than 32 bits can number.
 pub fn reached_books_are_well_formed()
-    ensures { (told : Option (List FileText)) (b : BookData) → Reached told b → IsWellFormed b }
+    ensures { (told : Option (List FileText)) (b : SeenBook) → Reached told b → IsWellFormed b }
 {}
 
 /// The panes that aren't through are panes of the run, each at one place and at its own Group, and no
 /// batch is empty.
 pub fn panes_are_held_once()
-    ensures { (told : Option (List FileText)) (b : BookData) → Reached told b → AreHeldOnce b }
+    ensures { (told : Option (List FileText)) (b : SeenBook) → Reached told b → AreHeldOnce b }
 {}
 
 /// No job has failed more often than it may, nor more often than jobs failed at all; and what stopped a
 /// book by a fault failed as often as it may.
 pub fn attempts_are_counted()
-    ensures counted { (told : Option (List FileText)) (b : BookData)
+    ensures counted { (told : Option (List FileText)) (b : SeenBook)
         → Reached told b → AreAttemptsCounted b }
-    ensures noted { (told : Option (List FileText)) (b : BookData)
+    ensures noted { (told : Option (List FileText)) (b : SeenBook)
         → Reached told b → IsStopNoted b b.stopped }
 {}
 
 /// The last marks of a book follow from all that isn't committed, and no mark has fallen from one commit
 /// to the next.
 pub fn marks_are_kept()
-    ensures { (told : Option (List FileText)) (b : BookData) → Reached told b → AreMarksKept b }
+    ensures { (told : Option (List FileText)) (b : SeenBook) → Reached told b → AreMarksKept b }
 {}
 
 /// The arrivals at the Groups are legal, own windows of sessions are as long as the gap, and what was written
 /// is at Writes.
 pub fn cells_are_kept()
-    ensures cells { (told : Option (List FileText)) (b : BookData)
+    ensures cells { (told : Option (List FileText)) (b : SeenBook)
         → Reached told b → AreCellsKept b }
-    ensures writes { (told : Option (List FileText)) (b : BookData)
+    ensures writes { (told : Option (List FileText)) (b : SeenBook)
         → Reached told b → AreAtWrites b }
 {
-    nodes_take_elements_of_their_strategy();
-    strategies_follow_kinds();
+    books_are_kept();
 }
 
 /// All that holds of every reached book.
 pub fn reached_books_are_kept()
-    ensures { (told : Option (List FileText)) (b : BookData) → Reached told b → AreKept b }
+    ensures { (told : Option (List FileText)) (b : SeenBook) → Reached told b → AreKept b }
 {
-    nodes_take_elements_of_their_strategy();
-    strategies_follow_kinds();
-}
-
-/// Where the files are told: the arrivals and the chains of the panes that aren't through are the outputs
-/// of the done ranges and the chains of all panes; and each time that a piece's estimator has seen stands
-/// at a position below the piece.
-pub fn told_books_are_kept()
-    ensures { (told : List FileText) (b : BookData) → Reached (Some told) b → AreKeptOf told b }
-{
-    no_node_is_stateful();
+    books_are_kept();
 }
 
 /// A book that has no job left, and works none, is through.
 pub fn books_with_no_job_left_are_through()
-    ensures { (told : Option (List FileText)) (b : BookData)
+    ensures { (told : Option (List FileText)) (b : SeenBook)
         → Reached told b → next_job b ≡ None → IsIdle b → IsThrough b }
 {
     nodes_take_elements_of_their_strategy();
@@ -94,51 +137,41 @@ pub fn books_with_no_job_left_are_through()
     windows_hold_their_time();
 }
 
-/// Each fail lowers what is left of a run, and no take raises it.
+/// Each fail of a sane book lowers what is left of a run, and no take raises it.
 pub fn fails_lower_what_is_left()
-    ensures fail { (told : Option (List FileText)) (b new : BookData)
-        (slot at : ℕ) (cause : Cause) (answer : Answer)
-        → Reached told b → IsFailing b slot at cause answer new → IsBelow (left new) (left b) }
-    ensures take { (told : Option (List FileText)) (b new : BookData) (slot : ℕ) (job : Job)
-        → Reached told b → IsTaking b slot job new
+    ensures fail { (b new : SeenBook) (slot at : ℕ) (cause : Cause) (answer : Answer)
+        → IsSane b → IsFailing b slot at cause answer new → IsBelow (left new) (left b) }
+    ensures take { (b new : SeenBook) (slot : ℕ) (job : Job)
+        → IsSane b → IsTaking b slot job new
         → IsBelow (left new) (left b) ⊎ (left new ≡ left b) }
 {}
 
-/// Each commit lowers what is left of a run, where a position of its range was attempted, the range is
-/// empty, or its panes went on; and no claim raises it.
+/// Each commit of a sane book lowers what is left of a run, where a position of its range was attempted,
+/// the range is empty, or its panes went on; and no claim raises it.
 pub fn commits_lower_what_is_left()
-    ensures commit { (told : Option (List FileText)) (b new : BookData) (slot : ℕ)
-        → Reached told b → Step told b slot Commit Committed new
+    ensures commit { (told : Option (List FileText)) (b new : SeenBook) (slot : ℕ)
+        → IsSane b → Step told b slot Commit Committed new
         → GoesOnAt b slot → IsBelow (left new) (left b) }
-    ensures claim { (told : Option (List FileText)) (b new : BookData) (slot p : ℕ) (granted : Bool)
-        → Reached told b → IsClaiming b slot p granted new → left new ≡ left b }
-{
-    nodes_take_elements_of_their_strategy();
-    strategies_follow_kinds();
-    nodes_have_inputs_and_settings_of_their_kind();
-}
+    ensures claim { (b new : SeenBook) (slot p : ℕ) (granted : Bool)
+        → IsClaiming b slot p granted new → left new ≡ left b }
+{}
 
-/// Rounds are bounded where no range is split: a book tells how many are left at most, each a take, claims,
-/// and then a commit of a job that goes on or a fail.
+/// Rounds are bounded where no range is split: a sane book tells how many are left at most, each a take,
+/// claims, and then a commit of a job that goes on or a fail.
 pub fn rounds_are_bounded()
-    ensures take { (told : Option (List FileText)) (b new : BookData) (slot : ℕ) (job : Job)
-        → Reached told b → IsTaking b slot job new → rounds_left new ≤ rounds_left b }
-    ensures claim { (told : Option (List FileText)) (b new : BookData) (slot p : ℕ) (granted : Bool)
-        → Reached told b → IsClaiming b slot p granted new → rounds_left new ≡ rounds_left b }
-    ensures commit { (told : Option (List FileText)) (b new : BookData) (slot : ℕ)
-        → Reached told b → Step told b slot Commit Committed new
+    ensures take { (b new : SeenBook) (slot : ℕ) (job : Job)
+        → IsSane b → IsTaking b slot job new → rounds_left new ≤ rounds_left b }
+    ensures claim { (b new : SeenBook) (slot p : ℕ) (granted : Bool)
+        → IsClaiming b slot p granted new → rounds_left new ≡ rounds_left b }
+    ensures commit { (told : Option (List FileText)) (b new : SeenBook) (slot : ℕ)
+        → IsSane b → Step told b slot Commit Committed new
         → GoesOnAt b slot → rounds_left new < rounds_left b }
-    ensures fail { (told : Option (List FileText)) (b new : BookData)
-        (slot at : ℕ) (cause : Cause) (answer : Answer)
-        → Reached told b → IsFailing b slot at cause answer new → rounds_left new < rounds_left b }
-{
-    nodes_take_elements_of_their_strategy();
-    strategies_follow_kinds();
-    nodes_have_inputs_and_settings_of_their_kind();
-}
+    ensures fail { (b new : SeenBook) (slot at : ℕ) (cause : Cause) (answer : Answer)
+        → IsSane b → IsFailing b slot at cause answer new → rounds_left new < rounds_left b }
+{}
 
 /// A book that is reached by honest fails is reached, so all that holds of reached books holds of it.
 pub fn honest_runs_are_runs()
-    ensures { (known : Surroundings) (b : BookData)
+    ensures { (known : Surroundings) (b : SeenBook)
         → HonestlyReached known b → Reached known.told b }
 {}

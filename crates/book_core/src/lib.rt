@@ -1,7 +1,8 @@
 //! The book of a run: what is pending, worked and committed, and the steps that change it.
 //!
-//! A [`Book`] is seen as plain data, and each of its calls is one step by `specs/Steps.antt`, so every book
-//! is reached by steps from an opening ([`Book::is_reached`]), and [`laws`] says what holds of such books.
+//! A [`Book`] is seen as plain data, each of its calls is one step by `specs/Steps.antt`, and every book is
+//! sane by `specs/Sane.antt` ([`Book::is_sane`]). [`laws`] says what each step keeps of a sane book, and
+//! what holds besides of those that a run reached.
 //! Only [`Book::opening`], [`Book::enroll`], [`Book::take`], [`Book::split`], [`Book::commit`] and
 //! [`Book::outcome`] take memory, and where they are refused the book stays as it was; a refused commit
 //! hands its receipt back. Read `book.rt` first.

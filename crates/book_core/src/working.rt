@@ -1,6 +1,6 @@
-ghost use Rattle.std.specs.Prelude.{◌≡◌, ◌≢◌, ◌≤◌, ◌<◌, ◌+◌, ◌==◌, if◌then◌else◌, ℕ, true, false};
+ghost use Rattle.std.specs.Prelude.{◌≡◌, ◌≢◌, ◌≤◌, ◌<◌, if◌then◌else◌, ℕ, true, false, is_none};
 ghost use Rattle.std.specs.Prelude.{length, Option, Some, None, slice_get, MatchOption};
-ghost use Rattle.std.specs.List.{All, flat_map};
+ghost use Rattle.std.specs.List.{All, flat_map, list_all};
 ghost use Rattle.beam_values.specs.declared.piece.Piece.{Piece};
 ghost use Rattle.book_core.specs.Book.{piece_of, batch_of, tracker_of};
 ghost use Rattle.book_core.specs.Calls.{piece_in};
@@ -99,15 +99,19 @@ fn works_batch(slot: &Option<Live>) -> bool
 
 /// What is answered where nothing can be taken.
 pub fn idle_answer(slots: &[Option<Live>]) -> Taken
-    ensures { result ≡ (if length (flat_map piece_of slots.now)
-        + length (flat_map batch_of slots.now) == 0 then Taken.Finished
-        else Taken.Nothing) }
+    ensures { result ≡ (if list_all is_none slots.now then Taken.Finished else Taken.Nothing) }
 {
-    if count_pieces(slots) == 0 && count_batches(slots) == 0 {
+    if are_free(slots) {
         Taken::Finished
     } else {
         Taken::Nothing
     }
+}
+
+fn are_free(slots: &[Option<Live>]) -> bool
+    ensures { result ≡ list_all is_none slots.now }
+{
+    slots.iter().all(|slot| slot.is_none())
 }
 
 /// How much of a slot's range lies behind its last attempted position, where it would split at a half.

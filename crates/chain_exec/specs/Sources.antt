@@ -1,5 +1,5 @@
 -- The sources of a plan, and what must be held of an item for its positions to be worked (Splittable DoFn).
-use Rattle.std.specs.Prelude.{◌≡◌, ℕ, Bool, true, false, List, [], length, slice_get, if◌then◌else◌, IsSomeAnd, Option, Some, None}
+use Rattle.std.specs.Prelude.{◌≡◌, ◌⊎◌, ℕ, ◌*◌, ◌≤◌, Bool, true, false, List, [], length, slice_get, if◌then◌else◌, IsSomeAnd, Option, Some, None}
 use Rattle.std.specs.Option.{option_and_then}
 use Rattle.beam_values.specs.Checked.{reads_file}
 use Rattle.beam_values.specs.declared.plan.Args.{Args}
@@ -10,7 +10,7 @@ use Rattle.beam_values.specs.declared.plan.SourceKind.{SourceKind}
 use Rattle.beam_model.specs.Positions.{positions_in}
 use Rattle.beam_ports.specs.Files.{Opening}
 use Rattle.dofn_traits.specs.Calls.{is_cut_short, IsView, IsViewOf}
-use Rattle.sdf_library.specs.Paging.{Paged, HoldsFile, Serves}
+use Rattle.sdf_library.specs.Paging.{Paged, HoldsFile, IsLean, KnowsQuiet, Serves, block, noted_next}
 
 -- what a source reads or makes
 pub record SourceWork : Type 0 where
@@ -25,10 +25,12 @@ source_in _ = None
 abbrev pub source_at : Plan → ℕ → Option SourceWork
 source_at plan node = option_and_then (λ n. source_in n.kind) (slice_get plan.nodes node)
 
--- What a pager must be where the positions of an item are worked: of a file it is that of its opening, and what it holds are the file's bytes.
+-- What a pager must be where the positions of an item are worked: of a file it is that of its opening, what it holds are the file's bytes, and what it has
+-- noted of a line is so of that file.
 pub record IsPagerOf (opening : Option Opening) (pager : Paged) : Type 0 where
   pub opened : IsSomeAnd opening (λ o. o.len ≡ pager.len)
   pub held : HoldsFile opening pager
+  pub quiet : KnowsQuiet opening pager
 
 abbrev pub IsHeldFor : SourceKind → Option Opening → Paged → Type 0
 IsHeldFor work opening pager = reads_file work ≡ true → IsPagerOf opening pager
@@ -65,3 +67,19 @@ is_look_cut_short source pager p =
 -- what is held of the item is enough for this position: the line there ends within it, or the item has no bytes
 abbrev pub IsEnoughAt : SourceWork → Paged → ℕ → Type 0
 IsEnoughAt source pager p = (reads_file source.work ≡ true → Serves pager p) × (is_look_cut_short source pager p ≡ false)
+
+-- of a file at most two blocks more are held than there are of the line at the position
+abbrev pub IsLeanAt : SourceWork → Paged → ℕ → Type 0
+IsLeanAt source pager p = reads_file source.work ≡ true → IsLean p pager
+
+-- the same, or no more is held than before
+abbrev pub IsLeanOrLess : SourceWork → ℕ → Paged → Paged → Type 0
+IsLeanOrLess source p old new = IsLeanAt source new p ⊎ (length new.bytes ≤ length old.bytes)
+
+-- of a file the next line start, where it is noted that no line starts at the position; nothing is emitted there
+abbrev pub skipped_to : SourceKind → Paged → ℕ → Option ℕ
+skipped_to work pager p = if reads_file work then noted_next p pager.quiet else None
+
+-- where at most two blocks were held, the same bytes are held still
+abbrev pub KeepsBytes : Paged → Paged → Type 0
+KeepsBytes old new = length old.bytes ≤ 2 * block → (new.base ≡ old.base) × (new.bytes ≡ old.bytes)

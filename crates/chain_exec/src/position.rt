@@ -11,7 +11,8 @@ ghost use Rattle.dofn_traits.specs.Calls.{timed_value};
 ghost use Rattle.chain_exec.specs.Causes.{observed_shelf};
 ghost use Rattle.chain_exec.specs.Positions.{IsEmissionAt, IsNextOf, IsPositionRefused, IsWorked};
 ghost use Rattle.chain_exec.specs.Positions.{outputs_in};
-ghost use Rattle.chain_exec.specs.Sources.{IsCounted, IsEnoughAt, IsHeldFor, IsText, source_at};
+ghost use Rattle.chain_exec.specs.Sources.{IsCounted, IsEnoughAt, IsHeldFor, IsLeanAt, IsText};
+ghost use Rattle.chain_exec.specs.Sources.{IsLeanOrLess, KeepsBytes, source_at};
 
 use crate::ExecRefusal;
 use crate::buffers::Buffers;
@@ -72,7 +73,11 @@ pub fn run_position<F: Shelf, S: Store>(
     ensures strict { F.strict shelf.new ≡ F.strict shelf.old }
     // What is held already isn't read again.
     ensures enough { ForSome (source_at graph.now node) (λ source. IsEnoughAt source pager.old p
-        → (pager.new ≡ pager.old) × (store.new ≡ store.old)) }
+        → KeepsBytes pager.old pager.new × (store.new ≡ store.old)) }
+    ensures bounded { IfOk result (λ _. ForSome (source_at graph.now node)
+        (λ source. IsLeanAt source pager.new p)) }
+    ensures given_up { IfErr result (λ _. ForSome (source_at graph.now node)
+        (λ source. IsLeanOrLess source p pager.old pager.new)) }
     // After every answer:
     ensures file { pager.new.file ≡ pager.old.file }
     ensures len { pager.new.len ≡ pager.old.len }

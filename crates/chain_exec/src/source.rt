@@ -1,17 +1,17 @@
-ghost use Rattle.std.specs.Prelude.{◌≡◌, ◌≢◌, ◌≤◌, ◌<◌, ℕ, List, [], None, Some, true, length};
-ghost use Rattle.std.specs.Prelude.{false, IsOk, IsSome, IfErr, IfOk, OnOk};
+ghost use Rattle.std.specs.Prelude.{◌≡◌, ◌≢◌, ◌≤◌, ◌<◌, ℕ, List, [], None, Some, true, false, length};
+ghost use Rattle.std.specs.Prelude.{IsOk, IsSome, IfErr, IfOk, IfSome, OnErr, OnOk};
 ghost use Rattle.beam_values.specs.Checked.{is_source_argument, reads_file};
 ghost use Rattle.beam_model.specs.Holds.{estimator_of};
 ghost use Rattle.beam_model.specs.Positions as model;
 ghost use Rattle.beam_ports.specs.Counts.{Rose};
 ghost use Rattle.beam_ports.specs.Files.{KeepsOpenings};
-ghost use Rattle.dofn_traits.specs.Calls.{IsFound, IsNextWithin};
-ghost use Rattle.sdf_library.specs.Paging.{Paged, ReachesOn, Serves};
+ghost use Rattle.dofn_traits.specs.Calls.{IsFound};
 ghost use Rattle.chain_exec.specs.Causes.{observed_shelf};
 ghost use Rattle.chain_exec.specs.Positions.{IsEmissionAt, IsNextOf, IsReadRefused, IsSeenRefused};
 ghost use Rattle.chain_exec.specs.Positions.{IsSourceRefused, emission_of};
 ghost use Rattle.chain_exec.specs.Sources.{IsCounted, IsEnoughAt, IsHeldFor, IsLookAt, IsLookInto};
-ghost use Rattle.chain_exec.specs.Sources.{IsText, is_look_cut_short, looked_at, source_at};
+ghost use Rattle.chain_exec.specs.Sources.{IsLeanAt, IsLeanOrLess, IsText, KeepsBytes};
+ghost use Rattle.chain_exec.specs.Sources.{is_look_cut_short, looked_at, skipped_to, source_at};
 
 use crate::ExecRefusal;
 use beam_ports::Store;
@@ -98,7 +98,11 @@ pub fn work_source<F: Shelf, S: Store>(
     ensures counts { F.faults shelf.old ≤ F.faults shelf.new }
     ensures strict { F.strict shelf.new ≡ F.strict shelf.old }
     ensures enough { IsEnoughAt (record { work = work; args = args.now }) pager.old p
-        → (pager.new ≡ pager.old) × (store.new ≡ store.old) }
+        → KeepsBytes pager.old pager.new × (store.new ≡ store.old) }
+    ensures bounded { OnOk result
+        (IsLeanAt (record { work = work; args = args.now }) pager.new p) }
+    ensures given_up { OnErr result
+        (IsLeanOrLess (record { work = work; args = args.now }) p pager.old pager.new) }
     // After every answer:
     ensures file { pager.new.file ≡ pager.old.file }
     ensures len { pager.new.len ≡ pager.old.len }
@@ -107,18 +111,42 @@ pub fn work_source<F: Shelf, S: Store>(
     ensures kept { KeepsOpenings (S.opened store.old) (S.opened store.new) }
     ensures store_counts { S.faults store.old ≤ S.faults store.new }
 {
-    let mut more = false;
-    'looks: loop {
-        hold(node, work, args, store, pager, p, more)?;
-        match call_source(node, work, args, shelf, pager, p, out)? {
-            Found::Here(next) => return Ok(next),
-            Found::More => more = true,
-        }
+    if let Some(next) = skipped_to(work, pager, p) {
+        pager.leave_line();
+        return Ok(next);
+    }
+    hold(node, work, args, store, pager, p)?;
+    let next = call_source(node, work, args, shelf, pager, p, out)?;
+    note(work, pager, p, next);
+    Ok(next)
+}
+
+// The next line start of a file, where it is noted that no line starts at the position.
+fn skipped_to(work: SourceKind, pager: &Pager, p: u64) -> Option<u64>
+    ensures noted { result ≡ skipped_to work pager.now p }
+    ensures next { IfSome result (IsNextOf p pager.now.len) }
+{
+    if reads_file(work) {
+        pager.next_line(p)
+    } else {
+        None
     }
 }
 
-// Holds what a position of a file needs, and with `more` more than before. Of what is counted or made
-// nothing is held.
+// Notes which line start of a file comes after the position.
+fn note(work: SourceKind, pager: &mut Pager, p: u64, next: u64)
+    requires { next ≤ pager.old.len }
+    ensures file { reads_file work ≡ true
+        → pager.new ≡ record pager.old { quiet = record { from = p; to = next } } }
+    ensures other { reads_file work ≡ false → pager.new ≡ pager.old }
+    ensures page { pager.new ≡ record pager.old { quiet = pager.new.quiet } }
+{
+    if reads_file(work) {
+        pager.note_line(p, next);
+    }
+}
+
+// Holds what a position of a file needs, and the line there up to its end. Of what is counted or made nothing is held.
 fn hold<S: Store>(
     node: u32,
     work: SourceKind,
@@ -126,18 +154,21 @@ fn hold<S: Store>(
     store: &mut S,
     pager: &mut Pager,
     p: u64,
-    more: bool,
 ) -> Result<(), ExecRefusal>
     requires inside { p < pager.old.len }
     requires counted { IsCounted (record { work = work; args = args.now }) pager.old }
     requires held { IsHeldFor work (S.opened store.old pager.old.file) pager.old }
     ensures view { OnOk result (IsLookAt (record { work = work; args = args.now }) pager.new p) }
+    ensures whole { OnOk result
+        (is_look_cut_short (record { work = work; args = args.now }) pager.new p ≡ false) }
     ensures shown { OnOk result
         ((text : List ℕ) → IsText work (S.opened store.new pager.new.file) pager.new.len text
         → IsLookInto text (record { work = work; args = args.now }) pager.new) }
-    ensures more { OnOk result (reads_file work ≡ true → ReachesOn more pager.old pager.new) }
-    ensures enough { (reads_file work ≡ true → Serves pager.old p) → more ≡ false
-        → IsOk result × (pager.new ≡ pager.old) × (store.new ≡ store.old) }
+    ensures bounded { OnOk result
+        (IsLeanAt (record { work = work; args = args.now }) pager.new p) }
+    ensures enough { IsEnoughAt (record { work = work; args = args.now }) pager.old p
+        → IsOk result × KeepsBytes pager.old pager.new × (store.new ≡ store.old) }
+    ensures given_up { OnErr result (length pager.new.bytes ≤ length pager.old.bytes) }
     ensures refused { IfErr result (IsReadRefused
         (record { before = S.faults store.old; after = S.faults store.new }) node work) }
     // After every answer:
@@ -151,7 +182,7 @@ fn hold<S: Store>(
     if !reads_file(work) {
         return Ok(());
     }
-    match pager.ensure_held(store, p, more) {
+    match pager.hold_line(store, p) {
         Ok(()) => Ok(()),
         Err(PageRefusal::Failed) => Err(ExecRefusal::Faulted {
             at: node,
@@ -161,7 +192,7 @@ fn hold<S: Store>(
     }
 }
 
-// Calls the source on what is held.
+// Calls the source on what is held, which has the line at the position up to its end. Answers the next position.
 fn call_source<F: Shelf>(
     node: u32,
     work: SourceKind,
@@ -170,18 +201,15 @@ fn call_source<F: Shelf>(
     pager: &Pager,
     p: u64,
     out: &mut Emission,
-) -> Result<Found, ExecRefusal>
+) -> Result<u64, ExecRefusal>
     requires allowed { is_source_argument work args.now ≡ true }
     requires view { IsLookAt (record { work = work; args = args.now }) pager.now p }
-    ensures found { IfOk result (λ found. (file : List ℕ)
+    requires whole { is_look_cut_short (record { work = work; args = args.now }) pager.now p
+        ≡ false }
+    ensures found { IfOk result (λ next. (file : List ℕ)
         → IsLookInto file (record { work = work; args = args.now }) pager.now
-        → IsFound work args.now file p out.old out.new found) }
-    ensures next { IfOk result (IsNextWithin p pager.now.len) }
-    ensures unchanged { IfOk result (λ found. found ≡ Found.More → out.new ≡ out.old) }
-    ensures more { IfOk result (λ found. found ≡ Found.More
-        → is_look_cut_short (record { work = work; args = args.now }) pager.now p ≡ true) }
-    ensures quiet { IfOk result (λ found. found ≡ Found.More
-        → F.strict shelf.old ≡ true → F.faults shelf.new ≡ F.faults shelf.old) }
+        → IsFound work args.now file p out.old out.new (Found.Here next)) }
+    ensures next { IfOk result (IsNextOf p pager.now.len) }
     ensures refused { IfErr result
         (IsSeenRefused (observed_shelf F.strict F.faults shelf.old shelf.new) node
         (record { work = work; args = args.now }) pager.now p) }
@@ -194,7 +222,8 @@ fn call_source<F: Shelf>(
 {
     let look = look_at(work, pager);
     match shelf.call_split(work, args, look.bytes, look.base, look.len, p, out) {
-        Ok(found) => Ok(found),
+        Ok(Found::Here(next)) => Ok(next),
+        Ok(Found::More) => unreachable!(),
         Err(CallRefusal::Failed) => Err(ExecRefusal::Faulted {
             at: node,
             cause: Cause::Call,

@@ -39,7 +39,7 @@ use Rattle.group_cells.specs.Commits.{AreRounds, NeverFalls, NoneFalls, as_commi
 use Rattle.group_cells.specs.Placing.{Opening, is_same_key}
 use Rattle.group_cells.specs.Rounds.{IsRound}
 use Rattle.group_cells.proofs.FirstCommit.{never_longer, nothing_legal}
-use Rattle.book_core.specs.Book.{BookData}
+use Rattle.book_core.specs.Book.{SeenBook}
 use Rattle.book_core.specs.Calls.{IsOutcomeOf}
 use Rattle.book_core.specs.Runs.{AreAllShown, IsEnded, IsOpening, Reached}
 use Rattle.book_core.specs.Steps.{Enroll, Take, Claim, Enrolled, TakenJob, Claimed}
@@ -50,7 +50,7 @@ use Rattle.book_core.specs.declared.live.WaitingPane.{WaitingPane}
 use Rattle.book_core.proofs.Reaching.{reached_more}
 use Rattle.ended_runs.specs.EndedRuns.{IsEndedRun}
 use Rattle.ended_runs.proofs.Pipeline.{told, key, at, no_stateful_above, one_part_storable}
-use Rattle.ended_runs.proofs.OneKeyRun.{SoFar, allowed, are_marks, book_of, done_to, legal_next, marks_of, all_rounds, none_falls, nothing_round, opening_never_falls, options, quiet_round, rest, rules, shows_one, whole, none, one}
+use Rattle.ended_runs.proofs.OneKeyRun.{SoFar, allowed, are_marks, book_of, done_to, marks_of, all_rounds, none_falls, nothing_round, opening_never_falls, options, quiet_round, rest, rules, shows_one, whole, none, one}
 use Rattle.ended_runs.proofs.EarlyPane.{hasty, early_trigger, file, lines, minute, first, second, first_pane, second_pane, same_key, spread_first, spread_second, two_panes_are_not_plain}
 use Rattle.ended_runs.proofs.SoFarAlways.{committed_reached}
 
@@ -71,23 +71,6 @@ read_marks = marks_of final_mark (pos 59999)
 
 abbrev last_marks : List StageMarks
 last_marks = marks_of final_mark final_mark
-
-stays : NoneFalls reading_marks reading_marks
-stays = none_falls least_time least_time least_time least_time (omega (arith, ints)) (omega (arith, ints))
-
-opening_only : NeverFalls (as_commit reading_marks ∷ [])
-opening_only = opening_never_falls (as_commit reading_marks)
-
-until_first : NeverFalls (as_commit reading_marks ∷ as_commit reading_marks ∷ [])
-until_first = never_longer [] reading_marks reading_marks opening_only stays
-
-until_early : NeverFalls (as_commit reading_marks ∷ as_commit reading_marks ∷ as_commit reading_marks ∷ [])
-until_early = never_longer (as_commit reading_marks ∷ []) reading_marks reading_marks until_first stays
-
-until_second : NeverFalls (as_commit reading_marks ∷ as_commit reading_marks ∷ as_commit reading_marks ∷ as_commit read_marks ∷ [])
-until_second =
-    never_longer (as_commit reading_marks ∷ as_commit reading_marks ∷ []) reading_marks read_marks until_early
-    (none_falls least_time least_time final_mark (pos 59999) (omega (arith, ints)) (omega (arith, ints)))
 
 -- ---- the cell and its panes
 
@@ -123,16 +106,16 @@ batch pane = live.Batch (record { node = 3; panes = held_pane pane ∷ []; attem
 
 -- ---- the books
 
-abbrev opening : BookData
+abbrev opening : SeenBook
 opening = book_of plan 18 (record { cells = []; dropped = []; panes = []; done = []; written = []; commits = as_commit reading_marks ∷ [] }) (whole 18 ∷ []) [] []
 
-abbrev enrolled : BookData
+abbrev enrolled : SeenBook
 enrolled = record opening { slots = None ∷ [] }
 
 abbrev working : Piece → Option ℕ → Option Live
 working piece attempted = Some (live.Span piece attempted)
 
-abbrev at_first : Option ℕ → BookData
+abbrev at_first : Option ℕ → SeenBook
 at_first attempted = record opening { pending = []; slots = working (whole 18) attempted ∷ [] }
 
 abbrev first_so_far : SoFar
@@ -148,10 +131,10 @@ first_so_far = record {
 abbrev rest_piece : Piece
 rest_piece = rest 18 least_time
 
-abbrev after_first : BookData
+abbrev after_first : SeenBook
 after_first = book_of plan 18 first_so_far (rest_piece ∷ []) (None ∷ []) (held_pane 0 ∷ [])
 
-abbrev at_early : BookData
+abbrev at_early : SeenBook
 at_early = book_of plan 18 first_so_far (rest_piece ∷ []) (Some (batch 0) ∷ []) []
 
 abbrev early_so_far : SoFar
@@ -160,10 +143,10 @@ early_so_far = record first_so_far {
   commits = as_commit reading_marks ∷ as_commit reading_marks ∷ as_commit reading_marks ∷ [];
 }
 
-abbrev after_early : BookData
+abbrev after_early : SeenBook
 after_early = book_of plan 18 early_so_far (rest_piece ∷ []) (None ∷ []) []
 
-abbrev at_second : Option ℕ → BookData
+abbrev at_second : Option ℕ → SeenBook
 at_second attempted = book_of plan 18 early_so_far [] (working rest_piece attempted ∷ []) []
 
 abbrev second_so_far : SoFar
@@ -176,13 +159,13 @@ second_so_far = record {
   commits = as_commit reading_marks ∷ as_commit reading_marks ∷ as_commit reading_marks ∷ as_commit read_marks ∷ [];
 }
 
-abbrev after_second : BookData
+abbrev after_second : SeenBook
 after_second = book_of plan 18 second_so_far [] (None ∷ []) (held_pane 1 ∷ [])
 
-abbrev at_on_time : BookData
+abbrev at_on_time : SeenBook
 at_on_time = book_of plan 18 second_so_far [] (Some (batch 1) ∷ []) []
 
-abbrev pub final_book : BookData
+abbrev pub final_book : SeenBook
 final_book = book_of plan 18 (record second_so_far {
   written = at 4 first_pane ∷ at 4 second_pane ∷ [];
   commits = as_commit reading_marks ∷ as_commit reading_marks ∷ as_commit reading_marks ∷ as_commit read_marks ∷ as_commit last_marks ∷ [];
@@ -199,7 +182,7 @@ opened_so = record {
   marks = reading_marks;
   is = refl;
   marked = are_marks estimator.None early_trigger _ reading_marks refl refl refl refl refl refl;
-  within = record { commits = omega arith; panes = omega arith; dropped = omega arith; slots = omega arith; pieces = omega arith };
+  within = record { commits = omega arith; panes = omega arith; dropped = omega arith; cells = omega arith; slots = omega arith; pieces = omega arith };
 }
 
 reached_opening : Reached (Some (told file)) opening
@@ -208,7 +191,7 @@ reached_opening = record { first = opening; opening = opened_so; steps = []; run
 reached_enrolled : Reached (Some (told file)) enrolled
 reached_enrolled =
     reached_more (Some (told file)) opening enrolled 0 Enroll (Enrolled 0)
-    (refl, refl, refl, record { commits = omega arith; panes = omega arith; dropped = omega arith; slots = omega arith; pieces = omega arith }) reached_opening
+    (refl, refl, refl, record { commits = omega arith; panes = omega arith; dropped = omega arith; cells = omega arith; slots = omega arith; pieces = omega arith }) reached_opening
 
 reached_at_first : Reached (Some (told file)) (at_first None)
 unfolding offsets
@@ -221,6 +204,7 @@ reached_at_first =
       is_next = refl;
       handed = refl;
       is = refl;
+      within = record { commits = omega arith; panes = omega arith; dropped = omega arith; cells = omega arith; slots = omega arith; pieces = omega arith };
     }) reached_enrolled
 
 reached_claimed_first : Reached (Some (told file)) (at_first (Some 0))
@@ -253,25 +237,11 @@ first_round k true own = record {
   };
 }
 
-first_keyed : is_keyed key first ≡ true
-first_keyed = simp (out-roll-Value, same_key) refl
-
-second_keyed : is_keyed key second ≡ true
-second_keyed = simp (out-roll-Value, same_key) refl
-
-early_keyed : IsKeyed early_cell
-early_keyed = one (λ (e : Entry). is_keyed key e.element ≡ true) (entry first 1 true) first_keyed
-
 first_rounds : AreRounds plan 1 reading_marks reading_marks (at 3 first ∷ []) [] (early_cell ∷ []) (early_fired ∷ [])
 first_rounds =
     all_rounds estimator.None early_trigger 1 reading_marks reading_marks (at 3 first ∷ []) [] early_cell (early_fired ∷ [])
-    (λ k. simp out-roll-Value (first_round k (bytes_eq (spelling key) (spelling k)) refl)) refl early_keyed
+    (λ k. simp out-roll-Value (first_round k (bytes_eq (spelling key) (spelling k)) refl)) refl
     (one (λ (p : Pane). is_group plan p.node ≡ true) early_fired refl) (one (λ (p : Pane). p.commit ≡ 1) early_fired refl) (omega arith)
-
-first_legal : ArePanesLegal plan first_so_far.commits (early_cell ∷ []) [] (early_fired ∷ [])
-first_legal =
-    legal_next estimator.None early_trigger checked [] reading_marks reading_marks (at 3 first ∷ []) [] (early_cell ∷ []) [] [] (early_fired ∷ []) refl refl
-    opening_only first_rounds (nothing_legal plan (as_commit reading_marks) refl)
 
 reached_after_first : Reached (Some (told file)) after_first
 reached_after_first =
@@ -279,10 +249,9 @@ reached_after_first =
     (record {
       works = refl;
       given = first_given;
-      entries = bag_from_same (taken_entry 3 (entry first 1 true) ∷ []) _ refl;
       marked = are_marks estimator.None early_trigger _ reading_marks refl refl refl refl refl refl;
-      legal = first_legal;
-      within = record { commits = omega arith; panes = omega arith; dropped = omega arith; slots = omega arith; pieces = omega arith };
+      rounds = first_rounds;
+      within = record { commits = omega arith; panes = omega arith; dropped = omega arith; cells = omega arith; slots = omega arith; pieces = omega arith };
     })
 
 -- panes go on before more is read
@@ -297,6 +266,7 @@ reached_at_early =
       is_next = refl;
       handed = refl;
       is = refl;
+      within = record { commits = omega arith; panes = omega arith; dropped = omega arith; cells = omega arith; slots = omega arith; pieces = omega arith };
     }) reached_after_first
 
 abbrev early_receipt : Receipt
@@ -308,13 +278,8 @@ early_given = (refl, refl)
 early_rounds : AreRounds plan 2 reading_marks reading_marks (at 4 first_pane ∷ []) (early_cell ∷ []) (early_cell ∷ []) []
 early_rounds =
     all_rounds estimator.None early_trigger 2 reading_marks reading_marks (at 4 first_pane ∷ []) (early_cell ∷ []) early_cell []
-    (λ k. quiet_round early_trigger early_cell k (bytes_eq (spelling key) (spelling k)) 2 (marks_at reading_marks 3).mark_in (marks_at reading_marks 3).mark_in refl) refl early_keyed
+    (λ k. quiet_round early_trigger early_cell k (bytes_eq (spelling key) (spelling k)) 2 (marks_at reading_marks 3).mark_in (marks_at reading_marks 3).mark_in refl) refl
     (none _) (none _) (omega arith)
-
-early_legal : ArePanesLegal plan early_so_far.commits (early_cell ∷ []) [] (early_fired ∷ [])
-early_legal =
-    legal_next estimator.None early_trigger checked (as_commit reading_marks ∷ []) reading_marks reading_marks (at 4 first_pane ∷ []) (early_cell ∷ []) (early_cell ∷ []) [] (early_fired ∷ []) [] refl refl
-    until_first early_rounds first_legal
 
 reached_after_early : Reached (Some (told file)) after_early
 reached_after_early =
@@ -322,10 +287,9 @@ reached_after_early =
     (record {
       works = refl;
       given = early_given;
-      entries = bag_from_same (taken_entry 3 (entry first 1 true) ∷ []) _ refl;
       marked = are_marks estimator.None early_trigger _ reading_marks refl refl refl refl refl refl;
-      legal = early_legal;
-      within = record { commits = omega arith; panes = omega arith; dropped = omega arith; slots = omega arith; pieces = omega arith };
+      rounds = early_rounds;
+      within = record { commits = omega arith; panes = omega arith; dropped = omega arith; cells = omega arith; slots = omega arith; pieces = omega arith };
     })
 
 -- ---- the second line
@@ -341,6 +305,7 @@ reached_at_second =
       is_next = refl;
       handed = refl;
       is = refl;
+      within = record { commits = omega arith; panes = omega arith; dropped = omega arith; cells = omega arith; slots = omega arith; pieces = omega arith };
     }) reached_after_early
 
 reached_claimed_second : Reached (Some (told file)) (at_second (Some 9))
@@ -380,21 +345,11 @@ second_round k true own = record {
   };
 }
 
-last_keyed : IsKeyed last_cell
-last_keyed =
-    All-cons (λ (e : Entry). is_keyed key e.element ≡ true) (entry first 1 true) (entry second 3 true ∷ []) first_keyed
-    (one (λ (e : Entry). is_keyed key e.element ≡ true) (entry second 3 true) second_keyed)
-
 second_rounds : AreRounds plan 3 reading_marks read_marks (at 3 second ∷ []) (early_cell ∷ []) (last_cell ∷ []) (on_time_fired ∷ [])
 second_rounds =
     all_rounds estimator.None early_trigger 3 reading_marks read_marks (at 3 second ∷ []) (early_cell ∷ []) last_cell (on_time_fired ∷ [])
-    (λ k. simp out-roll-Value (second_round k (bytes_eq (spelling key) (spelling k)) refl)) refl last_keyed
+    (λ k. simp out-roll-Value (second_round k (bytes_eq (spelling key) (spelling k)) refl)) refl
     (one (λ (p : Pane). is_group plan p.node ≡ true) on_time_fired refl) (one (λ (p : Pane). p.commit ≡ 3) on_time_fired refl) (omega arith)
-
-second_legal : ArePanesLegal plan second_so_far.commits (last_cell ∷ []) [] (early_fired ∷ on_time_fired ∷ [])
-second_legal =
-    legal_next estimator.None early_trigger checked (as_commit reading_marks ∷ as_commit reading_marks ∷ []) reading_marks read_marks (at 3 second ∷ []) (early_cell ∷ []) (last_cell ∷ []) []
-    (early_fired ∷ []) (on_time_fired ∷ []) refl refl until_early second_rounds early_legal
 
 reached_after_second : Reached (Some (told file)) after_second
 reached_after_second =
@@ -402,10 +357,9 @@ reached_after_second =
     (record {
       works = refl;
       given = second_given;
-      entries = bag_from_same (taken_entry 3 (entry first 1 true) ∷ taken_entry 3 (entry second 3 true) ∷ []) _ refl;
       marked = are_marks estimator.None early_trigger _ read_marks refl refl refl refl refl refl;
-      legal = second_legal;
-      within = record { commits = omega arith; panes = omega arith; dropped = omega arith; slots = omega arith; pieces = omega arith };
+      rounds = second_rounds;
+      within = record { commits = omega arith; panes = omega arith; dropped = omega arith; cells = omega arith; slots = omega arith; pieces = omega arith };
     })
 
 -- ---- the second pane goes on to the Write
@@ -421,6 +375,7 @@ reached_at_on_time =
       is_next = refl;
       handed = refl;
       is = refl;
+      within = record { commits = omega arith; panes = omega arith; dropped = omega arith; cells = omega arith; slots = omega arith; pieces = omega arith };
     }) reached_after_second
 
 abbrev last_receipt : Receipt
@@ -432,13 +387,8 @@ last_given = (refl, refl)
 last_rounds : AreRounds plan 4 read_marks last_marks (at 4 second_pane ∷ []) (last_cell ∷ []) (last_cell ∷ []) []
 last_rounds =
     all_rounds estimator.None early_trigger 4 read_marks last_marks (at 4 second_pane ∷ []) (last_cell ∷ []) last_cell []
-    (λ k. quiet_round early_trigger last_cell k (bytes_eq (spelling key) (spelling k)) 4 (marks_at read_marks 3).mark_in (marks_at last_marks 3).mark_in refl) refl last_keyed
+    (λ k. quiet_round early_trigger last_cell k (bytes_eq (spelling key) (spelling k)) 4 (marks_at read_marks 3).mark_in (marks_at last_marks 3).mark_in refl) refl
     (none _) (none _) (omega arith)
-
-last_legal : ArePanesLegal plan final_book.commits (last_cell ∷ []) [] (early_fired ∷ on_time_fired ∷ [])
-last_legal =
-    legal_next estimator.None early_trigger checked (as_commit reading_marks ∷ as_commit reading_marks ∷ as_commit reading_marks ∷ []) read_marks last_marks (at 4 second_pane ∷ []) (last_cell ∷ []) (last_cell ∷ []) []
-    (early_fired ∷ on_time_fired ∷ []) [] refl refl until_second last_rounds second_legal
 
 reached_final : Reached (Some (told file)) final_book
 reached_final =
@@ -446,10 +396,9 @@ reached_final =
     (record {
       works = refl;
       given = last_given;
-      entries = bag_from_same (taken_entry 3 (entry first 1 true) ∷ taken_entry 3 (entry second 3 true) ∷ []) _ refl;
       marked = are_marks estimator.None early_trigger _ last_marks refl refl refl refl refl refl;
-      legal = last_legal;
-      within = record { commits = omega arith; panes = omega arith; dropped = omega arith; slots = omega arith; pieces = omega arith };
+      rounds = last_rounds;
+      within = record { commits = omega arith; panes = omega arith; dropped = omega arith; cells = omega arith; slots = omega arith; pieces = omega arith };
     })
 
 -- ---- its outcome
@@ -474,7 +423,7 @@ ended = record {
   running = refl;
   through = record {
     pending = refl;
-    idle = (refl, refl);
+    idle = one (λ (s : Option Live). s ≡ None) None refl;
     held = refl;
     shown = one AreAllShown last_cell
         (All-cons (λ (e : Entry). e.shown ≡ true) (entry first 1 true) (entry second 3 true ∷ []) refl (one (λ (e : Entry). e.shown ≡ true) (entry second 3 true) refl));

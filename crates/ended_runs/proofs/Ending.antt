@@ -29,13 +29,13 @@ use Rattle.beam_model.specs.Positions.{SourceItem, items}
 use Rattle.beam_model.specs.Spread.{spread_all}
 use Rattle.beam_model.proofs.Coverings.{covering_items, plan_distinct}
 use Rattle.beam_model.proofs.DeadPositions.{without_none}
-use Rattle.book_core.specs.Book.{BookData, HeldPane, panes_of}
+use Rattle.book_core.specs.Book.{SeenBook, HeldPane, panes_of}
 use Rattle.book_core.specs.Calls.{IsOutcomeOf}
 use Rattle.book_core.specs.Facts.{AreAtWrites, AreCellsKept, ArePartitioned, IsBalanced, IsWellFormed, held_chains}
 use Rattle.book_core.specs.Runs.{AreTold, IsThrough}
 use Rattle.ended_runs.proofs.Listed.{done_covers}
 
-pub outcome_covered : (b : BookData) (o : Outcome) → ArePartitioned b → IsWellFormed b → IsThrough b → IsOutcomeOf b o → IsCovered o
+pub outcome_covered : (b : SeenBook) (o : Outcome) → ArePartitioned b → IsWellFormed b → IsThrough b → IsOutcomeOf b o → IsCovered o
 outcome_covered b o partitioned formed through of place =
     let dead : times_dead o.dead place ≡ 0 = ap (λ (d : List Dead). times_dead d place) of.dead in
     let done : times_done o.done place ≡ min 1 (times_listed o.files place) =
@@ -43,11 +43,11 @@ outcome_covered b o partitioned formed through of place =
     omega (arith, dead, done)
 
 -- nothing is left out of the items of an outcome
-pub nothing_left_out : (b : BookData) (o : Outcome) → IsOutcomeOf b o → (items : List SourceItem) → items_without o.dead items ≡ items
+pub nothing_left_out : (b : SeenBook) (o : Outcome) → IsOutcomeOf b o → (items : List SourceItem) → items_without o.dead items ≡ items
 nothing_left_out b o of items = ap (λ (d : List Dead). items_without d items) of.dead ∙ without_none items
 
 -- the flow and the arrivals of a book that is through
-module _ (told : List FileText) (b : BookData) (lengths : AreTold told b) (partitioned : ArePartitioned b) (formed : IsWellFormed b) (through : IsThrough b)
+module _ (told : List FileText) (b : SeenBook) (lengths : AreTold told b) (partitioned : ArePartitioned b) (formed : IsWellFormed b) (through : IsThrough b)
     (balanced : IsBalanced told b) where
   none_held : held_chains b ≡ []
   none_held = ap (λ (hs : List HeldPane). flat_map (λ h. pane_chains b.plan (panes_of b.panes (h.waiting ∷ []))) hs) through.held
@@ -75,7 +75,7 @@ arrived_alike cells others dropped written same =
     bag_map Arrives (flat_map cell_arrivals cells ++ rest) (flat_map cell_arrivals others ++ rest)
     (bag_append (flat_map cell_arrivals cells) (flat_map cell_arrivals others) rest rest (bag_flat_map cell_arrivals cells others same) (bag_refl rest))
 
-pub outcome_accounted : (told : List FileText) (b : BookData) (o : Outcome) → AreTold told b → ArePartitioned b → IsWellFormed b → AreCellsKept b → AreAtWrites b
+pub outcome_accounted : (told : List FileText) (b : SeenBook) (o : Outcome) → AreTold told b → ArePartitioned b → IsWellFormed b → AreCellsKept b → AreAtWrites b
     → IsBalanced told b → IsThrough b → IsOutcomeOf b o → IsAccounted (items told b.plan) o
 outcome_accounted told b o lengths partitioned formed kept writes balanced through of = record {
   cells = subst (λ (p : Plan). All (λ cell. is_group p cell.node ≡ true) o.cells) (sym of.plan)

@@ -40,7 +40,7 @@ use Rattle.group_cells.specs.Commits.{AreRounds, NeverFalls, as_commit}
 use Rattle.group_cells.specs.Placing.{Opening, is_same_key}
 use Rattle.group_cells.specs.Rounds.{IsRound}
 use Rattle.group_cells.proofs.FirstCommit.{never_longer, nothing_legal}
-use Rattle.book_core.specs.Book.{BookData}
+use Rattle.book_core.specs.Book.{SeenBook}
 use Rattle.book_core.specs.Calls.{IsOutcomeOf}
 use Rattle.book_core.specs.Runs.{AreAllShown, IsEnded, IsOpening, Reached}
 use Rattle.book_core.specs.Steps.{Enroll, Take, Claim, Enrolled, TakenJob, Claimed}
@@ -51,7 +51,7 @@ use Rattle.book_core.specs.declared.live.WaitingPane.{WaitingPane}
 use Rattle.book_core.proofs.Reaching.{reached_more}
 use Rattle.ended_runs.specs.EndedRuns.{IsEndedRun}
 use Rattle.ended_runs.proofs.Pipeline.{told, key, at, no_stateful_above, one_part_storable}
-use Rattle.ended_runs.proofs.OneKeyRun.{SoFar, allowed, are_marks, book_of, done_to, legal_next, marks_of, all_rounds, none_falls, nothing_round, opening_never_falls, options, quiet_round, rest, rules, shows_one, whole, none, one}
+use Rattle.ended_runs.proofs.OneKeyRun.{SoFar, allowed, are_marks, book_of, done_to, marks_of, all_rounds, none_falls, nothing_round, opening_never_falls, options, quiet_round, rest, rules, shows_one, whole, none, one}
 use Rattle.ended_runs.proofs.LateLine.{lagging, file, lines, minute, first, second, first_pane, same_key, spread_first, spread_second, one_pane_is_not_plain}
 use Rattle.ended_runs.proofs.SoFarAlways.{committed_reached}
 
@@ -76,17 +76,6 @@ second_marks = marks_of final_mark (pos 119999)
 
 abbrev last_marks : List StageMarks
 last_marks = marks_of final_mark final_mark
-
-opening_only : NeverFalls (as_commit opening_marks ∷ [])
-opening_only = opening_never_falls (as_commit opening_marks)
-
-until_first : NeverFalls (as_commit opening_marks ∷ as_commit first_marks ∷ [])
-until_first = never_longer [] opening_marks first_marks opening_only (none_falls least_time least_time (pos 60000) (pos 60000) (omega (arith, ints)) (omega (arith, ints)))
-
-until_second : NeverFalls (as_commit opening_marks ∷ as_commit first_marks ∷ as_commit second_marks ∷ [])
-until_second =
-    never_longer (as_commit opening_marks ∷ []) first_marks second_marks until_first
-    (none_falls (pos 60000) (pos 60000) final_mark (pos 119999) (omega (arith, ints)) (omega (arith, ints)))
 
 -- ---- the cell and its pane
 
@@ -115,16 +104,16 @@ late = record { node = 3; element = second; commit = 2 }
 
 -- ---- the books
 
-abbrev opening : BookData
+abbrev opening : SeenBook
 opening = book_of plan 20 (record { cells = []; dropped = []; panes = []; done = []; written = []; commits = as_commit opening_marks ∷ [] }) (whole 20 ∷ []) [] []
 
-abbrev enrolled : BookData
+abbrev enrolled : SeenBook
 enrolled = record opening { slots = None ∷ [] }
 
 abbrev working : Piece → Option ℕ → Option Live
 working piece attempted = Some (live.Span piece attempted)
 
-abbrev at_first : Option ℕ → BookData
+abbrev at_first : Option ℕ → SeenBook
 at_first attempted = record opening { pending = []; slots = working (whole 20) attempted ∷ [] }
 
 abbrev first_so_far : SoFar
@@ -137,10 +126,10 @@ first_so_far = record {
   commits = as_commit opening_marks ∷ as_commit first_marks ∷ [];
 }
 
-abbrev after_first : BookData
+abbrev after_first : SeenBook
 after_first = book_of plan 20 first_so_far (rest 20 (pos 65000) ∷ []) (None ∷ []) []
 
-abbrev at_second : Option ℕ → BookData
+abbrev at_second : Option ℕ → SeenBook
 at_second attempted = book_of plan 20 first_so_far [] (working (rest 20 (pos 65000)) attempted ∷ []) []
 
 abbrev second_so_far : SoFar
@@ -156,16 +145,16 @@ second_so_far = record {
 abbrev held_pane : WaitingPane
 held_pane = record { pane = 0; hold = pos 119999 }
 
-abbrev after_second : BookData
+abbrev after_second : SeenBook
 after_second = book_of plan 20 second_so_far [] (None ∷ []) (held_pane ∷ [])
 
 abbrev batch : Live
 batch = live.Batch (record { node = 3; panes = held_pane ∷ []; attempts = 0 })
 
-abbrev at_batch : BookData
+abbrev at_batch : SeenBook
 at_batch = book_of plan 20 second_so_far [] (Some batch ∷ []) []
 
-abbrev pub final_book : BookData
+abbrev pub final_book : SeenBook
 final_book = book_of plan 20 (record second_so_far {
   written = at 4 first_pane ∷ [];
   commits = as_commit opening_marks ∷ as_commit first_marks ∷ as_commit second_marks ∷ as_commit last_marks ∷ [];
@@ -182,7 +171,7 @@ opened_so = record {
   marks = opening_marks;
   is = refl;
   marked = are_marks (estimator.Lag (pos 5000)) default_trigger _ opening_marks refl refl refl refl refl refl;
-  within = record { commits = omega arith; panes = omega arith; dropped = omega arith; slots = omega arith; pieces = omega arith };
+  within = record { commits = omega arith; panes = omega arith; dropped = omega arith; cells = omega arith; slots = omega arith; pieces = omega arith };
 }
 
 reached_opening : Reached (Some (told file)) opening
@@ -191,7 +180,7 @@ reached_opening = record { first = opening; opening = opened_so; steps = []; run
 reached_enrolled : Reached (Some (told file)) enrolled
 reached_enrolled =
     reached_more (Some (told file)) opening enrolled 0 Enroll (Enrolled 0)
-    (refl, refl, refl, record { commits = omega arith; panes = omega arith; dropped = omega arith; slots = omega arith; pieces = omega arith }) reached_opening
+    (refl, refl, refl, record { commits = omega arith; panes = omega arith; dropped = omega arith; cells = omega arith; slots = omega arith; pieces = omega arith }) reached_opening
 
 reached_at_first : Reached (Some (told file)) (at_first None)
 unfolding offsets
@@ -204,6 +193,7 @@ reached_at_first =
       is_next = refl;
       handed = refl;
       is = refl;
+      within = record { commits = omega arith; panes = omega arith; dropped = omega arith; cells = omega arith; slots = omega arith; pieces = omega arith };
     }) reached_enrolled
 
 reached_claimed_first : Reached (Some (told file)) (at_first (Some 0))
@@ -232,19 +222,11 @@ first_round k true own = record {
   panes = record { each = one (FiresIts (rules default_trigger) 3 k 1 (pos 60000) []) waiting_cell (λ stands. refl); only = none _ };
 }
 
-waiting_keyed : IsKeyed waiting_cell
-waiting_keyed = one (λ (e : Entry). is_keyed key e.element ≡ true) (record { element = first; commit = 1; shown = false }) (simp (out-roll-Value, same_key) refl)
-
 first_rounds : AreRounds plan 1 opening_marks first_marks (at 3 first ∷ []) [] (waiting_cell ∷ []) []
 first_rounds =
     all_rounds (estimator.Lag (pos 5000)) default_trigger 1 opening_marks first_marks (at 3 first ∷ []) [] waiting_cell []
-    (λ k. simp out-roll-Value (first_round k (bytes_eq (spelling key) (spelling k)) refl)) refl waiting_keyed
+    (λ k. simp out-roll-Value (first_round k (bytes_eq (spelling key) (spelling k)) refl)) refl
     (none _) (none _) (omega arith)
-
-first_legal : ArePanesLegal plan first_so_far.commits (waiting_cell ∷ []) [] []
-first_legal =
-    legal_next (estimator.Lag (pos 5000)) default_trigger checked [] opening_marks first_marks (at 3 first ∷ []) [] (waiting_cell ∷ []) [] [] [] refl refl
-    opening_only first_rounds (nothing_legal plan (as_commit opening_marks) refl)
 
 reached_after_first : Reached (Some (told file)) after_first
 reached_after_first =
@@ -252,10 +234,9 @@ reached_after_first =
     (record {
       works = refl;
       given = first_given;
-      entries = bag_from_same (taken_entry 3 (record { element = first; commit = 1; shown = false }) ∷ []) _ refl;
       marked = are_marks (estimator.Lag (pos 5000)) default_trigger _ first_marks refl refl refl refl refl refl;
-      legal = first_legal;
-      within = record { commits = omega arith; panes = omega arith; dropped = omega arith; slots = omega arith; pieces = omega arith };
+      rounds = first_rounds;
+      within = record { commits = omega arith; panes = omega arith; dropped = omega arith; cells = omega arith; slots = omega arith; pieces = omega arith };
     })
 
 -- ---- the second line
@@ -271,6 +252,7 @@ reached_at_second =
       is_next = refl;
       handed = refl;
       is = refl;
+      within = record { commits = omega arith; panes = omega arith; dropped = omega arith; cells = omega arith; slots = omega arith; pieces = omega arith };
     }) reached_after_first
 
 reached_claimed_second : Reached (Some (told file)) (at_second (Some 10))
@@ -310,19 +292,11 @@ second_round k true own = record {
   };
 }
 
-fired_keyed : IsKeyed fired_cell
-fired_keyed = one (λ (e : Entry). is_keyed key e.element ≡ true) (record { element = first; commit = 1; shown = true }) (simp (out-roll-Value, same_key) refl)
-
 second_rounds : AreRounds plan 2 first_marks second_marks (at 3 second ∷ []) (waiting_cell ∷ []) (fired_cell ∷ []) (fired ∷ [])
 second_rounds =
     all_rounds (estimator.Lag (pos 5000)) default_trigger 2 first_marks second_marks (at 3 second ∷ []) (waiting_cell ∷ []) fired_cell (fired ∷ [])
-    (λ k. simp out-roll-Value (second_round k (bytes_eq (spelling key) (spelling k)) refl)) refl fired_keyed
+    (λ k. simp out-roll-Value (second_round k (bytes_eq (spelling key) (spelling k)) refl)) refl
     (one (λ (p : Pane). is_group plan p.node ≡ true) fired refl) (one (λ (p : Pane). p.commit ≡ 2) fired refl) (omega arith)
-
-second_legal : ArePanesLegal plan second_so_far.commits (fired_cell ∷ []) (late ∷ []) (fired ∷ [])
-second_legal =
-    legal_next (estimator.Lag (pos 5000)) default_trigger checked (as_commit opening_marks ∷ []) first_marks second_marks (at 3 second ∷ []) (waiting_cell ∷ []) (fired_cell ∷ []) [] [] (fired ∷ []) refl refl
-    until_first second_rounds first_legal
 
 reached_after_second : Reached (Some (told file)) after_second
 reached_after_second =
@@ -330,10 +304,9 @@ reached_after_second =
     (record {
       works = refl;
       given = second_given;
-      entries = bag_from_same (taken_entry 3 (record { element = first; commit = 1; shown = true }) ∷ []) _ refl;
       marked = are_marks (estimator.Lag (pos 5000)) default_trigger _ second_marks refl refl refl refl refl refl;
-      legal = second_legal;
-      within = record { commits = omega arith; panes = omega arith; dropped = omega arith; slots = omega arith; pieces = omega arith };
+      rounds = second_rounds;
+      within = record { commits = omega arith; panes = omega arith; dropped = omega arith; cells = omega arith; slots = omega arith; pieces = omega arith };
     })
 
 -- ---- the pane goes on to the Write
@@ -349,6 +322,7 @@ reached_at_batch =
       is_next = refl;
       handed = refl;
       is = refl;
+      within = record { commits = omega arith; panes = omega arith; dropped = omega arith; cells = omega arith; slots = omega arith; pieces = omega arith };
     }) reached_after_second
 
 abbrev last_receipt : Receipt
@@ -360,13 +334,8 @@ last_given = (refl, refl)
 last_rounds : AreRounds plan 3 second_marks last_marks (at 4 first_pane ∷ []) (fired_cell ∷ []) (fired_cell ∷ []) []
 last_rounds =
     all_rounds (estimator.Lag (pos 5000)) default_trigger 3 second_marks last_marks (at 4 first_pane ∷ []) (fired_cell ∷ []) fired_cell []
-    (λ k. quiet_round default_trigger fired_cell k (bytes_eq (spelling key) (spelling k)) 3 (marks_at second_marks 3).mark_in (marks_at last_marks 3).mark_in refl) refl fired_keyed
+    (λ k. quiet_round default_trigger fired_cell k (bytes_eq (spelling key) (spelling k)) 3 (marks_at second_marks 3).mark_in (marks_at last_marks 3).mark_in refl) refl
     (none _) (none _) (omega arith)
-
-last_legal : ArePanesLegal plan final_book.commits (fired_cell ∷ []) (late ∷ []) (fired ∷ [])
-last_legal =
-    legal_next (estimator.Lag (pos 5000)) default_trigger checked (as_commit opening_marks ∷ as_commit first_marks ∷ []) second_marks last_marks (at 4 first_pane ∷ []) (fired_cell ∷ []) (fired_cell ∷ []) (late ∷ [])
-    (fired ∷ []) [] refl refl until_second last_rounds second_legal
 
 pub reached_final : Reached (Some (told file)) final_book
 reached_final =
@@ -374,10 +343,9 @@ reached_final =
     (record {
       works = refl;
       given = last_given;
-      entries = bag_from_same (taken_entry 3 (record { element = first; commit = 1; shown = true }) ∷ []) _ refl;
       marked = are_marks (estimator.Lag (pos 5000)) default_trigger _ last_marks refl refl refl refl refl refl;
-      legal = last_legal;
-      within = record { commits = omega arith; panes = omega arith; dropped = omega arith; slots = omega arith; pieces = omega arith };
+      rounds = last_rounds;
+      within = record { commits = omega arith; panes = omega arith; dropped = omega arith; cells = omega arith; slots = omega arith; pieces = omega arith };
     })
 
 -- ---- its outcome
@@ -402,7 +370,7 @@ ended = record {
   running = refl;
   through = record {
     pending = refl;
-    idle = (refl, refl);
+    idle = one (λ (s : Option Live). s ≡ None) None refl;
     held = refl;
     shown = one AreAllShown fired_cell (one (λ (e : Entry). e.shown ≡ true) (record { element = first; commit = 1; shown = true }) refl);
     final = All-from_recursion (λ (m : StageMarks). (m.mark_in ≡ final_mark) × (m.mark_out ≡ final_mark)) last_marks

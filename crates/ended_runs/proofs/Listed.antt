@@ -11,9 +11,10 @@ use Rattle.beam_values.specs.declared.piece.Piece.{Piece}
 use Rattle.beam_model.specs.Coverings.{AreDistinct, is_item, item_at}
 use Rattle.beam_model.specs.Positions.{SourceItem, items}
 use Rattle.beam_model.proofs.Coverings.{plan_distinct}
-use Rattle.book_core.specs.Book.{BookData, live_pieces}
+use Rattle.book_core.specs.Book.{SeenBook, live_pieces}
 use Rattle.book_core.specs.Facts.{ArePartitioned, IsWellFormed}
 use Rattle.book_core.specs.Runs.{AreLengthsOf, IsThrough}
+use Rattle.book_core.proofs.NothingLeft.{idle_pieces}
 
 held_once : (range : Offsets) (p : ℕ) → times_in range p ≤ 1
 held_once range p = by (nat_le range.from p && nat_lt p range.to)
@@ -69,8 +70,8 @@ least_one : (n : ℕ) → n ≤ 1 → n ≡ min 1 n
 least_one n low = grind (arith, nat_tests)
 
 -- what a book that is through has done covers its items
-pub done_covers : (b : BookData) → ArePartitioned b → IsWellFormed b → IsThrough b → (place : Place) → times_done b.done place ≡ min 1 (times_listed b.files place)
+pub done_covers : (b : SeenBook) → ArePartitioned b → IsWellFormed b → IsThrough b → (place : Place) → times_done b.done place ≡ min 1 (times_listed b.files place)
 done_covers b partitioned formed through place =
-    let none : times_pending (b.pending ++ live_pieces b) place ≡ 0 = ap₂ (λ (ps qs : List Piece). times_pending (ps ++ qs) place) through.pending through.idle.0 in
+    let none : times_pending (b.pending ++ live_pieces b) place ≡ 0 = ap₂ (λ (ps qs : List Piece). times_pending (ps ++ qs) place) through.pending (idle_pieces b through.idle) in
     let all : times_done b.done place ≡ times_listed b.files place = omega (arith, partitioned.times place, none) in
     all ∙ least_one (times_listed b.files place) (listed_once place (items [] b.plan) b.files formed.lengths (plan_distinct [] b.plan))

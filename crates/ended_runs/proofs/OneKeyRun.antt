@@ -35,7 +35,7 @@ use Rattle.group_cells.specs.Cells.{FiresIts, entries_held, firing_of, once_fire
 use Rattle.group_cells.specs.Commits.{HasLength, NeverFalls, NoneFalls, AreRounds, as_commit, cells_keyed, dropped_arrival, elements_keyed, is_dropped}
 use Rattle.group_cells.specs.Rounds.{IsRound}
 use Rattle.group_cells.proofs.AllKeys.{keep_legal}
-use Rattle.book_core.specs.Book.{BookData}
+use Rattle.book_core.specs.Book.{SeenBook}
 use Rattle.book_core.specs.Runs.{AreOptions}
 use Rattle.book_core.specs.declared.live.Live.{Live}
 use Rattle.book_core.specs.declared.live.WaitingPane.{WaitingPane}
@@ -81,7 +81,7 @@ pub record SoFar : Type 0 where
   pub commits : List CommitMarks
 
 -- its book: pieces that wait, slots, and panes that wait at the Group
-abbrev pub book_of : Plan → ℕ → SoFar → List Piece → List (Option Live) → List WaitingPane → BookData
+abbrev pub book_of : Plan → ℕ → SoFar → List Piece → List (Option Live) → List WaitingPane → SeenBook
 book_of plan len so_far pending slots waiting = record {
   plan = plan;
   files = record { node = 0; item = 0; len = len } ∷ [];
@@ -202,32 +202,17 @@ module _ (estimator : Estimator) (trigger : Trigger) where
   no_gap (suc (suc (suc (suc zero)))) e = tt
   no_gap (suc (suc (suc (suc (suc n))))) e = tt
 
-  -- the rounds of a commit keep the panes legal
-  pub legal_next : IsChecked (pipeline estimator trigger) → (earlier : List CommitMarks) (before after : List StageMarks) (arrivals : List Arrival) (cells new : List Cell) (dropped : List Dropped) (panes fired : List Pane)
-      → length before ≡ 5 → length after ≡ 5 → NeverFalls (earlier ++ as_commit before ∷ [])
-      → AreRounds (pipeline estimator trigger) (length earlier + 1) before after arrivals cells new fired
-      → ArePanesLegal (pipeline estimator trigger) (earlier ++ as_commit before ∷ []) cells dropped panes
-      → ArePanesLegal (pipeline estimator trigger) (earlier ++ as_commit before ∷ as_commit after ∷ []) new
-      (dropped ++ map (dropped_arrival (length earlier + 1)) (filter (is_dropped (pipeline estimator trigger) before) arrivals)) (panes ++ fired)
-  legal_next checked earlier before after arrivals cells new dropped panes fired sized resized never rounds legal =
-      let plan = pipeline estimator trigger in
-      let late = map (dropped_arrival (length earlier + 1)) (filter (is_dropped plan before) arrivals) in
-      keep_legal plan (length earlier + 1) before after arrivals (record { plan = plan; cells = cells; dropped = dropped }) (record { plan = plan; cells = new; dropped = dropped ++ late })
-      fired checked sized resized (λ k d inside group. no_gap (get_or arrivals k d).node (get_or arrivals k d).element) refl rounds earlier panes refl never
-      (λ k d inside. no_gap (get_or (taken_by cells) k d).node (get_or (taken_by cells) k d).element) legal
-
   -- the rounds of all keys, where one cell is left and at most one pane fires
   pub all_rounds : (c : ℕ) (before after : List StageMarks) (arrivals : List Arrival) (cells : List Cell) (cell : Cell) (fired : List Pane)
       → ((k : Value) → IsRound (rules trigger) 3 k c (marks_at before 3).mark_in (marks_at after 3).mark_in (elements_keyed 3 k arrivals) (cells_keyed 3 k cells) (cells_keyed 3 k (cell ∷ [])) (panes_at 3 k fired))
-      → is_group (pipeline estimator trigger) cell.node ≡ true → IsKeyed cell → All (λ pane. is_group (pipeline estimator trigger) pane.node ≡ true) fired → All (λ pane. pane.commit ≡ c) fired
+      → is_group (pipeline estimator trigger) cell.node ≡ true → All (λ pane. is_group (pipeline estimator trigger) pane.node ≡ true) fired → All (λ pane. pane.commit ≡ c) fired
       → length fired ≤ 1 → AreRounds (pipeline estimator trigger) c before after arrivals cells (cell ∷ []) fired
-  all_rounds c before after arrivals cells cell fired rounds here keyed at_groups of_commit few = record {
+  all_rounds c before after arrivals cells cell fired rounds here at_groups of_commit few = record {
     each = λ n k group.
         of_group estimator trigger
         (λ g. IsRound (rules_of (pipeline estimator trigger) g) g k c (marks_at before g).mark_in (marks_at after g).mark_in (elements_keyed g k arrivals) (cells_keyed g k cells) (cells_keyed g k (cell ∷ [])) (panes_at g k fired))
         (rounds k) n group;
     cells_at = one (λ (it : Cell). is_group (pipeline estimator trigger) it.node ≡ true) cell here;
-    keyed = one IsKeyed cell keyed;
     at_groups = at_groups;
     of_commit = of_commit;
     ordered = λ j d from within. absurd (omega (arith, few));

@@ -20,7 +20,7 @@ use Rattle.beam_values.specs.declared.value.Value.{Value}
 use Rattle.beam_values.proofs.Bags.{bag_count, bag_filter, bag_flat_map, bag_from_permutation, bag_trans}
 use Rattle.beam_model.specs.Panes.{ArePanesLegal, AreLegalCells, GroupRules, HasEntries, IsKeyed, IsLegalHistory, Stands, StandsNext, Taken, TellsPanes, arrives, belongs, entries_upto, is_at_key, is_cell_at_key, is_late, mark_after, panes_at, panes_before, panes_in, rules_of, taken_at, taken_by, taken_drop, taken_entry}
 use Rattle.group_cells.proofs.LongerHistory.{fired_moved}
-use Rattle.book_core.specs.Book.{BookData}
+use Rattle.book_core.specs.Book.{SeenBook}
 use Rattle.book_core.specs.Calls.{IsOutcomeOf}
 use Rattle.book_core.proofs.Through.{passes_have}
 
@@ -125,7 +125,7 @@ legal_alike plan commits cells more dropped panes moved h =
       ordered = h.ordered;
     }
 
-pub outcome_legal : (b : BookData) (o : Outcome) → ArePanesLegal b.plan b.commits b.cells b.dropped b.panes → IsOutcomeOf b o
+pub outcome_legal : (b : SeenBook) (o : Outcome) → ArePanesLegal b.plan b.commits b.cells b.dropped b.panes → IsOutcomeOf b o
     → ArePanesLegal o.plan o.commits o.cells o.dropped o.panes
 outcome_legal b o legal of =
     subst (λ (p : Plan). ArePanesLegal p o.commits o.cells o.dropped o.panes) (sym of.plan)

@@ -22,7 +22,7 @@ use Rattle.beam_model.specs.Positions.{Emission, Emits, Poison, SourceItem, Time
 use Rattle.bundle_commit.specs.declared.job.Receipt.{Receipt}
 use Rattle.split_core.specs.Order.{with_piece}
 use Rattle.split_core.proofs.Ordered.{All-with_piece}
-use Rattle.book_core.specs.Book.{BookData, piece_of, live_pieces}
+use Rattle.book_core.specs.Book.{SeenBook, piece_of, live_pieces}
 use Rattle.book_core.specs.Changes.{with_slot, cut_to, rest_of, given_back, tried_piece, counted, stopped_where, ends_run, note_of, pending_after, residual_of, with_residual}
 use Rattle.book_core.specs.Jobs.{Next, attempted_of, job_of}
 use Rattle.book_core.specs.Runs.{Reached, IsOpening, pieces_of}
@@ -33,9 +33,9 @@ use Rattle.book_core.specs.declared.live.Live.TheVariants as live
 use Rattle.book_core.proofs.Cases.{Keeps, AreAlways, Both, kept_with, always_reached}
 use Rattle.book_core.proofs.CellsKept.{found_has}
 use Rattle.book_core.proofs.EarlyEnds.{items_set}
-use Rattle.book_core.proofs.Formed.{reached_formed}
 use Rattle.book_core.proofs.OpenedPieces.{all_pieces, enrolled_of}
 use Rattle.book_core.proofs.Reaching.{HasSamePlan, opening_of, reached_more}
+use Rattle.book_core.proofs.SaneAlways.{reached_sane}
 use Rattle.book_core.proofs.Slotted.{All-append_left, All-append_right, All-flat_set, All-flat_at}
 use Rattle.book_core.proofs.Taking.{take_cases}
 use Rattle.ended_runs.proofs.Above.{KnownLaws}
@@ -82,7 +82,7 @@ over_is_time e item set (p ∷ ps) seen is =
 
 -- ---- reached books as a fact that each step keeps
 
-pub opening_reached : (told : Option (List FileText)) (b first : BookData) → IsOpening b.plan b.files b.options first → Reached told first
+pub opening_reached : (told : Option (List FileText)) (b first : SeenBook) → IsOpening b.plan b.files b.options first → Reached told first
 opening_reached told b first opening = record {
   first = first;
   opening = opening_of first b first (subst (HasSamePlan b) (sym opening.is) (record { plan = refl; files = refl; options = refl })) opening;
@@ -101,10 +101,10 @@ reached_always told = record {
 abbrev pub IsSeenTime : Piece → Type 0
 IsSeenTime piece = IsTime piece.seen
 
-abbrev pub AreSeenTimes : BookData → Type 0
+abbrev pub AreSeenTimes : SeenBook → Type 0
 AreSeenTimes b = All IsSeenTime (b.pending ++ live_pieces b)
 
-module _ (b : BookData) (h : AreSeenTimes b) where
+module _ (b : SeenBook) (h : AreSeenTimes b) where
   pending_times : All IsSeenTime b.pending
   pending_times = All-append_left IsSeenTime b.pending (live_pieces b) h
 
@@ -135,35 +135,35 @@ module _ (b : BookData) (h : AreSeenTimes b) where
       by true = All-with_piece IsSeenTime (record piece { range = record { from = worked_to piece attempted; to = piece.range.to }; seen = receipt.seen; attempts = 0 }) b.pending is pending_times
       by false = pending_times
 
-  back_times : (slot : ℕ) (job : Live) (cause : Cause) → IsWorking b slot job → AreSeenTimes (counted (given_back (with_slot b slot None) job) cause)
-  back_times slot (live.Span piece attempted) Call works =
+  back_times : (slot : ℕ) (job : Live) (at : ℕ) (cause : Cause) → IsWorking b slot job → AreSeenTimes (counted (given_back (with_slot b slot None) job at cause) cause)
+  back_times slot (live.Span piece attempted) at Call works =
       set_times (with_piece (tried_piece piece) b.pending) slot None (All-with_piece IsSeenTime (tried_piece piece) b.pending (worked_time slot piece attempted works) pending_times) (All-nil IsSeenTime)
-  back_times slot (live.Span piece attempted) Read works =
+  back_times slot (live.Span piece attempted) at Read works =
       set_times (with_piece (tried_piece piece) b.pending) slot None (All-with_piece IsSeenTime (tried_piece piece) b.pending (worked_time slot piece attempted works) pending_times) (All-nil IsSeenTime)
-  back_times slot (live.Batch batch) Call works = set_times b.pending slot None pending_times (All-nil IsSeenTime)
-  back_times slot (live.Batch batch) Read works = set_times b.pending slot None pending_times (All-nil IsSeenTime)
+  back_times slot (live.Batch batch) at Call works = set_times b.pending slot None pending_times (All-nil IsSeenTime)
+  back_times slot (live.Batch batch) at Read works = set_times b.pending slot None pending_times (All-nil IsSeenTime)
 
-stop_times : (spent : Bool) (x : BookData) (note : FaultNote) → AreSeenTimes x → AreSeenTimes (stopped_where spent x note)
+stop_times : (spent : Bool) (x : SeenBook) (note : FaultNote) → AreSeenTimes x → AreSeenTimes (stopped_where spent x note)
 stop_times true x note h = h
 stop_times false x note h = h
 
-first_times : (b first : BookData) → IsOpening b.plan b.files b.options first → AreSeenTimes first
+first_times : (b first : SeenBook) → IsOpening b.plan b.files b.options first → AreSeenTimes first
 first_times b first opening =
     subst AreSeenTimes (sym opening.is)
     (All-append IsSeenTime (pieces_of b.options.chunk b.files) []
     (all_pieces IsSeenTime (λ node item chunk len i. (omega (arith, ints), omega (arith, ints))) b.options.chunk b.files [] (All-nil IsSeenTime)) (All-nil IsSeenTime))
 
 module _ (laws : KnownLaws) (told : List FileText) where
-  receipt_time : (b : BookData) → Reached (Some told) b → (piece : Piece) (upto : ℕ) (receipt : Receipt) → IsTime piece.seen → (found : Option SourceItem)
+  receipt_time : (b : SeenBook) → Reached (Some told) b → (piece : Piece) (upto : ℕ) (receipt : Receipt) → IsTime piece.seen → (found : Option SourceItem)
       → item_at (items told b.plan) piece.node piece.item ≡ found → IsWorkOnItem b.plan piece upto found receipt → IsTime receipt.seen
   receipt_time b reached piece upto receipt is None at work = subst IsTime (sym work.1) is
   receipt_time b reached piece upto receipt is (Some item) at work =
-      let checked = (reached_formed (Some told) b reached).checked in
+      let checked = (reached_sane (Some told) b reached).formed.checked in
       let set = found_has (is_item piece.node piece.item) HasArgument (items told b.plan) item
       (items_set laws.windows b.plan (λ n node here. laws.settings b.plan n node checked here) told) at in
       subst IsTime (sym work.seen) (over_is_time (estimator_of b.plan piece.node) item set (offsets piece.range.from (upto - piece.range.from)) piece.seen is)
 
-  commit_times : (b : BookData) (slot : ℕ) (job : Live) (receipt : Receipt) → Reached (Some told) b → AreSeenTimes b → IsWorking b slot job
+  commit_times : (b : SeenBook) (slot : ℕ) (job : Live) (receipt : Receipt) → Reached (Some told) b → AreSeenTimes b → IsWorking b slot job
       → IsGiven (Some told) b.plan (job_of b.panes job) (attempted_of job) receipt → All IsSeenTime (pending_after b.pending job receipt ++ flat_map piece_of (slice_set b.slots slot None))
   commit_times b slot (live.Span piece attempted) receipt reached h works given =
       set_times b h (with_residual (residual_of piece attempted receipt) b.pending) slot None
@@ -175,7 +175,7 @@ module _ (laws : KnownLaws) (told : List FileText) where
   keeps_times = record {
     opens = first_times;
     enrolls = λ b known h within. subst (λ (l : List Piece). All IsSeenTime (b.pending ++ l)) (sym (enrolled_of piece_of b.slots refl)) h;
-    takes = λ b slot next known h running free is.
+    takes = λ b slot next known h running free is within.
         take_cases b (λ (n : Next). AreSeenTimes (with_slot n.rest slot (Some n.job)))
         (λ batch among. set_times b h b.pending slot (Some (live.Batch batch)) (pending_times b h) (All-nil IsSeenTime))
         (λ batch oldest. set_times b h b.pending slot (Some (live.Batch batch)) (pending_times b h) (All-nil IsSeenTime))
@@ -189,12 +189,12 @@ module _ (laws : KnownLaws) (told : List FileText) where
         set_times b h (with_piece rest b.pending) slot (Some (live.Span front attempted)) (All-with_piece IsSeenTime rest b.pending is (pending_times b h)) (one_time b h front is);
     commits = λ b slot job receipt cells fired marks known h made. commit_times b slot job receipt known h made.works made.given;
     fails = λ b slot at job cause known h works.
-        stop_times (ends_run b job cause) (counted (given_back (with_slot b slot None) job) cause) (note_of job at cause) (back_times b h slot job cause works);
+        stop_times (ends_run b job cause) (counted (given_back (with_slot b slot None) job at cause) cause) (note_of job at cause) (back_times b h slot job at cause works);
     stops = λ b known h. h;
   }
 
   pub seen_times_always : AreAlways (Some told) (Both (Reached (Some told)) AreSeenTimes)
   seen_times_always = kept_with (Some told) (Reached (Some told)) AreSeenTimes (reached_always (Some told)) keeps_times
 
-  pub reached_seen_times : (b : BookData) → Reached (Some told) b → AreSeenTimes b
+  pub reached_seen_times : (b : SeenBook) → Reached (Some told) b → AreSeenTimes b
   reached_seen_times b reached = (always_reached (Some told) (Both (Reached (Some told)) AreSeenTimes) seen_times_always b reached).1

@@ -1,13 +1,15 @@
 -- What a run keeps of the Groups above a barrier with sound estimators and default triggers: nothing is dropped, what is taken began in time, and panes are held
 -- no later than their times.
-use Rattle.std.proofs.Common.{◌≡◌, ◌⊎◌, inl, inr, ℕ, ◌+◌, ◌-◌, ◌<◌, ℤ, pos, Bool, true, false, cond, List, [], ◌∷◌, ◌++◌, length, map, refl, sym, ap, subst, ◌∙◌, append_assoc, length-append, arith}
-use Rattle.std.specs.Prelude.{Option, Some, None, ◌==◌, ◌&&◌, ◌||◌, ◌≤ℤ◌, ◌<ℤ◌, ◌-ℤ◌, not, nat_lt, int_le, int_lt, slice_get}
+use Rattle.std.proofs.Common.{◌≡◌, ◌⊎◌, inl, inr, ℕ, ◌+◌, ◌-◌, ◌<◌, ℤ, pos, Bool, true, false, cond, List, [], ◌∷◌, ◌++◌, length, map, get_or, refl, sym, ap, subst, ◌∙◌, append_assoc, length-append, arith}
+use Rattle.std.specs.Prelude.{Option, Some, None, ◌==◌, ◌&&◌, ◌||◌, ◌≤ℤ◌, ◌<ℤ◌, ◌-ℤ◌, not, nat_lt, int_le, int_lt, slice_get, unwrap_or}
 use Rattle.std.specs.Int.{int_max}
 use Rattle.std.specs.List.{All, enumerate_from, filter}
 use Rattle.std.proofs.lemmas.Bool.{and_parts, and_from}
 use Rattle.std.proofs.lemmas.Bool.Decides.{nat_tests}
 use Rattle.std.proofs.lemmas.Int.{by_lt_z, ints, clamps, fold-int_min_reached}
 use Rattle.std.proofs.lemmas.List.Elements.{All-nil, All-cons, All-head, All-tail, All-contains, All-filter, All-map, All-weaker}
+use Rattle.std.specs.Option.{option_map}
+use Rattle.std.proofs.lemmas.Option.{slice_get-get_or}
 use Rattle.beam_values.specs.Bags.{IsSameBag}
 use Rattle.beam_values.specs.Grouping.{last_time}
 use Rattle.beam_values.specs.Intervals.{Interval}
@@ -22,12 +24,21 @@ use Rattle.beam_values.specs.declared.plan.Strategy.{Strategy}
 use Rattle.beam_values.specs.declared.plan.Strategy.TheVariants as strategy
 use Rattle.beam_model.specs.Holds.{Hold, least_hold, marks_held}
 use Rattle.beam_model.specs.Panes.{Taken, mark_after}
+use Rattle.group_cells.specs.Commits.{as_commit}
 use Rattle.book_core.specs.Book.{HeldPane}
 use Rattle.book_core.proofs.HeldOnce.{All-of_bag, get_at_end, get_front}
 use Rattle.book_core.proofs.Queues.{held_fired}
 use Rattle.ended_runs.proofs.Above.{StartsAbove}
-use Rattle.book_core.proofs.FiredNow.{mark_front}
 use Rattle.ended_runs.proofs.ToCome.{last_is_time}
+
+-- the marks of earlier commits stay
+pub mark_front : (commits more : List CommitMarks) (node i : ℕ) → i < length commits → mark_after (commits ++ more) node i ≡ mark_after commits node i
+mark_front commits more node i inside =
+    let at = slice_get-get_or commits i (as_commit []) inside in
+    ap read (get_front commits more i (get_or commits i (as_commit [])) at) ∙ sym (ap read at)
+  where
+    read : Option CommitMarks → ℤ
+    read found = (marks_at (unwrap_or (option_map (λ (commit : CommitMarks). commit.marks) found) []) node).mark_in
 
 either : (t u : Bool) → (not t || u) ≡ true → t ≡ true → u ≡ true
 either true u e is = e

@@ -36,50 +36,48 @@ use Rattle.beam_model.specs.Positions.{items}
 use Rattle.bundle_commit.specs.declared.job.Receipt.{Receipt}
 use Rattle.group_cells.specs.Commits.{as_commit, dropped_arrival, is_at_group, is_dropped, is_taken, taken_arrival}
 use Rattle.watermarks.proofs.Rising.{below_hold, marks_are_marks}
-use Rattle.book_core.specs.Book.{BookData, HeldPane, AreMarksOfBook, batch_of, held, held_in, hold_of, holds, last_marks, live_pieces}
+use Rattle.book_core.specs.Book.{SeenBook, HeldPane, AreMarksOfBook, batch_of, held, held_in, hold_of, holds, last_marks, live_pieces}
 use Rattle.book_core.specs.Changes.{with_slot, cut_to, split_off, committed, failed, given_back, counted, stopped_where, ends_run, note_of, written_by}
-use Rattle.book_core.specs.Facts.{AreHeldOnce, IsWellFormed}
+use Rattle.book_core.specs.Facts.{AreHeldOnce, IsEarlyPane, IsWellFormed}
 use Rattle.book_core.specs.Runs.{Reached, IsOpening}
 use Rattle.book_core.specs.Steps.{Commit, Committed, IsWorking}
 use Rattle.book_core.specs.declared.live.Live.{Live}
 use Rattle.book_core.specs.declared.live.Live.TheVariants as live
 use Rattle.book_core.proofs.Cases.{Keeps, Commits, Both, kept_with, always_reached, enrolled}
-use Rattle.book_core.proofs.CellsAlways.{StaysCelled, fail_stays, reached_celled, take_stays}
-use Rattle.book_core.proofs.EarlyAlways.{IsEarlyPane, reached_early}
-use Rattle.book_core.proofs.Formed.{reached_formed}
+use Rattle.book_core.proofs.AllKept.{reached_kept_with, reached_seen}
+use Rattle.book_core.proofs.CellsAlways.{commit_entries}
 use Rattle.book_core.proofs.HeldMoves.{back_moves, enroll_moves, fired_held, set_moves, take_moves}
-use Rattle.book_core.proofs.HeldOnce.{commit_bag, none_held, reached_held}
+use Rattle.book_core.proofs.HeldOnce.{commit_bag, none_held}
 use Rattle.book_core.specs.Indexes.{all_holds}
 use Rattle.book_core.proofs.Reaching.{reached_more}
-use Rattle.book_core.proofs.RisingMarks.{reached_marked, reached_marks}
-use Rattle.book_core.proofs.SeenAlways.{reached_seen}
+use Rattle.book_core.proofs.SaneAlways.{reached_sane}
+use Rattle.book_core.proofs.SaneResults.{StaysCelled, fail_stays, take_stays}
 use Rattle.book_core.proofs.Slotted.{All-append_left, All-append_right}
 use Rattle.ended_runs.proofs.Above.{IsAbove, KnownLaws, StartsAbove}
-use Rattle.book_core.proofs.FiredNow.{fired_now, mark_front}
 use Rattle.ended_runs.proofs.PanesWell.{IsSpanWell, pane_times, panes_early, panes_well}
 use Rattle.ended_runs.proofs.SeenTimes.{reached_always, reached_seen_times}
-use Rattle.ended_runs.proofs.SoFar.{IsFiredNow, IsHeldSo, IsTakenAbove, held_later, held_now, held_of_bag, least_is_mark, taken_later, taken_of_bag}
+use Rattle.ended_runs.proofs.SoFar.{IsFiredNow, IsHeldSo, IsTakenAbove, held_later, held_now, held_of_bag, least_is_mark, mark_front, taken_later, taken_of_bag}
 use Rattle.ended_runs.proofs.ToCome.{IsPaneWell, arrivals_above, lag_of, mark_time}
 
 -- ---- what stays the same
 
-stop_same : (spent : Bool) (x : BookData) (note : FaultNote) → held (stopped_where spent x note) ≡ held x
+stop_same : (spent : Bool) (x : SeenBook) (note : FaultNote) → held (stopped_where spent x note) ≡ held x
 stop_same true x note = refl
 stop_same false x note = refl
 
-counted_same : (x : BookData) (cause : Cause) → held (counted x cause) ≡ held x
+counted_same : (x : SeenBook) (cause : Cause) → held (counted x cause) ≡ held x
 counted_same x Call = refl
 counted_same x Read = refl
 
-fail_moves : (b : BookData) (slot at : ℕ) (job : Live) (cause : Cause) → IsWorking b slot job → IsSameBag (held (failed b slot job at cause)) (held b)
+fail_moves : (b : SeenBook) (slot at : ℕ) (job : Live) (cause : Cause) → IsWorking b slot job → IsSameBag (held (failed b slot job at cause)) (held b)
 fail_moves b slot at job cause works =
-    let back = given_back (with_slot b slot None) job in
+    let back = given_back (with_slot b slot None) job at cause in
     bag_trans (held (failed b slot job at cause)) (held back) (held b)
     (bag_from_same (held (failed b slot job at cause)) (held back) (stop_same (ends_run b job cause) (counted back cause) (note_of job at cause) ∙ counted_same back cause))
-    (back_moves b slot job works)
+    (back_moves b slot job at cause works)
 
 -- a commit that was made leads to a reached book
-pub committed_reached : (told : Option (List FileText)) (b : BookData) (slot : ℕ) (job : Live) (receipt : Receipt) (cells : List Cell) (fired : List Pane) (marks : List StageMarks) → Reached told b
+pub committed_reached : (told : Option (List FileText)) (b : SeenBook) (slot : ℕ) (job : Live) (receipt : Receipt) (cells : List Cell) (fired : List Pane) (marks : List StageMarks) → Reached told b
     → Commits told b slot job receipt cells fired marks → Reached told (committed b slot job receipt cells fired marks)
 committed_reached told b slot job receipt cells fired marks reached made =
     reached_more told b (committed b slot job receipt cells fired marks) slot Commit Committed (
@@ -88,16 +86,13 @@ committed_reached told b slot job receipt cells fired marks reached made =
         job = job;
         works = made.works;
         given = made.given;
-        commit = record { cells = cells; fired = fired; marks = marks; is = refl; entries = made.entries; marked = made.marked; legal = made.legal };
+        commit = record { cells = cells; fired = fired; marks = marks; is = refl; marked = made.marked; rounds = made.rounds };
       },
       made.within,
     ) reached
 
-pub some_commit : (told : Option (List FileText)) (b : BookData) → Reached told b → 1 ≤ length b.commits
-some_commit told b reached =
-    let marked = reached_marked told b reached in
-    let is = ap length marked.commits in
-    omega (arith, is, length-append marked.earlier (as_commit marked.before ∷ []))
+pub some_commit : (told : Option (List FileText)) (b : SeenBook) → Reached told b → 1 ≤ length b.commits
+some_commit told b reached = (reached_sane told b reached).marks.some
 
 module _ (laws : KnownLaws) (told : List FileText) (to : ℕ) where
   pub record IsSoundFor (plan : Plan) : Type 0 where
@@ -110,10 +105,10 @@ module _ (laws : KnownLaws) (told : List FileText) (to : ℕ) where
     pub held : All (IsHeldSo to plan panes) holding
     pub some_written : All (λ a. (a.node == to || is_above plan a.node to) ≡ true → IsNonEmpty a.element.span) written
 
-  abbrev pub IsSoFar : BookData → Type 0
+  abbrev pub IsSoFar : SeenBook → Type 0
   IsSoFar b = IsSoundFor b.plan → IsSoFarOf b.plan b.commits b.cells b.dropped b.panes b.written (held b)
 
-  so_far_onward : (old new : BookData) → StaysCelled old new → IsSameBag (held new) (held old) → IsSoFar old → IsSoFar new
+  so_far_onward : (old new : SeenBook) → StaysCelled old new → IsSameBag (held new) (held old) → IsSoFar old → IsSoFar new
   so_far_onward old new s same h sound =
       let was = h (subst IsSoundFor s.plan sound) in
       let moved : IsSoFarOf old.plan old.commits old.cells old.dropped old.panes old.written (held new) = record {
@@ -131,22 +126,22 @@ module _ (laws : KnownLaws) (told : List FileText) (to : ℕ) where
 
   -- ---- a commit
 
-  module _ (b : BookData) (slot : ℕ) (job : Live) (receipt : Receipt) (cells : List Cell) (fired : List Pane) (marks : List StageMarks) (reached : Reached (Some told) b)
+  module _ (b : SeenBook) (slot : ℕ) (job : Live) (receipt : Receipt) (cells : List Cell) (fired : List Pane) (marks : List StageMarks) (reached : Reached (Some told) b)
       (sound : IsSoundFor b.plan) (was : IsSoFarOf b.plan b.commits b.cells b.dropped b.panes b.written (held b)) (made : Commits (Some told) b slot job receipt cells fired marks) where
-    abbrev after : BookData
+    abbrev after : SeenBook
     after = committed b slot job receipt cells fired marks
 
     abbrev before : List StageMarks
     before = last_marks b
 
     formed : IsWellFormed b
-    formed = reached_formed (Some told) b reached
+    formed = (reached_sane (Some told) b reached).formed
 
     once : AreHeldOnce b
-    once = reached_held (Some told) b reached
+    once = (reached_sane (Some told) b reached).held
 
     marked : AreMarksOfBook b (last_marks b)
-    marked = (reached_marks (Some told) b reached).last
+    marked = (reached_sane (Some told) b reached).marks.last
 
     reached_after : Reached (Some told) (committed b slot job receipt cells fired marks)
     reached_after = committed_reached (Some told) b slot job receipt cells fired marks reached made
@@ -159,8 +154,8 @@ module _ (laws : KnownLaws) (told : List FileText) (to : ℕ) where
 
     come_above : All Comes receipt.arrivals
     come_above =
-        let celled = reached_celled laws.strategies (Some told) b reached in
-        arrivals_above laws told to b (reached_formed (Some told) b reached).checked (reached_marks (Some told) b reached).last sound.sound (reached_seen told b reached) (reached_held (Some told) b reached)
+        let celled = (reached_kept_with laws.strategies laws.settings laws.windows (Some told) b reached).kept.cells in
+        arrivals_above laws told to b (reached_sane (Some told) b reached).formed.checked (reached_sane (Some told) b reached).marks.last sound.sound (reached_seen told b reached) (reached_sane (Some told) b reached).held
         (panes_well b.plan to sound.triggers b.commits b.cells b.dropped b.panes celled.legal
         (All-weaker (IsTakenAbove to b.plan b.commits) (λ t. is_above b.plan t.node to ≡ true → IsSpanWell t.element.span) (λ t h above. ((h above).past, (h above).some)) (taken_by b.cells) was.taken))
         (All-weaker (IsHeldSo to b.plan b.panes) (λ h. is_above b.plan h.node to ≡ true → (p : Pane) → slice_get b.panes h.waiting.pane ≡ Some p → h.waiting.hold ≤ℤ p.element.time)
@@ -205,7 +200,7 @@ module _ (laws : KnownLaws) (told : List FileText) (to : ℕ) where
     taken_after =
         let news = filter (is_taken b.plan (last_marks b)) receipt.arrivals in
         let both = taken_by b.cells ++ map (taken_arrival (length b.commits)) news in
-        taken_of_bag to b.plan (b.commits ++ as_commit marks ∷ []) both (taken_by cells) (bag_sym (taken_by cells) both made.entries)
+        taken_of_bag to b.plan (b.commits ++ as_commit marks ∷ []) both (taken_by cells) (bag_sym (taken_by cells) both (commit_entries (Some told) b slot job receipt cells fired marks (reached_kept_with laws.strategies laws.settings laws.windows (Some told) b reached).kept.cells.legal made))
         (All-append (IsTakenAbove to b.plan (b.commits ++ as_commit marks ∷ [])) (taken_by b.cells) (map (taken_arrival (length b.commits)) news)
         (All-weaker (IsTakenAbove to b.plan b.commits) (IsTakenAbove to b.plan (b.commits ++ as_commit marks ∷ [])) (taken_later to b.plan b.commits (as_commit marks ∷ [])) (taken_by b.cells) was.taken)
         (All-map (IsTakenAbove to b.plan (b.commits ++ as_commit marks ∷ [])) (taken_arrival (length b.commits)) news
@@ -226,9 +221,9 @@ module _ (laws : KnownLaws) (told : List FileText) (to : ℕ) where
     -- all marks are marks
     all_marks : (n : ℕ) → IsMark (marks_at before n).mark_in × IsMark (marks_at before n).mark_out
     all_marks n =
-        let checked = (reached_formed (Some told) b reached).checked in
+        let checked = (reached_sane (Some told) b reached).formed.checked in
         let settings = λ (m : ℕ) (node : Node) (here : slice_get b.plan.nodes m ≡ Some node). laws.settings b.plan m node checked here in
-        marks_are_marks b.plan (least_hold (all_holds b)) before checked (reached_marks (Some told) b reached).last
+        marks_are_marks b.plan (least_hold (all_holds b)) before checked (reached_sane (Some told) b reached).marks.last
         (λ m inside. least_is_mark (all_holds b)
         (All-append (λ h. IsMark h.mark) (map (piece_hold b.plan) (b.pending ++ live_pieces b)) (holds b)
         (All-map (λ h. IsMark h.mark) (piece_hold b.plan) (b.pending ++ live_pieces b)
@@ -243,16 +238,15 @@ module _ (laws : KnownLaws) (told : List FileText) (to : ℕ) where
     fired_facts : All (IsFiredNow to b.plan before) fired
     fired_facts k d inside =
         let p = get_or fired k d in
-        let legal = made.legal in
+        let legal = (reached_kept_with laws.strategies laws.settings laws.windows (Some told) after reached_after).kept.cells.legal in
         let own_taken = All-weaker (IsTakenAbove to b.plan after.commits) (λ t. is_above b.plan t.node to ≡ true → IsSpanWell t.element.span) (λ t h above. ((h above).past, (h above).some)) (taken_by cells) taken_after in
         let well = All-append_right (λ (x : Pane). is_above b.plan x.node to ≡ true → IsPaneWell x) b.panes fired
         (panes_well b.plan to sound.triggers after.commits cells after.dropped (b.panes ++ fired) legal own_taken) k d inside in
         let time = All-append_right (λ (x : Pane). x.element.time ≡ last_time x.element.span) b.panes fired (pane_times b.plan after.commits cells after.dropped (b.panes ++ fired) legal) k d inside in
-        let now = fired_now b.plan b.commits (as_commit marks) b.cells cells b.dropped after.dropped b.panes fired (filter (is_taken b.plan before) receipt.arrivals) some
-        (reached_celled laws.strategies (Some told) b reached).legal legal made.entries k d inside in
+        let now = made.rounds.of_commit k d inside in
         let early = All-append_right (λ (x : Pane). is_above b.plan x.node to ≡ true → mark_after after.commits x.node (x.commit - 1) <ℤ x.element.span.end) b.panes fired
-        (panes_early b.plan to sound.triggers after.commits cells after.dropped (b.panes ++ fired) legal (reached_marks (Some told) after reached_after).never_fall (some_commit (Some told) after reached_after)) k d inside in
-        let ends = (All-append_right IsEarlyPane b.panes fired (reached_early laws.windows laws.settings (Some told) after reached_after).panes k d inside).1 in
+        (panes_early b.plan to sound.triggers after.commits cells after.dropped (b.panes ++ fired) legal (reached_sane (Some told) after reached_after).marks.never_fall (some_commit (Some told) after reached_after)) k d inside in
+        let ends = (All-append_right IsEarlyPane b.panes fired (reached_kept_with laws.strategies laws.settings laws.windows (Some told) after reached_after).early.panes k d inside).1 in
         let group = All-append_right (λ (x : Pane). is_group b.plan x.node ≡ true) b.panes fired legal.panes_at k d inside in
         let there = group_there p.node group in
         record {
@@ -298,7 +292,7 @@ module _ (laws : KnownLaws) (told : List FileText) (to : ℕ) where
 
   -- ---- each step
 
-  opening_so_far : (b first : BookData) → IsOpening b.plan b.files b.options first → IsSoFar first
+  opening_so_far : (b first : SeenBook) → IsOpening b.plan b.files b.options first → IsSoFar first
   opening_so_far b first opening =
       subst IsSoFar (sym opening.is)
       (λ sound. record {
@@ -313,8 +307,8 @@ module _ (laws : KnownLaws) (told : List FileText) (to : ℕ) where
     opens = opening_so_far;
     enrolls = λ b known h within.
         so_far_onward b (enrolled b) (record { plan = refl; commits = refl; cells = refl; dropped = refl; panes = refl; written = refl }) (enroll_moves b) h;
-    takes = λ b slot next known h running free is.
-        so_far_onward b (with_slot next.rest slot (Some next.job)) (take_stays b slot next is) (take_moves b slot free (reached_held (Some told) b known) next is) h;
+    takes = λ b slot next known h running free is within.
+        so_far_onward b (with_slot next.rest slot (Some next.job)) (take_stays b slot next is) (take_moves b slot free (reached_sane (Some told) b known).held next is) h;
     claims = λ b slot p piece attempted known h works may.
         so_far_onward b (with_slot b slot (Some (live.Span piece (Some p)))) (record { plan = refl; commits = refl; cells = refl; dropped = refl; panes = refl; written = refl })
         (set_moves b slot (Some (live.Span piece attempted)) (Some (live.Span piece (Some p))) works refl refl) h;
@@ -326,6 +320,6 @@ module _ (laws : KnownLaws) (told : List FileText) (to : ℕ) where
     stops = λ b known h. h;
   }
 
-  pub reached_so_far : (b : BookData) → Reached (Some told) b → IsSoFar b
+  pub reached_so_far : (b : SeenBook) → Reached (Some told) b → IsSoFar b
   reached_so_far b reached =
       (always_reached (Some told) (Both (Reached (Some told)) IsSoFar) (kept_with (Some told) (Reached (Some told)) IsSoFar (reached_always (Some told)) keeps_so_far) b reached).1

@@ -7,7 +7,7 @@ use Rattle.beam_values.specs.declared.fault.FaultNote.{FaultNote}
 use Rattle.beam_values.specs.declared.outcome.StopCause.{StopCause}
 use Rattle.beam_values.specs.declared.outcome.StopCause.TheVariants as stop
 use Rattle.beam_values.specs.declared.piece.Piece.{Piece}
-use Rattle.book_core.specs.Book.{BookData}
+use Rattle.book_core.specs.Book.{SeenBook}
 use Rattle.book_core.specs.Changes.{counted, ends_run, given_back, note_of, or_stopped, stopped_where, with_slot}
 use Rattle.book_core.specs.Facts.{IsStopNoted}
 use Rattle.book_core.specs.Jobs.{Due, GivenBack, Oldest, Next, attempted_of, due_or_piece, first_due, job_of, without_due, without_first}
@@ -20,8 +20,8 @@ use Rattle.book_core.proofs.Reaching.{HasSamePlan, opening_of, step_same}
 use Rattle.ended_runs.specs.Stops.{IsHonestStop}
 
 -- what a stop says, but for the number of its attempts
-record FoundStop (known : Surroundings) (b : BookData) (note : FaultNote) : Type 0 where
-  before : BookData
+record FoundStop (known : Surroundings) (b : SeenBook) (note : FaultNote) : Type 0 where
+  before : SeenBook
   reached : HonestlyReached known before
   steps : List MadeStep
   onward : HonestRun known before steps b
@@ -32,18 +32,18 @@ record FoundStop (known : Surroundings) (b : BookData) (note : FaultNote) : Type
   tells : note ≡ note_of job note.at note.cause
   honest : IsHonest known before.plan (job_of before.panes job) (attempted_of job) note.at note.cause
 
-abbrev Finds : Surroundings → BookData → Type 0
+abbrev Finds : Surroundings → SeenBook → Type 0
 Finds known b = (note : FaultNote) → b.stopped ≡ Some (stop.Spent note) → FoundStop known b note
 
 -- ---- a longer run
 
-honest_run_more : (known : Surroundings) (steps : List MadeStep) (b mid end : BookData) (made : MadeStep) → HonestRun known b steps mid
+honest_run_more : (known : Surroundings) (steps : List MadeStep) (b mid end : SeenBook) (made : MadeStep) → HonestRun known b steps mid
     → Step known.told mid made.slot made.action made.answer end → IsHonestAction known mid made.slot made.action → HonestRun known b (steps ++ made ∷ []) end
 honest_run_more known [] b mid end made run step honest =
-    (end, subst (λ (x : BookData). Step known.told x made.slot made.action made.answer end) run step, subst (λ (x : BookData). IsHonestAction known x made.slot made.action) run honest, refl)
+    (end, subst (λ (x : SeenBook). Step known.told x made.slot made.action made.answer end) run step, subst (λ (x : SeenBook). IsHonestAction known x made.slot made.action) run honest, refl)
 honest_run_more known (first ∷ later) b mid end made run step honest = (run.0, run.1, run.2, honest_run_more known later run.0 mid end made run.3 step honest)
 
-pub honest_more : (known : Surroundings) (b new : BookData) (made : MadeStep) → Step known.told b made.slot made.action made.answer new → IsHonestAction known b made.slot made.action
+pub honest_more : (known : Surroundings) (b new : SeenBook) (made : MadeStep) → Step known.told b made.slot made.action made.answer new → IsHonestAction known b made.slot made.action
     → HonestlyReached known b → HonestlyReached known new
 honest_more known b new made step honest reached = record {
   first = reached.first;
@@ -55,21 +55,21 @@ honest_more known b new made step honest reached = record {
 -- ---- one step
 
 -- a fail in this very step gave the note
-record GivesNote (known : Surroundings) (b : BookData) (slot : ℕ) (note : FaultNote) : Type 0 where
+record GivesNote (known : Surroundings) (b : SeenBook) (slot : ℕ) (note : FaultNote) : Type 0 where
   job : Live
   works : IsWorking b slot job
   tells : note ≡ note_of job note.at note.cause
   honest : IsHonest known b.plan (job_of b.panes job) (attempted_of job) note.at note.cause
 
 -- a note that stops the book after a step stopped it before, or comes of the step
-abbrev StopsBy : Surroundings → BookData → ℕ → BookData → Type 0
+abbrev StopsBy : Surroundings → SeenBook → ℕ → SeenBook → Type 0
 StopsBy known b slot new = (note : FaultNote) → new.stopped ≡ Some (stop.Spent note) → (b.stopped ≡ Some (stop.Spent note)) ⊎ GivesNote known b slot note
 
 -- a step that leaves the cause of a stop as it was
-stops_same : (known : Surroundings) (b : BookData) (slot : ℕ) (new : BookData) → new.stopped ≡ b.stopped → StopsBy known b slot new
+stops_same : (known : Surroundings) (b : SeenBook) (slot : ℕ) (new : SeenBook) → new.stopped ≡ b.stopped → StopsBy known b slot new
 stops_same known b slot new same note is = inl (sym same ∙ is)
 
-take_stopped : (b : BookData) (due : Option Due) (pieces : List Piece) (next : Next) → b.pending ≡ pieces → due_or_piece b due ≡ Some next → next.rest.stopped ≡ b.stopped
+take_stopped : (b : SeenBook) (due : Option Due) (pieces : List Piece) (next : Next) → b.pending ≡ pieces → due_or_piece b due ≡ Some next → next.rest.stopped ≡ b.stopped
 take_stopped b (Some (GivenBack batch)) pieces next is h = let e : without_due b (GivenBack batch) ≡ next = cc in sym (ap (λ (n : Next). n.rest.stopped) e)
 take_stopped b (Some (Oldest batch)) pieces next is h = let e : without_due b (Oldest batch) ≡ next = cc in sym (ap (λ (n : Next). n.rest.stopped) e)
 take_stopped b None pieces next is h = by pieces (sym (ap (without_first b) is) ∙ h)
@@ -80,17 +80,17 @@ take_stopped b None pieces next is h = by pieces (sym (ap (without_first b) is) 
         let e : record { job = live.Span piece None; rest = record b { pending = later } } ≡ next = cc in
         sym (ap (λ (n : Next). n.rest.stopped) e)
 
-back_stopped : (b : BookData) (slot : ℕ) (job : Live) (cause : Cause) → (counted (given_back (with_slot b slot None) job) cause).stopped ≡ b.stopped
-back_stopped b slot (live.Span piece attempted) Call = refl
-back_stopped b slot (live.Span piece attempted) Read = refl
-back_stopped b slot (live.Batch batch) Call = refl
-back_stopped b slot (live.Batch batch) Read = refl
+back_stopped : (b : SeenBook) (slot : ℕ) (job : Live) (at : ℕ) (cause : Cause) → (counted (given_back (with_slot b slot None) job at cause) cause).stopped ≡ b.stopped
+back_stopped b slot (live.Span piece attempted) at Call = refl
+back_stopped b slot (live.Span piece attempted) at Read = refl
+back_stopped b slot (live.Batch batch) at Call = refl
+back_stopped b slot (live.Batch batch) at Read = refl
 
 pub none_by_memory : (kept : Option StopCause) (note : FaultNote) → or_stopped kept stop.NoMemory ≡ Some (stop.Spent note) → kept ≡ Some (stop.Spent note)
 none_by_memory None note e = absurd (cc)
 none_by_memory (Some kept) note e = e
 
-module _ (known : Surroundings) (b : BookData) (slot at : ℕ) (cause : Cause) (job : Live) (works : IsWorking b slot job)
+module _ (known : Surroundings) (b : SeenBook) (slot at : ℕ) (cause : Cause) (job : Live) (works : IsWorking b slot job)
     (honest : IsHonest known b.plan (job_of b.panes job) (attempted_of job) at cause) where
   abbrev own_note : FaultNote
   own_note = note_of job at cause
@@ -118,7 +118,7 @@ module _ (known : Surroundings) (b : BookData) (slot at : ℕ) (cause : Cause) (
         (subst (λ (c : Cause). IsHonest known b.plan (job_of b.panes job) (attempted_of job) at c) (sym own_cause) honest);
   }
 
-  fail_stops : (spent : Bool) (x : BookData) (kept : Option StopCause) → x.stopped ≡ kept → b.stopped ≡ kept → (note : FaultNote)
+  fail_stops : (spent : Bool) (x : SeenBook) (kept : Option StopCause) → x.stopped ≡ kept → b.stopped ≡ kept → (note : FaultNote)
       → (stopped_where spent x own_note).stopped ≡ Some (stop.Spent note) → (b.stopped ≡ Some (stop.Spent note)) ⊎ GivesNote known b slot note
   fail_stops false x kept is was note e = inl (was ∙ sym is ∙ e)
   fail_stops true x (Some kept) is was note e = inl (was ∙ sym (ap (λ (s : Option StopCause). or_stopped s (stop.Spent own_note)) is) ∙ e)
@@ -127,29 +127,29 @@ module _ (known : Surroundings) (b : BookData) (slot at : ℕ) (cause : Cause) (
       let own : own_note ≡ note = cc in
       inr (subst (GivesNote known b slot) own own_gives)
 
-step_stops : (known : Surroundings) (b new : BookData) (slot : ℕ) (action : Action) (answer : Answer) → Step known.told b slot action answer new → IsHonestAction known b slot action
+step_stops : (known : Surroundings) (b new : SeenBook) (slot : ℕ) (action : Action) (answer : Answer) → Step known.told b slot action answer new → IsHonestAction known b slot action
     → StopsBy known b slot new
-step_stops known b new slot Enroll (Enrolled number) step honest = stops_same known b slot new (ap (λ (x : BookData). x.stopped) step.2)
-step_stops known b new slot Enroll NoMemory step honest = stops_same known b slot new (ap (λ (x : BookData). x.stopped) step)
+step_stops known b new slot Enroll (Enrolled number) step honest = stops_same known b slot new (ap (λ (x : SeenBook). x.stopped) step.2)
+step_stops known b new slot Enroll NoMemory step honest = stops_same known b slot new (ap (λ (x : SeenBook). x.stopped) step)
 step_stops known b new slot Take (TakenJob job) step honest =
-    stops_same known b slot new (ap (λ (x : BookData). x.stopped) step.is ∙ take_stopped b (first_due b) b.pending step.next refl step.is_next)
-step_stops known b new slot Take Nothing step honest = stops_same known b slot new (ap (λ (x : BookData). x.stopped) step.4)
-step_stops known b new slot Take Finished step honest = stops_same known b slot new (ap (λ (x : BookData). x.stopped) step.4)
-step_stops known b new slot Take Stopped step honest = stops_same known b slot new (ap (λ (x : BookData). x.stopped) step.2)
-step_stops known b new slot Take NoMemory step honest = stops_same known b slot new (ap (λ (x : BookData). x.stopped) step.1)
-step_stops known b new slot (Claim p) (Claimed granted) step honest = stops_same known b slot new (ap (λ (x : BookData). x.stopped) step.is)
-step_stops known b new slot (Split num den) (SplitAt (Some at)) step honest = stops_same known b slot new (ap (λ (x : BookData). x.stopped) step.0.is)
-step_stops known b new slot (Split num den) (SplitAt None) step honest = stops_same known b slot new (ap (λ (x : BookData). x.stopped) step.1)
-step_stops known b new slot (Split num den) NoMemory step honest = stops_same known b slot new (ap (λ (x : BookData). x.stopped) step)
-step_stops known b new slot Commit Committed step honest = stops_same known b slot new (ap (λ (x : BookData). x.stopped) step.1.commit.is)
-step_stops known b new slot Commit NoMemory step honest = stops_same known b slot new (ap (λ (x : BookData). x.stopped) step.1)
+    stops_same known b slot new (ap (λ (x : SeenBook). x.stopped) step.is ∙ take_stopped b (first_due b) b.pending step.next refl step.is_next)
+step_stops known b new slot Take Nothing step honest = stops_same known b slot new (ap (λ (x : SeenBook). x.stopped) step.4)
+step_stops known b new slot Take Finished step honest = stops_same known b slot new (ap (λ (x : SeenBook). x.stopped) step.4)
+step_stops known b new slot Take Stopped step honest = stops_same known b slot new (ap (λ (x : SeenBook). x.stopped) step.2)
+step_stops known b new slot Take NoMemory step honest = stops_same known b slot new (ap (λ (x : SeenBook). x.stopped) step.1)
+step_stops known b new slot (Claim p) (Claimed granted) step honest = stops_same known b slot new (ap (λ (x : SeenBook). x.stopped) step.is)
+step_stops known b new slot (Split num den) (SplitAt (Some at)) step honest = stops_same known b slot new (ap (λ (x : SeenBook). x.stopped) step.0.is)
+step_stops known b new slot (Split num den) (SplitAt None) step honest = stops_same known b slot new (ap (λ (x : SeenBook). x.stopped) step.1)
+step_stops known b new slot (Split num den) NoMemory step honest = stops_same known b slot new (ap (λ (x : SeenBook). x.stopped) step)
+step_stops known b new slot Commit Committed step honest = stops_same known b slot new (ap (λ (x : SeenBook). x.stopped) step.1.commit.is)
+step_stops known b new slot Commit NoMemory step honest = stops_same known b slot new (ap (λ (x : SeenBook). x.stopped) step.1)
 step_stops known b new slot (Fail at cause) answer step honest = λ note is.
-    fail_stops known b slot at cause step.job step.works (honest step.job step.works) (ends_run b step.job cause) (counted (given_back (with_slot b slot None) step.job) cause) b.stopped
-    (back_stopped b slot step.job cause) refl note (sym (ap (λ (x : BookData). x.stopped) step.is) ∙ is)
-step_stops known b new slot Stop Noted step honest = λ note is. inl (none_by_memory b.stopped note (sym (ap (λ (x : BookData). x.stopped) step) ∙ is))
+    fail_stops known b slot at cause step.job step.works (honest step.job step.works) (ends_run b step.job cause) (counted (given_back (with_slot b slot None) step.job at cause) cause) b.stopped
+    (back_stopped b slot step.job at cause) refl note (sym (ap (λ (x : SeenBook). x.stopped) step.is) ∙ is)
+step_stops known b new slot Stop Noted step honest = λ note is. inl (none_by_memory b.stopped note (sym (ap (λ (x : SeenBook). x.stopped) step) ∙ is))
 step_stops known b new slot _ _ step honest = absurd step
 
-step_finds : (known : Surroundings) (b new : BookData) (made : MadeStep) → Step known.told b made.slot made.action made.answer new → IsHonestAction known b made.slot made.action
+step_finds : (known : Surroundings) (b new : SeenBook) (made : MadeStep) → Step known.told b made.slot made.action made.answer new → IsHonestAction known b made.slot made.action
     → HonestlyReached known b → Finds known b → Finds known new
 step_finds known b new made step honest reached finds note is = by (step_stops known b new made.slot made.action made.answer step honest note is)
   where
@@ -186,13 +186,13 @@ step_finds known b new made step honest reached finds note is = by (step_stops k
 
 -- ---- all steps
 
-run_finds : (known : Surroundings) (steps : List MadeStep) (b end : BookData) → HonestRun known b steps end → HonestlyReached known b → Finds known b → Finds known end
+run_finds : (known : Surroundings) (steps : List MadeStep) (b end : SeenBook) → HonestRun known b steps end → HonestlyReached known b → Finds known b → Finds known end
 run_finds known [] b end run reached finds = subst (Finds known) (sym run) finds
 run_finds known (made ∷ later) b end run reached finds =
     run_finds known later run.0 end run.3 (honest_more known b run.0 made run.1 run.2 reached)
     (step_finds known b run.0 made run.1 run.2 reached finds)
 
-pub opening_reached : (known : Surroundings) (b first : BookData) → IsOpening b.plan b.files b.options first → HonestlyReached known first
+pub opening_reached : (known : Surroundings) (b first : SeenBook) → IsOpening b.plan b.files b.options first → HonestlyReached known first
 opening_reached known b first opening = record {
   first = first;
   opening = opening_of first b first (subst (HasSamePlan b) (sym opening.is) (record { plan = refl; files = refl; options = refl })) opening;
@@ -200,9 +200,9 @@ opening_reached known b first opening = record {
   run = refl;
 }
 
-pub honest_stop : (known : Surroundings) (b : BookData) (note : FaultNote) → IsStopNoted b b.stopped → HonestlyReached known b → b.stopped ≡ Some (stop.Spent note) → IsHonestStop known b note
+pub honest_stop : (known : Surroundings) (b : SeenBook) (note : FaultNote) → IsStopNoted b b.stopped → HonestlyReached known b → b.stopped ≡ Some (stop.Spent note) → IsHonestStop known b note
 honest_stop known b note noted reached is =
-    let none : Finds known reached.first = λ other e. absurd (never other (sym (ap (λ (x : BookData). x.stopped) reached.opening.is) ∙ e)) in
+    let none : Finds known reached.first = λ other e. absurd (never other (sym (ap (λ (x : SeenBook). x.stopped) reached.opening.is) ∙ e)) in
     let found = run_finds known reached.steps reached.first b reached.run (opening_reached known b reached.first reached.opening) none note is in
     record {
       before = found.before;

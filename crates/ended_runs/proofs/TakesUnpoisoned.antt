@@ -17,7 +17,7 @@ use Rattle.beam_model.specs.Positions.{SourceItem, item_len, items}
 use Rattle.beam_model.specs.Spread.{is_poison, outputs_at}
 use Rattle.beam_model.specs.Flow.{batch_outputs}
 use Rattle.bundle_commit.specs.declared.job.Job.{Job}
-use Rattle.book_core.specs.Book.{BookData, batch_of, held_at, held_in, live_batches, pane_at, panes_of, queued}
+use Rattle.book_core.specs.Book.{SeenBook, batch_of, held_at, held_in, live_batches, pane_at, panes_of, queued}
 use Rattle.book_core.specs.Changes.{counted, cut_to, ends_run, given_back, note_of, stopped_where, with_slot}
 use Rattle.book_core.specs.Facts.{AreKept, IsHeldPane}
 use Rattle.book_core.specs.Jobs.{Due, GivenBack, Oldest, first_due, job_of, without_due}
@@ -46,20 +46,20 @@ all_both P Q R holds (x ∷ xs) ps qs = All-cons R x xs (holds x (All-head P x x
 abbrev Shape : Type 0
 Shape = Plan × (List Pane × List (Option Live))
 
-abbrev shape_of : BookData → Shape
+abbrev shape_of : SeenBook → Shape
 shape_of b = (b.plan, (b.panes, b.slots))
 
-due_shape : (b : BookData) (d : Due) → shape_of (without_due b d).rest ≡ shape_of b
+due_shape : (b : SeenBook) (d : Due) → shape_of (without_due b d).rest ≡ shape_of b
 due_shape b (GivenBack batch) = refl
 due_shape b (Oldest batch) = refl
 
-counted_shape : (b : BookData) (slot : ℕ) (job : Live) (cause : Cause) → shape_of (counted (given_back (with_slot b slot None) job) cause) ≡ (b.plan, (b.panes, slice_set b.slots slot None))
-counted_shape b slot (live.Span piece attempted) Call = refl
-counted_shape b slot (live.Span piece attempted) Read = refl
-counted_shape b slot (live.Batch batch) Call = refl
-counted_shape b slot (live.Batch batch) Read = refl
+counted_shape : (b : SeenBook) (slot : ℕ) (job : Live) (at : ℕ) (cause : Cause) → shape_of (counted (given_back (with_slot b slot None) job at cause) cause) ≡ (b.plan, (b.panes, slice_set b.slots slot None))
+counted_shape b slot (live.Span piece attempted) at Call = refl
+counted_shape b slot (live.Span piece attempted) at Read = refl
+counted_shape b slot (live.Batch batch) at Call = refl
+counted_shape b slot (live.Batch batch) at Read = refl
 
-stopped_shape : (spent : Bool) (b : BookData) (note : FaultNote) → shape_of (stopped_where spent b note) ≡ shape_of b
+stopped_shape : (spent : Bool) (b : SeenBook) (note : FaultNote) → shape_of (stopped_where spent b note) ≡ shape_of b
 stopped_shape true b note = refl
 stopped_shape false b note = refl
 
@@ -92,7 +92,7 @@ module _ (known : Surroundings) (told : List FileText) (tells : known.told ≡ S
 
   -- ---- panes that fire later
 
-  module _ (b : BookData) (fired : List Pane) where
+  module _ (b : SeenBook) (fired : List Pane) where
     panes_stay : (waiting : List WaitingPane) (node : ℕ) → All (IsHeldPane b) (held_at node waiting) → panes_of (b.panes ++ fired) waiting ≡ panes_of b.panes waiting
     panes_stay [] node held = refl
     panes_stay (first ∷ later) node held =
@@ -121,14 +121,14 @@ module _ (known : Surroundings) (told : List FileText) (tells : known.told ≡ S
       → AreClean (plan, (panes, slice_set slots slot job))
   set_clean plan panes slots slot job one clean = All-set (IsClean plan panes) slots slot job one clean
 
-  shaped : (new : BookData) (shape : Shape) → shape_of new ≡ shape → AreClean shape → AreClean (shape_of new)
+  shaped : (new : SeenBook) (shape : Shape) → shape_of new ≡ shape → AreClean shape → AreClean (shape_of new)
   shaped new shape is clean = subst AreClean (sym is) clean
 
-  working : (b : BookData) (slot : ℕ) (job : Live) → AreClean (shape_of b) → IsWorking b slot job → IsCleanJob b.plan b.panes job
+  working : (b : SeenBook) (slot : ℕ) (job : Live) → AreClean (shape_of b) → IsWorking b slot job → IsCleanJob b.plan b.panes job
   working b slot job clean works = All-slice_get (IsClean b.plan b.panes) b.slots slot (Some job) works clean
 
-  step_clean : (b new : BookData) (slot : ℕ) (action : Action) (answer : Answer) → Step known.told b slot action answer new → AreKept b
-      → ((new : BookData) (slot : ℕ) (job : Job) → IsTaking b slot job new → IsPoisonJob known.told b.plan job → ⊥) → AreClean (shape_of b) → AreClean (shape_of new)
+  step_clean : (b new : SeenBook) (slot : ℕ) (action : Action) (answer : Answer) → Step known.told b slot action answer new → AreKept b
+      → ((new : SeenBook) (slot : ℕ) (job : Job) → IsTaking b slot job new → IsPoisonJob known.told b.plan job → ⊥) → AreClean (shape_of b) → AreClean (shape_of new)
   step_clean b new slot Enroll (Enrolled number) step kept takes clean =
       shaped new (b.plan, (b.panes, b.slots ++ None ∷ [])) (ap shape_of step.2) (All-push (IsClean b.plan b.panes) b.slots None clean tt)
   step_clean b new slot Enroll NoMemory step kept takes clean = shaped new (shape_of b) (ap shape_of step) clean
@@ -159,18 +159,18 @@ module _ (known : Surroundings) (told : List FileText) (tells : known.told ≡ S
       (set_clean b.plan (b.panes ++ commit.fired) b.slots slot None tt (fired_clean b commit.fired kept clean))
   step_clean b new slot Commit NoMemory step kept takes clean = shaped new (shape_of b) (ap shape_of step.1) clean
   step_clean b new slot (Fail at cause) answer step kept takes clean =
-      let given = counted (given_back (with_slot b slot None) step.job) cause in
+      let given = counted (given_back (with_slot b slot None) step.job at cause) cause in
       shaped new (b.plan, (b.panes, slice_set b.slots slot None))
-      (ap shape_of step.is ∙ stopped_shape (ends_run b step.job cause) given (note_of step.job at cause) ∙ counted_shape b slot step.job cause)
+      (ap shape_of step.is ∙ stopped_shape (ends_run b step.job cause) given (note_of step.job at cause) ∙ counted_shape b slot step.job at cause)
       (set_clean b.plan b.panes b.slots slot None tt clean)
   step_clean b new slot Stop Noted step kept takes clean = shaped new (shape_of b) (ap shape_of step) clean
   step_clean b new slot _ _ step kept takes clean = absurd step
 
   -- ---- all steps
 
-  module _ (kept : (b : BookData) → HonestlyReached known b → AreKept b) (end : BookData)
-      (takes : (b new : BookData) (slot : ℕ) (job : Job) → HonestlyReached known b → HasSamePlan end b → IsTaking b slot job new → IsPoisonJob known.told b.plan job → ⊥) where
-    run_clean : (steps : List MadeStep) (b last : BookData) → HonestRun known b steps last → HonestlyReached known b → HasSamePlan end b → AreClean (shape_of b) → AreClean (shape_of last)
+  module _ (kept : (b : SeenBook) → HonestlyReached known b → AreKept b) (end : SeenBook)
+      (takes : (b new : SeenBook) (slot : ℕ) (job : Job) → HonestlyReached known b → HasSamePlan end b → IsTaking b slot job new → IsPoisonJob known.told b.plan job → ⊥) where
+    run_clean : (steps : List MadeStep) (b last : SeenBook) → HonestRun known b steps last → HonestlyReached known b → HasSamePlan end b → AreClean (shape_of b) → AreClean (shape_of last)
     run_clean [] b last run reached same clean = shaped last (shape_of b) (ap shape_of run) clean
     run_clean (made ∷ later) b last run reached same clean =
         let onward = step_same known.told b run.0 made.slot made.action made.answer run.1 in
@@ -178,7 +178,7 @@ module _ (known : Surroundings) (told : List FileText) (tells : known.told ≡ S
         (record { plan = onward.plan ∙ same.plan; files = onward.files ∙ same.files; options = onward.options ∙ same.options })
         (step_clean b run.0 made.slot made.action made.answer run.1 (kept b reached) (λ new slot job. takes b new slot job reached same) clean)
 
-    pub works_no_poison : (b : BookData) → HonestlyReached known b → HasSamePlan end b → WorksNoPoison known told tells strict b
+    pub works_no_poison : (b : SeenBook) → HonestlyReached known b → HasSamePlan end b → WorksNoPoison known told tells strict b
     works_no_poison b reached same slot job works =
         let first = reached.opening.is in
         let own = subst (HasSamePlan end) (sym first) (record { plan = same.plan; files = same.files; options = same.options }) in
@@ -187,9 +187,9 @@ module _ (known : Surroundings) (told : List FileText) (tells : known.told ≡ S
 
 -- ---- from what is taken
 
-module _ (known : Surroundings) (told : List FileText) (tells : known.told ≡ Some told) (end : BookData) (lengths : AreTold told end) (none : TakesNoPoison known end.plan end.options) where
+module _ (known : Surroundings) (told : List FileText) (tells : known.told ≡ Some told) (end : SeenBook) (lengths : AreTold told end) (none : TakesNoPoison known end.plan end.options) where
   -- each book of a run to this one is of its plan, its options and its files
-  pub takes_none : (b new : BookData) (slot : ℕ) (job : Job) → HonestlyReached known b → HasSamePlan end b → IsTaking b slot job new → IsPoisonJob known.told b.plan job → ⊥
+  pub takes_none : (b new : SeenBook) (slot : ℕ) (job : Job) → HonestlyReached known b → HasSamePlan end b → IsTaking b slot job new → IsPoisonJob known.told b.plan job → ⊥
   takes_none b new slot job reached same step poison =
       none b new slot job reached same.plan same.options (λ files is. of files (cc (tells, is))) step (subst (λ (p : Plan). IsPoisonJob known.told p job) same.plan poison)
     where

@@ -41,7 +41,7 @@ use Rattle.bundle_commit.specs.declared.job.Receipt.{Receipt}
 use Rattle.group_cells.proofs.Counting.{All-unmap}
 use Rattle.pipeline_graph.specs.Rules.{HasLag, HasOwnStrategy, HasSettings}
 use Rattle.watermarks.proofs.Rising.{below_hold}
-use Rattle.book_core.specs.Book.{BookData, HeldPane, AreMarksOfBook, held, held_in, hold_of, holds, last_marks, live_batches, live_pieces, batch_of, panes_of, piece_of, queued}
+use Rattle.book_core.specs.Book.{SeenBook, HeldPane, AreMarksOfBook, held, held_in, hold_of, holds, last_marks, live_batches, live_pieces, batch_of, panes_of, piece_of, queued}
 use Rattle.book_core.specs.Facts.{AreHeldOnce, AreSeenBefore, IsHeldPane, IsSeenOf}
 use Rattle.book_core.specs.Jobs.{attempted_of, job_of}
 use Rattle.book_core.specs.Steps.{IsWorking}
@@ -189,7 +189,7 @@ module _ (e : Estimator) (item : SourceItem) (lag : HasLag e) (set : HasArgument
 
 -- ---- what is met at a barrier comes from above it
 
-module _ (laws : KnownLaws) (told : List FileText) (to : ℕ) (b : BookData) (checked : IsChecked b.plan) (marked : AreMarksOfBook b (last_marks b)) where
+module _ (laws : KnownLaws) (told : List FileText) (to : ℕ) (b : SeenBook) (checked : IsChecked b.plan) (marked : AreMarksOfBook b (last_marks b)) where
   abbrev pub ToCome : Output → Type 0
   ToCome output = IsToCome laws b.plan checked (least_hold (all_holds b)) (last_marks b) marked output
 

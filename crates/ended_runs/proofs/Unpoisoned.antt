@@ -18,7 +18,7 @@ use Rattle.beam_model.specs.Positions.{SourceItem}
 use Rattle.beam_model.specs.Spread.{is_poison, outputs_at, first_poison}
 use Rattle.beam_model.specs.Flow.{batch_outputs}
 use Rattle.beam_ports.specs.Counts.{raised}
-use Rattle.book_core.specs.Book.{BookData, batch_of, panes_of, piece_of}
+use Rattle.book_core.specs.Book.{SeenBook, batch_of, panes_of, piece_of}
 use Rattle.book_core.specs.Changes.{attempts_of, counted, ends_run, given_back, note_of, or_stopped, stopped_where, with_slot}
 use Rattle.book_core.specs.Facts.{AreAttemptsCounted, AreKept, IsBelowLimit, IsStopNoted}
 use Rattle.book_core.specs.Jobs.{Due, GivenBack, Oldest, Next, attempted_of, due_or_piece, first_due, job_of, without_due, without_first}
@@ -29,6 +29,7 @@ use Rattle.book_core.specs.declared.live.Batch.{Batch}
 use Rattle.book_core.specs.declared.live.Live.{Live}
 use Rattle.book_core.specs.declared.live.Live.TheVariants as live
 use Rattle.book_core.proofs.Reaching.{HasSamePlan, step_same}
+use Rattle.book_core.proofs.SaneAlways.{each_tried}
 use Rattle.book_core.proofs.Slotted.{All-append_right, All-flat_at}
 use Rattle.ended_runs.proofs.Poisons.{any_at, first_is_poison}
 use Rattle.ended_runs.proofs.Stopped.{honest_more, none_by_memory, opening_reached}
@@ -60,7 +61,7 @@ module _ (known : Surroundings) (told : List FileText) (tells : known.told ≡ S
 abbrev Counts : Type 0
 Counts = ℕ × (ℕ × Option StopCause)
 
-abbrev counts_of : BookData → Counts
+abbrev counts_of : SeenBook → Counts
 counts_of b = (b.calls, (b.reads, b.stopped))
 
 -- No call has failed, and what stopped the book failed no more often than reads did.
@@ -68,7 +69,7 @@ abbrev AreReads : Counts → Type 0
 AreReads (calls, (reads, stopped)) = (calls ≡ 0) × ((note : FaultNote) → stopped ≡ Some (stop.Spent note) → (note.attempt ≤ reads) × (note.attempt ≤ 1000))
 
 -- a take changes nothing of the rest but what waits
-module _ {X : Type 0} (of : BookData → X) (b : BookData) (pending : (ps : List Piece) → of (record b { pending = ps }) ≡ of b)
+module _ {X : Type 0} (of : SeenBook → X) (b : SeenBook) (pending : (ps : List Piece) → of (record b { pending = ps }) ≡ of b)
     (due : (d : Due) → of (without_due b d).rest ≡ of b) where
   pub take_keeps : (d : Option Due) (pieces : List Piece) (next : Next) → b.pending ≡ pieces → due_or_piece b d ≡ Some next → of next.rest ≡ of b
   take_keeps (Some d) pieces next is h = let e : without_due b d ≡ next = cc in sym (ap (λ (n : Next). of n.rest) e) ∙ due d
@@ -80,15 +81,15 @@ module _ {X : Type 0} (of : BookData → X) (b : BookData) (pending : (ps : List
           let e : record { job = live.Span piece None; rest = record b { pending = later } } ≡ next = cc in
           sym (ap (λ (n : Next). of n.rest) e) ∙ pending later
 
-due_counts : (b : BookData) (d : Due) → counts_of (without_due b d).rest ≡ counts_of b
+due_counts : (b : SeenBook) (d : Due) → counts_of (without_due b d).rest ≡ counts_of b
 due_counts b (GivenBack batch) = refl
 due_counts b (Oldest batch) = refl
 
-read_counts : (b : BookData) (slot : ℕ) (job : Live) → counts_of (counted (given_back (with_slot b slot None) job) Read) ≡ (b.calls, (raised b.reads, b.stopped))
-read_counts b slot (live.Span piece attempted) = refl
-read_counts b slot (live.Batch batch) = refl
+read_counts : (b : SeenBook) (slot : ℕ) (job : Live) (at : ℕ) → counts_of (counted (given_back (with_slot b slot None) job at Read) Read) ≡ (b.calls, (raised b.reads, b.stopped))
+read_counts b slot (live.Span piece attempted) at = refl
+read_counts b slot (live.Batch batch) at = refl
 
-same_counts : (b new : BookData) → counts_of new ≡ counts_of b → AreReads (counts_of b) → AreReads (counts_of new)
+same_counts : (b new : SeenBook) → counts_of new ≡ counts_of b → AreReads (counts_of b) → AreReads (counts_of new)
 same_counts b new same reads = subst AreReads (sym same) reads
 
 -- ---- a fail by a read
@@ -99,7 +100,7 @@ once_more attempts reads most few = omega arith
 kept_under : (attempt reads : ℕ) → attempt ≤ reads → attempt ≤ 1000 → attempt ≤ raised reads
 kept_under attempt reads most few = omega arith
 
-module _ (b : BookData) (slot at : ℕ) (job : Live) (works : IsWorking b slot job) (kept : AreKept b) (h : AreReads (counts_of b)) where
+module _ (b : SeenBook) (slot at : ℕ) (job : Live) (works : IsWorking b slot job) (kept : AreKept b) (h : AreReads (counts_of b)) where
   job_tried : (attempts_of job < b.options.attempts) × (attempts_of job ≤ b.calls + b.reads)
   job_tried = by job works
     where
@@ -111,7 +112,7 @@ module _ (b : BookData) (slot at : ℕ) (job : Live) (works : IsWorking b slot j
         All-head (λ (x : Piece). IsBelowLimit b x.attempts) piece [] (All-flat_at piece_of b.slots slot (λ (x : Piece). IsBelowLimit b x.attempts) (Some (live.Span piece attempted)) is counts.worked_pieces),
         All-head (λ (x : Piece). x.attempts ≤ b.calls + b.reads) piece []
             (All-flat_at piece_of b.slots slot (λ (x : Piece). x.attempts ≤ b.calls + b.reads) (Some (live.Span piece attempted)) is
-            (All-append_right (λ (x : Piece). x.attempts ≤ b.calls + b.reads) b.pending (flat_map piece_of b.slots) counts.pieces)),
+            (All-append_right (λ (x : Piece). x.attempts ≤ b.calls + b.reads) b.pending (flat_map piece_of b.slots) (each_tried b counts))),
       )
       by (live.Batch batch) is = (
         All-head (λ (x : Batch). IsBelowLimit b x.attempts) batch [] (All-flat_at batch_of b.slots slot (λ (x : Batch). IsBelowLimit b x.attempts) (Some (live.Batch batch)) is counts.worked_batches),
@@ -145,7 +146,7 @@ module _ (b : BookData) (slot at : ℕ) (job : Live) (works : IsWorking b slot j
         subst (λ (n : FaultNote). n.attempt ≤ 1000) same (omega (arith, own_attempt, few_tries)),
       )
 
-  read_fails : (spent : Bool) (x : BookData) → counts_of x ≡ (b.calls, (raised b.reads, b.stopped)) → AreReads (counts_of (stopped_where spent x (note_of job at Read)))
+  read_fails : (spent : Bool) (x : SeenBook) → counts_of x ≡ (b.calls, (raised b.reads, b.stopped)) → AreReads (counts_of (stopped_where spent x (note_of job at Read)))
   read_fails false x is = subst AreReads (sym is) (h.0, still)
   read_fails true x is =
       subst AreReads (sym (ap (λ (t : Counts). (t.0, (t.1.0, or_stopped t.1.1 (stop.Spent (note_of job at Read))))) is)) (h.0, stopped_then b.stopped refl)
@@ -154,10 +155,10 @@ module _ (b : BookData) (slot at : ℕ) (job : Live) (works : IsWorking b slot j
 
 module _ (known : Surroundings) (told : List FileText) (tells : known.told ≡ Some told) (strict : known.strict ≡ true) where
   -- no slot works a poison job
-  abbrev pub WorksNoPoison : BookData → Type 0
+  abbrev pub WorksNoPoison : SeenBook → Type 0
   WorksNoPoison b = (slot : ℕ) (job : Live) → IsWorking b slot job → IsPoisonJob known.told b.plan (job_of b.panes job) → ⊥
 
-  step_reads : (b new : BookData) (slot : ℕ) (action : Action) (answer : Answer) → Step known.told b slot action answer new → IsHonestAction known b slot action
+  step_reads : (b new : SeenBook) (slot : ℕ) (action : Action) (answer : Answer) → Step known.told b slot action answer new → IsHonestAction known b slot action
       → AreKept b → WorksNoPoison b → AreReads (counts_of b) → AreReads (counts_of new)
   step_reads b new slot Enroll (Enrolled number) step honest kept never h = same_counts b new (ap counts_of step.2) h
   step_reads b new slot Enroll NoMemory step honest kept never h = same_counts b new (ap counts_of step) h
@@ -178,17 +179,17 @@ module _ (known : Surroundings) (told : List FileText) (tells : known.told ≡ S
     | inr called ↦ never slot step.job step.works (call_is_poison known told tells b.plan b.panes step.job at called)
   ])
   step_reads b new slot (Fail at Read) answer step honest kept never h =
-      subst (λ (x : BookData). AreReads (counts_of x)) (sym step.is)
-      (read_fails b slot at step.job step.works kept h (ends_run b step.job Read) (counted (given_back (with_slot b slot None) step.job) Read) (read_counts b slot step.job))
+      subst (λ (x : SeenBook). AreReads (counts_of x)) (sym step.is)
+      (read_fails b slot at step.job step.works kept h (ends_run b step.job Read) (counted (given_back (with_slot b slot None) step.job at Read) Read) (read_counts b slot step.job at))
   step_reads b new slot Stop Noted step honest kept never h =
-      subst (λ (x : BookData). AreReads (counts_of x)) (sym step) (h.0, λ note is. h.1 note (none_by_memory b.stopped note is))
+      subst (λ (x : SeenBook). AreReads (counts_of x)) (sym step) (h.0, λ note is. h.1 note (none_by_memory b.stopped note is))
   step_reads b new slot _ _ step honest kept never h = absurd step
 
   -- ---- all steps
 
-  module _ (kept : (b : BookData) → HonestlyReached known b → AreKept b) (end : BookData) (never : (b : BookData) → HonestlyReached known b → HasSamePlan end b → WorksNoPoison b) where
-    run_reads : (steps : List MadeStep) (b last : BookData) → HonestRun known b steps last → HonestlyReached known b → HasSamePlan end b → AreReads (counts_of b) → AreReads (counts_of last)
-    run_reads [] b last run reached same h = subst (λ (x : BookData). AreReads (counts_of x)) (sym run) h
+  module _ (kept : (b : SeenBook) → HonestlyReached known b → AreKept b) (end : SeenBook) (never : (b : SeenBook) → HonestlyReached known b → HasSamePlan end b → WorksNoPoison b) where
+    run_reads : (steps : List MadeStep) (b last : SeenBook) → HonestRun known b steps last → HonestlyReached known b → HasSamePlan end b → AreReads (counts_of b) → AreReads (counts_of last)
+    run_reads [] b last run reached same h = subst (λ (x : SeenBook). AreReads (counts_of x)) (sym run) h
     run_reads (made ∷ later) b last run reached same h =
         let onward = step_same known.told b run.0 made.slot made.action made.answer run.1 in
         run_reads later run.0 last run.3 (honest_more known b run.0 made run.1 run.2 reached)
@@ -199,7 +200,7 @@ module _ (known : Surroundings) (told : List FileText) (tells : known.told ≡ S
     counts_kept reached =
         let first = reached.opening.is in
         let same = subst (HasSamePlan end) (sym first) (record { plan = refl; files = refl; options = refl }) in
-        let none : AreReads (counts_of reached.first) = subst (λ (x : BookData). AreReads (counts_of x)) (sym first) (refl, λ other e. absurd cc) in
+        let none : AreReads (counts_of reached.first) = subst (λ (x : SeenBook). AreReads (counts_of x)) (sym first) (refl, λ other e. absurd cc) in
         run_reads reached.steps reached.first end reached.run (opening_reached known end reached.first reached.opening) same none
 
     pub no_calls : HonestlyReached known end → end.calls ≡ 0

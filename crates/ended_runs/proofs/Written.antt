@@ -43,18 +43,15 @@ use Rattle.beam_model.specs.Spread.{spread_all}
 use Rattle.beam_model.proofs.Above.{above_above, checked_inputs_lower}
 use Rattle.beam_model.proofs.Barriers.{outputs_below}
 use Rattle.group_cells.proofs.Counting.{filter_none}
-use Rattle.book_core.specs.Book.{BookData, held, last_marks}
+use Rattle.book_core.specs.Book.{SeenBook, held, last_marks}
 use Rattle.book_core.specs.Calls.{IsOutcomeOf}
 use Rattle.book_core.specs.Runs.{AreTold, IsThrough, Reached}
-use Rattle.book_core.proofs.BalancedAlways.{NoStateful, reached_balanced}
-use Rattle.book_core.proofs.CellsAlways.{reached_celled}
-use Rattle.book_core.proofs.EarlyAlways.{reached_early}
-use Rattle.book_core.proofs.Formed.{reached_formed}
-use Rattle.book_core.proofs.Partitioned.{reached_partitioned}
-use Rattle.book_core.proofs.RisingMarks.{reached_marks}
+use Rattle.book_core.specs.Facts.{EndsEarly}
+use Rattle.book_core.proofs.AllKept.{reached_kept_of, reached_kept_with}
+use Rattle.book_core.proofs.BalancedAlways.{NoStateful}
+use Rattle.book_core.proofs.SaneAlways.{reached_sane}
 use Rattle.book_core.proofs.Slots.{All-slice_get}
 use Rattle.book_core.proofs.Slotted.{All-flat_map}
-use Rattle.book_core.proofs.Through.{EndsEarly}
 use Rattle.ended_runs.specs.Storable.{ArePanesStorable}
 use Rattle.ended_runs.proofs.Above.{KnownLaws, StartsAbove}
 use Rattle.ended_runs.proofs.Ending.{book_flow, nothing_left_out}
@@ -177,7 +174,7 @@ sum_zero f P none (x ∷ xs) all = omega (arith, sum_by-cons f x xs, none x (All
 
 -- ---- a book that is through
 
-module _ (laws : KnownLaws) (no_stateful : NoStateful) (told : List FileText) (b : BookData) (reached : Reached (Some told) b) (lengths : AreTold told b) (through : IsThrough b)
+module _ (laws : KnownLaws) (no_stateful : NoStateful) (told : List FileText) (b : SeenBook) (reached : Reached (Some told) b) (lengths : AreTold told b) (through : IsThrough b)
     (storable : All (λ p. IsStorable p.element.value) b.panes) (to : ℕ) (write : is_write b.plan to ≡ true) (stateless : HasNoStatefulAbove b.plan to)
     (sound : IsSoundFor laws told to b.plan) where
   abbrev is_met_at : Arrival → Bool
@@ -200,7 +197,7 @@ module _ (laws : KnownLaws) (no_stateful : NoStateful) (told : List FileText) (b
   taken_groups =
       All-flat_map (λ (t : Taken). is_group b.plan t.node ≡ true) (λ (cell : Cell). map (taken_entry cell.node) cell.entries) b.cells
       (λ k d inside. All-map (λ (t : Taken). is_group b.plan t.node ≡ true) (taken_entry (get_or b.cells k d).node) (get_or b.cells k d).entries
-      (λ j e within. (reached_celled laws.strategies (Some told) b reached).legal.cells_at k d inside))
+      (λ j e within. (reached_kept_with laws.strategies laws.settings laws.windows (Some told) b reached).kept.cells.legal.cells_at k d inside))
 
   not_write : (n : ℕ) → is_group b.plan n ≡ true → (n == to) ≡ false
   not_write n group = ne_eqb n to (λ same. group_or_write b.plan to (subst (λ (m : ℕ). is_group b.plan m ≡ true) same group) write)
@@ -219,7 +216,7 @@ module _ (laws : KnownLaws) (no_stateful : NoStateful) (told : List FileText) (b
       where
         by : (t : Bool) → (m == to) ≡ t → (t || is_above b.plan m to) ≡ true → is_above b.plan n to ≡ true
         by true e h = subst (λ (k : ℕ). is_above b.plan n k ≡ true) (eqb-true m to e) above
-        by false e h = above_above b.plan (checked_inputs_lower b.plan (reached_formed (Some told) b reached).checked) n m above to h
+        by false e h = above_above b.plan (checked_inputs_lower b.plan (reached_sane (Some told) b reached).formed.checked) n m above to h
 
     -- what comes of a node that isn't above isn't met
     none_beside : (n : ℕ) (e : Element) → is_above b.plan n to ≡ false → sum_by met_weight (chain b.plan n e) ≡ 0
@@ -251,7 +248,7 @@ module _ (laws : KnownLaws) (no_stateful : NoStateful) (told : List FileText) (b
         ∙ sum_zero (λ (d : Dropped). arrival_weight (dropped_arrival d)) (λ d. (d.node == to || is_above b.plan d.node to) ≡ false)
         (λ d away. ap (λ (t : Bool). cond t (w (Arrives (dropped_arrival d))) 0) away) b.dropped
         (λ k d inside. neither ((get_or b.dropped k d).node == to) (is_above b.plan (get_or b.dropped k d).node to)
-        (not_write (get_or b.dropped k d).node ((reached_celled laws.strategies (Some told) b reached).legal.dropped_at k d inside)) (so_far.none_dropped k d inside))
+        (not_write (get_or b.dropped k d).node ((reached_kept_with laws.strategies laws.settings laws.windows (Some told) b reached).kept.cells.legal.dropped_at k d inside)) (so_far.none_dropped k d inside))
       where
         neither : (t u : Bool) → t ≡ false → u ≡ false → (t || u) ≡ false
         neither true u e f = absurd (cc)
@@ -271,7 +268,7 @@ module _ (laws : KnownLaws) (no_stateful : NoStateful) (told : List FileText) (b
         let chains = flat_map (λ (pane : Arrival). chain b.plan pane.node pane.element) fired in
         let first = sum_by-filter w (is_met b.plan to) (spread ++ chains) in
         let second = sum_by-append met_weight spread chains in
-        let flows = (book_flow told b lengths (reached_partitioned (Some told) b reached) (reached_formed (Some told) b reached) through (reached_balanced no_stateful told b reached)).weighs met_weight in
+        let flows = (book_flow told b lengths (reached_sane (Some told) b reached).partitioned (reached_sane (Some told) b reached).formed through (reached_kept_of laws.strategies laws.settings laws.windows no_stateful told b reached).balanced).weighs met_weight in
         let third = sum_by-append met_weight spread (pane_chains b.plan b.panes ++ []) in
         let fourth = ap (sum_by met_weight) (append-nil (pane_chains b.plan b.panes)) in
         let fifth = sum_by-map met_weight Arrives (arrivals_of b.cells b.dropped [] b.written) in
@@ -294,7 +291,7 @@ module _ (laws : KnownLaws) (no_stateful : NoStateful) (told : List FileText) (b
       none_written : All (λ a. is_at g a ≡ false) b.written
       none_written k d inside =
           ne_eqb (get_or b.written k d).node g
-          (λ same. group_or_write b.plan g above.0 (subst (λ (n : ℕ). is_write b.plan n ≡ true) same ((reached_celled laws.strategies (Some told) b reached).written k d inside)))
+          (λ same. group_or_write b.plan g above.0 (subst (λ (n : ℕ). is_write b.plan n ≡ true) same ((reached_sane (Some told) b reached).writes.written k d inside)))
 
   fired_groups : (g : ℕ) → IsGroupAbove b.plan to g → elements_at g fired ≡ pane_elements g b.panes
   fired_groups g above =
@@ -318,7 +315,7 @@ module _ (laws : KnownLaws) (no_stateful : NoStateful) (told : List FileText) (b
   some_commits = some_commit (Some told) b reached
 
   rises : (g : ℕ) (c d : ℕ) → c ≤ d → d ≤ length b.commits - 1 → mark_after b.commits g c ≤ℤ mark_after b.commits g d
-  rises g c d low high = let first = some_commits in marks_rise b.commits (reached_marks (Some told) b reached).never_fall g c d low (omega (arith, high, first))
+  rises g c d low high = let first = some_commits in marks_rise b.commits (reached_sane (Some told) b reached).marks.never_fall g c d low (omega (arith, high, first))
 
   final : (g : ℕ) → mark_after b.commits g (length b.commits - 1) ≡ final_mark
   final g = by (slice_get (last_marks b) g) refl
@@ -331,7 +328,7 @@ module _ (laws : KnownLaws) (no_stateful : NoStateful) (told : List FileText) (b
 
   ends_early : All (λ t. t.element.span.end ≤ℤ final_mark) (taken_by b.cells)
   ends_early =
-      All-weaker EndsEarly (λ t. t.element.span.end ≤ℤ final_mark) (λ t early. omega (arith, ints, early)) (taken_by b.cells) (reached_early laws.windows laws.settings (Some told) b reached).taken
+      All-weaker EndsEarly (λ t. t.element.span.end ≤ℤ final_mark) (λ t early. omega (arith, ints, early)) (taken_by b.cells) (reached_kept_with laws.strategies laws.settings laws.windows (Some told) b reached).early.taken
 
   module _ (g : ℕ) (above : IsGroupAbove b.plan to g) where
     taken_of : (t : Taken) → IsTakenAbove to b.plan b.commits t → (t.node == g) ≡ true → IsTakenWell to b.plan b.commits t
@@ -343,7 +340,7 @@ module _ (laws : KnownLaws) (no_stateful : NoStateful) (told : List FileText) (b
     history s is key =
         subst (λ (r : Strategy). IsLegalHistory (record { merges = is_sessions r; trigger = default_trigger }) g key (mark_after b.commits g) (length b.commits - 1)
         (taken_at g key (taken_by b.cells)) (taken_at g key (map taken_drop b.dropped)) (panes_at g key b.panes)) is
-        (default_history b.plan to sound.triggers b.commits b.cells b.dropped b.panes (reached_celled laws.strategies (Some told) b reached).legal g key above.0 above.1)
+        (default_history b.plan to sound.triggers b.commits b.cells b.dropped b.panes (reached_kept_with laws.strategies laws.settings laws.windows (Some told) b reached).kept.cells.legal g key above.0 above.1)
 
     plain : (s : Strategy) → strategy_of b.plan g ≡ s → is_sessions s ≡ false → IsPlainGrouping (taken_elements g (taken_by b.cells)) (pane_elements g b.panes)
     plain s is none =
@@ -398,7 +395,7 @@ module _ (laws : KnownLaws) (no_stateful : NoStateful) (told : List FileText) (b
     clean = record { weighs = met_weighs };
     from_groups = λ k d inside. (
       All-filter (λ a. is_above b.plan a.node to) (λ a. is_group b.plan a.node ≡ true) (map pane_as_arrival b.panes)
-          (All-map (λ a. is_group b.plan a.node ≡ true) pane_as_arrival b.panes (reached_celled laws.strategies (Some told) b reached).legal.panes_at) k d inside,
+          (All-map (λ a. is_group b.plan a.node ≡ true) pane_as_arrival b.panes (reached_kept_with laws.strategies laws.settings laws.windows (Some told) b reached).kept.cells.legal.panes_at) k d inside,
       filter_passes (λ a. is_above b.plan a.node to) (map pane_as_arrival b.panes) k d inside,
     );
     grouped = λ g above.
@@ -413,7 +410,7 @@ module _ (laws : KnownLaws) (no_stateful : NoStateful) (told : List FileText) (b
   book_plain = ((met, fired, plain_run, bag_from_same (elements_at to b.written) (elements_at to met) (sym met_here)), so_far.none_dropped)
 
 -- what an outcome has written
-pub outcome_plain : KnownLaws → NoStateful → (told : List FileText) (b : BookData) (o : Outcome) → Reached (Some told) b → AreTold told b → IsThrough b → IsOutcomeOf b o → ArePanesStorable o
+pub outcome_plain : KnownLaws → NoStateful → (told : List FileText) (b : SeenBook) (o : Outcome) → Reached (Some told) b → AreTold told b → IsThrough b → IsOutcomeOf b o → ArePanesStorable o
     → ArePlainlyWrittenWhere (items told b.plan) o
 outcome_plain laws no_stateful told b o reached lengths through of storable to write stateless triggers sound =
     let same = of.plan in
@@ -431,7 +428,7 @@ outcome_plain laws no_stateful told b o reached lengths through of storable to w
     }
 
 -- where nothing is asked of the end of a run: nothing is dropped
-pub outcome_undropped : KnownLaws → (told : List FileText) (b : BookData) (o : Outcome) (to : ℕ) → Reached (Some told) b → IsOutcomeOf b o → HasDefaultTriggersAbove o.plan to
+pub outcome_undropped : KnownLaws → (told : List FileText) (b : SeenBook) (o : Outcome) (to : ℕ) → Reached (Some told) b → IsOutcomeOf b o → HasDefaultTriggersAbove o.plan to
     → AreSoundAbove o.plan (items told b.plan) to → NothingIsDroppedAbove o.plan to o.dropped
 outcome_undropped laws told b o to reached of triggers sound =
     let same = of.plan in

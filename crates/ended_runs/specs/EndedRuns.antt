@@ -3,13 +3,13 @@ use Rattle.std.specs.Prelude.{◌≡◌, ℕ, true, List, Some}
 use Rattle.beam_values.specs.Nodes.{HasNoStatefulAbove, is_write}
 use Rattle.beam_values.specs.declared.file_text.FileText.{FileText}
 use Rattle.beam_values.specs.declared.outcome.Outcome.{Outcome}
-use Rattle.book_core.specs.Book.{BookData}
+use Rattle.book_core.specs.Book.{SeenBook}
 use Rattle.book_core.specs.Calls.{IsOutcomeOf}
 use Rattle.book_core.specs.Runs.{AreTold, IsEnded, Reached}
 use Rattle.ended_runs.specs.Storable.{ArePanesStorable}
 
 -- The book of a run over these files is ended and has this outcome, and the node is a Write with no Stateful node above it.
-pub record IsEndedRun (told : List FileText) (b : BookData) (o : Outcome) (node : ℕ) : Type 0 where
+pub record IsEndedRun (told : List FileText) (b : SeenBook) (o : Outcome) (node : ℕ) : Type 0 where
   pub reached : Reached (Some told) b
   pub lengths : AreTold told b
   pub ended : IsEnded b

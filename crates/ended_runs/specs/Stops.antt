@@ -1,7 +1,7 @@
 -- Why a run was given up: the fault that stopped it was met, and the job that met it had failed as often as it may.
 use Rattle.std.specs.Prelude.{◌≡◌, ℕ, List}
 use Rattle.beam_values.specs.declared.fault.FaultNote.{FaultNote}
-use Rattle.book_core.specs.Book.{BookData}
+use Rattle.book_core.specs.Book.{SeenBook}
 use Rattle.book_core.specs.Changes.{note_of}
 use Rattle.book_core.specs.Jobs.{attempted_of, job_of}
 use Rattle.book_core.specs.Runs.{HonestRun, HonestlyReached, MadeStep}
@@ -10,8 +10,8 @@ use Rattle.book_core.specs.Work.{Surroundings, IsHonest}
 use Rattle.book_core.specs.declared.live.Live.{Live}
 
 -- In an earlier book of the run a slot worked a job; it is of that job that the note tells, and its fail was honest. It was the last attempt that the job had.
-pub record IsHonestStop (known : Surroundings) (b : BookData) (note : FaultNote) : Type 0 where
-  pub before : BookData
+pub record IsHonestStop (known : Surroundings) (b : SeenBook) (note : FaultNote) : Type 0 where
+  pub before : SeenBook
   pub reached : HonestlyReached known before
   pub steps : List MadeStep
   pub onward : HonestRun known before steps b

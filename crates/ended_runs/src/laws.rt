@@ -16,7 +16,7 @@ ghost use Rattle.beam_model.specs.Panes.{ArePanesLegal};
 ghost use Rattle.beam_model.specs.Plain.{ArePlainlyWrittenWhere, HasDefaultTriggersAbove};
 ghost use Rattle.beam_model.specs.Plain.{IsPlainAt, NothingIsDroppedAbove};
 ghost use Rattle.beam_model.specs.Positions.{items};
-ghost use Rattle.book_core.specs.Book.{BookData};
+ghost use Rattle.book_core.specs.Book.{SeenBook};
 ghost use Rattle.book_core.specs.Calls.{IsOutcomeOf};
 ghost use Rattle.book_core.specs.Changes.{done_cmp};
 ghost use Rattle.book_core.specs.Runs.{AreTold, HonestlyReached, IsThrough, Reached};
@@ -40,7 +40,7 @@ use windowing::laws::windows_hold_their_time;
 /// Each offset of each source item lies in exactly one committed range, and no committed range has
 /// another offset: nothing is left out, and nothing is read twice.
 pub fn outcomes_are_covered()
-    ensures { (told : Option (List FileText)) (b : BookData) (o : Outcome)
+    ensures { (told : Option (List FileText)) (b : SeenBook) (o : Outcome)
         → Reached told b → IsThrough b → IsOutcomeOf b o → IsCovered o }
 {
     reached_books_are_partitioned();
@@ -50,13 +50,13 @@ pub fn outcomes_are_covered()
 /// No outcome has a position that was set aside, so nothing is left out of its cover, its account and its
 /// plain writing.
 pub fn nothing_is_set_aside()
-    ensures { (b : BookData) (o : Outcome) → IsOutcomeOf b o → o.dead ≡ [] }
+    ensures { (b : SeenBook) (o : Outcome) → IsOutcomeOf b o → o.dead ≡ [] }
 {}
 
 /// Where the files are told, every position's outputs and every pane came to each barrier that they
 /// reach exactly once, and nothing else did.
 pub fn outcomes_are_accounted()
-    ensures { (told : List FileText) (b : BookData) (o : Outcome)
+    ensures { (told : List FileText) (b : SeenBook) (o : Outcome)
         → Reached (Some told) b → AreTold told b → IsThrough b → IsOutcomeOf b o
         → IsAccounted (items told b.plan) o }
 {
@@ -69,7 +69,7 @@ pub fn outcomes_are_accounted()
 /// The panes of an outcome are legal under the trigger of each Group, also those of a run that was given
 /// up, and they stand by commit, node, key and window.
 pub fn outcomes_have_legal_panes()
-    ensures { (told : Option (List FileText)) (b : BookData) (o : Outcome)
+    ensures { (told : Option (List FileText)) (b : SeenBook) (o : Outcome)
         → Reached told b → IsOutcomeOf b o
         → ArePanesLegal o.plan o.commits o.cells o.dropped o.panes }
 {
@@ -79,11 +79,11 @@ pub fn outcomes_have_legal_panes()
 /// The lists of an outcome are in order: done ranges by node, item and range, cells by node, key and
 /// window, and panes by commit, node, key and window.
 pub fn outcomes_are_in_order()
-    ensures done { (told : Option (List FileText)) (b : BookData) (o : Outcome)
+    ensures done { (told : Option (List FileText)) (b : SeenBook) (o : Outcome)
         → Reached told b → IsOutcomeOf b o → IsSorted done_cmp o.done }
-    ensures cells { (told : Option (List FileText)) (b : BookData) (o : Outcome)
+    ensures cells { (told : Option (List FileText)) (b : SeenBook) (o : Outcome)
         → Reached told b → IsOutcomeOf b o → IsSorted cell_cmp o.cells }
-    ensures panes { (told : Option (List FileText)) (b : BookData) (o : Outcome)
+    ensures panes { (told : Option (List FileText)) (b : SeenBook) (o : Outcome)
         → Reached told b → IsOutcomeOf b o → IsSorted pane_cmp o.panes }
 {
     reached_books_are_well_formed();
@@ -93,7 +93,7 @@ pub fn outcomes_are_in_order()
 /// Where the files are told, no Group above a node drops an element, also in a run that was given up, if
 /// each of these Groups has the default trigger and each estimator above the node is sound.
 pub fn sound_groups_drop_nothing()
-    ensures { (told : List FileText) (b : BookData) (o : Outcome) (node : ℕ)
+    ensures { (told : List FileText) (b : SeenBook) (o : Outcome) (node : ℕ)
         → Reached (Some told) b → IsOutcomeOf b o
         → HasDefaultTriggersAbove o.plan node → AreSoundAbove o.plan (items told b.plan) node
         → NothingIsDroppedAbove o.plan node o.dropped }
@@ -110,7 +110,7 @@ pub fn sound_groups_drop_nothing()
 /// dropped an element, whatever was split, bundled or tried again. Windows may be sessions, and Groups may
 /// stand one above another. The values of panes are ones that a program can hold.
 pub fn outcomes_are_plainly_written()
-    ensures { (told : List FileText) (b : BookData) (o : Outcome)
+    ensures { (told : List FileText) (b : SeenBook) (o : Outcome)
         → Reached (Some told) b → AreTold told b → IsThrough b → IsOutcomeOf b o
         → ArePanesStorable o → ArePlainlyWrittenWhere (items told b.plan) o }
 {
@@ -126,7 +126,7 @@ pub fn outcomes_are_plainly_written()
 /// Group dropped a line, so that what was written is no plain grouping. Of two lines the second is 5001
 /// milliseconds before the first, and the lag is 5000.
 pub fn a_lag_one_millisecond_too_small_drops_a_line()
-    ensures { (told : List FileText) × (b : BookData) × (o : Outcome) × (node : ℕ)
+    ensures { (told : List FileText) × (b : SeenBook) × (o : Outcome) × (node : ℕ)
         × IsEndedRun told b o node × HasDefaultTriggersAbove o.plan node
         × (NothingIsDroppedAbove o.plan node o.dropped → ⊥)
         × (IsPlainAt o.plan (items told b.plan) node (elements_at node o.written) → ⊥) }
@@ -136,7 +136,7 @@ pub fn a_lag_one_millisecond_too_small_drops_a_line()
 /// nothing, where what was written is no plain grouping. A Group that fires early shows the first of two
 /// lines before the second comes.
 pub fn an_early_trigger_splits_a_pane()
-    ensures { (told : List FileText) × (b : BookData) × (o : Outcome) × (node : ℕ)
+    ensures { (told : List FileText) × (b : SeenBook) × (o : Outcome) × (node : ℕ)
         × IsEndedRun told b o node × AreSoundAbove o.plan (items told b.plan) node
         × NothingIsDroppedAbove o.plan node o.dropped
         × (IsPlainAt o.plan (items told b.plan) node (elements_at node o.written) → ⊥) }
@@ -145,7 +145,7 @@ pub fn an_early_trigger_splits_a_pane()
 /// A run that was given up by a fault met that fault: some job of it failed there honestly, as often as
 /// it may.
 pub fn stops_are_honest()
-    ensures { (known : Surroundings) (b : BookData) (note : FaultNote)
+    ensures { (known : Surroundings) (b : SeenBook) (note : FaultNote)
         → HonestlyReached known b → b.stopped ≡ Some (stop.Spent note)
         → IsHonestStop known b note }
 {
@@ -155,10 +155,10 @@ pub fn stops_are_honest()
 /// Where the files are told and calls fail on poison alone, no call fails in a run that takes no poison.
 /// So it is given up only by reads, of which at least as many failed as a job has attempts.
 pub fn runs_without_poison_fail_by_reads()
-    ensures calls { (known : Surroundings) (told : List FileText) (b : BookData)
+    ensures calls { (known : Surroundings) (told : List FileText) (b : SeenBook)
         → known.told ≡ Some told → known.strict ≡ true → AreTold told b
         → TakesNoPoison known b.plan b.options → HonestlyReached known b → b.calls ≡ 0 }
-    ensures reads { (known : Surroundings) (told : List FileText) (b : BookData) (note : FaultNote)
+    ensures reads { (known : Surroundings) (told : List FileText) (b : SeenBook) (note : FaultNote)
         → known.told ≡ Some told → known.strict ≡ true → AreTold told b
         → TakesNoPoison known b.plan b.options → HonestlyReached known b
         → b.stopped ≡ Some (stop.Spent note) → b.options.attempts ≤ b.reads }

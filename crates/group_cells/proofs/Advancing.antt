@@ -32,8 +32,8 @@ use Rattle.group_cells.proofs.PlacedInTurn.{placed_none}
 pub nothing_later : (plan : Plan) (before : List StageMarks) (c : ℕ) (cells : List Cell) → AreAllPlaced plan before c [] cells cells
 nothing_later plan before c cells = record {
   each = λ n k. placed_none (rules_of plan n) (marks_at before n).mark_in n k c (filter (is_cell_at_key n k) cells);
-  fit = λ h. h;
   behind = [];
+  behind_at = All-nil (λ (place : CellPlace). is_group plan place.node ≡ true);
   places = sym (append-nil (map cell_place cells));
 }
 

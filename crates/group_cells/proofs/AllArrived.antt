@@ -1,17 +1,13 @@
 -- The arrivals of a commit are placed: those at Groups whose windows don't merge one by one, and then the others Group by Group and key by key.
-use Rattle.std.proofs.Common.{◌≡◌, ℕ, ◌==◌, ◌&&◌, ℤ, Bool, true, false, cond, List, [], ◌∷◌, ◌++◌, map, refl, sym, ap, subst, ◌∙◌, arith, append_assoc, append-nil}
+use Rattle.std.proofs.Common.{◌≡◌, ℕ, ◌==◌, ◌&&◌, ℤ, Bool, true, false, cond, List, [], ◌∷◌, map, refl, sym, ap, subst, ◌∙◌, arith}
 use Rattle.std.specs.List.{All, Contains, filter}
-use Rattle.std.specs.Str.{bytes_eq}
 use Rattle.std.proofs.lemmas.Bool.{false≢true}
 use Rattle.std.proofs.lemmas.Bool.Decides.{Decides-eqb}
-use Rattle.std.proofs.lemmas.Slice.Eq.{bytes_eq-Decides}
-use Rattle.std.proofs.lemmas.List.Elements.{All-nil, All-cons, All-head, All-tail}
+use Rattle.std.proofs.lemmas.List.Elements.{All-nil, All-cons}
 use Rattle.beam_values.specs.Grouping.{key_of}
 use Rattle.beam_values.specs.Intervals.{Interval}
 use Rattle.beam_values.specs.Marks.{marks_at}
 use Rattle.beam_values.specs.Nodes.{is_group}
-use Rattle.beam_values.specs.Spans.{same_span}
-use Rattle.beam_values.specs.Spelling.{spelling}
 use Rattle.beam_values.specs.declared.arrival.Arrival.{Arrival}
 use Rattle.beam_values.specs.declared.cell.Cell.{Cell}
 use Rattle.beam_values.specs.declared.cell.Entry.{Entry}
@@ -25,9 +21,10 @@ use Rattle.cell_index.specs.Places.{is_cell_of}
 use Rattle.group_cells.specs.Arrivals.{arrived, with_arrival, with_arrivals, merging, UnmergedStand, AreOwn}
 use Rattle.group_cells.specs.Commits.{CellPlace, cell_place, elements_keyed, is_taken, is_at_group, arrives_in_time}
 use Rattle.group_cells.specs.Placing.{Opening, is_same_key, fresh_cell, with_entry, opened_all}
-use Rattle.group_cells.specs.Plain.{AreAllPlaced, ArePlaced, IsFit, is_arrival_at}
+use Rattle.group_cells.specs.Plain.{AreAllPlaced, ArePlaced, is_arrival_at}
 use Rattle.group_cells.specs.Rounds.{AreWindowsFor, entry_of, open_windows}
-use Rattle.group_cells.proofs.Alike.{and_parts, both_true, key_itself}
+use Rattle.group_cells.proofs.Alike.{and_parts, both_true}
+use Rattle.group_cells.proofs.PlacedCells.{GoesOn, GoesOnAt, goes_further, stays_at}
 use Rattle.group_cells.proofs.PlainRounds.{in_time_keyed}
 use Rattle.group_cells.proofs.Projecting.{project_none, project_merging, project_unmerged}
 use Rattle.group_cells.proofs.Unmerged.{AreKeyed, arrived_all, arrived_as_put, opening_of, own_arrived}
@@ -119,67 +116,34 @@ own_windows rules es open_ unmerged =
 
 -- ---- what stays
 
-all_push : {X : Type 0} (P : X → Type 0) (xs : List X) (x : X) → All P xs → P x → All P (xs ++ x ∷ [])
-all_push P [] x h p = All-cons P x [] p (All-nil P)
-all_push P (y ∷ xs) x h p = All-cons P y (xs ++ x ∷ []) (All-head P y xs h) (all_push P xs x (All-tail P y xs h) p)
-
-key_through : (a b c : Value) → bytes_eq (spelling a) (spelling b) ≡ true → bytes_eq (spelling c) (spelling b) ≡ true → bytes_eq (spelling c) (spelling a) ≡ true
-key_through a b c p q = ap (λ s. bytes_eq (spelling c) s) ((bytes_eq-Decides (spelling a) (spelling b)).0 p) ∙ q
-
-arrived_fit : (plan : Plan) (node : ℕ) (key : Value) (span : Interval) (entry : Entry) → is_group plan node ≡ true → is_keyed key entry.element ≡ true
-    → (cells : List Cell) → All (IsFit plan) cells → All (IsFit plan) (arrived node key span entry cells)
-arrived_fit plan node key span entry group keyed [] h =
-    All-cons (IsFit plan) (fresh_cell node key span (entry ∷ [])) [] (group, all_push (λ (e : Entry). is_keyed key e.element ≡ true) [] entry (All-nil (λ (e : Entry). is_keyed key e.element ≡ true)) keyed) h
-arrived_fit plan node key span entry group keyed (cell ∷ cells) h = by (is_cell_of node key span cell) refl (arrived_fit plan node key span entry group keyed cells (All-tail (IsFit plan) cell cells h))
+arrived_on : (plan : Plan) (node : ℕ) (key : Value) (span : Interval) (entry : Entry) → is_group plan node ≡ true → (cells : List Cell) → GoesOnAt plan cells (arrived node key span entry cells)
+arrived_on plan node key span entry group [] = record {
+  goes = (cell_place (fresh_cell node key span (entry ∷ [])) ∷ [], refl);
+  at = All-cons (λ (place : CellPlace). is_group plan place.node ≡ true) (cell_place (fresh_cell node key span (entry ∷ []))) [] group (All-nil (λ (place : CellPlace). is_group plan place.node ≡ true));
+}
+arrived_on plan node key span entry group (cell ∷ cells) = by (is_cell_of node key span cell) (arrived_on plan node key span entry group cells)
   where
-    by : (t : Bool) → is_cell_of node key span cell ≡ t → All (IsFit plan) (arrived node key span entry cells)
-        → All (IsFit plan) (cond t (with_entry entry cell ∷ cells) (cell ∷ arrived node key span entry cells))
-    by true e ih =
-        let here = All-head (IsFit plan) cell cells h in
-        let at = and_parts (cell.node == node) (bytes_eq (spelling cell.key) (spelling key)) (and_parts (is_cell_at_key node key cell) (same_span cell.span span) e).0 in
-        All-cons (IsFit plan) (with_entry entry cell) cells
-        (here.0, all_push (λ (x : Entry). is_keyed cell.key x.element ≡ true) cell.entries entry here.1 (key_through cell.key key (key_of entry.element) at.1 keyed))
-        (All-tail (IsFit plan) cell cells h)
-    by false e ih = All-cons (IsFit plan) cell (arrived node key span entry cells) (All-head (IsFit plan) cell cells h) ih
+    by : (t : Bool) → GoesOnAt plan cells (arrived node key span entry cells) → GoesOnAt plan (cell ∷ cells) (cond t (with_entry entry cell ∷ cells) (cell ∷ arrived node key span entry cells))
+    by true ih = stays_at plan (cell ∷ cells) (with_entry entry cell ∷ cells) refl
+    by false ih = record { goes = (ih.goes.0, ap (λ l. cell_place cell ∷ l) ih.goes.1); at = ih.at }
 
-arrived_behind : (node : ℕ) (key : Value) (span : Interval) (entry : Entry) (cells : List Cell) → (more : List CellPlace) × (map cell_place (arrived node key span entry cells) ≡ map cell_place cells ++ more)
-arrived_behind node key span entry [] = (cell_place (fresh_cell node key span (entry ∷ [])) ∷ [], refl)
-arrived_behind node key span entry (cell ∷ cells) = by (is_cell_of node key span cell) (arrived_behind node key span entry cells)
-  where
-    by : (t : Bool) → (more : List CellPlace) × (map cell_place (arrived node key span entry cells) ≡ map cell_place cells ++ more)
-        → (more : List CellPlace) × (map cell_place (cond t (with_entry entry cell ∷ cells) (cell ∷ arrived node key span entry cells)) ≡ cell_place cell ∷ (map cell_place cells ++ more))
-    by true ih = ([], ap (λ l. cell_place cell ∷ l) (sym (append-nil (map cell_place cells))))
-    by false ih = (ih.0, ap (λ l. cell_place cell ∷ l) ih.1)
-
-one_fit : (plan : Plan) (before : List StageMarks) (c : ℕ) (a : Arrival) (cells : List Cell) → All (IsFit plan) cells → All (IsFit plan) (with_arrival plan before c cells a)
-one_fit plan before c a cells h = by (is_taken plan before a) refl (rules_of plan a.node).merges
+one_on : (plan : Plan) (before : List StageMarks) (c : ℕ) (a : Arrival) (cells : List Cell) → GoesOnAt plan cells (with_arrival plan before c cells a)
+one_on plan before c a cells = by (is_taken plan before a) refl (rules_of plan a.node).merges
   where
     by : (t : Bool) → is_taken plan before a ≡ t → (m : Bool)
-        → All (IsFit plan) (cond t (cond m cells (arrived a.node (key_of a.element) a.element.span (entry_of c a.element) cells)) cells)
-    by true e true = h
-    by true e false =
-        arrived_fit plan a.node (key_of a.element) a.element.span (entry_of c a.element) (and_parts (is_at_group plan a) (arrives_in_time plan before a) e).0 (key_itself (key_of a.element)) cells h
-    by false e m = h
+        → GoesOnAt plan cells (cond t (cond m cells (arrived a.node (key_of a.element) a.element.span (entry_of c a.element) cells)) cells)
+    by true e true = stays_at plan cells cells refl
+    by true e false = arrived_on plan a.node (key_of a.element) a.element.span (entry_of c a.element) (and_parts (is_at_group plan a) (arrives_in_time plan before a) e).0 cells
+    by false e m = stays_at plan cells cells refl
 
-all_fit : (plan : Plan) (before : List StageMarks) (c : ℕ) (arrivals : List Arrival) (cells : List Cell) → All (IsFit plan) cells → All (IsFit plan) (with_arrivals plan before c cells arrivals)
-all_fit plan before c [] cells h = h
-all_fit plan before c (a ∷ arrivals) cells h = all_fit plan before c arrivals (with_arrival plan before c cells a) (one_fit plan before c a cells h)
+all_on : (plan : Plan) (before : List StageMarks) (c : ℕ) (arrivals : List Arrival) (cells : List Cell) → GoesOnAt plan cells (with_arrivals plan before c cells arrivals)
+all_on plan before c [] cells = stays_at plan cells cells refl
+all_on plan before c (a ∷ arrivals) cells =
+    let one = with_arrival plan before c cells a in
+    goes_further plan cells one (with_arrivals plan before c one arrivals) (one_on plan before c a cells) (all_on plan before c arrivals one)
 
-one_behind : (plan : Plan) (before : List StageMarks) (c : ℕ) (a : Arrival) (cells : List Cell) → (more : List CellPlace) × (map cell_place (with_arrival plan before c cells a) ≡ map cell_place cells ++ more)
-one_behind plan before c a cells = by (is_taken plan before a) (rules_of plan a.node).merges
-  where
-    by : (t m : Bool) → (more : List CellPlace)
-        × (map cell_place (cond t (cond m cells (arrived a.node (key_of a.element) a.element.span (entry_of c a.element) cells)) cells) ≡ map cell_place cells ++ more)
-    by true true = ([], sym (append-nil (map cell_place cells)))
-    by true false = arrived_behind a.node (key_of a.element) a.element.span (entry_of c a.element) cells
-    by false m = ([], sym (append-nil (map cell_place cells)))
-
-pub all_behind : (plan : Plan) (before : List StageMarks) (c : ℕ) (arrivals : List Arrival) (cells : List Cell) → (more : List CellPlace) × (map cell_place (with_arrivals plan before c cells arrivals) ≡ map cell_place cells ++ more)
-all_behind plan before c [] cells = ([], sym (append-nil (map cell_place cells)))
-all_behind plan before c (a ∷ arrivals) cells =
-    let one = one_behind plan before c a cells in
-    let rest = all_behind plan before c arrivals (with_arrival plan before c cells a) in
-    (one.0 ++ rest.0, rest.1 ∙ ap (λ l. l ++ rest.0) one.1 ∙ append_assoc (map cell_place cells) one.0 rest.0)
+pub all_behind : (plan : Plan) (before : List StageMarks) (c : ℕ) (arrivals : List Arrival) (cells : List Cell) → GoesOn cells (with_arrivals plan before c cells arrivals)
+all_behind plan before c arrivals cells = (all_on plan before c arrivals cells).goes
 
 -- ---- all together
 
@@ -235,12 +199,12 @@ module _ (plan : Plan) (before : List StageMarks) (c : ℕ) (arrivals : List Arr
 
   pub all_placed : UnmergedStand plan old → AreAllPlaced plan before c (filter (merging plan before) arrivals) mid placed → AreAllPlaced plan before c (filter (is_taken plan before) arrivals) old placed
   all_placed stand h =
-      let more = all_behind plan before c arrivals old in
+      let on = goes_further plan old mid placed (all_on plan before c arrivals old) (record { goes = (h.behind, h.places); at = h.behind_at }) in
       record {
         each = each_placed stand h;
-        fit = λ f. h.fit (all_fit plan before c arrivals old f);
-        behind = more.0 ++ h.behind;
-        places = h.places ∙ ap (λ l. l ++ h.behind) more.1 ∙ append_assoc (map cell_place old) more.0 h.behind;
+        behind = on.goes.0;
+        behind_at = on.at;
+        places = on.goes.1;
       }
 
   -- and those windows that don't merge stand

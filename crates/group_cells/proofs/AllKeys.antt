@@ -29,6 +29,7 @@ use Rattle.beam_model.specs.Sessions.{is_keyed}
 use Rattle.session_merge.proofs.Lists.{all_first, contains_filter}
 use Rattle.group_cells.specs.Rounds.{is_in_time, entry_of, IsRound}
 use Rattle.group_cells.specs.Commits.{SeenGroups, is_at_group, arrives_in_time, is_dropped, dropped_arrival, elements_keyed, cells_keyed, HasLength, HasGap, HaveGaps, NeverFalls, as_commit, KeepsLegal, AreRounds}
+use Rattle.group_cells.proofs.KeptKeys.{keys_kept}
 use Rattle.group_cells.proofs.KeyCells.{taken_keyed}
 use Rattle.group_cells.proofs.LegalRounds.{round_history, round_cells}
 use Rattle.group_cells.proofs.LongerMarks.{marks_stay, mark_before, mark_then, marks_rise, size_until, size_longer, panes_ordered}
@@ -164,6 +165,9 @@ module _ (plan : Plan) (before after : List StageMarks) (arrivals : List Arrival
   last_longer : length longer - 1 ≡ suc (length earlier)
   last_longer = omega (arith, size_longer earlier before after 0)
 
+  keyed_after : All IsKeyed new.cells
+  keyed_after = keys_kept plan (suc (length earlier)) before after arrivals old.cells new.cells fired legal.keyed rounds
+
   module _ (node : ℕ) (key : Value) (group : is_group plan node ≡ true) where
     abbrev rules : GroupRules
     rules = rules_of plan node
@@ -213,7 +217,7 @@ module _ (plan : Plan) (before after : List StageMarks) (arrivals : List Arrival
     panes_here = sym (filter-append (is_pane_at_key node key) panes fired)
 
     taken_here : all_taken node own_new ≡ taken_at node key (taken_by new.cells)
-    taken_here = sym (taken_keyed node key new.cells rounds.keyed)
+    taken_here = sym (taken_keyed node key new.cells keyed_after)
 
     legal_at : IsLegalAt plan longer new.cells new.dropped (panes ++ fired) node key
     legal_at = record {
@@ -243,7 +247,7 @@ module _ (plan : Plan) (before after : List StageMarks) (arrivals : List Arrival
         (All-append (λ (d : Dropped). is_group plan d.node ≡ true) old.dropped (lost plan (suc (length earlier)) before arrivals) legal.dropped_at (lost_at_groups plan (suc (length earlier)) before arrivals));
     panes_at = All-append (λ (pane : Pane). is_group plan pane.node ≡ true) panes fired legal.panes_at rounds.at_groups;
     each = legal_at;
-    keyed = rounds.keyed;
+    keyed = keyed_after;
     ordered = panes_ordered (suc (length earlier)) panes fired legal.ordered rounds.ordered
         (early_panes plan until old.cells old.dropped panes (length earlier) (sym last_until) legal) rounds.of_commit;
   }

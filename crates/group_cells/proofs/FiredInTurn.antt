@@ -7,7 +7,7 @@ use Rattle.std.specs.List.{All, count_by}
 use Rattle.std.specs.List.Sorted.{IsSorted}
 use Rattle.std.proofs.lemmas.Bool.{cases_lt, eq-eqb, eqb-true}
 use Rattle.std.proofs.lemmas.List.{get_or-set_other, get_or-set_same, length-append}
-use Rattle.std.proofs.lemmas.List.Elements.{All-nil, All-append, All-map, All-weaker, filter-append}
+use Rattle.std.proofs.lemmas.List.Elements.{All-nil, All-append, All-weaker, filter-append}
 use Rattle.std.proofs.lemmas.List.Sorted.{All-permutation, length_permutation}
 use Rattle.std.proofs.lemmas.Option.{slice_get_within}
 use Rattle.beam_values.specs.Cells.{pane_cmp}
@@ -29,11 +29,11 @@ use Rattle.watermarks.proofs.NodeMarks.{AreMarksBelow, final_stage, marks_all, m
 use Rattle.group_cells.specs.Cells.{after_firing, AreTheirPanes}
 use Rattle.group_cells.specs.Commits.{cell_place, cells_keyed, hold_with}
 use Rattle.group_cells.specs.Placing.{stands_as}
-use Rattle.group_cells.specs.Plain.{AreGroupFired, AreKeyFired, AreNodesFired, IsFit, IsNodeDone, after_node, firing_at}
+use Rattle.group_cells.specs.Plain.{AreGroupFired, AreKeyFired, AreNodesFired, IsNodeDone, after_node, firing_at}
 use Rattle.group_cells.proofs.Counting.{filter_none}
 use Rattle.group_cells.proofs.FiredFew.{at_kept, below_more, few_all, few_here, is_at, is_below}
 use Rattle.group_cells.proofs.FiredGroups.{all_of, their_panes}
-use Rattle.group_cells.proofs.FiredNodes.{after_fit, after_kept, held_append, held_off, held_on, later, node_other, node_own, sorted_append}
+use Rattle.group_cells.proofs.FiredNodes.{after_kept, held_append, held_off, held_on, later, node_other, node_own, sorted_append}
 use Rattle.group_cells.proofs.PlacedCells.{map_kept}
 
 apart : (m n : ℕ) → m ≢ n → (m == n) ≡ false
@@ -54,7 +54,6 @@ record IsStep (plan : Plan) (c n : ℕ) (mark : ℤ) (cells new : List Cell) (he
   others : (node : ℕ) (key : Value) → node ≢ n → cells_keyed node key new ≡ cells_keyed node key cells
   own : (key : Value) → is_group plan n ≡ true → (cells_keyed n key new ≡ map (after_firing (rules_of plan n) mark) (cells_keyed n key cells))
       × (((w : Interval) → count_by (stands_as w) (cells_keyed n key cells) ≤ 1) → AreTheirPanes (rules_of plan n) n key c mark (cells_keyed n key cells) (panes_at n key here))
-  fit : All (IsFit plan) cells → All (IsFit plan) new
   places : map cell_place new ≡ map cell_place cells
   few : length here ≤ count_by (is_at n) cells
 
@@ -69,10 +68,6 @@ group_step plan c n mark cells new here group h = record {
     ap (cells_keyed n key) h.fires ∙ node_own (rules_of plan n) n mark key cells,
     λ once. their_panes (rules_of plan n) n c mark key cells h.panes here h.each h.order once,
   );
-  fit = λ fits.
-      subst (All (IsFit plan)) (sym h.fires)
-      (All-map (IsFit plan) (after_node (rules_of plan n) n mark) cells
-      (All-weaker (IsFit plan) (λ cell. IsFit plan (after_node (rules_of plan n) n mark cell)) (λ cell fit. after_fit plan (firing_at (rules_of plan n) n mark cell) cell fit) cells fits));
   places = ap (map cell_place) h.fires ∙ map_kept (after_node (rules_of plan n) n mark) (λ cell. after_kept (firing_at (rules_of plan n) n mark cell) cell) cells;
   few = omega (arith, few_here (rules_of plan n) n c mark cells h.panes h.each, length_permutation h.panes here h.order);
 }
@@ -91,7 +86,6 @@ rest_step plan c n mark cells new here rests same none = record {
   ordered = subst (IsSorted pane_cmp) (sym none) sorted_none;
   others = λ node key off. ap (cells_keyed node key) same;
   own = λ key group. let no_ : true ≡ false = sym group ∙ rests in absurd (cc);
-  fit = λ fits. subst (All (IsFit plan)) (sym same) fits;
   places = ap (map cell_place) same;
   few = omega (arith, ap length none);
 }
@@ -107,7 +101,6 @@ module _ (plan : Plan) (before : List StageMarks) (hold : ℕ → ℤ) (c : ℕ)
     pub groups : All (λ pane. is_group plan pane.node ≡ true) fired
     pub of_commit : All (λ pane. pane.commit ≡ c) fired
     pub ordered : IsSorted pane_cmp fired
-    pub fit : All (IsFit plan) old → All (IsFit plan) new
     pub places : map cell_place new ≡ map cell_place old
     pub few : length fired ≤ count_by (is_below bound) old
 
@@ -120,7 +113,6 @@ module _ (plan : Plan) (before : List StageMarks) (hold : ℕ → ℤ) (c : ℕ)
     groups = All-nil (λ (pane : Pane). is_group plan pane.node ≡ true);
     of_commit = All-nil (λ (pane : Pane). pane.commit ≡ c);
     ordered = sorted_none;
-    fit = λ fits. fits;
     places = refl;
     few = omega arith;
   }
@@ -133,7 +125,6 @@ module _ (plan : Plan) (before : List StageMarks) (hold : ℕ → ℤ) (c : ℕ)
     groups = h.groups;
     of_commit = h.of_commit;
     ordered = h.ordered;
-    fit = h.fit;
     places = h.places;
     few = omega (arith, h.few, few_all bound old);
   }
@@ -248,7 +239,6 @@ module _ (plan : Plan) (before : List StageMarks) (hold : ℕ → ℤ) (c : ℕ)
       ordered = sorted_append fired here h.ordered step.ordered
           (λ i d in_fired j e in_here. later c (get_or fired i d) (get_or here j e) (h.of_commit i d in_fired) (step.of_commit j e in_here)
           (let low : (get_or fired i d).node < n = h.below i d in_fired in let at : (get_or here j e).node ≡ n = step.at_node j e in_here in omega arith));
-      fit = λ fits. step.fit (h.fit fits);
       places = step.places ∙ h.places;
       few = omega (arith, length-append fired here, h.few, step.few, below_more n old, at_kept n old cells h.places);
     }

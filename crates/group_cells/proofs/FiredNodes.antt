@@ -9,25 +9,22 @@ use Rattle.std.specs.Cmp.{IsTotalOrder, nat_cmp_is}
 use Rattle.std.proofs.lemmas.Bool.{and_parts, cases_lt, eqb-true}
 use Rattle.std.proofs.lemmas.Cmp.{int_cmp_total, nat_cmp_total, nat_list_cmp_total, on_total, then_total, tied_itself}
 use Rattle.std.proofs.lemmas.List.{get_or_append_left, get_or-append_right, length-append, map-append}
-use Rattle.std.proofs.lemmas.List.Elements.{All-head, All-tail, All-map, filter-append}
+use Rattle.std.proofs.lemmas.List.Elements.{All-head, All-tail, filter-append}
 use Rattle.beam_values.specs.Cells.{pane_cmp, span_cmp}
 use Rattle.beam_values.specs.Grouping.{key_of}
 use Rattle.beam_values.specs.Intervals.{Interval}
 use Rattle.beam_values.specs.Orders.{bytes_cmp}
 use Rattle.beam_values.specs.Spelling.{spelling}
 use Rattle.beam_values.specs.declared.cell.Cell.{Cell}
-use Rattle.beam_values.specs.declared.cell.Entry.{Entry}
 use Rattle.beam_values.specs.declared.cell.Pane.{Pane}
 use Rattle.beam_values.specs.declared.element.Timing.{Timing}
 use Rattle.beam_values.specs.declared.marks.StageMarks.{StageMarks}
-use Rattle.beam_values.specs.declared.plan.Plan.{Plan}
 use Rattle.beam_values.specs.declared.value.Value.{Value}
 use Rattle.beam_model.specs.Holds.{Hold, marks_held, pane_hold}
 use Rattle.beam_model.specs.Panes.{GroupRules, is_cell_at_key}
-use Rattle.beam_model.specs.Sessions.{is_keyed}
-use Rattle.group_cells.specs.Cells.{after_firing, firing_of, once_fired, shown}
+use Rattle.group_cells.specs.Cells.{after_firing, firing_of, once_fired}
 use Rattle.group_cells.specs.Commits.{cell_place, cells_keyed}
-use Rattle.group_cells.specs.Plain.{IsFit, after_node, firing_at}
+use Rattle.group_cells.specs.Plain.{after_node, firing_at}
 
 span_total : IsTotalOrder span_cmp
 span_total = then_total (on_total (λ (w : Interval). w.start) int_cmp_total) (on_total (λ (w : Interval). w.end) int_cmp_total)
@@ -96,13 +93,6 @@ module _ (before : List StageMarks) where
 pub after_kept : (t : Option Timing) (cell : Cell) → cell_place (once_fired t cell) ≡ cell_place cell
 after_kept None cell = refl
 after_kept (Some timing) cell = refl
-
-shown_keyed : (key : Value) (entries : List Entry) → All (λ entry. is_keyed key entry.element ≡ true) entries → All (λ entry. is_keyed key entry.element ≡ true) (map shown entries)
-shown_keyed key entries h = All-map (λ (entry : Entry). is_keyed key entry.element ≡ true) shown entries h
-
-pub after_fit : (plan : Plan) (t : Option Timing) (cell : Cell) → IsFit plan cell → IsFit plan (once_fired t cell)
-after_fit plan None cell h = h
-after_fit plan (Some timing) cell h = (h.0, shown_keyed cell.key cell.entries h.1)
 
 module _ (rules : GroupRules) (n : ℕ) (mark : ℤ) (node : ℕ) (key : Value) where
   keeps_at : (t : Option Timing) (cell : Cell) → is_cell_at_key node key (once_fired t cell) ≡ is_cell_at_key node key cell

@@ -22,6 +22,7 @@ use Rattle.beam_model.specs.Sessions.{is_keyed}
 use Rattle.group_cells.specs.Rounds.{is_in_time, entry_of}
 use Rattle.group_cells.specs.Commits.{is_at_group, arrives_in_time, is_taken, taken_arrival, elements_keyed, cells_keyed, AreRounds}
 use Rattle.group_cells.proofs.Counting.{filter_all, filter_none, All-flat_map}
+use Rattle.group_cells.proofs.KeptKeys.{keys_kept}
 use Rattle.group_cells.proofs.KeyedBags.{one_bag}
 use Rattle.group_cells.proofs.MovedEntries.{all_taken}
 use Rattle.group_cells.proofs.LegalRounds.{round_entries}
@@ -161,7 +162,7 @@ all_entries plan c before after arrivals cells new fired keyed at rounds =
     of_key : (node : ℕ) (key : Value) → is_group plan node ≡ true
         → IsSameBag (filter (is_at_key node key) (taken_by new)) (filter (is_at_key node key) (taken_by cells ++ map (taken_arrival c) (filter (is_taken plan before) arrivals)))
     of_key node key group =
-        subst (λ (l : List Taken). IsSameBag l (filter (is_at_key node key) (taken_by cells ++ map (taken_arrival c) (filter (is_taken plan before) arrivals)))) (sym (taken_keyed node key new rounds.keyed))
+        subst (λ (l : List Taken). IsSameBag l (filter (is_at_key node key) (taken_by cells ++ map (taken_arrival c) (filter (is_taken plan before) arrivals)))) (sym (taken_keyed node key new (keys_kept plan c before after arrivals cells new fired keyed rounds)))
         (subst (λ (l : List Taken). IsSameBag (all_taken node (cells_keyed node key new)) l)
         (sym (filter-append (is_at_key node key) (taken_by cells) (map (taken_arrival c) (filter (is_taken plan before) arrivals))
         ∙ (λ i. taken_keyed node key cells keyed i ++ taken_arrivals node key plan c before group arrivals i)))

@@ -14,6 +14,8 @@ pub mod OneCommit
 pub mod OpenedWindows
 pub mod LegalRounds
 pub mod KeyedBags
+pub mod EachKey
+pub mod KeptKeys
 pub mod KeyCells
 pub mod LongerMarks
 pub mod PositiveGaps
@@ -27,6 +29,14 @@ mod PlacedInTurn
 mod FiredGroups
 mod FiredNodes
 mod FiredInTurn
+pub mod Shapes
+pub mod StillOpen
+pub mod KeptTakers
+pub mod KeptApart
+pub mod Settling
+pub mod CountedPanes
+pub mod QuietRounds
+pub mod KeptSane
 mod RisenMarks
 mod PlainRounds
 mod PlainPlacing

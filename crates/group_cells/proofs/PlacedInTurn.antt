@@ -1,9 +1,9 @@
 -- The arrivals that Groups take are placed, one Group and key after another.
-use Rattle.std.proofs.Common.{◌≡◌, ◌⊎◌, inl, inr, ℕ, suc, ◌==◌, ◌<◌, ◌≤◌, ℤ, Bool, true, false, cond, List, [], ◌∷◌, map, length, refl, sym, ap, subst, ◌∙◌, arith, append-nil}
+use Rattle.std.proofs.Common.{◌≡◌, ◌⊎◌, inl, inr, ℕ, suc, ◌==◌, ◌<◌, ◌≤◌, ℤ, Bool, true, false, cond, List, [], ◌∷◌, map, length, refl, sym, ap, subst, ◌∙◌, arith}
 use Rattle.std.specs.Prelude.{not, Some, slice_get}
 use Rattle.std.specs.List.{All, filter}
 use Rattle.std.proofs.lemmas.Bool.{cases_Bool, and_parts, eqb-true}
-use Rattle.std.proofs.lemmas.List.Elements.{All-nil, All-head, All-filter, All-map, All-weaker, filter_passes}
+use Rattle.std.proofs.lemmas.List.Elements.{All-nil, All-head, All-filter}
 use Rattle.beam_values.specs.Grouping.{key_of}
 use Rattle.beam_values.specs.Marks.{marks_at}
 use Rattle.beam_values.specs.Nodes.{is_group}
@@ -14,13 +14,12 @@ use Rattle.beam_values.specs.declared.marks.StageMarks.{StageMarks}
 use Rattle.beam_values.specs.declared.plan.Plan.{Plan}
 use Rattle.beam_values.specs.declared.value.Value.{Value}
 use Rattle.beam_model.specs.Panes.{GroupRules, rules_of}
-use Rattle.beam_model.specs.Sessions.{is_keyed}
 use Rattle.group_cells.specs.Commits.{cells_keyed, elements_keyed}
 use Rattle.group_cells.specs.Placing.{Opening, is_same_key}
-use Rattle.group_cells.specs.Plain.{AreAllPlaced, ArePlaced, ArePlacedAt, IsFit, is_arrival_at}
+use Rattle.group_cells.specs.Plain.{AreAllPlaced, ArePlaced, ArePlacedAt, is_arrival_at}
 use Rattle.group_cells.specs.Rounds.{AreWindowsFor, open_windows}
 use Rattle.group_cells.proofs.PlacedKeys.{at_alike, at_apart, at_itself, filter_same, is_at, placed_other, placed_same}
-use Rattle.group_cells.proofs.PlacedCells.{GoesOn, goes_further, placed_fit, placed_on}
+use Rattle.group_cells.proofs.PlacedCells.{GoesOnAt, goes_further, placed_on_at, stays_at}
 
 -- ---- filters
 
@@ -77,23 +76,21 @@ module _ (plan : Plan) (before : List StageMarks) (c : ℕ) (all : List Arrival)
   pub record AreSoFar (left : List Arrival) (cells : List Cell) : Type 0 where
     pub each : (node : ℕ) (key : Value) → SoFar left cells node key
     pub groups : All (λ arrival. is_group plan arrival.node ≡ true) left
-    pub fit : All (IsFit plan) old → All (IsFit plan) cells
-    pub on : GoesOn old cells
+    pub on : GoesOnAt plan old cells
 
   pub so_far_none : All (λ arrival. is_group plan arrival.node ≡ true) all → AreSoFar all old
   so_far_none groups = record {
     each = λ node key. inl (refl, refl);
     groups = groups;
-    fit = λ h. h;
-    on = ([], sym (append-nil _));
+    on = stays_at plan old old refl;
   }
 
   pub so_far_all : (left : List Arrival) (cells : List Cell) → left ≡ [] → AreSoFar left cells → AreAllPlaced plan before c all old cells
   so_far_all left cells ended h = record {
     each = λ node key. by node key (h.each node key);
-    fit = h.fit;
-    behind = h.on.0;
-    places = h.on.1;
+    behind = h.on.goes.0;
+    behind_at = h.on.at;
+    places = h.on.goes.1;
   }
     where
       by : (node : ℕ) (key : Value) → SoFar left cells node key → Here node key (elements_keyed node key all) (cells_keyed node key old) (cells_keyed node key cells)
@@ -117,12 +114,6 @@ module _ (plan : Plan) (before : List StageMarks) (c : ℕ) (all : List Arrival)
         others_are ∙ ap (filter (λ arrival. not (is_arrival_at n k arrival))) is
         ∙ ap (λ b. cond (not b) (first ∷ filter (λ arrival. not (is_arrival_at n k arrival)) rest) (filter (λ arrival. not (is_arrival_at n k arrival)) rest)) first_at in
         omega (arith, ap length gone, ap length is, fewer (λ arrival. not (is_arrival_at n k arrival)) rest)
-
-    own_keyed : All (λ e. is_keyed k e ≡ true) (elements_keyed n k left)
-    own_keyed =
-        All-map (λ e. is_keyed k e ≡ true) (λ arrival. arrival.element) (filter (is_arrival_at n k) left)
-        (All-weaker (λ arrival. is_arrival_at n k arrival ≡ true) (λ arrival. is_keyed k arrival.element ≡ true)
-        (λ arrival on. (and_parts (arrival.node == n) (is_keyed k arrival.element) on).1) (filter (is_arrival_at n k) left) (filter_passes (is_arrival_at n k) left))
 
     here_some : (node : ℕ) (key : Value) → is_at node key n k ≡ true → elements_keyed node key left ≡ [] → ⊥
     here_some node key on none =
@@ -165,8 +156,7 @@ module _ (plan : Plan) (before : List StageMarks) (c : ℕ) (all : List Arrival)
     so_far_more h = record {
       each = λ node key. step node key (h.each node key) (cases_Bool (is_at node key n k));
       groups = subst (All (λ arrival. is_group plan arrival.node ≡ true)) (sym others_are) (All-filter (λ arrival. not (is_arrival_at n k arrival)) (λ arrival. is_group plan arrival.node ≡ true) left h.groups);
-      fit = λ old_fit. placed_fit plan (rules_of plan n) n k group (marks_at before n).mark_in c (elements_keyed n k left) cells placed placed_are own_keyed (h.fit old_fit);
-      on = goes_further old cells placed h.on (placed_on plan (rules_of plan n) n k group (marks_at before n).mark_in c (elements_keyed n k left) cells placed placed_are);
+      on = goes_further plan old cells placed h.on (placed_on_at plan (rules_of plan n) n k group (marks_at before n).mark_in c (elements_keyed n k left) cells placed placed_are);
     }
       where
         group : is_group plan n ≡ true

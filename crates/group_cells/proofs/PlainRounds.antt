@@ -1,11 +1,11 @@
 -- One commit goes by rounds, of each Group and key.
-use Rattle.std.proofs.Common.{◌≡◌, ℕ, ◌==◌, ◌≤◌, ℤ, Bool, true, false, cond, List, [], ◌∷◌, ◌++◌, map, length, take, refl, sym, ap, subst, ◌∙◌, arith}
+use Rattle.std.proofs.Common.{◌≡◌, ℕ, ◌==◌, ◌≤◌, ℤ, Bool, true, false, cond, List, [], ◌∷◌, ◌++◌, map, length, take, refl, sym, ap, subst, ◌∙◌, append-nil, arith}
 use Rattle.std.specs.Prelude.{◌&&◌, bytes_eq, not, Option, Some, None}
 use Rattle.std.specs.List.{All, count_by, filter, flat_map, list_any}
 use Rattle.std.proofs.lemmas.Bool.{and_parts, eqb-true}
 use Rattle.std.proofs.lemmas.List.{length-map}
 use Rattle.std.proofs.Math.Seq.{take-append_seam}
-use Rattle.std.proofs.lemmas.List.Elements.{All-weaker, filter_passes}
+use Rattle.std.proofs.lemmas.List.Elements.{All-nil, All-weaker, filter_passes}
 use Rattle.std.proofs.lemmas.List.Sums.{sum_by-append, sum_by-cons}
 use Rattle.beam_values.specs.Bags.{IsSameBag}
 use Rattle.beam_values.specs.Intervals.{Interval}
@@ -21,16 +21,17 @@ use Rattle.beam_values.specs.declared.element.Timing.{Timing}
 use Rattle.beam_values.specs.declared.marks.StageMarks.{StageMarks}
 use Rattle.beam_values.specs.declared.plan.Plan.{Plan}
 use Rattle.beam_values.specs.declared.value.Value.{Value}
-use Rattle.beam_model.specs.Panes.{GroupRules, is_cell_at_key, panes_at, rules_of, taken_by}
+use Rattle.beam_model.specs.Panes.{GroupRules, is_cell_at_key, panes_at, rules_of, taken_by, IsKeyed}
 use Rattle.beam_model.specs.Sessions.{is_keyed}
 use Rattle.group_cells.specs.Cells.{after_firing, firing_of, once_fired}
-use Rattle.group_cells.specs.Commits.{AreRounds, arrives_in_time, IsCommitted, SeenGroups, cell_place, cells_keyed, dropped_arrival, elements_keyed, is_at_group, is_dropped, is_taken, taken_arrival}
+use Rattle.group_cells.specs.Commits.{AreRounds, CellPlace, IsAtGroup, arrives_in_time, IsCommitted, SeenGroups, cell_place, cells_keyed, dropped_arrival, elements_keyed, is_at_group, is_dropped, is_taken, taken_arrival}
 use Rattle.group_cells.specs.Placing.{Opening, fresh_cell, gives_way, handed_over, once_opened, opened, opened_all, put_all, stands_as}
-use Rattle.group_cells.specs.Plain.{AreCells, AreCellsNext, ArePlaced, IsFit, StandOnce, is_arrival_at}
+use Rattle.group_cells.specs.Plain.{AreCells, AreCellsNext, ArePlaced, StandOnce, is_arrival_at}
 use Rattle.group_cells.specs.Rounds.{AreWindowsFor, IsRound, entry_of, is_in_time, open_windows}
 use Rattle.group_cells.proofs.Counting.{count_none, count_one, count_same, filter_none, none_any}
 use Rattle.group_cells.proofs.KeyCells.{all_entries}
 use Rattle.group_cells.proofs.MovedEntries.{all_put_count}
+use Rattle.group_cells.proofs.PlacedCells.{at_groups_on}
 use Rattle.group_cells.proofs.WindowTests.{span_sound}
 
 -- ---- no window stands twice
@@ -143,8 +144,10 @@ module _ (plan : Plan) (before : List StageMarks) (hold : ℕ → ℤ) (c : ℕ)
       placed_once (rules_of plan node) (marks_at before node).mark_in node key c (elements_keyed node key (filter (is_taken plan before) arrivals)) (cells_keyed node key cells) (cells_keyed node key h.placed)
       (h.places.each node key) (was.once node key)
 
-  all_fit : All (IsFit plan) new
-  all_fit = h.fires.fit (h.places.fit (λ k d within. (was.groups k d within, was.keyed k d within)))
+  all_at : All (IsAtGroup plan) new
+  all_at =
+      at_groups_on plan h.placed new [] (h.fires.places ∙ sym (append-nil (map cell_place h.placed))) (All-nil (λ (place : CellPlace). is_group plan place.node ≡ true))
+      (at_groups_on plan cells h.placed h.places.behind h.places.places h.places.behind_at was.groups)
 
   round : (node : ℕ) (key : Value) → is_group plan node ≡ true → IsRound (rules_of plan node) node key c (marks_at before node).mark_in (marks_at after node).mark_in
       (elements_keyed node key arrivals) (cells_keyed node key cells) (cells_keyed node key new) (panes_at node key fired)
@@ -167,8 +170,7 @@ module _ (plan : Plan) (before : List StageMarks) (hold : ℕ → ℤ) (c : ℕ)
   pub rounds : AreRounds plan c before after arrivals cells new fired
   rounds = record {
     each = round;
-    cells_at = λ k d within. (all_fit k d within).0;
-    keyed = λ k d within. (all_fit k d within).1;
+    cells_at = all_at;
     at_groups = h.fires.groups;
     of_commit = h.fires.of_commit;
     ordered = h.fires.ordered;
@@ -181,7 +183,7 @@ module _ (plan : Plan) (before : List StageMarks) (hold : ℕ → ℤ) (c : ℕ)
   once_new node key false rests w =
       let none : cells_keyed node key new ≡ [] =
       filter_none (is_cell_at_key node key) new
-      (All-weaker (IsFit plan) (λ cell. is_cell_at_key node key cell ≡ false) (λ cell fit. other cell fit.0 (is_cell_at_key node key cell) refl) new all_fit) in
+      (All-weaker (IsAtGroup plan) (λ cell. is_cell_at_key node key cell ≡ false) (λ cell at. other cell at (is_cell_at_key node key cell) refl) new all_at) in
       subst (λ (l : List Cell). count_by (stands_as w) l ≤ 1) (sym none) (omega arith)
     where
       other : (cell : Cell) → is_group plan cell.node ≡ true → (b : Bool) → is_cell_at_key node key cell ≡ b → b ≡ false
@@ -192,8 +194,7 @@ module _ (plan : Plan) (before : List StageMarks) (hold : ℕ → ℤ) (c : ℕ)
 
   pub cells_kept : AreCells plan new
   cells_kept = record {
-    groups = rounds.cells_at;
-    keyed = rounds.keyed;
+    groups = all_at;
     once = λ node key. once_new node key (is_group plan node) refl;
   }
 
@@ -207,9 +208,10 @@ module _ (plan : Plan) (before : List StageMarks) (hold : ℕ → ℤ) (c : ℕ)
       → next.dropped ≡ old.dropped ++ map (dropped_arrival c) (filter (is_dropped plan before) arrivals) → others ≡ filter (λ arrival. not (is_at_group plan arrival)) arrivals
       → IsCommitted plan c before after hold arrivals others old next fired
   committed old next others p q same lost left = record {
-    entries = subst (λ (l : List Cell). IsSameBag (taken_by next.cells) (taken_by l ++ map (taken_arrival c) (filter (is_taken plan before) arrivals))) (sym p)
+    entries = λ keyed.
+        subst (λ (l : List Cell). IsSameBag (taken_by next.cells) (taken_by l ++ map (taken_arrival c) (filter (is_taken plan before) arrivals))) (sym p)
         (subst (λ (l : List Cell). IsSameBag (taken_by l) (taken_by cells ++ map (taken_arrival c) (filter (is_taken plan before) arrivals))) (sym q)
-        (all_entries plan c before after arrivals cells new fired was.keyed was.groups rounds));
+        (all_entries plan c before after arrivals cells new fired (subst (λ (l : List Cell). All IsKeyed l) p keyed) was.groups rounds));
     dropped = lost;
     others = left;
     at_groups = h.fires.groups;
@@ -219,6 +221,13 @@ module _ (plan : Plan) (before : List StageMarks) (hold : ℕ → ℤ) (c : ℕ)
     plan_stays = same;
     marks = h.fires.marks_are;
   }
+
+-- rounds of equal plans, arrivals, cells and marks
+pub rounds_seen : (inside plan : Plan) (before : List StageMarks) (hold : ℕ → ℤ) (c : ℕ) (listed arrivals : List Arrival) (held cells new : List Cell) (marks after : List StageMarks) (fired : List Pane)
+    → inside ≡ plan → listed ≡ arrivals → held ≡ cells → marks ≡ after → AreCells inside held → AreCellsNext inside before hold c listed held new marks fired
+    → AreRounds plan c before after arrivals cells new fired
+rounds_seen inside plan before hold c listed arrivals held cells new marks after fired p q r s was next =
+    subst (λ (A : Type 0). A) (λ i. AreRounds (p i) c before (s i) (q i) (r i) new fired) (rounds inside before hold c listed held new marks fired was next)
 
 -- what Groups take is at Groups
 pub taken_at_groups : (plan : Plan) (before : List StageMarks) (arrivals : List Arrival) → All (λ arrival. is_group plan arrival.node ≡ true) (filter (is_taken plan before) arrivals)

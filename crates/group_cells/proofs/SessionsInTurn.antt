@@ -7,7 +7,7 @@ use Rattle.std.specs.List.{All, filter}
 use Rattle.std.specs.Ordering.{is_eq}
 use Rattle.std.proofs.lemmas.Bool.{cases_Bool, and_parts, eqb-true}
 use Rattle.std.proofs.lemmas.List.{length-map}
-use Rattle.std.proofs.lemmas.List.Elements.{All-head, All-tail, All-map, All-weaker, filter_passes}
+use Rattle.std.proofs.lemmas.List.Elements.{All-head, All-tail, All-weaker, filter_passes}
 use Rattle.beam_values.specs.Grouping.{key_of}
 use Rattle.beam_values.specs.Intervals.{Interval}
 use Rattle.beam_values.specs.Marks.{marks_at}
@@ -27,7 +27,7 @@ use Rattle.group_cells.specs.Cells.{after_firing, firing_of, once_fired}
 use Rattle.group_cells.specs.Commits.{cell_place, cells_keyed, elements_keyed, is_taken}
 use Rattle.group_cells.specs.KeyLists.{group_key_cmp, listed, places_from, places_of, stands, standing_places, AreReached, AreStanding}
 use Rattle.group_cells.specs.Placing.{is_same_key}
-use Rattle.group_cells.specs.Plain.{AreAllPlaced, AreNodesFired, ArePlaced, ArePlacedAt, IsFit, is_arrival_at, opened_all_at, opening_of, put_all_at}
+use Rattle.group_cells.specs.Plain.{AreAllPlaced, AreNodesFired, ArePlaced, ArePlacedAt, is_arrival_at, opened_all_at, opening_of, put_all_at}
 use Rattle.group_cells.specs.Rounds.{AreSessionsOver, AreWindowsFor, entry_of, open_windows}
 use Rattle.group_cells.specs.declared.groups.keyed.GroupKey.{GroupKey}
 use Rattle.group_cells.specs.declared.groups.standing.Standing.{Standing}
@@ -35,7 +35,7 @@ use Rattle.group_cells.proofs.AllArrived.{all_behind}
 use Rattle.group_cells.proofs.FiredFew.{all_opened_few, all_put_few}
 use Rattle.group_cells.proofs.KeyMaps.{listed_after, listed_alike, same_key}
 use Rattle.group_cells.proofs.NearPlaces.{reached_on}
-use Rattle.group_cells.proofs.PlacedCells.{GoesOn, goes_further, goes_nowhere, placed_fit, placed_on}
+use Rattle.group_cells.proofs.PlacedCells.{GoesOn, GoesOnAt, goes_further, goes_nowhere, placed_on, placed_on_at, stays_at}
 use Rattle.group_cells.proofs.PlacedInTurn.{placed_none}
 use Rattle.group_cells.proofs.PlacedKeys.{at_alike, filter_same, is_at, placed_other, placed_same}
 use Rattle.group_cells.proofs.Projecting.{project_merging}
@@ -64,12 +64,6 @@ alike_elements node key n k all on =
 alike_cells : (node : ℕ) (key : Value) (n : ℕ) (k : Value) (cells : List Cell) → is_at node key n k ≡ true → cells_keyed n k cells ≡ cells_keyed node key cells
 alike_cells node key n k cells on = filter_same (is_cell_at_key n k) (is_cell_at_key node key) (λ cell. at_alike node key n k on cell.node cell.key) cells
 
-own_keyed : (n : ℕ) (k : Value) (all : List Arrival) → All (λ e. is_keyed k e ≡ true) (elements_keyed n k all)
-own_keyed n k all =
-    All-map (λ e. is_keyed k e ≡ true) (λ arrival. arrival.element) (filter (is_arrival_at n k) all)
-    (All-weaker (λ arrival. is_arrival_at n k arrival ≡ true) (λ arrival. is_keyed k arrival.element ≡ true)
-    (λ arrival on. (and_parts (arrival.node == n) (is_keyed k arrival.element) on).1) (filter (is_arrival_at n k) all) (filter_passes (is_arrival_at n k) all))
-
 -- ---- one Group and key after another
 
 module _ (plan : Plan) (before : List StageMarks) (c : ℕ) (all : List Arrival) (old : List Cell) where
@@ -84,22 +78,20 @@ module _ (plan : Plan) (before : List StageMarks) (c : ℕ) (all : List Arrival)
 
   pub record ArePlacedYet (left : BTreeMap GroupKey (List Element)) (cells : List Cell) : Type 0 where
     pub each : (node : ℕ) (key : Value) → IsSoFar (listed left (record { node = node; key = key })) cells node key
-    pub fit : All (IsFit plan) old → All (IsFit plan) cells
-    pub on : GoesOn old cells
+    pub on : GoesOnAt plan old cells
 
   pub none_yet : (left : BTreeMap GroupKey (List Element)) → ((q : GroupKey) → listed left q ≡ elements_keyed q.node q.key all) → ArePlacedYet left old
   none_yet left are = record {
     each = λ node key. inl (are (record { node = node; key = key }), refl);
-    fit = λ h. h;
-    on = ([], sym (append-nil _));
+    on = stays_at plan old old refl;
   }
 
   pub all_yet : (left : BTreeMap GroupKey (List Element)) (cells : List Cell) → ((q : GroupKey) → listed left q ≡ []) → ArePlacedYet left cells → AreAllPlaced plan before c all old cells
   all_yet left cells ended h = record {
     each = λ node key. by node key (h.each node key);
-    fit = h.fit;
-    behind = h.on.0;
-    places = h.on.1;
+    behind = h.on.goes.0;
+    behind_at = h.on.at;
+    places = h.on.goes.1;
   }
     where
       by : (node : ℕ) (key : Value) → IsSoFar (listed left (record { node = node; key = key })) cells node key
@@ -133,7 +125,6 @@ module _ (plan : Plan) (before : List StageMarks) (c : ℕ) (all : List Arrival)
     pub none_more : own ≡ [] → ArePlacedYet rest cells
     none_more none = record {
       each = λ node key. subst (λ (l : List Element). IsSoFar l cells node key) (sym (same node key)) (yet.each node key);
-      fit = yet.fit;
       on = yet.on;
     }
       where
@@ -175,10 +166,7 @@ module _ (plan : Plan) (before : List StageMarks) (c : ℕ) (all : List Arrival)
       pub placed_more : ArePlacedYet rest placed
       placed_more = record {
         each = λ node key. step node key (yet.each node key) (cases_Bool (is_at node key n k));
-        fit = λ old_fit.
-            placed_fit plan (rules_of plan n) n k group (marks_at before n).mark_in c own cells placed placed_are
-            (subst (All (λ e. is_keyed k e ≡ true)) (sym (own_whole e es some).0) (own_keyed n k all)) (yet.fit old_fit);
-        on = goes_further old cells placed yet.on (placed_on plan (rules_of plan n) n k group (marks_at before n).mark_in c own cells placed placed_are);
+        on = goes_further plan old cells placed yet.on (placed_on_at plan (rules_of plan n) n k group (marks_at before n).mark_in c own cells placed placed_are);
       }
 
 -- what is opened and put for one Group of sessions and key is placed

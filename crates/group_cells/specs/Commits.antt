@@ -56,6 +56,10 @@ abbrev pub elements_keyed : ℕ → Value → List Arrival → List Element
 elements_keyed node key arrivals =
     map (λ arrival. arrival.element) (filter (λ arrival. arrival.node == node && is_keyed key arrival.element) arrivals)
 
+-- a cell is of a Group
+abbrev pub IsAtGroup : Plan → Cell → Type 0
+IsAtGroup plan cell = is_group plan cell.node ≡ true
+
 abbrev pub cells_keyed : ℕ → Value → List Cell → List Cell
 cells_keyed node key cells = filter (is_cell_at_key node key) cells
 
@@ -105,9 +109,8 @@ pub record AreRounds (plan : Plan) (c : ℕ) (before after : List StageMarks) (a
   pub each : (node : ℕ) (key : Value) → is_group plan node ≡ true
       → IsRound (rules_of plan node) node key c (marks_at before node).mark_in (marks_at after node).mark_in
       (elements_keyed node key arrivals) (cells_keyed node key cells) (cells_keyed node key new) (panes_at node key fired)
-  -- every cell is of a Group, and each of its entries has its key
-  pub cells_at : All (λ cell. is_group plan cell.node ≡ true) new
-  pub keyed : All IsKeyed new
+  -- every cell and every pane is of a Group
+  pub cells_at : All (IsAtGroup plan) new
   pub at_groups : All (λ pane. is_group plan pane.node ≡ true) fired
   pub of_commit : All (λ pane. pane.commit ≡ c) fired
   pub ordered : IsSorted pane_cmp fired
@@ -124,7 +127,7 @@ cell_place cell = record { node = cell.node; key = cell.key; span = cell.span }
 -- what a commit answers and leaves, beside what is legal
 pub record IsCommitted (plan : Plan) (c : ℕ) (before after : List StageMarks) (hold : ℕ → ℤ) (arrivals left : List Arrival) (old new : SeenGroups) (fired : List Pane) : Type 0 where
   -- no arrival is lost: those in time are entries now, in whichever cells
-  pub entries : IsSameBag (taken_by new.cells) (taken_by old.cells ++ map (taken_arrival c) (filter (is_taken plan before) arrivals))
+  pub entries : All IsKeyed old.cells → IsSameBag (taken_by new.cells) (taken_by old.cells ++ map (taken_arrival c) (filter (is_taken plan before) arrivals))
   -- those that are too late are dropped, in order
   pub dropped : new.dropped ≡ old.dropped ++ map (dropped_arrival c) (filter (is_dropped plan before) arrivals)
   -- those at other nodes are left

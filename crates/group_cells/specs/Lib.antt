@@ -3,6 +3,7 @@ pub mod Cells
 pub mod Firings
 pub mod Rounds
 pub mod Commits
+pub mod Sane
 pub mod Due
 pub mod Looking
 pub mod Arrivals

@@ -19,10 +19,10 @@ use Rattle.beam_values.specs.declared.plan.Node.{Node}
 use Rattle.beam_values.specs.declared.plan.Plan.{Plan}
 use Rattle.beam_values.specs.declared.value.Value.{Value}
 use Rattle.beam_model.specs.Holds.{pane_hold}
-use Rattle.beam_model.specs.Panes.{GroupRules, is_cell_at_key, panes_at, rules_of, taken_entry, IsFiredAs, IsKeyed}
+use Rattle.beam_model.specs.Panes.{GroupRules, is_cell_at_key, panes_at, rules_of, taken_entry, IsFiredAs}
 use Rattle.beam_model.specs.Sessions.{is_keyed}
 use Rattle.group_cells.specs.Placing.{Opening, fresh_cell, handed_over, is_same_key, once_opened, opened_all, put_all, stands_as, takes, with_entry}
-use Rattle.group_cells.specs.Commits.{CellPlace, cell_place, cells_keyed, elements_keyed, hold_with, is_taken}
+use Rattle.group_cells.specs.Commits.{CellPlace, IsAtGroup, cell_place, cells_keyed, elements_keyed, hold_with, is_taken}
 use Rattle.group_cells.specs.Cells.{after_firing, entries_held, firing_of, once_fired, AreTheirPanes}
 use Rattle.group_cells.specs.Rounds.{AreWindowsFor, entry_of, open_windows}
 
@@ -30,10 +30,9 @@ use Rattle.group_cells.specs.Rounds.{AreWindowsFor, entry_of, open_windows}
 abbrev pub StandOnce : List Cell → Type 0
 StandOnce cells = (node : ℕ) (key : Value) (w : Interval) → count_by (stands_as w) (filter (is_cell_at_key node key) cells) ≤ 1
 
--- what holds of the cells of Groups between commits: each is of a Group, its entries have its key, and none stands twice
+-- what holds of the cells of Groups between commits: each is of a Group, and none stands twice
 pub record AreCells (plan : Plan) (cells : List Cell) : Type 0 where
-  pub groups : All (λ cell. is_group plan cell.node ≡ true) cells
-  pub keyed : All IsKeyed cells
+  pub groups : All (IsAtGroup plan) cells
   pub once : StandOnce cells
 
 abbrev pub stands_at : ℕ → Value → Interval → Cell → Bool
@@ -89,17 +88,13 @@ pub record ArePlaced (rules : GroupRules) (before : ℤ) (node : ℕ) (key : Val
 abbrev pub is_arrival_at : ℕ → Value → Arrival → Bool
 is_arrival_at node key arrival = arrival.node == node && is_keyed key arrival.element
 
--- a cell is of a Group, and its entries have its key
-abbrev pub IsFit : Plan → Cell → Type 0
-IsFit plan cell = (is_group plan cell.node ≡ true) × IsKeyed cell
-
 -- the arrivals of a commit that Groups take are placed
 pub record AreAllPlaced (plan : Plan) (before : List StageMarks) (c : ℕ) (taken : List Arrival) (cells placed : List Cell) : Type 0 where
   pub each : (node : ℕ) (key : Value) → ArePlaced (rules_of plan node) (marks_at before node).mark_in node key c
       (elements_keyed node key taken) (filter (is_cell_at_key node key) cells) (filter (is_cell_at_key node key) placed)
-  pub fit : All (IsFit plan) cells → All (IsFit plan) placed
-  -- the cells keep their places, and new ones stand behind them
+  -- the cells keep their places, and new ones, at Groups, stand behind them
   pub behind : List CellPlace
+  pub behind_at : All (λ place. is_group plan place.node ≡ true) behind
   pub places : map cell_place placed ≡ map cell_place cells ++ behind
 
 -- All cells of a node fire, and no other: of cells of the nodes 1 and 3, both due, only the first fires with the node 1.
@@ -152,7 +147,6 @@ pub record AreNodesFired (plan : Plan) (before : List StageMarks) (hold : ℕ �
   pub groups : All (λ pane. is_group plan pane.node ≡ true) fired
   pub of_commit : All (λ pane. pane.commit ≡ c) fired
   pub ordered : IsSorted pane_cmp fired
-  pub fit : All (IsFit plan) cells → All (IsFit plan) new
   pub places : map cell_place new ≡ map cell_place cells
   -- a cell fires at most one pane
   pub few : length fired ≤ length cells

@@ -1,10 +1,22 @@
 //! The cells of all Groups in the order in which they were made, found by index.
+//!
+//! An arrival finds its cell by an index of the crate `cell_index`; at a Group of sessions it looks at cells
+//! of its key that stand. Firing finds the cells that are due in an ordered set. So a commit costs its
+//! arrivals, what these look at and the cells that fire, each times a logarithm; it fires at most a pane for
+//! each cell and makes at most a cell for each arrival. A commit that finds no memory undoes what it did,
+//! and gives the indexes' memory back, in which the next one makes them anew.
+//!
+//! Three things spare comparisons, and no public contract speaks of them: a guess at the place of an
+//! arrival's cell, which is compared with that cell before the map of the index is asked, a number that
+//! leads each key of that map and is compared before the key itself, and ranks of the panes of a commit,
+//! by which they are sorted before whole keys are compared (`groups/ranks.rt`).
 
 ghost use Rattle.std.specs.Prelude.{◌≡◌, ◌+◌, ◌≤◌, ℕ, ℤ, [], length, All, IfOk, OnOk, OnErr};
 ghost use Rattle.beam_values.specs.Checked.{IsChecked};
 ghost use Rattle.beam_values.specs.Marks.{AreMarks};
 ghost use Rattle.cell_index.specs.Places.{place_of};
-ghost use Rattle.group_cells.specs.Commits.{HasGap, IsCommitted, KeepsLegal, NoneFalls, RisesFrom};
+ghost use Rattle.group_cells.specs.Commits.{AreRounds, HasGap, IsCommitted, KeepsLegal, NoneFalls};
+ghost use Rattle.group_cells.specs.Commits.{RisesFrom};
 ghost use Rattle.group_cells.specs.Looking.{IsNextDue};
 ghost use Rattle.watermarks.specs.Holds.{hold_at};
 
@@ -28,7 +40,7 @@ use crate::groups::draft::Draft;
 use crate::groups::due::DueCells;
 use crate::groups::group_plan::GroupPlan;
 use crate::groups::keyed::GroupKey;
-use crate::groups::looking::{next_due, place_among};
+use crate::groups::looking::{next_due, place_among, shared_key};
 use crate::groups::standing::Standing;
 use beam_values::{
     Arrival, Cell, Dropped, List, Mark, NoMemory, Pane, Plan, Span, StageMarks, Value,
@@ -112,6 +124,8 @@ impl Groups {
         requires rises { RisesFrom plan.now (hold_at holds.now) marks.old }
         ensures legal { IfOk result
             (KeepsLegal plan.now commit marks.old marks.new self.old self.new) }
+        ensures rounds { IfOk result (AreRounds plan.now commit marks.old marks.new
+            arrivals.old self.old.cells self.new.cells) }
         ensures committed { IfOk result (IsCommitted plan.now commit marks.old marks.new
             (hold_at holds.now) arrivals.old arrivals.new self.old self.new) }
         ensures rises { OnOk result
@@ -160,12 +174,13 @@ impl Groups {
         self.draft.dropped.as_slice()
     }
 
-    /// The place of the cell of a node, key and window, found by index.
+    /// The place of the cell of a node, key and window, found by index; one whose key is a sequence is
+    /// looked for among all cells. Takes no memory.
     pub fn place(&self, node: u32, key: &Value, span: Span) -> Option<u32>
         ensures { result ≡ place_of node key.now span self.now.cells }
     {
         if self.indexed {
-            if let Ok(key) = key.copy(self.alloc) {
+            if let Some(key) = shared_key(key) {
                 return self
                     .draft
                     .index

@@ -6,7 +6,8 @@ ghost use Rattle.std.specs.List.{filter};
 ghost use Rattle.beam_values.specs.Checked.{IsChecked};
 ghost use Rattle.beam_values.specs.Marks.{AreMarks};
 ghost use Rattle.beam_values.specs.Nodes.{facts_of};
-ghost use Rattle.group_cells.specs.Commits.{HasGap, IsCommitted, KeepsLegal, NoneFalls, RisesFrom};
+ghost use Rattle.group_cells.specs.Commits.{AreRounds, HasGap, IsCommitted, KeepsLegal, NoneFalls};
+ghost use Rattle.group_cells.specs.Commits.{RisesFrom};
 ghost use Rattle.group_cells.specs.Commits.{dropped_arrival, is_at_group, is_dropped};
 ghost use Rattle.group_cells.specs.Plain.{AreCellsNext};
 ghost use Rattle.watermarks.specs.Holds.{hold_at};
@@ -18,7 +19,8 @@ pub mod placing;
 #[cfg(test)]
 mod tests;
 
-use crate::plain::arrivals::{dropped_of, others_of, taken_of};
+use crate::arrivals::others_of;
+use crate::plain::arrivals::{dropped_of, taken_of};
 use crate::plain::keys::place_all;
 use crate::plain::nodes::fire_all;
 use beam_values::{
@@ -88,6 +90,8 @@ impl PlainGroups {
         requires rises { RisesFrom plan.now (hold_at holds.now) marks.old }
         ensures legal { IfOk result
             (KeepsLegal plan.now commit marks.old marks.new self.old self.new) }
+        ensures rounds { IfOk result (AreRounds plan.now commit marks.old marks.new
+            arrivals.old self.old.cells self.new.cells) }
         ensures committed { IfOk result (IsCommitted plan.now commit marks.old marks.new
             (hold_at holds.now) arrivals.old arrivals.new self.old self.new) }
         ensures rises { OnOk result

@@ -1,17 +1,19 @@
-//! For which windows there are to be cells.
+//! For which windows there are to be cells, and which of them take an entry or give way to a session.
 
-ghost use Rattle.std.specs.Prelude.{◌≡◌, ◌≤◌, ◌≤ℤ◌, ◌<ℤ◌, ◌∷◌, [], ◌++◌, ⊤, length, option_to_list};
+ghost use Rattle.std.specs.Prelude.{◌≡◌, ◌≤◌, ◌≤ℤ◌, ◌<ℤ◌, ◌∷◌, [], ◌++◌, ⊤, length, map};
+ghost use Rattle.std.specs.Prelude.{option_to_list, if◌then◌else◌};
 ghost use Rattle.std.specs.Prelude.{All, Any, Contains, List as ListOf, IfOk, OnOk, MatchOption};
 ghost use Rattle.std.specs.List.{AllWithin, filter};
 ghost use Rattle.beam_values.specs.Intervals.{Interval};
 ghost use Rattle.beam_values.specs.Sessions.{IsNonEmpty, LiesIn};
+ghost use Rattle.beam_values.specs.Spans.{lies_in, same_span};
 ghost use Rattle.beam_model.specs.Panes.{is_cell_at_key};
-ghost use Rattle.group_cells.specs.Placing.{is_same_key};
+ghost use Rattle.group_cells.specs.Placing.{gives_way, is_absorbed, is_same_key, takes};
 ghost use Rattle.group_cells.specs.Rounds.{is_open, open_windows, AreSessionsOver, AreWindowsFor};
 ghost use Rattle.session_merge.specs.Merging.{AreApart, AreSessionsOf};
 
 use crate::rules::Rules;
-use beam_values::{Cell, List, Mark, NoMemory, Span, Value, cmp_values};
+use beam_values::{Cell, Element, Entry, List, Mark, NoMemory, Span, Value, cmp_values};
 use pane_triggers::is_dropped;
 use session_merge::SessionSet;
 use std::alloc::Global;
@@ -157,4 +159,66 @@ fn merge(sessions: &mut SessionSet, span: Span) -> Result<(), NoMemory>
     let _some = span.end();
     sessions.insert(span)?;
     Ok(())
+}
+
+/// The windows of the elements, one for each, in their order.
+pub fn own_spans(alloc: Global, own: &[Element]) -> Result<List<Span>, NoMemory>
+    ensures { IfOk result (λ spans. spans ≡ map (λ e. e.span) own.now) }
+{
+    let mut spans = List::new(alloc);
+    for element in own {
+        spans.push(element.span)?;
+    }
+    Ok(spans)
+}
+
+/// Whether a cell's entries go to a new session: windows merge, and the cell's, which wasn't merged yet
+/// and still takes elements at the mark before the commit, is a smaller one within the session.
+pub fn gives_way(rules: &Rules, before: Mark, session: Span, cell: &Cell) -> bool
+    ensures { result ≡ gives_way rules.now before session cell.now }
+{
+    cell.merged_into.is_none() && is_absorbed(rules, before, session, cell.span)
+}
+
+fn is_absorbed(rules: &Rules, before: Mark, session: Span, span: Span) -> bool
+    ensures { result ≡ is_absorbed rules.now before session span }
+{
+    if !rules.merges {
+        return false;
+    }
+    if is_dropped(&rules.trigger, span.end(), before) {
+        return false;
+    }
+    lies_in(span, session) && !is_same_span(span, session)
+}
+
+/// Whether a cell takes an entry, which belongs to its window.
+pub fn takes(rules: &Rules, entry: &Entry, cell: &Cell) -> bool
+    ensures { result ≡ takes rules.now entry.now cell.now }
+{
+    cell.merged_into.is_none() && belongs(rules, cell.span, entry.element.span)
+}
+
+// An element belongs to the window that is its own; where windows merge, to each in which its own lies.
+fn belongs(rules: &Rules, span: Span, own: Span) -> bool
+    ensures { result ≡ (if rules.now.merges then lies_in own span else same_span own span) }
+{
+    if rules.merges {
+        lies_in(own, span)
+    } else {
+        is_same_span(own, span)
+    }
+}
+
+/// Whether two windows have the same ends.
+pub fn is_same_span(a: Span, b: Span) -> bool
+    ensures { result ≡ same_span a b }
+{
+    a.start() == b.start() && a.end() == b.end()
+}
+
+fn lies_in(inner: Span, outer: Span) -> bool
+    ensures { result ≡ lies_in inner outer }
+{
+    outer.start() <= inner.start() && inner.end() <= outer.end()
 }

@@ -1,12 +1,12 @@
 -- A run by several workers: what they all know of its files and functions, and how it ends.
-use Rattle.std.proofs.Common.{◌≡◌, ◌⊎◌, inl, inr, ℕ, ◌+◌, ◌<◌, ◌≤◌, ◌&&◌, Bool, true, false, List, [], ◌∷◌, map, length, refl, sym, ap, subst, ◌∙◌, arith}
+use Rattle.std.proofs.Common.{◌≡◌, ◌⊎◌, inl, inr, ℕ, ◌<◌, ◌≤◌, Bool, true, List, [], ◌∷◌, map, length, refl, sym, ap, subst, ◌∙◌, arith}
 use Rattle.std.specs.Prelude.{Option, Some, None, Result, Ok, Err, IfOk, IfSome, get_or}
-use Rattle.std.specs.List.{All, AllByRecursion, list_all}
+use Rattle.std.specs.List.{AllByRecursion, list_all}
 use Rattle.std.proofs.lemmas.Bool.{and_parts}
 use Rattle.std.proofs.lemmas.Bool.Decides.{nat_tests}
-use Rattle.beam_ports.specs.Counts.{Rose, greatest_count, rise}
+use Rattle.beam_ports.specs.Counts.{greatest_count, rise}
 use Rattle.beam_ports.specs.Files.{Opening}
-use Rattle.beam_ports.specs.Observed.{ObservedStore, WhereTold}
+use Rattle.beam_ports.specs.Observed.{WhereTold}
 use Rattle.beam_ports.specs.declared.store.Opened.{Opened}
 use Rattle.beam_values.specs.declared.fault.Cause.{Cause}
 use Rattle.beam_values.specs.declared.fault.Cause.TheVariants.{Call, Read}
@@ -19,27 +19,26 @@ use Rattle.beam_values.specs.declared.outcome.StopCause.TheVariants as stop
 use Rattle.beam_values.specs.declared.piece.FileLen.{FileLen}
 use Rattle.beam_values.specs.declared.plan.Plan.{Plan}
 use Rattle.beam_model.specs.Positions.{item_len, items}
-use Rattle.book_core.specs.Book.{BookData}
-use Rattle.book_core.specs.Facts.{IsStopNoted, IsWellFormed}
-use Rattle.book_core.specs.Runs.{AreTold, HonestlyReached, IsEnded, IsOpening, Reached}
+use Rattle.book_core.specs.Book.{SeenBook}
+use Rattle.book_core.specs.Facts.{IsStopNoted}
+use Rattle.book_core.specs.Runs.{HonestlyReached, IsEnded, IsOpening, Reached}
 use Rattle.book_core.specs.Work.{Surroundings}
-use Rattle.chain_exec.specs.Causes.{ObservedShelf}
 use Rattle.worker_table.specs.Ends.{IsEnded as IsPassEnded}
 use Rattle.worker_table.specs.Fits.{IsBookOf}
-use Rattle.worker_table.specs.Notes.{Ending, Entry, HasFinished, IsStopped, Setting}
+use Rattle.worker_table.specs.Notes.{Entry, IsStopped, Setting}
 use Rattle.worker_loop.specs.Bundles.{IsCountedAs}
-use Rattle.worker_loop.specs.Kits.{AreKnownBy, IsKitFor, told_by}
+use Rattle.worker_loop.specs.Kits.{IsKitFor, told_by}
 use Rattle.worker_loop.specs.Openings.{AreOpened, file_names}
 use Rattle.worker_loop.specs.Workers.{EachEndsAs, EndsAs}
 use Rattle.worker_loop.specs.declared.kit.Kit.{Kit}
 use Rattle.worker_loop.specs.declared.workers.WorkerEnd.{WorkerEnd}
 use Rattle.worker_loop.specs.declared.workers.WorkerEnd.TheVariants as end
 use Rattle.worker_loop.proofs.Told.{told_by_each}
+use Rattle.run_engine.specs.Kits.{ObservedKits}
 use Rattle.run_engine.specs.PlanRun.{AreFirstLengths, lengths_of_first, opened_lengths, IsEndOfBook, IsOutcomeWhere, IsPlanEnd, IsSpent, IsStatusAfter, IsStoppedBy, surroundings_of}
 use Rattle.run_engine.specs.declared.run_end.RunEnd.{RunEnd}
 use Rattle.command_ends.specs.declared.status.Status.{Status}
-use Rattle.command_ends.specs.declared.status.Status.TheVariants as status
-use Rattle.run_engine.proofs.Stopped.{IsNoteCounted, count_by, counts_low, stop_counted}
+use Rattle.run_engine.proofs.Stopped.{count_by, counts_low, stop_counted}
 
 -- ---- what is known of a result
 
@@ -114,13 +113,13 @@ pub first_lengths_are : (told : Option (List FileText)) (opened : ℕ → Option
 first_lengths_are told opened plan files shown lengths same known are = known told opened (subst (AreOpened told opened (file_names plan)) (sym same) are)
 
 -- a book is reached where it is opened
-pub opening_reached : (told : Option (List FileText)) (plan : Plan) (files : List FileLen) (options : Options) (b : BookData) → IsOpening plan files options b → Reached told b
+pub opening_reached : (told : Option (List FileText)) (plan : Plan) (files : List FileLen) (options : Options) (b : SeenBook) → IsOpening plan files options b → Reached told b
 opening_reached told plan files options b opening = record {
   first = b;
   opening =
-      subst (λ (p : Plan). IsOpening p b.files b.options b) (sym (ap (λ (x : BookData). x.plan) opening.is))
-      (subst (λ (f : List FileLen). IsOpening plan f b.options b) (sym (ap (λ (x : BookData). x.files) opening.is))
-      (subst (λ (o : Options). IsOpening plan files o b) (sym (ap (λ (x : BookData). x.options) opening.is)) opening));
+      subst (λ (p : Plan). IsOpening p b.files b.options b) (sym (ap (λ (x : SeenBook). x.plan) opening.is))
+      (subst (λ (f : List FileLen). IsOpening plan f b.options b) (sym (ap (λ (x : SeenBook). x.files) opening.is))
+      (subst (λ (o : Options). IsOpening plan files o b) (sym (ap (λ (x : SeenBook). x.options) opening.is)) opening));
   steps = [];
   run = refl;
 }
@@ -128,7 +127,7 @@ opening_reached told plan files options b opening = record {
 -- ---- how workers ended
 
 -- in a book that runs on, the first worker found no job left
-finished : (setting : Setting) (b : BookData) → b.stopped ≡ None → (ends : List WorkerEnd) (entries : List Entry) → 0 < length ends → EachEndsAs setting ends entries
+finished : (setting : Setting) (b : SeenBook) → b.stopped ≡ None → (ends : List WorkerEnd) (entries : List Entry) → 0 < length ends → EachEndsAs setting ends entries
     → AllByRecursion (λ entry. IsPassEnded b entry.ending) entries → IsEnded b
 finished setting b running [] entries some ended books = absurd (omega arith)
 finished setting b running (e ∷ ends) [] some ended books = absurd ended
@@ -145,14 +144,14 @@ finished setting b running (e ∷ ends) (entry ∷ entries) some ended books = b
 
 -- ---- the end
 
-module _ (shelf : ObservedShelf) (store : ObservedStore) (none_before : shelf.before ≡ 0) (none_before' : store.before ≡ 0) (plan : Plan) (options : Options) (setting : Setting)
-    (known : setting.known ≡ surroundings_of shelf store) (of_plan : setting.plan ≡ plan) (with_options : setting.options ≡ options)
-    (lengths : WhereTold store.files (λ told. setting.files ≡ map item_len (items told plan))) (b : BookData) (book : IsBookOf setting b) where
-  reached : HonestlyReached (surroundings_of shelf store) b
+module _ (seen : ObservedKits) (none_before : seen.shelf.before ≡ 0) (none_before' : seen.store.before ≡ 0) (plan : Plan) (options : Options) (setting : Setting)
+    (known : setting.known ≡ surroundings_of seen) (of_plan : setting.plan ≡ plan) (with_options : setting.options ≡ options)
+    (lengths : WhereTold seen.store.files (λ told. setting.files ≡ map item_len (items told plan))) (b : SeenBook) (book : IsBookOf setting b) where
+  reached : HonestlyReached (surroundings_of seen) b
   reached = subst (λ (k : Surroundings). HonestlyReached k b) known book.reached
 
-  outcome_where : (P : BookData → Type 0) → P b → (o : Outcome) → (e : RunEnd) → (is : IsEndOfBook b e) → o ≡ is.outcome → IsOutcomeWhere (surroundings_of shelf store) plan options P o
-  outcome_where P holds o e is same = subst (IsOutcomeWhere (surroundings_of shelf store) plan options P) (sym same) (record {
+  outcome_where : (P : SeenBook → Type 0) → P b → (o : Outcome) → (e : RunEnd) → (is : IsEndOfBook b e) → o ≡ is.outcome → IsOutcomeWhere (surroundings_of seen) plan options P o
+  outcome_where P holds o e is same = subst (IsOutcomeWhere (surroundings_of seen) plan options P) (sym same) (record {
     book = b;
     reached = reached;
     of_plan = book.plan ∙ of_plan;
@@ -167,37 +166,37 @@ module _ (shelf : ObservedShelf) (store : ObservedStore) (none_before : shelf.be
   rose_by : (before after count : ℕ) → before ≡ 0 → count ≤ greatest_count → count ≤ after → count ≤ rise before after
   rose_by before after count none low under = grind (arith, nat_tests, none, low, under)
 
-  module _ (honest_runs_are_runs : (k : Surroundings) (x : BookData) → HonestlyReached k x → Reached k.told x)
-      (noted : (told : Option (List FileText)) (x : BookData) → Reached told x → IsStopNoted x x.stopped) (calls : b.calls ≤ shelf.after) (reads : b.reads ≤ store.after) (few : options.attempts ≤ 1000) where
-    is_reached : Reached store.files b
-    is_reached = honest_runs_are_runs (surroundings_of shelf store) b reached
+  module _ (honest_runs_are_runs : (k : Surroundings) (x : SeenBook) → HonestlyReached k x → Reached k.told x)
+      (noted : (told : Option (List FileText)) (x : SeenBook) → Reached told x → IsStopNoted x x.stopped) (calls : b.calls ≤ seen.shelf.after) (reads : b.reads ≤ seen.store.after) (few : options.attempts ≤ 1000) where
+    is_reached : Reached seen.store.files b
+    is_reached = honest_runs_are_runs (surroundings_of seen) b reached
 
     low : (b.calls ≤ greatest_count) × (b.reads ≤ greatest_count)
-    low = counts_low store.files b is_reached
+    low = counts_low seen.store.files b is_reached
 
-    spent : (note : FaultNote) → b.stopped ≡ Some (stop.Spent note) → IsSpent shelf store options.attempts note
+    spent : (note : FaultNote) → b.stopped ≡ Some (stop.Spent note) → IsSpent seen options.attempts note
     spent note is =
-        let attempt : note.attempt ≡ options.attempts = subst (IsStopNoted b) is (noted store.files b is_reached) ∙ ap (λ (o : Options). o.attempts) (book.options ∙ with_options) in
-        let counts = stop_counted store.files b is_reached note is in
-        let more = rose_by shelf.before shelf.after b.calls none_before low.0 calls in
-        let more' = rose_by store.before store.after b.reads none_before' low.1 reads in
+        let attempt : note.attempt ≡ options.attempts = subst (IsStopNoted b) is (noted seen.store.files b is_reached) ∙ ap (λ (o : Options). o.attempts) (book.options ∙ with_options) in
+        let counts = stop_counted seen.store.files b is_reached note is in
+        let more = rose_by seen.shelf.before seen.shelf.after b.calls none_before low.0 calls in
+        let more' = rose_by seen.store.before seen.store.after b.reads none_before' low.1 reads in
         record { attempt = attempt; counted = omega (arith, sym attempt, counts.0, more, more'); cause = by note.cause counts.1 more more' }
       where
-        by : (cause : Cause) → 0 < count_by cause b.calls b.reads → b.calls ≤ rise shelf.before shelf.after → b.reads ≤ rise store.before store.after → IsCountedAs shelf store cause
+        by : (cause : Cause) → 0 < count_by cause b.calls b.reads → b.calls ≤ rise seen.shelf.before seen.shelf.after → b.reads ≤ rise seen.store.before seen.store.after → IsCountedAs seen.shelf seen.store cause
         by Call some more more' = omega (arith, some, more)
         by Read some more more' = omega (arith, some, more')
 
     pub plan_ends : (ends : List WorkerEnd) (entries : List Entry) → 0 < length ends → EachEndsAs setting ends entries → AllByRecursion (λ entry. IsPassEnded b entry.ending) entries
-        → (e : RunEnd) → IsEndOfBook b e → IsPlanEnd shelf store plan options e.status e.outcome
+        → (e : RunEnd) → IsEndOfBook b e → IsPlanEnd seen plan options e.status e.outcome
     plan_ends ends entries some ended books e is = by b.stopped refl is.tells
       where
-        by : (was : Option StopCause) → b.stopped ≡ was → IsStatusAfter was e.status → IsPlanEnd shelf store plan options e.status e.outcome
+        by : (was : Option StopCause) → b.stopped ≡ was → IsStatusAfter was e.status → IsPlanEnd seen plan options e.status e.outcome
         by None running tells =
-            subst (λ (s : Status). IsPlanEnd shelf store plan options s e.outcome) (sym tells)
+            subst (λ (s : Status). IsPlanEnd seen plan options s e.outcome) (sym tells)
             (is.outcome, is.some, outcome_where IsEnded (finished setting b running ends entries some ended books) is.outcome e is refl)
         by (Some (stop.Spent note)) stopped tells =
-            subst (λ (s : Status). IsPlanEnd shelf store plan options s e.outcome) (sym tells) (
-              (is.outcome, is.some, outcome_where (IsStoppedBy shelf store note) (record { noted = stopped; calls = rose_by shelf.before shelf.after b.calls none_before low.0 calls; reads = rose_by store.before store.after b.reads none_before' low.1 reads }) is.outcome e is refl),
+            subst (λ (s : Status). IsPlanEnd seen plan options s e.outcome) (sym tells) (
+              (is.outcome, is.some, outcome_where (IsStoppedBy seen note) (record { noted = stopped; calls = rose_by seen.shelf.before seen.shelf.after b.calls none_before low.0 calls; reads = rose_by seen.store.before seen.store.after b.reads none_before' low.1 reads }) is.outcome e is refl),
               spent note stopped,
             )
         by (Some stop.NoMemory) stopped tells = absurd tells

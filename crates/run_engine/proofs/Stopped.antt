@@ -11,18 +11,18 @@ use Rattle.beam_values.specs.declared.file_text.FileText.{FileText}
 use Rattle.beam_values.specs.declared.outcome.StopCause.{StopCause}
 use Rattle.beam_values.specs.declared.outcome.StopCause.TheVariants as stop
 use Rattle.beam_values.specs.declared.piece.Piece.{Piece}
-use Rattle.book_core.specs.Book.{BookData, batch_of, live_batches, live_pieces, piece_of}
+use Rattle.book_core.specs.Book.{SeenBook, batch_of, live_batches, live_pieces, piece_of}
 use Rattle.book_core.specs.Changes.{attempts_of, counted, ends_run, given_back, note_of, or_stopped, stopped_where, with_slot}
-use Rattle.book_core.specs.Facts.{AreAttemptsCounted, IsWellFormed}
+use Rattle.book_core.specs.Facts.{AreAttemptsCounted}
 use Rattle.book_core.specs.Jobs.{Due, GivenBack, Oldest, Next, due_or_piece, first_due, without_due, without_first}
 use Rattle.book_core.specs.Runs.{Reached}
+use Rattle.book_core.specs.Sane.{IsSane}
 use Rattle.book_core.specs.Steps.{IsWorking}
 use Rattle.book_core.specs.declared.live.Batch.{Batch}
 use Rattle.book_core.specs.declared.live.Live.{Live}
 use Rattle.book_core.specs.declared.live.Live.TheVariants as live
-use Rattle.book_core.proofs.Attempts.{IsCounted, attempts_counted}
-use Rattle.book_core.proofs.AttemptsKept.{counted_always}
-use Rattle.book_core.proofs.Cases.{AreAlways, Both, Keeps, always_reached, kept_with}
+use Rattle.book_core.proofs.Cases.{Both, Keeps, always_reached, kept_with}
+use Rattle.book_core.proofs.SaneAlways.{each_tried, reached_sane, sane_always}
 use Rattle.book_core.proofs.Slotted.{All-append_right, All-flat_at}
 
 -- how many fails with this cause were counted
@@ -33,7 +33,7 @@ count_by Read calls reads = reads
 abbrev pub IsNoteCounted : FaultNote → ℕ → ℕ → Type 0
 IsNoteCounted note calls reads = (note.attempt ≤ calls + reads) × (0 < count_by note.cause calls reads)
 
-record IsStopCounted (b : BookData) : Type 0 where
+record IsStopCounted (b : SeenBook) : Type 0 where
   pub stop : (note : FaultNote) → b.stopped ≡ Some (stop.Spent note) → IsNoteCounted note b.calls b.reads
 
 -- ---- more fails
@@ -48,12 +48,12 @@ still_counted note calls reads more_calls more_reads low low' h = (omega (arith,
 -- ---- a fail
 
 -- a job that is worked was tried seldom
-tried_seldom : (b : BookData) (slot : ℕ) (job : Live) → AreAttemptsCounted b → IsWorking b slot job → (attempts_of job < b.options.attempts) × (attempts_of job ≤ b.calls + b.reads)
+tried_seldom : (b : SeenBook) (slot : ℕ) (job : Live) → AreAttemptsCounted b → IsWorking b slot job → (attempts_of job < b.options.attempts) × (attempts_of job ≤ b.calls + b.reads)
 tried_seldom b slot (live.Span piece attempted) counts works = (
   All-head (λ (p : Piece). p.attempts < b.options.attempts) piece [] (All-flat_at piece_of b.slots slot (λ (p : Piece). p.attempts < b.options.attempts) (Some (live.Span piece attempted)) works counts.worked_pieces),
   All-head (λ (p : Piece). p.attempts ≤ b.calls + b.reads) piece []
       (All-flat_at piece_of b.slots slot (λ (p : Piece). p.attempts ≤ b.calls + b.reads) (Some (live.Span piece attempted)) works
-      (All-append_right (λ (p : Piece). p.attempts ≤ b.calls + b.reads) b.pending (live_pieces b) counts.pieces)),
+      (All-append_right (λ (p : Piece). p.attempts ≤ b.calls + b.reads) b.pending (live_pieces b) (each_tried b counts))),
 )
 tried_seldom b slot (live.Batch batch) counts works = (
   All-head (λ (x : Batch). x.attempts < b.options.attempts) batch [] (All-flat_at batch_of b.slots slot (λ (x : Batch). x.attempts < b.options.attempts) (Some (live.Batch batch)) works counts.worked_batches),
@@ -63,7 +63,7 @@ tried_seldom b slot (live.Batch batch) counts works = (
 )
 
 -- the first stop stays, and else the fail's own note stops the run
-stops_by : (spent : Bool) (b : BookData) (own : FaultNote) → ((note : FaultNote) → b.stopped ≡ Some (stop.Spent note) → IsNoteCounted note b.calls b.reads) → IsNoteCounted own b.calls b.reads
+stops_by : (spent : Bool) (b : SeenBook) (own : FaultNote) → ((note : FaultNote) → b.stopped ≡ Some (stop.Spent note) → IsNoteCounted note b.calls b.reads) → IsNoteCounted own b.calls b.reads
     → IsStopCounted (stopped_where spent b own)
 stops_by false b own known counts = record { stop = known }
 stops_by true b own known counts = record { stop = after b.stopped refl }
@@ -73,73 +73,73 @@ stops_by true b own known counts = record { stop = after b.stopped refl }
     after None e note is = let same : own ≡ note = cc in subst (λ (n : FaultNote). IsNoteCounted n b.calls b.reads) same counts
 
 -- the book after a fail was counted, before it may be stopped
-failed_to : (b : BookData) (slot at : ℕ) (job : Live) (cause : Cause) (spent : Bool) → b.calls ≤ greatest_count → b.reads ≤ greatest_count → attempts_of job ≤ b.calls + b.reads → attempts_of job < 1000
+failed_to : (b : SeenBook) (slot at : ℕ) (job : Live) (cause : Cause) (spent : Bool) → b.calls ≤ greatest_count → b.reads ≤ greatest_count → attempts_of job ≤ b.calls + b.reads → attempts_of job < 1000
     → ((note : FaultNote) → b.stopped ≡ Some (stop.Spent note) → IsNoteCounted note b.calls b.reads)
-    → IsStopCounted (stopped_where spent (counted (given_back (with_slot b slot None) job) cause) (note_of job at cause))
+    → IsStopCounted (stopped_where spent (counted (given_back (with_slot b slot None) job at cause) cause) (note_of job at cause))
 failed_to b slot at (live.Span piece attempted) Call spent low low' tried few known =
-    stops_by spent (counted (given_back (with_slot b slot None) (live.Span piece attempted)) Call) (note_of (live.Span piece attempted) at Call)
+    stops_by spent (counted (given_back (with_slot b slot None) (live.Span piece attempted) at Call) Call) (note_of (live.Span piece attempted) at Call)
     (λ note is. still_counted note b.calls b.reads (raised b.calls) b.reads (omega (arith, low)) (omega arith) (known note is)) (omega (arith, low, tried, few), omega arith)
 failed_to b slot at (live.Span piece attempted) Read spent low low' tried few known =
-    stops_by spent (counted (given_back (with_slot b slot None) (live.Span piece attempted)) Read) (note_of (live.Span piece attempted) at Read)
+    stops_by spent (counted (given_back (with_slot b slot None) (live.Span piece attempted) at Read) Read) (note_of (live.Span piece attempted) at Read)
     (λ note is. still_counted note b.calls b.reads b.calls (raised b.reads) (omega arith) (omega (arith, low')) (known note is)) (omega (arith, low', tried, few), omega arith)
 failed_to b slot at (live.Batch batch) Call spent low low' tried few known =
-    stops_by spent (counted (given_back (with_slot b slot None) (live.Batch batch)) Call) (note_of (live.Batch batch) at Call)
+    stops_by spent (counted (given_back (with_slot b slot None) (live.Batch batch) at Call) Call) (note_of (live.Batch batch) at Call)
     (λ note is. still_counted note b.calls b.reads (raised b.calls) b.reads (omega (arith, low)) (omega arith) (known note is)) (omega (arith, low, tried, few), omega arith)
 failed_to b slot at (live.Batch batch) Read spent low low' tried few known =
-    stops_by spent (counted (given_back (with_slot b slot None) (live.Batch batch)) Read) (note_of (live.Batch batch) at Read)
+    stops_by spent (counted (given_back (with_slot b slot None) (live.Batch batch) at Read) Read) (note_of (live.Batch batch) at Read)
     (λ note is. still_counted note b.calls b.reads b.calls (raised b.reads) (omega arith) (omega (arith, low')) (known note is)) (omega (arith, low', tried, few), omega arith)
 
 -- ---- a take, and a stop for want of memory
 
-record Rests (b : BookData) (next : Next) : Type 0 where
+record Rests (b : SeenBook) (next : Next) : Type 0 where
   calls : next.rest.calls ≡ b.calls
   reads : next.rest.reads ≡ b.reads
   stopped : next.rest.stopped ≡ b.stopped
 
-rests_due : (b : BookData) (due : Due) → Rests b (without_due b due)
+rests_due : (b : SeenBook) (due : Due) → Rests b (without_due b due)
 rests_due b (GivenBack batch) = record { calls = refl; reads = refl; stopped = refl }
 rests_due b (Oldest batch) = record { calls = refl; reads = refl; stopped = refl }
 
-rests_first : (b : BookData) (pieces : List Piece) (next : Next) → without_first b pieces ≡ Some next → Rests b next
+rests_first : (b : SeenBook) (pieces : List Piece) (next : Next) → without_first b pieces ≡ Some next → Rests b next
 rests_first b [] next is = absurd (cc)
 rests_first b (piece ∷ later) next is =
     let same : record { job = live.Span piece None; rest = record b { pending = later } } ≡ next = cc in subst (Rests b) same (record { calls = refl; reads = refl; stopped = refl })
 
-rests_next : (b : BookData) (due : Option Due) (next : Next) → due_or_piece b due ≡ Some next → Rests b next
+rests_next : (b : SeenBook) (due : Option Due) (next : Next) → due_or_piece b due ≡ Some next → Rests b next
 rests_next b (Some due) next is = let same : without_due b due ≡ next = cc in subst (Rests b) same (rests_due b due)
 rests_next b None next is = rests_first b b.pending next is
 
-taken_counted : (b : BookData) (next : Next) → Rests b next → ((note : FaultNote) → b.stopped ≡ Some (stop.Spent note) → IsNoteCounted note b.calls b.reads)
+taken_counted : (b : SeenBook) (next : Next) → Rests b next → ((note : FaultNote) → b.stopped ≡ Some (stop.Spent note) → IsNoteCounted note b.calls b.reads)
     → (note : FaultNote) → next.rest.stopped ≡ Some (stop.Spent note) → IsNoteCounted note next.rest.calls next.rest.reads
 taken_counted b next rests known note is =
     subst (λ (n : ℕ). IsNoteCounted note n next.rest.reads) (sym rests.calls) (subst (λ (n : ℕ). IsNoteCounted note b.calls n) (sym rests.reads) (known note (sym rests.stopped ∙ is)))
 
-stopped_counted : (b : BookData) (was : Option StopCause) → b.stopped ≡ was → ((note : FaultNote) → b.stopped ≡ Some (stop.Spent note) → IsNoteCounted note b.calls b.reads)
+stopped_counted : (b : SeenBook) (was : Option StopCause) → b.stopped ≡ was → ((note : FaultNote) → b.stopped ≡ Some (stop.Spent note) → IsNoteCounted note b.calls b.reads)
     → (note : FaultNote) → or_stopped was stop.NoMemory ≡ Some (stop.Spent note) → IsNoteCounted note b.calls b.reads
 stopped_counted b (Some kept) e known note is = known note (e ∙ is)
 stopped_counted b None e known note is = absurd (cc)
 
 -- ---- each step
 
-keeps_stops : (told : Option (List FileText)) → Keeps told (Both IsWellFormed IsCounted) IsStopCounted
+keeps_stops : (told : Option (List FileText)) → Keeps told IsSane IsStopCounted
 keeps_stops told = record {
-  opens = λ b first opening. record { stop = λ note is. let none : first.stopped ≡ None = ap (λ (x : BookData). x.stopped) opening.is in absurd (cc) };
+  opens = λ b first opening. record { stop = λ note is. let none : first.stopped ≡ None = ap (λ (x : SeenBook). x.stopped) opening.is in absurd (cc) };
   enrolls = λ b known h within. record { stop = h.stop };
-  takes = λ b slot next known h running free is. record { stop = taken_counted b next (rests_next b (first_due b) next is) h.stop };
+  takes = λ b slot next known h running free is within. record { stop = taken_counted b next (rests_next b (first_due b) next is) h.stop };
   claims = λ b slot p piece attempted known h works may. record { stop = h.stop };
   splits = λ b slot at piece attempted known h works inside behind within. record { stop = h.stop };
   commits = λ b slot job receipt cells fired marks known h made. record { stop = h.stop };
   fails = λ b slot at job cause known h works.
-      let tried = tried_seldom b slot job (attempts_counted b known.1.counts) works in
-      failed_to b slot at job cause (ends_run b job cause) known.1.calls known.1.reads tried.1 (omega (arith, tried.0, known.0.allowed.attempts.1)) h.stop;
+      let tried = tried_seldom b slot job known.attempts works in
+      failed_to b slot at job cause (ends_run b job cause) known.attempts.calls known.attempts.reads tried.1 (omega (arith, tried.0, known.formed.allowed.attempts.1)) h.stop;
   stops = λ b known h. record { stop = stopped_counted b b.stopped refl h.stop };
 }
 
 -- ---- of every reached book
 
-pub stop_counted : (told : Option (List FileText)) (b : BookData) → Reached told b → (note : FaultNote) → b.stopped ≡ Some (stop.Spent note) → IsNoteCounted note b.calls b.reads
+pub stop_counted : (told : Option (List FileText)) (b : SeenBook) → Reached told b → (note : FaultNote) → b.stopped ≡ Some (stop.Spent note) → IsNoteCounted note b.calls b.reads
 stop_counted told b reached =
-    (always_reached told (Both (Both IsWellFormed IsCounted) IsStopCounted) (kept_with told (Both IsWellFormed IsCounted) IsStopCounted (counted_always told) (keeps_stops told)) b reached).1.stop
+    (always_reached told (Both IsSane IsStopCounted) (kept_with told IsSane IsStopCounted (sane_always told) (keeps_stops told)) b reached).1.stop
 
-pub counts_low : (told : Option (List FileText)) (b : BookData) → Reached told b → (b.calls ≤ greatest_count) × (b.reads ≤ greatest_count)
-counts_low told b reached = let known = (always_reached told (Both IsWellFormed IsCounted) (counted_always told) b reached).1 in (known.calls, known.reads)
+pub counts_low : (told : Option (List FileText)) (b : SeenBook) → Reached told b → (b.calls ≤ greatest_count) × (b.reads ≤ greatest_count)
+counts_low told b reached = let known = (reached_sane told b reached).attempts in (known.calls, known.reads)

@@ -1,3 +1,3 @@
+pub mod Kits
 pub mod Openings
 pub mod PlanRun
-pub mod Kits

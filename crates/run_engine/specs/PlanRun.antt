@@ -12,27 +12,27 @@ use Rattle.beam_values.specs.declared.piece.FileLen.{FileLen}
 use Rattle.beam_values.specs.declared.plan.Plan.{Plan}
 use Rattle.beam_ports.specs.Counts.{rise}
 use Rattle.beam_model.specs.Positions.{item_len, items}
-use Rattle.beam_ports.specs.Observed.{ObservedStore, WhereTold}
-use Rattle.book_core.specs.Book.{BookData}
+use Rattle.beam_ports.specs.Observed.{WhereTold}
+use Rattle.book_core.specs.Book.{SeenBook}
 use Rattle.book_core.specs.Calls.{IsOutcomeOf}
 use Rattle.book_core.specs.Runs.{AreLengthsOf, AreTold, HonestlyReached, IsEnded}
 use Rattle.book_core.specs.Work.{Surroundings}
-use Rattle.chain_exec.specs.Causes.{ObservedShelf}
 use Rattle.beam_ports.specs.declared.store.Opened.{Opened}
 use Rattle.worker_loop.specs.Bundles.{IsCountedAs}
 use Rattle.worker_loop.specs.Reading.{length_in, readers_from}
 use Rattle.worker_loop.specs.declared.kit.Kit.{Kit}
+use Rattle.run_engine.specs.Kits.{ObservedKits}
 use Rattle.run_engine.specs.declared.run_end.RunEnd.{RunEnd}
 use Rattle.command_ends.specs.declared.status.Status.{Status}
 use Rattle.command_ends.specs.declared.status.Status.TheVariants as status
 
--- the surroundings of a run: the files, where the store tells them, and whether the shelf fails on poison alone
-abbrev pub surroundings_of : ObservedShelf → ObservedStore → Surroundings
-surroundings_of shelf store = record { told = store.files; strict = shelf.strict }
+-- the surroundings of a run: the files, where the stores tell them, and whether the shelves fail on poison alone
+abbrev pub surroundings_of : ObservedKits → Surroundings
+surroundings_of kits = record { told = kits.store.files; strict = kits.shelf.strict }
 
 -- The outcome is the data of a book for which P holds, and which a run of this plan reached whose fails are all honest.
-pub record IsOutcomeWhere (known : Surroundings) (plan : Plan) (options : Options) (P : BookData → Type 0) (o : Outcome) : Type 0 where
-  pub book : BookData
+pub record IsOutcomeWhere (known : Surroundings) (plan : Plan) (options : Options) (P : SeenBook → Type 0) (o : Outcome) : Type 0 where
+  pub book : SeenBook
   pub reached : HonestlyReached known book
   pub of_plan : book.plan ≡ plan
   pub with_options : book.options ≡ options
@@ -43,26 +43,26 @@ pub record IsOutcomeWhere (known : Surroundings) (plan : Plan) (options : Option
   pub storable : All (λ pane. IsStorable pane.element.value) o.panes
 
 -- the book was stopped by a fail with this note, and each call and each read that failed was counted
-pub record IsStoppedBy (shelf : ObservedShelf) (store : ObservedStore) (note : FaultNote) (b : BookData) : Type 0 where
+pub record IsStoppedBy (kits : ObservedKits) (note : FaultNote) (b : SeenBook) : Type 0 where
   pub noted : b.stopped ≡ Some (stop.Spent note)
-  pub calls : b.calls ≤ rise shelf.before shelf.after
-  pub reads : b.reads ≤ rise store.before store.after
+  pub calls : b.calls ≤ rise kits.shelf.before kits.shelf.after
+  pub reads : b.reads ≤ rise kits.store.before kits.store.after
 
 -- work failed as often as it may, and each time it was counted
-pub record IsSpent (shelf : ObservedShelf) (store : ObservedStore) (attempts : ℕ) (note : FaultNote) : Type 0 where
+pub record IsSpent (kits : ObservedKits) (attempts : ℕ) (note : FaultNote) : Type 0 where
   pub attempt : note.attempt ≡ attempts
-  pub counted : attempts ≤ rise shelf.before shelf.after + rise store.before store.after
-  pub cause : IsCountedAs shelf store note.cause
+  pub counted : attempts ≤ rise kits.shelf.before kits.shelf.after + rise kits.store.before kits.store.after
+  pub cause : IsCountedAs kits.shelf kits.store note.cause
 
 -- Ok: the book is ended. A work fault: a fail stopped it, and its data is handed out. Else there was no memory, and nothing is.
-abbrev pub IsPlanEnd : ObservedShelf → ObservedStore → Plan → Options → Status → Option Outcome → Type 0
-IsPlanEnd shelf store plan options status.Ok outcome =
-    (o : Outcome) × (outcome ≡ Some o) × IsOutcomeWhere (surroundings_of shelf store) plan options IsEnded o
-IsPlanEnd shelf store plan options (status.WorkFault note) outcome =
-    ((o : Outcome) × (outcome ≡ Some o) × IsOutcomeWhere (surroundings_of shelf store) plan options (IsStoppedBy shelf store note) o)
-    × IsSpent shelf store options.attempts note
-IsPlanEnd shelf store plan options status.NoMemory outcome = outcome ≡ None
-IsPlanEnd shelf store plan options _ outcome = ⊥
+abbrev pub IsPlanEnd : ObservedKits → Plan → Options → Status → Option Outcome → Type 0
+IsPlanEnd kits plan options status.Ok outcome =
+    (o : Outcome) × (outcome ≡ Some o) × IsOutcomeWhere (surroundings_of kits) plan options IsEnded o
+IsPlanEnd kits plan options (status.WorkFault note) outcome =
+    ((o : Outcome) × (outcome ≡ Some o) × IsOutcomeWhere (surroundings_of kits) plan options (IsStoppedBy kits note) o)
+    × IsSpent kits options.attempts note
+IsPlanEnd kits plan options status.NoMemory outcome = outcome ≡ None
+IsPlanEnd kits plan options _ outcome = ⊥
 
 -- ---- the lengths that a run works with
 
@@ -89,7 +89,7 @@ IsStatusAfter (Some (stop.Spent note)) s = s ≡ status.WorkFault note
 IsStatusAfter (Some stop.NoMemory) s = ⊥
 
 -- the data of the book is handed out, with the status that it tells
-pub record IsEndOfBook (b : BookData) (end : RunEnd) : Type 0 where
+pub record IsEndOfBook (b : SeenBook) (end : RunEnd) : Type 0 where
   pub outcome : Outcome
   pub some : end.outcome ≡ Some outcome
   pub of_book : IsOutcomeOf b outcome

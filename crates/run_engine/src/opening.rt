@@ -4,7 +4,7 @@ ghost use Rattle.std.specs.List.{AllByRecursion, flat_map};
 ghost use Rattle.worker_loop.specs.Kits.{EachBecomes};
 ghost use Rattle.worker_loop.specs.Openings.{AreOpened, IsOpenedAs, file_names, names_in};
 ghost use Rattle.worker_loop.specs.Outside.{IsStoreKept};
-ghost use Rattle.run_engine.specs.Kits.{observed_each};
+ghost use Rattle.run_engine.specs.Kits.{OpensKit, observed_each};
 ghost use Rattle.run_engine.specs.Openings.{AgreeInLength, AreCounted, AreNamesRefused};
 ghost use Rattle.run_engine.specs.Openings.{AreOpenedByAll, HasSameLength, IsFileRefused};
 ghost use Rattle.run_engine.specs.Openings.{IsNameRefused, IsOpeningRefused, IsOtherRefused};
@@ -34,8 +34,7 @@ pub fn open_sources<F: Shelf, S: Store>(
     ensures refused { IfErr result (IsOpeningRefused
         (observed_each S.files S.faults kits.old kits.new) graph.now options.now.attempts failed) }
     ensures none { IsErr result → AllByRecursion (λ kit. kit.files ≡ []) kits.new }
-    ensures kept { EachBecomes kits.old kits.new (λ old new. (new.shelf ≡ old.shelf)
-        × IsStoreKept S.faults S.files S.opened old.store new.store) }
+    ensures kept { EachBecomes kits.old kits.new (OpensKit S.Store) }
 {
     prove!(kits.len() <= options.workers as usize);
     match open_each(alloc, graph, options.attempts, kits, failed) {
@@ -69,8 +68,7 @@ fn open_each<F: Shelf, S: Store>(
     ensures opened { OnOk result (AreOpenedByAll S.files S.opened graph.now kits.new) }
     ensures refused { IfErr result (IsOpeningRefused
         (observed_each S.files S.faults kits.old kits.new) graph.now attempts failed) }
-    ensures kept { EachBecomes kits.old kits.new (λ old new. (new.shelf ≡ old.shelf)
-        × IsStoreKept S.faults S.files S.opened old.store new.store) }
+    ensures kept { EachBecomes kits.old kits.new (OpensKit S.Store) }
 {
     let Some((first, others)) = kits.split_first_mut() else {
         return Ok(());
@@ -98,8 +96,7 @@ fn open_others<F: Shelf, S: Store>(
     ensures refused { IfErr result
         (IsOtherRefused (observed_each S.files S.faults kits.old kits.new) first.now
         (file_names graph.now) attempts) }
-    ensures kept { EachBecomes kits.old kits.new (λ old new. (new.shelf ≡ old.shelf)
-        × IsStoreKept S.faults S.files S.opened old.store new.store) }
+    ensures kept { EachBecomes kits.old kits.new (OpensKit S.Store) }
 {
     for at in 0..kits.len() {
         let number = at as u32 + 1;

@@ -7,9 +7,9 @@ ghost use Rattle.book_core.specs.Work.{Surroundings};
 ghost use Rattle.turn_desk.specs.Notes.{opening_note};
 ghost use Rattle.worker_table.specs.Notes.{fresh, setting_for};
 ghost use Rattle.worker_table.specs.Passes.{IsOf, note_of_pass, setting_of};
-ghost use Rattle.worker_loop.specs.Kits.{EachBecomes, observed_shelves, observed_stores};
+ghost use Rattle.worker_loop.specs.Kits.{EachBecomes};
 ghost use Rattle.worker_loop.specs.Openings.{AreOpened, file_names};
-ghost use Rattle.worker_loop.specs.Outside.{IsKitKept};
+ghost use Rattle.run_engine.specs.Kits.{RunsKit, observed_kits};
 ghost use Rattle.run_engine.specs.Openings.{AreOpenedByAll};
 ghost use Rattle.run_engine.specs.PlanRun.{AreFirstLengths, IsEndOfBook, opened_lengths};
 ghost use Rattle.run_engine.specs.PlanRun.{lengths_of_first, IsPlanEnd, IsStatusAfter};
@@ -47,13 +47,10 @@ pub fn run_plan<R: Threads + Wait + Sync, F: Shelf, S: Store, G: Gate>(
     requires workers { length kits.old ≤ options.now.workers }
     requires allowed { AreOptions options.now }
     requires opened { AreOpenedByAll S.files S.opened graph kits.old }
-    ensures ended { IsPlanEnd (observed_shelves F.strict F.faults kits.old kits.new)
-        (observed_stores S.files S.faults kits.old kits.new)
+    ensures ended { IsPlanEnd (observed_kits F.Shelf S.Store kits.old kits.new)
         graph options.now result.status result.outcome }
     ensures lengths { IfSome result.outcome (λ o. o.files ≡ lengths_of_first graph kits.old) }
-    ensures kept { EachBecomes kits.old kits.new (λ old new. (new.files ≡ old.files)
-        × IsKitKept F.faults F.strict S.faults S.files
-        S.opened old.shelf new.shelf old.store new.store) }
+    ensures kept { EachBecomes kits.old kits.new (RunsKit F.Shelf S.Store) }
 {
     match run_book(rt, alloc, graph, options, kits, gate) {
         Ok(end) => end,
@@ -77,14 +74,11 @@ fn run_book<R: Threads + Wait + Sync, F: Shelf, S: Store, G: Gate>(
     requires allowed { AreOptions options.now }
     requires opened { AreOpenedByAll S.files S.opened graph kits.old }
     ensures ended { IfOk result
-        (λ end. IsPlanEnd (observed_shelves F.strict F.faults kits.old kits.new)
-        (observed_stores S.files S.faults kits.old kits.new)
+        (λ end. IsPlanEnd (observed_kits F.Shelf S.Store kits.old kits.new)
         graph options.now end.status end.outcome) }
     ensures lengths { IfOk result
         (λ end. IfSome end.outcome (λ o. o.files ≡ lengths_of_first graph kits.old)) }
-    ensures kept { EachBecomes kits.old kits.new (λ old new. (new.files ≡ old.files)
-        × IsKitKept F.faults F.strict S.faults S.files
-        S.opened old.shelf new.shelf old.store new.store) }
+    ensures kept { EachBecomes kits.old kits.new (RunsKit F.Shelf S.Store) }
 {
     attempts_are_counted();
     honest_runs_are_runs();

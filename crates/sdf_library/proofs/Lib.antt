@@ -1,4 +1,5 @@
 pub mod Filling
+pub mod HeldLines
 pub mod Pages
 pub mod Strictness
 pub mod Telling

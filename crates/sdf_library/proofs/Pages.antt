@@ -8,7 +8,7 @@ use Rattle.std.proofs.lemmas.List.{drop-drop, drop-take, length-drop, length-tak
 use Rattle.beam_values.specs.declared.plan.Args.TheVariants.{Nothing}
 use Rattle.beam_values.specs.declared.plan.SourceKind.TheVariants.{Lines}
 use Rattle.beam_ports.specs.Files.{Opening}
-use Rattle.sdf_library.specs.Paging.{Paged, HoldsFile, Serves, block, block_at, cut_where, held_from}
+use Rattle.sdf_library.specs.Paging.{Paged, HoldsFile, Serves, block, block_at, cut_where, held_from, page_at}
 
 -- more was read behind what was held
 pub held_more : (old new text : List ℕ) (base k n : ℕ) → take k new ≡ old → length new ≡ k + n → drop k new ≡ take n (drop (base + k) text)
@@ -103,17 +103,20 @@ held_end held p serves = by_test (nat_le held.base (p - 1)) (grind (arith, nat_t
     by_test true from = omega (arith, length-drop (p - 1 - held.base) held.bytes, serves.reached, served_from held p serves)
     by_test false from = absurd (false≢true from)
 
--- a block of it serves, too
-pub serves_block : (held : Paged) (p : ℕ) → Serves held p → Serves (block_at p held) p
-serves_block held p serves =
+-- so much of it serves, too, if it goes past the position
+pub serves_page : (held : Paged) (p most : ℕ) → p < (p - 1) + most → Serves held p → Serves (page_at p most held) p
+serves_page held p most some serves =
     let end = held_end held p serves in
-    let cut = length-take block (held_from (p - 1) held).bytes in
+    let cut = length-take most (held_from (p - 1) held).bytes in
     let whole : held.base + length held.bytes ≤ held.len = (serves.view Lines Nothing refl).within in
-    serves_here (block_at p held) p (omega arith) (omega (arith, end, cut, serves.reached)) (omega (arith, end, cut, whole, served_from held p serves))
+    serves_here (page_at p most held) p (omega arith) (omega (arith, end, cut, some, serves.reached)) (omega (arith, end, cut, whole, served_from held p serves))
 
-pub holds_block : (opening : Option Opening) (held : Paged) (p : ℕ) → HoldsFile opening held → HoldsFile opening (block_at p held)
-holds_block opening held p holds text is whole =
-    held_front (held_from (p - 1) held).bytes text (p - 1) block (holds_from opening held (p - 1) holds text is whole)
+pub holds_page : (opening : Option Opening) (held : Paged) (p most : ℕ) → HoldsFile opening held → HoldsFile opening (page_at p most held)
+holds_page opening held p most holds text is whole =
+    held_front (held_from (p - 1) held).bytes text (p - 1) most (holds_from opening held (p - 1) holds text is whole)
+
+pub holds_cut_to : (opening : Option Opening) (held : Paged) (most : ℕ) → HoldsFile opening held → HoldsFile opening (record held { bytes = take most held.bytes })
+holds_cut_to opening held most holds text is whole = held_front held.bytes text held.base most (holds text is whole)
 
 -- what a cut leaves
 pub serves_cut : (more : Bool) (held : Paged) (p : ℕ) → Serves held p → Serves (cut_where more p held) p
@@ -122,7 +125,7 @@ serves_cut false held p serves = by_test (nat_le (length held.bytes) block)
   where
     by_test : (small : Bool) → Serves (if small then held else block_at p held) p
     by_test true = serves
-    by_test false = serves_block held p serves
+    by_test false = serves_page held p block (omega arith) serves
 
 pub holds_cut : (more : Bool) (opening : Option Opening) (held : Paged) (p : ℕ) → HoldsFile opening held → HoldsFile opening (cut_where more p held)
 holds_cut true opening held p holds = holds
@@ -130,7 +133,7 @@ holds_cut false opening held p holds = by_test (nat_le (length held.bytes) block
   where
     by_test : (small : Bool) → HoldsFile opening (if small then held else block_at p held)
     by_test true = holds
-    by_test false = holds_block opening held p holds
+    by_test false = holds_page opening held p block holds
 
 pub cut_less : (more : Bool) (held : Paged) (p : ℕ) → length (cut_where more p held).bytes ≤ length held.bytes
 cut_less true held p = omega arith

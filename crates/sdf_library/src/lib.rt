@@ -6,19 +6,22 @@
 //! it was shown, fails on poison alone and before it asks for any memory, and counts one fault for each
 //! such call and none else. The layer above may rely on this, which [`Strict`] says once for all four by
 //! the clauses of its calls. Of a [`Pager`] it may rely on this: what it holds are bytes of its file,
-//! after every answer; it answers `Failed` only where the store counted a fault; and where what it holds
-//! is enough, nothing is read. Read `strict.rt` and `pager.rt` first; `work/` has what each source does.
+//! after every answer; it answers `Failed` only where the store counted a fault; where what it holds
+//! is enough, nothing is read; and of a line it holds at most two blocks more than the line. Read
+//! `strict.rt` and `pager.rt` first; `work/` has what each source does.
 #![tactic(auto)]
 
 mod arguments;
 mod emissions;
 mod lines;
 mod pager;
+mod quiet;
 mod reading;
 mod strict;
 pub mod work;
 
 pub use pager::{PageRefusal, Pager};
+pub use quiet::Quiet;
 pub use strict::{PositionWork, Strict};
 
 /// [`work::Lines`] as an object.

@@ -167,12 +167,33 @@ fn a_failed_read_is_told(rt: HostRuntime) -> Result<(), Fail> {
     };
     assert_eq!(rt; opened.len, 2);
     let mut pager = handed(Pager::new(alloc, opened.file, opened.len));
-    let failed = pager.ensure_held(&mut store, 1, false);
+    let failed = pager.hold_line(&mut store, 1);
     assert_eq!(rt; failed, Err(PageRefusal::Failed));
     assert_eq!(rt; store.faults(), 1);
     assert_eq!(rt; pager.bytes().bytes.len(), 0);
-    assert_eq!(rt; pager.ensure_held(&mut store, 1, true), Ok(()));
+    assert_eq!(rt; pager.hold_line(&mut store, 1), Ok(()));
     assert_eq!(rt; pager.bytes().bytes, b"ab".as_slice());
+    Ok(())
+}
+
+#[test]
+fn what_was_released_is_read_again(rt: HostRuntime) -> Result<(), Fail> {
+    let alloc = rt.alloc();
+    // The file is opened and read; a second read fails.
+    let mut store = store_of(alloc, b"ab\ncd", &[2])?;
+    let Ok(opened) = store.open_file(b"f") else {
+        return Err("absent")?;
+    };
+    assert_eq!(rt; opened.len, 5);
+    let mut pager = Pager::new(alloc, opened.file, opened.len);
+    assert_eq!(rt; pager.hold_line(&mut store, 0), Ok(()));
+    assert_eq!(rt; pager.held(), 5);
+    pager.note_line(0, 3);
+    pager.release();
+    assert_eq!(rt; pager.held(), 0);
+    assert_eq!(rt; pager.next_line(2), Some(3));
+    assert_eq!(rt; pager.next_line(3), None);
+    assert_eq!(rt; pager.hold_line(&mut store, 3), Err(PageRefusal::Failed));
     Ok(())
 }
 
@@ -211,5 +232,40 @@ fn a_long_line_is_held_block_by_block(rt: HostRuntime) -> Result<(), Fail> {
     ];
     assert!(rt; has_held(alloc, &mut store, &rows));
     assert_eq!(rt; store.faults(), 0);
+    Ok(())
+}
+
+// How many bytes are held at most where each line of a file is held in turn; none where that is refused.
+fn most_held<S: Store>(alloc: Global, store: &mut S, starts: &[u64]) -> Option<u64> {
+    let Ok(opened) = store.open_file(b"f") else {
+        return None;
+    };
+    let mut pager = Pager::new(alloc, opened.file, opened.len);
+    let mut most = 0;
+    for p in starts {
+        if *p >= opened.len {
+            return None;
+        }
+        if pager.hold_line(store, *p).is_err() {
+            return None;
+        }
+        most = most.max(pager.held());
+    }
+    Some(most)
+}
+
+#[test]
+fn long_lines_are_held_one_by_one(rt: HostRuntime) -> Result<(), Fail> {
+    let alloc = rt.alloc();
+    // Eight lines of 70000 bytes, in nine blocks: a tenth read would fail.
+    let mut text = vec![in alloc; b'x'; 560000]?;
+    for line in 1..9 {
+        if let Some(end) = text.get_mut(line * 70000 - 1) {
+            *end = b'\n';
+        }
+    }
+    let mut store = store_of(alloc, text.as_slice(), &[10])?;
+    let starts = [0, 70000, 140000, 210000, 280000, 350000, 420000, 490000];
+    assert_eq!(rt; most_held(alloc, &mut store, &starts), Some(131072));
     Ok(())
 }

@@ -1,7 +1,7 @@
 pub mod Answered
 pub mod Working
 pub mod PieceWork
-pub mod Claims
+pub mod Claiming
 pub mod Stretching
 pub mod PieceReads
 pub mod Told

@@ -1,6 +1,6 @@
 -- The reader of a piece's item: its positions can be worked, and what comes of that is given for the piece, or is honest to tell.
-use Rattle.std.proofs.Common.{◌≡◌, ◌⊎◌, inl, inr, ℕ, zero, suc, ◌+◌, ◌<◌, ◌≤◌, Bool, true, false, cond, ◌||◌, ◌&&◌, ◌==◌, List, [], ◌∷◌, get_or, set, refl, sym, ap, subst, ◌∙◌, arith}
-use Rattle.std.specs.Prelude.{◌≤ℤ◌, Option, Some, None, IsSome, IsSomeAnd, not, nat_le, slice_get, unwrap_or}
+use Rattle.std.proofs.Common.{◌≡◌, ◌⊎◌, inl, inr, ℕ, zero, suc, ◌+◌, ◌<◌, ◌≤◌, Bool, true, false, cond, ◌||◌, ◌&&◌, ◌==◌, List, [], ◌∷◌, get_or, length, map, refl, sym, ap, subst, ◌∙◌, arith}
+use Rattle.std.specs.Prelude.{◌≤ℤ◌, Option, Some, None, IsSome, IsSomeAnd, Result, Ok, Err, not, nat_le, slice_get, unwrap_or}
 use Rattle.std.specs.Option.{option_and_then, option_map}
 use Rattle.std.proofs.lemmas.Bool.{and_from, and_parts, eq-eqb, eqb-true, false≢true}
 use Rattle.std.proofs.lemmas.Option.{slice_get-get_or, slice_get_within}
@@ -17,8 +17,10 @@ use Rattle.beam_values.specs.declared.plan.NodeKind.TheVariants.{Source, ParDo, 
 use Rattle.beam_values.specs.declared.plan.Plan.{Plan}
 use Rattle.beam_values.specs.declared.plan.SourceKind.{SourceKind}
 use Rattle.beam_values.specs.declared.plan.SourceKind.TheVariants.{Lines, TimedLines, Count, Made}
-use Rattle.beam_values.proofs.Spreads.{spread-single}
+use Rattle.beam_values.proofs.Spreads.{spread-empty, spread-single}
+use Rattle.beam_model.specs.Chains.{Arrives}
 use Rattle.beam_model.specs.Coverings.{AreDistinct, is_item, item_at, spread_of}
+use Rattle.beam_model.specs.Holds.{estimator_of}
 use Rattle.beam_model.specs.Positions.{SourceItem, emission, positions_in}
 use Rattle.beam_model.specs.Spread.{emission_outputs, outputs_at, spread_range, first_poison}
 use Rattle.beam_model.proofs.Coverings.{plan_distinct}
@@ -29,14 +31,19 @@ use Rattle.book_core.specs.Work.{IsGiven, IsHonest, IsHonestCall, IsPoisonAttemp
 use Rattle.bundle_commit.specs.declared.job.Job.TheVariants as job
 use Rattle.bundle_commit.specs.declared.job.Receipt.{Receipt}
 use Rattle.chain_exec.specs.Causes.{ObservedShelf}
+use Rattle.chain_exec.specs.Positions.{StoreCounts}
 use Rattle.chain_exec.specs.Sources.{IsCounted, IsHeldFor, IsPagerOf, IsText, SourceWork, source_at, source_in}
 use Rattle.chain_exec.specs.declared.refusal.ExecRefusal.{ExecRefusal}
 use Rattle.chain_exec.specs.declared.refusal.ExecRefusal.TheVariants.{Faulted, NoMemory}
 use Rattle.chain_exec.proofs.Looks.{text_later}
 use Rattle.sdf_library.specs.Paging.{Paged}
-use Rattle.worker_loop.specs.Bundles.{CanRead, IsPieceRefused, IsPieceWorked, IsWorkRefused, item_of}
-use Rattle.worker_loop.specs.Reading.{AreReaders, AreReadersOf, AreToldReaders, IsReaderOf, is_reader_for}
+use Rattle.worker_table.specs.Calls.{CanCommitAs}
+use Rattle.worker_table.specs.Notes.{KnownJob, Setting}
+use Rattle.worker_loop.specs.Bundles.{CanRead, HasClaimed, HasClaimedTo, IsJobRefused, IsPieceEnd, IsPieceRefused, IsPieceWorked, IsWorkRefused, item_of}
+use Rattle.worker_loop.specs.Reading.{HasTurned, IsPagerFor, IsReading, fresh_pager, AreReaders, AreReadersOf, AreToldReaders, IsReaderOf, is_reader_for}
 use Rattle.worker_loop.specs.declared.reading.Reader.{Reader}
+use Rattle.worker_loop.proofs.Jobs.{job_given, job_refused}
+use Rattle.worker_loop.proofs.PieceWork.{fit_none, fit_plausible, seen_over_quiet}
 
 -- ---- the reader of an item
 
@@ -78,11 +85,11 @@ item_found (other ∷ items) distinct (suc k) item at = by (is_item item.node it
 pub record IsPieceReader (piece : Piece) (reader : Reader) : Type 0 where
   pub node : reader.node ≡ piece.node
   pub item : reader.item ≡ piece.item
-  pub reaches : piece.range.to ≤ reader.pager.len
+  pub reaches : piece.range.to ≤ reader.len
 
 pub reader_for : (piece : Piece) (reader : Reader) → is_reader_for piece reader ≡ true → IsPieceReader piece reader
 reader_for piece reader is =
-    let parts = and_parts (reader.node == piece.node && reader.item == piece.item) (nat_le piece.range.to reader.pager.len) is in
+    let parts = and_parts (reader.node == piece.node && reader.item == piece.item) (nat_le piece.range.to reader.len) is in
     let both = and_parts (reader.node == piece.node) (reader.item == piece.item) parts.0 in
     let low = parts.1 in
     record { node = eqb-true reader.node piece.node both.0; item = eqb-true reader.item piece.item both.1; reaches = grind (arith, nat_tests) }
@@ -126,18 +133,22 @@ module _ (told : Option (List FileText)) (opened : ℕ → Option Opening) (plan
   source_only source here = let mine = piece_source in cc
 
   -- so its positions can be worked
-  pub reader_can : CanRead plan piece.node (opened reader.pager.file) reader.pager
-  reader_can = record {
+  reader_can : (pager : Paged) → pager.len ≡ reader.len → IsHeldFor read.0.work (opened pager.file) pager → CanRead plan piece.node (opened pager.file) pager
+  reader_can pager same held = record {
     source = subst IsSome (sym piece_source) refl;
-    counted = λ source here. subst (λ (s : SourceWork). IsCounted s reader.pager) (source_only source here) (λ reads. counts read.0.work read.0.args read.0.file reads (read.2.counted reads));
-    held = λ source here. subst (λ (s : SourceWork). IsHeldFor s.work (opened reader.pager.file) reader.pager) (source_only source here) read.2.held;
+    counted = λ source here. subst (λ (s : SourceWork). IsCounted s pager) (source_only source here) (λ reads. counts read.0.work read.0.args read.0.file reads (read.2.counted reads ∙ sym same));
+    held = λ source here. subst (λ (s : SourceWork). IsHeldFor s.work (opened pager.file) pager) (source_only source here) held;
   }
     where
-      counts : (work : SourceKind) (args : Args) (file : List ℕ) → reads_file work ≡ false → positions_in work args file ≡ reader.pager.len → positions_in work args [] ≡ reader.pager.len
+      counts : (work : SourceKind) (args : Args) (file : List ℕ) → reads_file work ≡ false → positions_in work args file ≡ pager.len → positions_in work args [] ≡ pager.len
       counts Lines args file reads long = absurd (false≢true (sym reads))
       counts TimedLines args file reads long = absurd (false≢true (sym reads))
       counts Count args file reads long = long
       counts Made args file reads long = long
+
+  -- also with a pager that holds nothing yet
+  pub reader_fresh : CanRead plan piece.node (opened reader.file) (fresh_pager reader)
+  reader_fresh = reader_can (fresh_pager reader) refl (λ reads. record { opened = read.2.opened_so reads; held = λ text at whole. refl; quiet = λ text at whole below. absurd (omega arith) })
 
   -- whether the item is known, by its source
   pub file_source : is_file_source plan piece.node ≡ reads_file read.0.work
@@ -161,12 +172,12 @@ module _ (told : Option (List FileText)) (opened : ℕ → Option Opening) (plan
       by None is = absurd (cc)
       by (Some node) is = kind node.kind is
 
-  known_text : is_known told plan piece.node ≡ true → IsText read.0.work (opened reader.pager.file) reader.pager.len read.0.file
+  known_text : is_known told plan piece.node ≡ true → IsText read.0.work (opened reader.file) reader.len read.0.file
   known_text known = read.2.text (ap (λ (b : Bool). is_told told || not b) (sym file_source) ∙ known)
 
   -- ---- what is given for the piece
 
-  pub piece_given : (attempted : Option ℕ) (receipt : Receipt) → receipt.seen ≤ℤ greatest_time → IsPieceWorked plan (opened reader.pager.file) reader.pager.len piece attempted receipt
+  pub piece_given : (attempted : Option ℕ) (receipt : Receipt) → receipt.seen ≤ℤ greatest_time → IsPieceWorked plan (opened reader.file) reader.len piece attempted receipt
       → IsGiven told plan (job.Span piece) attempted receipt
   piece_given attempted receipt time worked = (by (is_known told plan piece.node) refl, worked.logged)
     where
@@ -180,7 +191,7 @@ module _ (told : Option (List FileText)) (opened : ℕ → Option Opening) (plan
   -- ---- why it was refused
 
   pub piece_honest : (strict : Bool) (shelf : ObservedShelf) (store : ObservedStore) → (strict ≡ true → shelf.strict ≡ true) → (attempted : Option ℕ) (refusal : ExecRefusal)
-      → IsPieceRefused shelf (record { before = store.before; after = store.after }) plan (opened reader.pager.file) reader.pager.len piece attempted refusal
+      → IsPieceRefused shelf (record { before = store.before; after = store.after }) plan (opened reader.file) reader.len piece attempted refusal
       → IsWorkRefused (record { told = told; strict = strict }) shelf store plan (job.Span piece) attempted refusal
   piece_honest strict shelf store stricter attempted NoMemory refused = tt
   piece_honest strict shelf store stricter attempted (Faulted at Read) refused =
@@ -198,7 +209,7 @@ module _ (told : Option (List FileText)) (opened : ℕ → Option Opening) (plan
           ∙ spread-single (outputs_at plan (item_of piece (record { work = read.0.work; args = read.0.args }) read.0.file)) p
 
       by : (is_strict : Bool) → strict ≡ is_strict → (known : Bool) → is_known told plan piece.node ≡ known
-          → (shelf.strict ≡ true → (text : List ℕ) → IsText read.0.work (opened reader.pager.file) reader.pager.len text
+          → (shelf.strict ≡ true → (text : List ℕ) → IsText read.0.work (opened reader.file) reader.len text
           → first_poison (emission_outputs plan piece.node (emission read.0.work read.0.args text refused.p)) ≡ Some at)
           → (strict ≡ false) ⊎ IsHonestCall (record { told = told; strict = strict }) plan (job.Span piece) attempted at
       by false is known is_k poison = inl is
@@ -217,15 +228,15 @@ reader_here items shown place piece r same found is =
     let one : found.0 ≡ r = cc in
     (here, reader_for piece r (subst (λ (x : Reader). is_reader_for piece x ≡ true) one found.2))
 
--- ---- readers after work
+-- ---- the readers and the pager after work
 
 module _ (told : Option (List FileText)) (opened later : ℕ → Option Opening) (plan : Plan) (kept : KeepsOpenings opened later) where
-  pager_later : (work : SourceKind) (pager : Paged) → IsHeldFor work (opened pager.file) pager → IsHeldFor work (later pager.file) pager
-  pager_later work pager held reads = by (opened pager.file) refl (held reads)
+  opened_later : (file len : ℕ) → IsSomeAnd (opened file) (λ o. o.len ≡ len) → IsSomeAnd (later file) (λ o. o.len ≡ len)
+  opened_later file len is = by (opened file) refl is
     where
-      by : (o : Option Opening) → opened pager.file ≡ o → IsPagerOf (opened pager.file) pager → IsPagerOf (later pager.file) pager
-      by None at is = absurd (subst (λ (x : Option Opening). IsSomeAnd x (λ opening. opening.len ≡ pager.len)) at is.opened)
-      by (Some o) at is = let same : later pager.file ≡ opened pager.file = kept pager.file o at ∙ sym at in subst (λ (x : Option Opening). IsPagerOf x pager) (sym same) is
+      by : (o : Option Opening) → opened file ≡ o → IsSomeAnd o (λ o. o.len ≡ len) → IsSomeAnd (later file) (λ o. o.len ≡ len)
+      by None at is = absurd is
+      by (Some o) at is = subst (λ (x : Option Opening). IsSomeAnd x (λ o. o.len ≡ len)) (sym (kept file o at)) is
 
   reader_later : (item : SourceItem) (reader : Reader) → IsReaderOf told opened plan item reader → IsReaderOf told later plan item reader
   reader_later item reader is = record {
@@ -234,8 +245,8 @@ module _ (told : Option (List FileText)) (opened later : ℕ → Option Opening)
     source = is.source;
     whole = is.whole;
     counted = is.counted;
-    held = pager_later item.work reader.pager is.held;
-    text = λ known. text_later item.work opened later reader.pager.file reader.pager.file reader.pager.len reader.pager.len item.file kept refl refl (is.text known);
+    opened_so = λ reads. opened_later reader.file reader.len (is.opened_so reads);
+    text = λ known. text_later item.work opened later reader.file reader.file reader.len reader.len item.file kept refl refl (is.text known);
   }
 
   readers_later : (items : List SourceItem) (readers : List Reader) → AreReadersOf told opened plan items readers → AreReadersOf told later plan items readers
@@ -244,43 +255,102 @@ module _ (told : Option (List FileText)) (opened later : ℕ → Option Opening)
   readers_later (item ∷ items) [] are = absurd are
   readers_later (item ∷ items) (reader ∷ readers) are = (reader_later item reader are.0, readers_later items readers are.1)
 
-  -- where one of them has read on
-  readers_set : (items : List SourceItem) (readers : List Reader) → AreReadersOf told opened plan items readers → (k : ℕ) (reader : Reader) → slice_get readers k ≡ Some reader → (pager : Paged)
-      → pager.file ≡ reader.pager.file → pager.len ≡ reader.pager.len → CanRead plan reader.node (later pager.file) pager
-      → AreReadersOf told later plan items (set readers k (record reader { pager = pager }))
-  readers_set [] [] are k reader at pager file len can = absurd (cc)
-  readers_set [] (other ∷ readers) are k reader at pager file len can = absurd are
-  readers_set (item ∷ items) [] are k reader at pager file len can = absurd are
-  readers_set (item ∷ items) (other ∷ readers) are zero reader at pager file len can =
-      let same : other ≡ reader = cc in
-      (one item reader (subst (IsReaderOf told opened plan item) same are.0) pager file len can, readers_later items readers are.1)
+module _ (files : Option (List FileText)) (opened : ℕ → Option Opening) (plan : Plan) (readers : List Reader) (place : ℕ) where
+  -- positions of the reader's item were worked
+  pub reading_after : (later : ℕ → Option Opening) → KeepsOpenings opened later → AreReaders files opened plan readers → (reader : Reader) → slice_get readers place ≡ Some reader → (pager : Paged)
+      → IsPagerFor later plan reader pager → IsReading files later plan readers place pager
+  reading_after later kept are reader at pager is = record {
+    all = record {
+      untold = readers_later None opened later plan kept (items_told None plan) readers are.untold;
+      told = readers_later files opened later plan kept (items_told files plan) readers are.told;
+    };
+    last = λ other there. let same : reader ≡ other = cc in subst (λ (r : Reader). IsPagerFor later plan r pager) same is;
+  }
+
+  -- the worker has turned to the item of a piece
+  pub turned_able : (piece : Piece) (later : ℕ) (pager new : Paged) → IsReading files opened plan readers place pager → (turned : HasTurned piece readers place later pager new) → IsPagerFor opened plan turned.reader new
+  turned_able piece later pager new reading turned = by turned.held
     where
-      one : (item : SourceItem) (reader : Reader) → IsReaderOf told opened plan item reader → (pager : Paged) → pager.file ≡ reader.pager.file → pager.len ≡ reader.pager.len
-          → CanRead plan reader.node (later pager.file) pager → IsReaderOf told later plan item (record reader { pager = pager })
-      one item reader is pager file len can = record {
-        at_node = is.at_node;
-        at_item = is.at_item;
-        source = is.source;
-        whole = is.whole;
-        counted = λ reads. is.counted reads ∙ sym len;
-        held = can.held (record { work = item.work; args = item.args }) (ap (source_at plan) is.at_node ∙ is.source);
-        text = λ known. text_later item.work opened later reader.pager.file pager.file reader.pager.len pager.len item.file kept file len (is.text known);
+      is : IsPieceReader piece turned.reader
+      is = reader_for piece turned.reader turned.is_for
+
+      by : ((later ≡ place) × (new ≡ pager)) ⊎ (new ≡ fresh_pager turned.reader) → IsPagerFor opened plan turned.reader new
+      by (inl (same, kept)) =
+          subst (λ (p : Paged). IsPagerFor opened plan turned.reader p) (sym kept)
+          (reading.last turned.reader (subst (λ (k : ℕ). slice_get readers k ≡ Some turned.reader) same turned.at))
+      by (inr fresh) = subst (λ (p : Paged). IsPagerFor opened plan turned.reader p) (sym fresh) (record {
+        file = refl;
+        len = refl;
+        able = subst (λ (n : ℕ). CanRead plan n (opened turned.reader.file) (fresh_pager turned.reader)) (sym is.node)
+            (reader_fresh None opened plan readers reading.all.untold later turned.reader turned.at piece is);
+      })
+
+pub reading_same : (files : Option (List FileText)) (opened : ℕ → Option Opening) (plan : Plan) (readers later : List Reader) (place at : ℕ) (pager new : Paged) → later ≡ readers → at ≡ place → new ≡ pager
+    → IsReading files opened plan readers place pager → IsReading files opened plan later at new
+reading_same files opened plan readers later place at pager new a b c is =
+    subst (λ (l : List Reader). IsReading files opened plan l at new) (sym a)
+    (subst (λ (k : ℕ). IsReading files opened plan readers k new) (sym b) (subst (λ (p : Paged). IsReading files opened plan readers place p) (sym c) is))
+
+-- ---- what is given for a piece whose positions were worked with its reader, or why that was refused
+
+module _ (setting : Setting) (opened : ℕ → Option Opening) (plan : Plan) (same : plan ≡ setting.plan) (readers : List Reader) (all : AreReaders setting.known.told opened plan readers)
+    (k : ℕ) (reader : Reader) (at : slice_get readers k ≡ Some reader) (piece : Piece) (is_for : is_reader_for piece reader ≡ true) (pager : Paged) (is : IsPagerFor opened plan reader pager)
+    (known : Option KnownJob) (staged : Receipt) where
+  now_for : (now : Piece) (last : ℕ) → HasClaimed piece now (Some last) known → IsPieceReader now reader
+  now_for now last claimed = reader_cut piece now reader claimed.same claimed.below (reader_for piece reader is_for)
+
+  pub end_given : {U : Type 0} (shelf : ObservedShelf) (store : StoreCounts) (u : U) → IsPieceEnd {U = U} shelf store plan (opened pager.file) pager.len piece known staged (Ok u) → (receipt : Receipt) → receipt ≡ staged
+      → receipt.seen ≤ℤ greatest_time → CanCommitAs setting known receipt
+  end_given {U} shelf store u done receipt taken time =
+      let there : IsPieceWorked plan (opened reader.file) reader.len done.now (Some done.last) receipt =
+      subst (λ (r : Receipt). IsPieceWorked plan (opened reader.file) reader.len done.now (Some done.last) r) (sym taken)
+      (subst (λ (n : ℕ). IsPieceWorked plan (opened reader.file) n done.now (Some done.last) staged) is.len
+      (subst (λ (f : ℕ). IsPieceWorked plan (opened f) pager.len done.now (Some done.last) staged) is.file done.worked)) in
+      let here = now_for done.now done.last done.claimed in
+      job_given setting plan same (job.Span done.now) (Some done.last) known done.claimed.is receipt
+      (piece_given None opened plan readers all.untold k reader at done.now here (Some done.last) receipt time there)
+      (piece_given setting.known.told opened plan readers all.told k reader at done.now here (Some done.last) receipt time there)
+
+  pub end_honest : (U : Type 0) (shelf : ObservedShelf) (store : ObservedStore) → (setting.known.strict ≡ true → shelf.strict ≡ true) → (refusal : ExecRefusal)
+      → IsPieceEnd {U = U} shelf (record { before = store.before; after = store.after }) plan (opened pager.file) pager.len piece known staged (Err refusal) → IsJobRefused setting shelf store known refusal
+  end_honest U shelf store stricter refusal done =
+      let counts : StoreCounts = record { before = store.before; after = store.after } in
+      let there : IsPieceRefused shelf counts plan (opened reader.file) reader.len done.now (Some done.last) refusal =
+      subst (λ (n : ℕ). IsPieceRefused shelf counts plan (opened reader.file) n done.now (Some done.last) refusal) is.len
+      (subst (λ (f : ℕ). IsPieceRefused shelf counts plan (opened f) pager.len done.now (Some done.last) refusal) is.file done.refused) in
+      job_refused setting plan same (job.Span done.now) (Some done.last) known done.claimed.is shelf store refusal
+      (piece_honest setting.known.told opened plan readers all.told k reader at done.now (now_for done.now done.last done.claimed) setting.known.strict shelf store stricter (Some done.last) refusal there)
+
+-- nothing is read yet
+pub reading_none : (files : Option (List FileText)) (opened : ℕ → Option Opening) (plan : Plan) (readers : List Reader) (place : ℕ) (pager : Paged) → AreReaders files opened plan readers → length readers ≤ place
+    → IsReading files opened plan readers place pager
+reading_none files opened plan readers place pager are past =
+    record { all = are; last = λ reader at. absurd (omega (arith, past, slice_get_within readers place reader at)) }
+
+-- ---- a piece of which no position is worked
+
+module _ (told : Option (List FileText)) (plan : Plan) (now : Piece) (attempted : Option ℕ) (receipt : Receipt) (at : worked_to now attempted ≡ now.range.from)
+    (empty : receipt ≡ record { arrivals = []; seen = now.seen; logged = None }) where
+  pub nothing_given : receipt.seen ≤ℤ greatest_time → IsGiven told plan (job.Span now) attempted receipt
+  nothing_given time = (by (is_known told plan now.node), ap (λ (r : Receipt). r.logged) empty)
+    where
+      of_item : (found : Option SourceItem) → IsWorkOnItem plan now (worked_to now attempted) found receipt
+      of_item None = (ap (λ (r : Receipt). r.arrivals) empty, ap (λ (r : Receipt). r.seen) empty)
+      of_item (Some item) = record {
+        arrivals = ap (λ (r : Receipt). map Arrives r.arrivals) empty ∙ sym (spread-empty (outputs_at plan item) now.range.from (worked_to now attempted) (omega (arith, at)));
+        seen =
+            ap (λ (r : Receipt). r.seen) empty
+            ∙ sym (seen_over_quiet (estimator_of plan now.node) item now.seen now.range.from (worked_to now attempted) (λ q low high. absurd (omega (arith, at, low, high))));
       }
-  readers_set (item ∷ items) (other ∷ readers) are (suc k) reader at pager file len can =
-      (reader_later item other are.0, readers_set items readers are.1 k reader at pager file len can)
 
-pub readers_after : (files : Option (List FileText)) (opened later : ℕ → Option Opening) (plan : Plan) (readers : List Reader) → KeepsOpenings opened later
-    → AreReaders files opened plan readers → (k : ℕ) (reader : Reader) → slice_get readers k ≡ Some reader → (pager : Paged)
-    → pager.file ≡ reader.pager.file → pager.len ≡ reader.pager.len → CanRead plan reader.node (later pager.file) pager
-    → AreReaders files later plan (set readers k (record reader { pager = pager }))
-readers_after files opened later plan readers kept are k reader at pager file len can = record {
-  untold = readers_set None opened later plan kept (items_told None plan) readers are.untold k reader at pager file len can;
-  told = readers_set files opened later plan kept (items_told files plan) readers are.told k reader at pager file len can;
-}
+      by : (known : Bool) → IsWorkOnRange known told plan now (worked_to now attempted) receipt
+      by false = fit_plausible plan now receipt (fit_none plan now receipt empty) time
+      by true = of_item (item_at (items_told told plan) now.node now.item)
 
-pub readers_kept : (files : Option (List FileText)) (opened later : ℕ → Option Opening) (plan : Plan) (readers : List Reader) → KeepsOpenings opened later
-    → AreReaders files opened plan readers → AreReaders files later plan readers
-readers_kept files opened later plan readers kept are = record {
-  untold = readers_later None opened later plan kept (items_told None plan) readers are.untold;
-  told = readers_later files opened later plan kept (items_told files plan) readers are.told;
-}
+-- the range of a piece is empty, of which the start was claimed
+pub none_claimed : (told : Option (List FileText)) (plan : Plan) (piece : Piece) (end : ℕ) (known : Option KnownJob) (claim : HasClaimedTo piece end known) → piece.range.from ≡ end
+    → (receipt : Receipt) → receipt ≡ record { arrivals = []; seen = piece.seen; logged = None } → receipt.seen ≤ℤ greatest_time → IsGiven told plan (job.Span claim.now) (Some piece.range.from) receipt
+none_claimed told plan piece end known claim empty receipt is time =
+    let from : claim.now.range.from ≡ piece.range.from = ap (λ (p : Piece). p.range.from) claim.claimed.same in
+    let seen : claim.now.seen ≡ piece.seen = ap (λ (p : Piece). p.seen) claim.claimed.same in
+    nothing_given told plan claim.now (Some piece.range.from) receipt (omega (arith, from, claim.ends, empty)) (is ∙ ap (λ s. record { arrivals = []; seen = s; logged = None }) (sym seen)) time

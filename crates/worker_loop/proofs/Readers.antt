@@ -26,7 +26,7 @@ use Rattle.pipeline_graph.specs.Rules.{HasFiles, HasSettings}
 use Rattle.book_core.specs.Runs.{AreLengthsOf, IsLengthOf}
 use Rattle.book_core.specs.Work.{is_told, items_told}
 use Rattle.book_core.proofs.HeldOnce.{get_at_end}
-use Rattle.chain_exec.specs.Sources.{IsHeldFor, IsText, source_at, source_in}
+use Rattle.chain_exec.specs.Sources.{IsText, source_at, source_in}
 use Rattle.worker_loop.specs.Openings.{AreOpened, IsOpenedAs, names_in}
 use Rattle.worker_loop.specs.Reading.{AreReaders, AreReadersOf, AreToldReaders, IsReaderOf, counted_reader, file_reader, file_readers, length_in, readers_from, readers_of_kind, readers_of_source}
 use Rattle.worker_loop.specs.declared.reading.Reader.{Reader}
@@ -64,6 +64,17 @@ readers_more node opened i d inside =
     ∙ ap (map (file_reader node)) (enumerate_more 0 (take i opened) (get_or opened i d) ∙ ap (λ (n : ℕ). enumerate_from 0 (take i opened) ++ (n, get_or opened i d) ∷ []) count)
     ∙ map-append (file_reader node) (enumerate_from 0 (take i opened)) ((i, get_or opened i d) ∷ [])
 
+-- one more reader is put behind those so far
+pub readers_pushed : (node : ℕ) (opened : List Opened) (i : ℕ) (d : Opened) (old now new : List Reader) (reader : Reader) → i < length opened → now ≡ old ++ file_readers node (take i opened)
+    → new ≡ now ++ reader ∷ [] → reader ≡ file_reader node (i, get_or opened i d) → new ≡ old ++ file_readers node (take (i + 1) opened)
+readers_pushed node opened i d old now new reader inside so_far pushed is =
+    let front = file_readers node (take i opened) in
+    pushed
+    ∙ ap (λ (l : List Reader). l ++ reader ∷ []) so_far
+    ∙ append_assoc old front (reader ∷ [])
+    ∙ ap (λ (r : Reader). old ++ (front ++ r ∷ [])) is
+    ∙ ap (λ (l : List Reader). old ++ l) (sym (readers_more node opened i d inside))
+
 -- ---- readers of opened files are of the items
 
 module _ (told : Option (List FileText)) (opened : ℕ → Option Opening) (plan : Plan) where
@@ -95,7 +106,7 @@ module _ (told : Option (List FileText)) (opened : ℕ → Option Opening) (plan
       source = here;
       whole = refl;
       counted = λ r. absurd (false≢true (sym r ∙ reads));
-      held = λ r. record { opened = is.len; held = λ text at whole. refl };
+      opened_so = λ r. is.len;
       text = file_text item name file is reads told refl;
     }
 
@@ -108,14 +119,14 @@ module _ (told : Option (List FileText)) (opened : ℕ → Option Opening) (plan
         let onward = files_read reads (k + 1) names later opens are.1 in
         ((one_file k name file reads are.0, onward.0), onward.1)
 
-    one_counted : reads_file work ≡ false → len_of (made_item node work args) ≡ (counted_reader node args).pager.len → IsReaderOf told opened plan (made_item node work args) (counted_reader node args)
+    one_counted : reads_file work ≡ false → len_of (made_item node work args) ≡ (counted_reader node args).len → IsReaderOf told opened plan (made_item node work args) (counted_reader node args)
     one_counted reads long = record {
       at_node = refl;
       at_item = refl;
       source = here;
       whole = refl;
       counted = λ r. long;
-      held = λ r. absurd (false≢true (sym reads ∙ r));
+      opened_so = λ r. absurd (false≢true (sym reads ∙ r));
       text = λ known. record { told = λ r. absurd (false≢true (sym reads ∙ r)); whole = λ r. absurd (false≢true (sym reads ∙ r)); none = λ r. refl };
     }
 
@@ -209,7 +220,7 @@ module _ (opened : ℕ → Option Opening) (plan : Plan) where
       positions Count args file reads = absurd (false≢true reads)
       positions Made args file reads = absurd (false≢true reads)
 
-      long : (item : SourceItem) (reader : Reader) → IsReaderOf (Some told) opened plan item reader → (b : Bool) → reads_file item.work ≡ b → reader.pager.len ≡ len_of item
+      long : (item : SourceItem) (reader : Reader) → IsReaderOf (Some told) opened plan item reader → (b : Bool) → reads_file item.work ≡ b → reader.len ≡ len_of item
       long item reader is true reads = sym ((is.text refl).whole reads) ∙ sym (positions item.work item.args item.file reads)
       long item reader is false reads = sym (is.counted reads)
 
@@ -218,4 +229,4 @@ module _ (opened : ℕ → Option Opening) (plan : Plan) where
           ap (λ n. file_len_of n item len) a ∙ ap (λ i. file_len_of node' i len) b ∙ ap (λ l. file_len_of node' item' l) c
 
       one : (item : SourceItem) (reader : Reader) → IsReaderOf (Some told) opened plan item reader → length_in reader ≡ item_len item
-      one item reader is = length_same reader.node reader.item reader.pager.len item.node item.item (len_of item) is.at_node is.at_item (long item reader is (reads_file item.work) refl)
+      one item reader is = length_same reader.node reader.item reader.len item.node item.item (len_of item) is.at_node is.at_item (long item reader is (reads_file item.work) refl)

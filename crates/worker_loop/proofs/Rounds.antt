@@ -7,7 +7,7 @@ use Rattle.beam_values.specs.declared.fault.Cause.TheVariants.{Call, Read}
 use Rattle.beam_values.specs.declared.file_text.FileText.{FileText}
 use Rattle.beam_ports.specs.Counts.{Rose, greatest_count, rise}
 use Rattle.beam_ports.specs.Observed.{ObservedStore}
-use Rattle.book_core.specs.Book.{BookData}
+use Rattle.book_core.specs.Book.{SeenBook}
 use Rattle.book_core.specs.Steps.{Action, Answer, Fail, Noted, Step, Stop}
 use Rattle.chain_exec.specs.Causes.{ObservedShelf}
 use Rattle.retry_core.specs.Shares.{risen, share_after}
@@ -19,35 +19,6 @@ use Rattle.worker_table.specs.Notes.{Entry, Setting}
 use Rattle.worker_table.specs.Turns.{HasStepped, HasStopped, KeepsOthers, Turned, first_entry}
 use Rattle.worker_loop.specs.Bundles.{IsCountedAs, OnlyClaims}
 use Rattle.worker_loop.specs.Workers.{CountsOn, FailsOnce, HasMadeLast, RisesWith, share_with}
-
--- ---- what stays noted
-
-pub others_same : (m : Note (List Entry)) → KeepsOthers m m
-others_same m = record { numbers = refl; free = refl; others = refl; count = refl }
-
-pub others_onward : (m n o : Note (List Entry)) → KeepsOthers m n → KeepsOthers n o → KeepsOthers m o
-others_onward m n o one two = record {
-  numbers = two.numbers ∙ one.numbers;
-  free = two.free ∙ one.free;
-  others = two.others ∙ one.others;
-  count = two.count ∙ one.count;
-}
-
-pub keeps_onward : (e f k : Entry) → KeepsSlot e f → KeepsSlot f k → KeepsSlot e k
-keeps_onward e f k one two = record { slot = two.slot ∙ one.slot; calls = two.calls ∙ one.calls; reads = two.reads ∙ one.reads }
-
-pub claims_same : (m : Note (List Entry)) → OnlyClaims m m
-claims_same m = record { stays = record { keeps = record { slot = refl; calls = refl; reads = refl }; owes = refl; ending = refl }; others = others_same m }
-
-pub claims_onward : (m n o : Note (List Entry)) → OnlyClaims m n → OnlyClaims n o → OnlyClaims m o
-claims_onward m n o one two = record {
-  stays = record {
-    keeps = keeps_onward (first_entry m) (first_entry n) (first_entry o) one.stays.keeps two.stays.keeps;
-    owes = two.stays.owes ∙ one.stays.owes;
-    ending = two.stays.ending ∙ one.stays.ending;
-  };
-  others = others_onward m n o one.others two.others;
-}
 
 -- ---- the last turn
 

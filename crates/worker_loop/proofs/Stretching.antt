@@ -1,9 +1,10 @@
 -- Stretches of positions that are worked, one after another, and what is left of one that ends past the end of the range.
-use Rattle.std.proofs.Common.{◌≡◌, inl, inr, ℕ, ◌+◌, ◌<◌, ◌≤◌, ℤ, List, [], ◌∷◌, ◌++◌, length, map, take, refl, sym, ap, subst, ◌∙◌, append_assoc, arith}
-use Rattle.std.specs.Prelude.{Option, Some, None, nat_lt}
+use Rattle.std.proofs.Common.{◌≡◌, inl, inr, Bool, true, false, cond, ℕ, ◌+◌, ◌<◌, ◌≤◌, ℤ, List, [], ◌∷◌, ◌++◌, length, map, take, refl, sym, ap, subst, ◌∙◌, append_assoc, arith}
+use Rattle.std.specs.Prelude.{Option, Some, None, nat_le, nat_lt}
 use Rattle.std.specs.List.{All}
 use Rattle.std.proofs.Math.Seq.{take-append_seam}
 use Rattle.std.proofs.lemmas.Bool.{cases_lt}
+use Rattle.std.proofs.lemmas.Bool.Decides.{nat_tests}
 use Rattle.std.proofs.lemmas.List.{append-nil}
 use Rattle.beam_values.specs.Tracking.{first_unattempted}
 use Rattle.beam_values.specs.declared.arrival.Arrival.{Arrival}
@@ -25,19 +26,28 @@ use Rattle.chain_exec.specs.declared.position.Step.{Step}
 use Rattle.chain_exec.specs.declared.refusal.ExecRefusal.{ExecRefusal}
 use Rattle.worker_table.specs.Calls.{AfterClaim, EndsAt}
 use Rattle.worker_table.specs.Notes.{KnownJob}
-use Rattle.worker_loop.specs.Bundles.{HasClaimed, HasWorked, IsFit, IsPieceWorked, IsRefusedAt, item_of}
-use Rattle.worker_loop.specs.Stretches.{CanClaimFrom, Grows, IsAllClaimed, IsAnswerAt, IsCutAt, IsPutBack, IsStretchDone, IsStretchRefused, IsWorkedOver, IsWorkedTo, attempted_of, end_of, first_open}
-use Rattle.worker_loop.specs.declared.stretches.Stretch.{Stretch}
-use Rattle.worker_loop.specs.declared.stretches.Stretch.TheVariants.{Claimed, Cut}
-use Rattle.worker_loop.proofs.Claims.{IsClaimOf, claim_made}
+use Rattle.worker_loop.specs.Bundles.{HasClaimed, HasClaimedTo, HasWorked, IsFit, IsPieceRefused, IsPieceWorked, IsRefusedAt, item_of}
+use Rattle.worker_loop.specs.Stretches.{CanClaimFrom, Grows, IsAllClaimed, IsCutAt, IsLatest, IsStretchDone, IsStretchRefused, IsTrail, IsWorkedOver, IsWorkedTo, attempted_of, first_open}
+use Rattle.worker_loop.specs.Trails.{back_to, cut_back}
+use Rattle.worker_loop.specs.declared.bench.Progress.{Progress}
+use Rattle.worker_loop.specs.declared.bench.Stretch.{Stretch}
+use Rattle.worker_loop.specs.declared.bench.Stretch.TheVariants.{Claimed, Cut}
+use Rattle.worker_loop.specs.declared.trail.Before.{Before}
+use Rattle.worker_loop.proofs.Claiming.{IsClaimOf, can_later, claim_made}
 use Rattle.worker_loop.proofs.PieceWork.{fit_more, fit_none, fit_plausible, staged_all, staged_none, staged_one, staged_then}
 
 -- ---- what a receipt has grown by
 
+le_true : (m n : ℕ) → nat_le m n ≡ true → m ≤ n
+le_true m n is = grind (arith, nat_tests)
+
+le_false : (m n : ℕ) → nat_le m n ≡ false → n < m
+le_false m n is = grind (arith, nat_tests)
+
 grows_none : (receipt : Receipt) → Grows receipt receipt
 grows_none receipt = record { more = []; arrivals = sym (append-nil receipt.arrivals); logged = refl }
 
-pub grows_then : (old mid new : Receipt) → Grows old mid → Grows mid new → Grows old new
+grows_then : (old mid new : Receipt) → Grows old mid → Grows mid new → Grows old new
 grows_then old mid new front back = record {
   more = front.more ++ back.more;
   arrivals = back.arrivals ∙ ap (λ (t : List Arrival). t ++ back.more) front.arrivals ∙ append_assoc old.arrivals front.more back.more;
@@ -54,7 +64,7 @@ arrives_behind (x ∷ xs) (y ∷ ys) outs is =
     (rest.0, ap (λ (l : List Arrival). y ∷ l) rest.1 ∙ ap (λ (z : Arrival). z ∷ (xs ++ rest.0)) head)
 
 -- what it has grown by is dropped again
-pub put_back_is : (old new : Receipt) (count : ℕ) (seen : ℤ) → count ≡ length old.arrivals → seen ≡ old.seen → Grows old new → record new { arrivals = take count new.arrivals; seen = seen } ≡ old
+put_back_is : (old new : Receipt) (count : ℕ) (seen : ℤ) → count ≡ length old.arrivals → seen ≡ old.seen → Grows old new → record new { arrivals = take count new.arrivals; seen = seen } ≡ old
 put_back_is old new count seen counted saw grows =
     let front : take count new.arrivals ≡ old.arrivals =
     ap (λ (n : ℕ). take n new.arrivals) counted ∙ ap (λ (l : List Arrival). take (length old.arrivals) l) grows.arrivals ∙ take-append_seam old.arrivals grows.more in
@@ -73,7 +83,7 @@ module _ (plan : Plan) (piece : Piece) where
       grows = grows_none receipt;
     }
 
-    pub over_one : (p : ℕ) (old new : Receipt) (step : Step) → HasWorked plan piece.node opening len p old new step → p < step.next
+    over_one : (p : ℕ) (old new : Receipt) (step : Step) → HasWorked plan piece.node opening len p old new step → p < step.next
         → ((emitted : Emission) → IsTimely emitted → All (IsFit plan piece.node) (emission_outputs plan piece.node emitted)) → IsWorkedOver plan opening len piece p (p + 1) step.next old new
     over_one p old new step has rises fits =
         let behind = arrives_behind old.arrivals new.arrivals (emission_outputs plan piece.node has.emitted) has.worked.arrivals in
@@ -87,7 +97,7 @@ module _ (plan : Plan) (piece : Piece) where
           grows = record { more = behind.0; arrivals = behind.1; logged = has.worked.logged };
         }
 
-    pub over_then : (p upto middle after next : ℕ) (old mid new : Receipt) → IsWorkedOver plan opening len piece p upto middle old mid → IsWorkedOver plan opening len piece middle after next mid new
+    over_then : (p upto middle after next : ℕ) (old mid new : Receipt) → IsWorkedOver plan opening len piece p upto middle old mid → IsWorkedOver plan opening len piece middle after next mid new
         → IsWorkedOver plan opening len piece p after next old new
     over_then p upto middle after next old mid new front back = record {
       first = omega (arith, front.first, front.ordered, back.first);
@@ -122,190 +132,230 @@ module _ (plan : Plan) (piece : Piece) where
           logged = fit.logged;
         }
 
-    -- ---- what came of a stretch
+    -- ---- positions that were worked ahead
 
-    pub done_grows : (p : ℕ) (before known : Option KnownJob) (old new : Receipt) (stretch : Stretch) → IsStretchDone plan opening len piece p before known old new stretch → Grows old new
-    done_grows p before known old new (Claimed next room end) done = done.worked.grows
-    done_grows p before known old new (Cut end) done = elim (cases_lt p end) [
-      | inl inside ↦ (done.some inside).worked.grows
-      | inr past ↦ subst (λ (r : Receipt). Grows old r) (sym (done.none past)) (grows_none old)
-    ]
+    pub trail_low : (p next : ℕ) (old now : Receipt) (trail : List Before) → IsTrail plan opening len piece p old next now trail → p ≤ next
+    trail_low p next old now [] is = omega (arith, is.0)
+    trail_low p next old now (before ∷ earlier) is = omega (arith, trail_low p before.p old (back_to before now) earlier is.1, is.0.ordered)
 
-    -- a position is claimed, and then worked
-    module _ (p end : ℕ) (before known : Option KnownJob) (can : CanClaimFrom piece before p) (made : AfterClaim before p (nat_lt p end) known) (ends : EndsAt known end) where
-      abbrev first_claim : IsClaimOf piece can.now before p end known
-      first_claim = claim_made piece before p (nat_lt p end) end known can made ends
+    -- the first one of the stretch is the next
+    pub trail_none : (p : ℕ) (old : Receipt) (trail : List Before) → trail ≡ [] → IsTrail plan opening len piece p old p old trail
+    trail_none p old trail is = subst (λ (t : List Before). IsTrail plan opening len piece p old p old t) (sym is) (refl, refl)
 
-      pub first_cut : (old : Receipt) → end ≤ p → IsCutAt plan opening len piece p before known end old old
-      first_cut old past = record {
-        now = first_claim.now;
-        last = p;
-        claimed = first_claim.claimed;
-        ends = first_claim.ends;
-        past = past;
-        behind = first_claim.behind;
-        none = λ past. refl;
-        some = λ inside. absurd (omega arith);
-      }
+    -- one more was worked
+    pub trail_more : (p at next : ℕ) (old now new : Receipt) (trail later : List Before) (step : Step) → IsTrail plan opening len piece p old at now trail → HasWorked plan piece.node opening len at now new step
+        → at < step.next → ((emitted : Emission) → IsTimely emitted → All (IsFit plan piece.node) (emission_outputs plan piece.node emitted))
+        → later ≡ record { p = at; count = length now.arrivals; seen = now.seen } ∷ trail → next ≡ step.next → IsTrail plan opening len piece p old next new later × IsLatest at later
+    trail_more p at next old now new trail later step is has rises fits noted onward =
+        let before : Before = record { p = at; count = length now.arrivals; seen = now.seen } in
+        let over = over_one at now new step has rises fits in
+        let back : back_to before new ≡ now = put_back_is now new (length now.arrivals) now.seen refl refl over.grows in
+        subst (λ (t : List Before). IsTrail plan opening len piece p old next new t × IsLatest at t) (sym noted) (
+          (
+            subst (λ (n : ℕ). IsWorkedOver plan opening len piece at (at + 1) n (back_to before new) new) (sym onward)
+                (subst (λ (r : Receipt). IsWorkedOver plan opening len piece at (at + 1) step.next r new) (sym back) over),
+            subst (λ (r : Receipt). IsTrail plan opening len piece p old at r trail) (sym back) is,
+          ),
+          refl,
+        )
 
-      pub first_claimed : (next : ℕ) (old new : Receipt) → p < end → IsWorkedOver plan opening len piece p (p + 1) next old new → IsAllClaimed plan opening len piece p known next end old new
-      first_claimed next old new inside over =
-          record { now = first_claim.now; last = p; claimed = first_claim.claimed; ends = first_claim.ends; first = omega arith; inside = inside; worked = over }
+    -- so all are worked up to the latest
+    trail_over : (p next : ℕ) (old now : Receipt) (before : Before) (earlier : List Before) → IsTrail plan opening len piece p old next now (before ∷ earlier)
+        → IsWorkedOver plan opening len piece p (before.p + 1) next old now
+    trail_over p next old now before [] is =
+        subst (λ (q : ℕ). IsWorkedOver plan opening len piece q (before.p + 1) next old now) is.1.0
+        (subst (λ (r : Receipt). IsWorkedOver plan opening len piece before.p (before.p + 1) next r now) is.1.1 is.0)
+    trail_over p next old now before (other ∷ earlier) is =
+        over_then p (other.p + 1) before.p (before.p + 1) next old (back_to before now) now (trail_over p before.p old (back_to before now) other earlier is.1) is.0
 
-      pub first_refused : (shelf : ObservedShelf) (store : StoreCounts) (refusal : ExecRefusal) → p < end → IsRefusedAt shelf store plan piece.node opening len p refusal
-          → IsStretchRefused shelf store plan opening len piece known refusal
-      first_refused shelf store refusal inside refused =
-          let node : first_claim.now.node ≡ piece.node = ap (λ (x : Piece). x.node) first_claim.claimed.same in
-          let from : first_claim.now.range.from ≡ piece.range.from = ap (λ (x : Piece). x.range.from) first_claim.claimed.same in
+    pub latest_low : (p last next : ℕ) (old now : Receipt) (trail : List Before) → IsTrail plan opening len piece p old next now trail → IsLatest last trail → (p ≤ last) × (last < next)
+    latest_low p last next old now [] is latest = absurd latest
+    latest_low p last next old now (before ∷ earlier) is latest =
+        (omega (arith, latest, trail_low p before.p old (back_to before now) earlier is.1), omega (arith, latest, is.0.ordered))
+
+    latest_over : (p last next : ℕ) (old now : Receipt) (trail : List Before) → IsTrail plan opening len piece p old next now trail → IsLatest last trail
+        → IsWorkedOver plan opening len piece p (last + 1) next old now
+    latest_over p last next old now [] is latest = absurd latest
+    latest_over p last next old now (before ∷ earlier) is latest =
+        subst (λ (q : ℕ). IsWorkedOver plan opening len piece p (q + 1) next old now) latest (trail_over p next old now before earlier is)
+
+    -- what is left of them where the range ends before the next one
+    trail_cut : (p end next : ℕ) (old now : Receipt) (trail : List Before) → IsTrail plan opening len piece p old next now trail → end ≤ next
+        → (end ≤ p → cut_back end now trail ≡ old) × (p < end → IsWorkedTo plan opening len piece p end old (cut_back end now trail))
+    trail_cut p end next old now [] is past = (λ _. is.1, λ inside. absurd (omega (arith, is.0, past, inside)))
+    trail_cut p end next old now (before ∷ earlier) is past =
+        by (nat_le end before.p) refl (trail_cut p end before.p old (back_to before now) earlier is.1)
+      where
+        by : (cut : Bool) → nat_le end before.p ≡ cut
+            → (end ≤ before.p → (end ≤ p → cut_back end (back_to before now) earlier ≡ old) × (p < end → IsWorkedTo plan opening len piece p end old (cut_back end (back_to before now) earlier)))
+            → (end ≤ p → cond cut (cut_back end (back_to before now) earlier) now ≡ old)
+            × (p < end → IsWorkedTo plan opening len piece p end old (cond cut (cut_back end (back_to before now) earlier) now))
+        by true at further = further (le_true end before.p at)
+        by false at further =
+            let below = le_false end before.p at in
+            let low = trail_low p before.p old (back_to before now) earlier is.1 in (
+              λ out. absurd (omega (arith, below, low, out)),
+              λ inside. record { upto = before.p + 1; next = next; inside = omega (arith, below); past = past; worked = trail_over p next old now before earlier is },
+            )
+
+    -- ---- what came of a stretch, once its last position is claimed
+
+    module _ (p last end : ℕ) (before known : Option KnownJob) (can : CanClaimFrom piece before p) (made : AfterClaim before last (nat_lt last end) known) (ends : EndsAt known end) where
+      -- all of them are
+      pub stretch_claimed : (onward : Progress) (old now : Receipt) (trail : List Before) → IsTrail plan opening len piece p old onward.next now trail → IsLatest last trail → onward.end ≡ end → last < end
+          → IsAllClaimed plan opening len piece p known onward old now
+      stretch_claimed onward old now trail is latest same inside =
+          let low = (latest_low p last onward.next old now trail is latest).0 in
+          let claim = claim_made piece before last (nat_lt last end) end known (can_later piece before p last can low) made ends in
           record {
-            now = first_claim.now;
-            attempted = Some p;
-            claimed = first_claim.claimed;
+            now = claim.now;
+            last = last;
+            claimed = claim.claimed;
+            ends = claim.ends ∙ sym same;
+            first = low;
+            inside = omega (arith, same, inside);
+            worked = latest_over p last onward.next old now trail is latest;
+          }
+
+      cut_at : (next : ℕ) (old now : Receipt) (trail : List Before) → p ≤ last → IsTrail plan opening len piece p old next now trail → end ≤ next → end ≤ last
+          → IsCutAt plan opening len piece p before known old (cut_back end now trail)
+      cut_at next old now trail low is past out =
+          let claim = claim_made piece before last (nat_lt last end) end known (can_later piece before p last can low) made ends in
+          let cut = trail_cut p end next old now trail is past in
+          record {
+            now = claim.now;
+            last = last;
+            claimed = claim.claimed;
+            past = omega (arith, claim.ends, out);
+            behind = omega (arith, claim.ends, claim.behind);
+            none = λ low. cut.0 (omega (arith, claim.ends, low));
+            some = λ inside. subst (λ (e : ℕ). IsWorkedTo plan opening len piece p e old (cut_back end now trail)) (sym claim.ends) (cut.1 (omega (arith, claim.ends, inside)));
+          }
+
+      -- the range ends before the last of them
+      pub stretch_cut : (next : ℕ) (old now new : Receipt) (trail : List Before) → IsTrail plan opening len piece p old next now trail → IsLatest last trail → end ≤ last → new ≡ cut_back end now trail
+          → IsCutAt plan opening len piece p before known old new
+      stretch_cut next old now new trail is latest out cut =
+          let low = latest_low p last next old now trail is latest in
+          subst (λ (r : Receipt). IsCutAt plan opening len piece p before known old r) (sym cut) (cut_at next old now trail low.0 is (omega (arith, low.1, out)) out)
+
+      -- or before the one that was refused
+      pub stretch_cut_first : (old now new : Receipt) (trail : List Before) → IsTrail plan opening len piece p old last now trail → end ≤ last → new ≡ cut_back end now trail
+          → IsCutAt plan opening len piece p before known old new
+      stretch_cut_first old now new trail is out cut =
+          subst (λ (r : Receipt). IsCutAt plan opening len piece p before known old r) (sym cut) (cut_at last old now trail (trail_low p last old now trail is) is out out)
+
+      pub stretch_refused : (old now : Receipt) (trail : List Before) (shelf : ObservedShelf) (store : StoreCounts) (refusal : ExecRefusal) → IsTrail plan opening len piece p old last now trail → last < end
+          → IsRefusedAt shelf store plan piece.node opening len last refusal → IsStretchRefused shelf store plan opening len piece known refusal
+      stretch_refused old now trail shelf store refusal is inside refused =
+          let low = trail_low p last old now trail is in
+          let claim = claim_made piece before last (nat_lt last end) end known (can_later piece before p last can low) made ends in
+          let node : claim.now.node ≡ piece.node = ap (λ (x : Piece). x.node) claim.claimed.same in
+          let from : claim.now.range.from ≡ piece.range.from = ap (λ (x : Piece). x.range.from) claim.claimed.same in
+          record {
+            now = claim.now;
+            last = last;
+            claimed = claim.claimed;
             refused = record {
-              p = p;
+              p = last;
               last = refl;
-              from_start = omega (arith, from, can.start);
-              inside = omega (arith, inside, first_claim.ends);
-              refused = subst (λ (n : ℕ). IsRefusedAt shelf store plan n opening len p refusal) (sym node) refused;
+              from_start = omega (arith, from, can.start, low);
+              inside = omega (arith, inside, claim.ends);
+              refused = subst (λ (n : ℕ). IsRefusedAt shelf store plan n opening len last refusal) (sym node) refused;
             };
           }
 
-    -- its only position is claimed, or another's
-    pub stretch_one : (p next : ℕ) (before known : Option KnownJob) (old mid new back : Receipt) (stretch : Stretch) → CanClaimFrom piece before p → IsWorkedOver plan opening len piece p (p + 1) next old mid
-        → IsAnswerAt p next stretch → AfterClaim before p (nat_lt p (end_of stretch)) known → EndsAt known (end_of stretch) → back ≡ old → IsPutBack p back mid new stretch
-        → IsStretchDone plan opening len piece p before known old new stretch
-    stretch_one p next before known old mid new back (Claimed after room end) can over answer made ends is put =
-        let claim = claim_made piece before p (nat_lt p end) end known can made ends in
+    -- the first position of a piece is refused once it is claimed
+    pub first_refused : (end : ℕ) (known : Option KnownJob) (shelf : ObservedShelf) (store : StoreCounts) (refusal : ExecRefusal) (claim : HasClaimedTo piece end known) → piece.range.from < end
+        → IsRefusedAt shelf store plan piece.node opening len piece.range.from refusal → IsPieceRefused shelf store plan opening len claim.now (Some piece.range.from) refusal
+    first_refused end known shelf store refusal claim inside refused =
+        let node : claim.now.node ≡ piece.node = ap (λ (x : Piece). x.node) claim.claimed.same in
+        let from : claim.now.range.from ≡ piece.range.from = ap (λ (x : Piece). x.range.from) claim.claimed.same in
         record {
-          now = claim.now;
-          last = p;
-          claimed = claim.claimed;
-          ends = claim.ends;
-          first = omega arith;
-          inside = answer.1;
-          worked =
-              subst (λ (n : ℕ). IsWorkedOver plan opening len piece p (p + 1) n old new) (sym answer.0)
-              (subst (λ (r : Receipt). IsWorkedOver plan opening len piece p (p + 1) next old r) (sym put) over);
+          p = piece.range.from;
+          last = refl;
+          from_start = omega (arith, from);
+          inside = omega (arith, inside, claim.ends);
+          refused = subst (λ (n : ℕ). IsRefusedAt shelf store plan n opening len piece.range.from refusal) (sym node) refused;
         }
-    stretch_one p next before known old mid new back (Cut end) can over answer made ends is put =
-        let claim = claim_made piece before p (nat_lt p end) end known can made ends in
-        record {
-          now = claim.now;
-          last = p;
-          claimed = claim.claimed;
-          ends = claim.ends;
-          past = answer;
-          behind = claim.behind;
-          none = λ past. put.0 past ∙ is;
-          some = λ inside. absurd (omega arith);
-        }
-
-    -- it has more positions after the first
-    pub stretch_more : (p next : ℕ) (before known : Option KnownJob) (old mid later new back : Receipt) (stretch : Stretch) → IsWorkedOver plan opening len piece p (p + 1) next old mid
-        → IsStretchDone plan opening len piece next before known mid later stretch → back ≡ old → IsPutBack p back later new stretch → IsStretchDone plan opening len piece p before known old new stretch
-    stretch_more p next before known old mid later new back (Claimed after room end) over done is put = record {
-      now = done.now;
-      last = done.last;
-      claimed = done.claimed;
-      ends = done.ends;
-      first = omega (arith, over.ordered, done.first);
-      inside = done.inside;
-      worked = subst (λ (r : Receipt). IsWorkedOver plan opening len piece p (done.last + 1) after old r) (sym put) (over_then p (p + 1) next (done.last + 1) after old mid later over done.worked);
-    }
-    stretch_more p next before known old mid later new back (Cut end) over done is put = record {
-      now = done.now;
-      last = done.last;
-      claimed = done.claimed;
-      ends = done.ends;
-      past = done.past;
-      behind = done.behind;
-      none = λ past. put.0 past ∙ is;
-      some = λ inside. subst (λ (r : Receipt). IsWorkedTo plan opening len piece p end old r) (sym (put.1 inside)) (elim (cases_lt next end) [
-        | inl onward ↦
-            let rest = done.some onward in
-            record { upto = rest.upto; next = rest.next; inside = rest.inside; past = rest.past; worked = over_then p (p + 1) next rest.upto rest.next old mid later over rest.worked }
-        | inr past ↦ record {
-          upto = p + 1;
-          next = next;
-          inside = omega arith;
-          past = past;
-          worked = subst (λ (r : Receipt). IsWorkedOver plan opening len piece p (p + 1) next old r) (sym (done.none past)) over;
-        }
-      ]);
-    }
 
     -- ---- the work on a piece, so far
 
     -- all that is claimed is worked, and the range ends at `end` at most
     pub record IsUnderWay (known : Option KnownJob) (p end : ℕ) (start receipt : Receipt) : Type 0 where
       pub now : Piece
-      pub claimed : HasClaimed piece now (attempted_of known) known
-      pub behind : first_open piece known ≤ now.range.to
+      pub last : ℕ
+      pub claimed : HasClaimed piece now (Some last) known
+      pub behind : last + 1 ≤ now.range.to
       pub ends : now.range.to ≤ end
       pub below : end ≤ piece.range.to
-      pub worked : IsWorkedOver plan opening len piece piece.range.from (first_open piece known) p start receipt
+      pub worked : IsWorkedOver plan opening len piece piece.range.from (last + 1) p start receipt
 
-    pub under_none : (known : Option KnownJob) (p end : ℕ) (receipt : Receipt) → known ≡ Some (record { job = job.Span piece; attempted = None }) → p ≡ piece.range.from → end ≡ piece.range.to
-        → piece.range.from ≤ piece.range.to → IsUnderWay known p end receipt receipt
-    under_none known p end receipt is at ends ordered =
-        let none : None ≡ attempted_of known = sym (ap attempted_of is) in
-        let fresh : piece.range.from ≡ first_open piece known = ap (first_unattempted piece.range.from) none in
-        record {
-          now = piece;
-          claimed = subst (λ (a : Option ℕ). HasClaimed piece piece a known) none (record { is = is; same = refl; below = omega arith });
-          behind = omega (arith, fresh);
-          ends = omega (arith, ends);
-          below = omega (arith, ends);
-          worked =
-              subst (λ (q : ℕ). IsWorkedOver plan opening len piece piece.range.from (first_open piece known) q receipt receipt) (sym at)
-              (subst (λ (n : ℕ). IsWorkedOver plan opening len piece piece.range.from n piece.range.from receipt receipt) fresh (over_none piece.range.from receipt));
-        }
+    -- the first position is worked, and was claimed before
+    pub under_first : (known : Option KnownJob) (p end : ℕ) (old new : Receipt) (step : Step) → HasClaimedTo piece end known → p ≡ piece.range.from → p < end
+        → HasWorked plan piece.node opening len p old new step → p < step.next → ((emitted : Emission) → IsTimely emitted → All (IsFit plan piece.node) (emission_outputs plan piece.node emitted))
+        → IsUnderWay known step.next end old new
+    under_first known p end old new step claim at inside has rises fits = record {
+      now = claim.now;
+      last = piece.range.from;
+      claimed = claim.claimed;
+      behind = omega (arith, at, inside, claim.ends);
+      ends = omega (arith, claim.ends);
+      below = omega (arith, claim.ends, claim.claimed.below);
+      worked = subst (λ (q : ℕ). IsWorkedOver plan opening len piece q (q + 1) step.next old new) at (over_one p old new step has rises fits);
+    }
 
     module _ (known : Option KnownJob) (p end : ℕ) (start receipt : Receipt) (under : IsUnderWay known p end start receipt) where
+      pub last_is : Some under.last ≡ attempted_of known
+      last_is = sym (ap attempted_of under.claimed.is)
+
+      pub fresh : under.last + 1 ≡ first_open piece known
+      fresh = ap (first_unattempted piece.range.from) last_is
+
       abbrev pub under_can : CanClaimFrom piece known p
-      under_can = record { now = under.now; claimed = under.claimed; start = omega (arith, under.worked.first, under.worked.ordered); next = under.worked.ordered; within = under.behind }
+      under_can = record {
+        now = under.now;
+        claimed = subst (λ (a : Option ℕ). HasClaimed piece under.now a known) last_is under.claimed;
+        start = omega (arith, under.worked.first, under.worked.ordered);
+        next = omega (arith, fresh, under.worked.ordered);
+        within = omega (arith, fresh, under.behind);
+      }
 
       -- and the next stretch
-      pub under_more : (after : Option KnownJob) (next end_now : ℕ) (new : Receipt) → IsAllClaimed plan opening len piece p after next end_now receipt new → IsUnderWay after next end_now start new
-      under_more after next end_now new done =
-          let last : Some done.last ≡ attempted_of after = sym (ap attempted_of done.claimed.is) in
-          let fresh : done.last + 1 ≡ first_open piece after = ap (first_unattempted piece.range.from) last in
-          record {
-            now = done.now;
-            claimed = subst (λ (a : Option ℕ). HasClaimed piece done.now a after) last done.claimed;
-            behind = omega (arith, fresh, done.ends, done.inside);
-            ends = omega (arith, done.ends);
-            below = omega (arith, done.ends, done.claimed.below);
-            worked =
-                subst (λ (n : ℕ). IsWorkedOver plan opening len piece piece.range.from n next start new) fresh
-                (over_then piece.range.from (first_open piece known) p (done.last + 1) next start receipt new under.worked done.worked);
-          }
+      pub under_more : (after : Option KnownJob) (onward : Progress) (new : Receipt) → IsAllClaimed plan opening len piece p after onward receipt new → IsUnderWay after onward.next onward.end start new
+      under_more after onward new done = record {
+        now = done.now;
+        last = done.last;
+        claimed = done.claimed;
+        behind = omega (arith, done.ends, done.inside);
+        ends = omega (arith, done.ends);
+        below = omega (arith, done.ends, done.claimed.below);
+        worked = over_then piece.range.from (under.last + 1) p (done.last + 1) onward.next start receipt new under.worked done.worked;
+      }
 
       module _ (empty : start ≡ record { arrivals = []; seen = piece.seen; logged = None }) where
         -- the bundle is full
-        pub under_done : IsPieceWorked plan opening len under.now (attempted_of known) receipt
+        pub under_done : IsPieceWorked plan opening len under.now (Some under.last) receipt
         under_done =
-            let from : under.now.range.from ≡ piece.range.from = ap (λ (x : Piece). x.range.from) under.claimed.same in
-            let fresh : first_unattempted under.now.range.from (attempted_of known) ≡ first_open piece known = ap (λ (n : ℕ). first_unattempted n (attempted_of known)) from in
-            over_all (first_open piece known) p start receipt empty under.worked under.now (attempted_of known) under.claimed.same (omega (arith, fresh, under.behind)) (omega (arith, fresh, under.worked.ordered))
+            over_all (under.last + 1) p start receipt empty under.worked under.now (Some under.last) under.claimed.same (omega (arith, under.behind)) (omega (arith, under.worked.ordered))
 
         -- the range is worked, of which one claim tells
         pub under_past : (end_now : ℕ) (after : Option KnownJob) (made : IsClaimOf piece under.now known p end_now after) → end ≤ p → IsPieceWorked plan opening len made.now (Some p) receipt
         under_past end_now after made past =
-            over_all (first_open piece known) p start receipt empty under.worked made.now (Some p) made.claimed.same (omega (arith, made.ends, made.behind, under.worked.ordered))
-            (omega (arith, made.ends, made.below, under.ends))
+            over_all (under.last + 1) p start receipt empty under.worked made.now (Some p) made.claimed.same (omega (arith, fresh, made.ends, made.behind, under.worked.ordered))
+            (omega (arith, made.ends, made.below, under.ends, past))
 
         -- others have taken the rest
-        pub under_cut : (end_now : ℕ) (after : Option KnownJob) (new : Receipt) (cut : IsCutAt plan opening len piece p known after end_now receipt new) → IsPieceWorked plan opening len cut.now (Some cut.last) new
-        under_cut end_now after new cut = elim (cases_lt p end_now) [
+        pub under_cut : (after : Option KnownJob) (new : Receipt) (cut : IsCutAt plan opening len piece p known after receipt new) → IsPieceWorked plan opening len cut.now (Some cut.last) new
+        under_cut after new cut = elim (cases_lt p cut.now.range.to) [
           | inl inside ↦
               let some = cut.some inside in
-              over_all some.upto some.next start new empty (over_then piece.range.from (first_open piece known) p some.upto some.next start receipt new under.worked some.worked) cut.now (Some cut.last)
-              cut.claimed.same (omega (arith, cut.ends, cut.past, some.inside)) (omega (arith, cut.ends, some.past))
+              over_all some.upto some.next start new empty (over_then piece.range.from (under.last + 1) p some.upto some.next start receipt new under.worked some.worked) cut.now (Some cut.last)
+              cut.claimed.same (omega (arith, cut.past, some.inside)) (omega (arith, some.past))
           | inr past ↦
-              over_all (first_open piece known) p start new empty
-              (subst (λ (r : Receipt). IsWorkedOver plan opening len piece piece.range.from (first_open piece known) p start r) (sym (cut.none past)) under.worked) cut.now (Some cut.last) cut.claimed.same
-              (omega (arith, cut.ends, cut.past, cut.behind)) (omega (arith, cut.ends))
+              over_all (under.last + 1) p start new empty
+              (subst (λ (r : Receipt). IsWorkedOver plan opening len piece piece.range.from (under.last + 1) p start r) (sym (cut.none past)) under.worked) cut.now (Some cut.last) cut.claimed.same
+              (omega (arith, fresh, cut.past, cut.behind)) (omega (arith, past))
         ]
 
   -- ---- what was worked later, seen from the start of the work
@@ -320,15 +370,24 @@ module _ (plan : Plan) (piece : Piece) where
       grows = over.grows;
     }
 
+    pub worked_first : (p : ℕ) (old new : Receipt) (step : Step) → HasWorked plan piece.node later length_now p old new step → HasWorked plan piece.node opening len p old new step
+    worked_first p old new step has = record { emitted = has.emitted; worked = has.worked; told = λ source is text told. has.told source is text (texts source.work text told) }
+
     pub done_first : (p : ℕ) (before known : Option KnownJob) (old new : Receipt) (stretch : Stretch) → IsStretchDone plan later length_now piece p before known old new stretch
         → IsStretchDone plan opening len piece p before known old new stretch
-    done_first p before known old new (Claimed next room end) done =
-        record { now = done.now; last = done.last; claimed = done.claimed; ends = done.ends; first = done.first; inside = done.inside; worked = over_first p (done.last + 1) next old new done.worked }
-    done_first p before known old new (Cut end) done = record {
+    done_first p before known old new (Claimed onward) done = record {
       now = done.now;
       last = done.last;
       claimed = done.claimed;
       ends = done.ends;
+      first = done.first;
+      inside = done.inside;
+      worked = over_first p (done.last + 1) onward.next old new done.worked;
+    }
+    done_first p before known old new Cut done = record {
+      now = done.now;
+      last = done.last;
+      claimed = done.claimed;
       past = done.past;
       behind = done.behind;
       none = done.none;

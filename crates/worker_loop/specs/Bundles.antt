@@ -1,10 +1,11 @@
 -- What a worker's work on one job brings, or why it was refused.
-use Rattle.std.specs.Prelude.{◌≡◌, ℕ, ◌<◌, ◌≤◌, ℤ, ◌≤ℤ◌, ◌+ℤ◌, true, List, [], Option, Some, None, IsSome}
+use Rattle.std.specs.Prelude.{◌≡◌, ℕ, ◌<◌, ◌≤◌, ℤ, ◌≤ℤ◌, ◌+ℤ◌, true, Bool, List, [], Option, Some, None, IsSome, Result, OnOk, IfErr}
 use Rattle.std.specs.Option.{ForSome}
 use Rattle.beam_values.specs.Strategies.{greatest_length}
 use Rattle.beam_values.specs.Times.{greatest_time}
 use Rattle.beam_values.specs.declared.fault.Cause.{Cause}
 use Rattle.beam_values.specs.declared.fault.Cause.TheVariants.{Call, Read}
+use Rattle.beam_values.specs.declared.file_text.FileText.{FileText}
 use Rattle.beam_values.specs.declared.piece.Piece.{Piece}
 use Rattle.beam_values.specs.declared.plan.Plan.{Plan}
 use Rattle.beam_model.specs.Chains.{Output, Arrives, PoisonAt}
@@ -30,6 +31,29 @@ use Rattle.turn_desk.specs.declared.held.Note.{Note}
 use Rattle.worker_table.specs.Calls.{CanFailAs, GoesOnAs}
 use Rattle.worker_table.specs.Notes.{Entry, KnownJob, Setting}
 use Rattle.worker_table.specs.Turns.{KeepsOthers, first_entry}
+use Rattle.worker_loop.specs.Outside.{IsKitKept}
+use Rattle.worker_loop.specs.declared.kit.Kit.{Kit}
+
+-- ---- what positions leave
+
+-- how far the count of faults of a store rose
+abbrev pub counts_of : {S : Type 0} → (S → ℕ) → S → S → StoreCounts
+counts_of fails_of store store_after = record { before = fails_of store; after = fails_of store_after }
+
+-- a position of this source can be worked with this pager
+pub record CanRead (plan : Plan) (node : ℕ) (opening : Option Opening) (pager : Paged) : Type 0 where
+  pub source : IsSome (source_at plan node)
+  pub counted : ForSome (source_at plan node) (λ source. IsCounted source pager)
+  pub held : ForSome (source_at plan node) (λ source. IsHeldFor source.work opening pager)
+
+-- Work on positions of a source leaves the pager of the same file, which serves it still, and keeps the kit.
+pub record StaysAble {F S : Type 0} (faults_of : F → ℕ) (is_strict : F → Bool) (fails_of : S → ℕ) (files_of : S → Option (List FileText)) (opened : S → ℕ → Option Opening)
+    (plan : Plan) (node : ℕ) (kit after : Kit F S) (pager later : Paged) : Type 0 where
+  pub able : CanRead plan node (opened after.store later.file) later
+  pub file : later.file ≡ pager.file
+  pub len : later.len ≡ pager.len
+  pub kept : IsKitKept faults_of is_strict fails_of files_of opened kit.shelf after.shelf kit.store after.store
+  pub files : after.files ≡ kit.files
 
 -- ---- a piece
 
@@ -43,12 +67,6 @@ abbrev pub IsFit : Plan → ℕ → Output → Type 0
 IsFit plan source (Arrives arrival) =
     (reaches_barrier plan source arrival.node ≡ true) × HasGap plan arrival × (arrival.element.span.end ≤ℤ (greatest_time +ℤ greatest_length))
 IsFit plan source (PoisonAt node) = Unit {0}
-
--- a position of this source can be worked with this pager
-pub record CanRead (plan : Plan) (node : ℕ) (opening : Option Opening) (pager : Paged) : Type 0 where
-  pub source : IsSome (source_at plan node)
-  pub counted : ForSome (source_at plan node) (λ source. IsCounted source pager)
-  pub held : ForSome (source_at plan node) (λ source. IsHeldFor source.work opening pager)
 
 -- a position was worked: one emission was staged, and it is that of the position where the text is known
 pub record HasWorked (plan : Plan) (node : ℕ) (opening : Option Opening) (len p : ℕ) (old new : Receipt) (step : Step) : Type 0 where
@@ -65,6 +83,12 @@ pub record HasClaimed (piece now : Piece) (attempted : Option ℕ) (known : Opti
   pub same : now ≡ cut_to piece (record { from = piece.range.from; to = now.range.to })
   pub below : now.range.to ≤ piece.range.to
 
+-- the start of the piece was claimed, and the range ends here now
+pub record HasClaimedTo (piece : Piece) (end : ℕ) (known : Option KnownJob) : Type 0 where
+  pub now : Piece
+  pub claimed : HasClaimed piece now (Some piece.range.from) known
+  pub ends : now.range.to ≡ end
+
 -- The receipt of a piece up to its last attempted position. Where the text is known it has the outputs of these positions, and in any case it is plausible;
 -- what was seen is a time by its type.
 pub record IsPieceWorked (plan : Plan) (opening : Option Opening) (len : ℕ) (piece : Piece) (attempted : Option ℕ) (receipt : Receipt) : Type 0 where
@@ -80,6 +104,15 @@ pub record IsPieceRefused (shelf : ObservedShelf) (store : StoreCounts) (plan : 
   pub from_start : piece.range.from ≤ p
   pub inside : p < piece.range.to
   pub refused : IsRefusedAt shelf store plan piece.node opening len p refusal
+
+-- Positions of a piece were attempted, from its start on: the claimed ones are worked, or work on the last of them was refused.
+pub record IsPieceEnd {U : Type 0} (shelf : ObservedShelf) (store : StoreCounts) (plan : Plan) (opening : Option Opening) (len : ℕ) (piece : Piece) (known : Option KnownJob) (receipt : Receipt)
+    (result : Result U ExecRefusal) : Type 0 where
+  pub now : Piece
+  pub last : ℕ
+  pub claimed : HasClaimed piece now (Some last) known
+  pub worked : OnOk result (IsPieceWorked plan opening len now (Some last) receipt)
+  pub refused : IfErr result (IsPieceRefused shelf store plan opening len now (Some last))
 
 -- ---- a job
 

@@ -1,8 +1,10 @@
 pub mod Openings
 pub mod Outside
+pub mod Bundles
+pub mod Laws
 pub mod Reading
 pub mod Kits
-pub mod Bundles
+pub mod Trails
 pub mod Stretches
 pub mod Workers
 pub mod Pairs

@@ -1,5 +1,5 @@
--- What a run holds of each item of its sources while their positions are worked: a reader for each, by node and item.
-use Rattle.std.specs.Prelude.{◌≡◌, ℕ, ◌+◌, ◌==◌, nat_le, ◌&&◌, ◌||◌, Bool, true, false, not, List, [], ◌∷◌, ◌++◌, length, map, take, drop, unwrap_or, Option, Some, None}
+-- What a worker knows of each item of the sources, a reader for each, by node and item; and what it holds of the one that it read last.
+use Rattle.std.specs.Prelude.{◌≡◌, ℕ, ◌+◌, ◌==◌, nat_le, ◌&&◌, ◌||◌, Bool, true, false, not, List, [], ◌∷◌, ◌++◌, length, map, take, drop, unwrap_or, Option, Some, None, IsSomeAnd, ◌⊎◌, slice_get}
 use Rattle.std.specs.List.{enumerate_from}
 use Rattle.beam_values.specs.Checked.{reads_file}
 use Rattle.beam_values.specs.declared.file_text.FileText.{FileText}
@@ -17,18 +17,20 @@ use Rattle.beam_model.specs.Positions.{SourceItem, len_of}
 use Rattle.beam_ports.specs.Files.{Opening}
 use Rattle.beam_ports.specs.declared.store.Opened.{Opened}
 use Rattle.book_core.specs.Work.{is_told, items_told}
-use Rattle.chain_exec.specs.Sources.{IsHeldFor, IsText, source_at}
+use Rattle.chain_exec.specs.Sources.{IsText, source_at}
+use Rattle.sdf_library.specs.Paging.{Paged}
+use Rattle.worker_loop.specs.Bundles.{CanRead}
 use Rattle.worker_loop.specs.Openings.{names_in}
 use Rattle.worker_loop.specs.declared.reading.Reader.{Reader}
 
 -- ---- the readers of a plan, before anything is read
 
 abbrev pub file_reader : ℕ → (ℕ × Opened) → Reader
-file_reader node (item, file) = record { node = node; item = item; pager = record { file = file.file; len = file.len; base = 0; bytes = [] } }
+file_reader node (item, file) = record { node = node; item = item; file = file.file; len = file.len }
 
--- of what is counted or made the length alone is held
+-- what is counted or made has a length and no file
 abbrev pub counted_reader : ℕ → Args → Reader
-counted_reader node args = record { node = node; item = 0; pager = record { file = 0; len = first_arg args; base = 0; bytes = [] } }
+counted_reader node args = record { node = node; item = 0; file = 0; len = first_arg args }
 
 abbrev pub file_readers : ℕ → List Opened → List Reader
 file_readers node opened = map (file_reader node) (enumerate_from 0 opened)
@@ -52,15 +54,15 @@ readers_from number (node ∷ nodes) opened =
 
 -- ---- what readers are while a run goes on
 
--- A reader is of this item: it holds what the item's positions need; and where the item is known, that is its text.
+-- A reader is of this item: its file is open; and where the item is known, that is its text.
 pub record IsReaderOf (told : Option (List FileText)) (opened : ℕ → Option Opening) (plan : Plan) (item : SourceItem) (reader : Reader) : Type 0 where
   pub at_node : reader.node ≡ item.node
   pub at_item : reader.item ≡ item.item
   pub source : source_at plan item.node ≡ Some (record { work = item.work; args = item.args })
   pub whole : item.left_out ≡ []
-  pub counted : reads_file item.work ≡ false → len_of item ≡ reader.pager.len
-  pub held : IsHeldFor item.work (opened reader.pager.file) reader.pager
-  pub text : (is_told told || not (reads_file item.work)) ≡ true → IsText item.work (opened reader.pager.file) reader.pager.len item.file
+  pub counted : reads_file item.work ≡ false → len_of item ≡ reader.len
+  pub opened_so : reads_file item.work ≡ true → IsSomeAnd (opened reader.file) (λ o. o.len ≡ reader.len)
+  pub text : (is_told told || not (reads_file item.work)) ≡ true → IsText item.work (opened reader.file) reader.len item.file
 
 -- one reader for each item, in order
 abbrev pub AreReadersOf : Option (List FileText) → (ℕ → Option Opening) → Plan → List SourceItem → List Reader → Type 0
@@ -77,8 +79,32 @@ pub record AreReaders (files : Option (List FileText)) (opened : ℕ → Option 
   pub told : AreToldReaders files opened plan readers
 
 abbrev pub length_in : Reader → FileLen
-length_in reader = record { node = reader.node; item = reader.item; len = reader.pager.len }
+length_in reader = record { node = reader.node; item = reader.item; len = reader.len }
 
 -- a reader of the piece's item that reaches the piece's end
 abbrev pub is_reader_for : Piece → Reader → Bool
-is_reader_for piece reader = reader.node == piece.node && reader.item == piece.item && nat_le piece.range.to reader.pager.len
+is_reader_for piece reader = reader.node == piece.node && reader.item == piece.item && nat_le piece.range.to reader.len
+
+-- ---- the item that was read last
+
+-- a pager of this reader's file, which holds nothing of it yet
+abbrev pub fresh_pager : Reader → Paged
+fresh_pager reader = record { file = reader.file; len = reader.len; base = 0; bytes = []; quiet = record { from = 0; to = 0 } }
+
+-- the pager is of this reader's item, whose positions can be worked with it
+pub record IsPagerFor (opened : ℕ → Option Opening) (plan : Plan) (reader : Reader) (pager : Paged) : Type 0 where
+  pub file : pager.file ≡ reader.file
+  pub len : pager.len ≡ reader.len
+  pub able : CanRead plan reader.node (opened pager.file) pager
+
+-- a worker's readers are those of the plan, and its pager is that of the reader at this place, if there is one
+pub record IsReading (files : Option (List FileText)) (opened : ℕ → Option Opening) (plan : Plan) (readers : List Reader) (place : ℕ) (pager : Paged) : Type 0 where
+  pub all : AreReaders files opened plan readers
+  pub last : (reader : Reader) → slice_get readers place ≡ Some reader → IsPagerFor opened plan reader pager
+
+-- The reader of a piece is at the new place. Where that is the old one the pager stays, and else it is a new one of the reader's file, which holds nothing yet.
+pub record HasTurned (piece : Piece) (readers : List Reader) (place later : ℕ) (pager new : Paged) : Type 0 where
+  pub reader : Reader
+  pub at : slice_get readers later ≡ Some reader
+  pub is_for : is_reader_for piece reader ≡ true
+  pub held : ((later ≡ place) × (new ≡ pager)) ⊎ (new ≡ fresh_pager reader)

@@ -1,5 +1,5 @@
 -- Stretches of positions: what was worked of a piece, and how far it is claimed.
-use Rattle.std.specs.Prelude.{◌≡◌, ℕ, ◌<◌, ◌≤◌, ◌+◌, ◌≤ℤ◌, List, ◌++◌, map, Option, Some, None}
+use Rattle.std.specs.Prelude.{◌≡◌, ℕ, ◌<◌, ◌≤◌, ◌+◌, ◌≤ℤ◌, List, [], ◌∷◌, ◌++◌, map, Option, Some, None}
 use Rattle.std.specs.List.{All}
 use Rattle.std.specs.Option.{ForSome}
 use Rattle.beam_values.specs.Tracking.{first_unattempted}
@@ -19,9 +19,14 @@ use Rattle.chain_exec.specs.Positions.{StoreCounts}
 use Rattle.chain_exec.specs.Sources.{IsText, source_at}
 use Rattle.chain_exec.specs.declared.refusal.ExecRefusal.{ExecRefusal}
 use Rattle.worker_table.specs.Notes.{KnownJob}
-use Rattle.worker_loop.specs.Bundles.{HasClaimed, IsFit, IsPieceRefused, item_of}
-use Rattle.worker_loop.specs.declared.stretches.Stretch.{Stretch}
-use Rattle.worker_loop.specs.declared.stretches.Stretch.TheVariants.{Claimed, Cut}
+use Rattle.worker_loop.specs.Bundles.{HasClaimed, IsFit, IsPieceRefused, IsRefusedAt, item_of}
+use Rattle.worker_loop.specs.Trails.{back_to}
+use Rattle.worker_loop.specs.declared.bench.Ahead.{Ahead}
+use Rattle.worker_loop.specs.declared.bench.Ahead.TheVariants.{Worked, Refused}
+use Rattle.worker_loop.specs.declared.bench.Progress.{Progress}
+use Rattle.worker_loop.specs.declared.bench.Stretch.{Stretch}
+use Rattle.worker_loop.specs.declared.bench.Stretch.TheVariants.{Claimed, Cut}
+use Rattle.worker_loop.specs.declared.trail.Before.{Before}
 
 -- ---- what was worked
 
@@ -71,31 +76,39 @@ pub record CanClaimFrom (piece : Piece) (known : Option KnownJob) (p : ℕ) : Ty
   pub next : first_open piece known ≤ p
   pub within : first_open piece known ≤ now.range.to
 
+-- ---- positions that are worked ahead of a claim
+
+-- What was staged of a stretch from position `p` on: position after position, up to the next one. The trail says what was staged before each of them.
+abbrev pub IsTrail : Plan → Option Opening → ℕ → Piece → ℕ → Receipt → ℕ → Receipt → List Before → Type 0
+IsTrail plan opening len piece p old next now [] = (next ≡ p) × (now ≡ old)
+IsTrail plan opening len piece p old next now (before ∷ earlier) =
+    IsWorkedOver plan opening len piece before.p (before.p + 1) next (back_to before now) now × IsTrail plan opening len piece p old before.p (back_to before now) earlier
+
+abbrev pub IsLatest : ℕ → List Before → Type 0
+IsLatest p [] = ⊥
+IsLatest p (before ∷ earlier) = before.p ≡ p
+
+-- the positions of the stretch up to the last one were worked, or up to the one that was refused
+abbrev pub IsAhead : Plan → Option Opening → ℕ → Piece → Progress → Receipt → Receipt → List Before → Ahead → Type 0
+IsAhead plan opening len piece from old now trail (Worked last onward) =
+    IsTrail plan opening len piece from.next old onward.next now trail × IsLatest last trail × (last < from.end)
+IsAhead plan opening len piece from old now trail (Refused p refusal) = IsTrail plan opening len piece from.next old p now trail × (p < from.end)
+
+abbrev pub IsAheadRefused : ObservedShelf → StoreCounts → Plan → ℕ → Option Opening → ℕ → Ahead → Type 0
+IsAheadRefused shelf store plan node opening len (Worked last onward) = Unit {0}
+IsAheadRefused shelf store plan node opening len (Refused p refusal) = IsRefusedAt shelf store plan node opening len p refusal
+
 -- ---- what came of a stretch that begins at a position
 
-abbrev pub end_of : Stretch → ℕ
-end_of (Claimed next room end) = end
-end_of (Cut end) = end
-
--- what a claim of a position answers: the next one where it lies in the range
-abbrev pub IsAnswerAt : ℕ → ℕ → Stretch → Type 0
-IsAnswerAt p next (Claimed after room end) = (after ≡ next) × (p < end)
-IsAnswerAt p next (Cut end) = end ≤ p
-
--- what was staged from a position on stays where the range reaches it, and else all is as it was before
-abbrev pub IsPutBack : ℕ → Receipt → Receipt → Receipt → Stretch → Type 0
-IsPutBack p back old new (Claimed next room end) = new ≡ old
-IsPutBack p back old new (Cut end) = (end ≤ p → new ≡ back) × (p < end → new ≡ old)
-
 -- The last position of the stretch was claimed, and so all of them.
-pub record IsAllClaimed (plan : Plan) (opening : Option Opening) (len : ℕ) (piece : Piece) (p : ℕ) (known : Option KnownJob) (next end : ℕ) (old new : Receipt) : Type 0 where
+pub record IsAllClaimed (plan : Plan) (opening : Option Opening) (len : ℕ) (piece : Piece) (p : ℕ) (known : Option KnownJob) (onward : Progress) (old new : Receipt) : Type 0 where
   pub now : Piece
   pub last : ℕ
   pub claimed : HasClaimed piece now (Some last) known
-  pub ends : now.range.to ≡ end
+  pub ends : now.range.to ≡ onward.end
   pub first : p ≤ last
-  pub inside : last < end
-  pub worked : IsWorkedOver plan opening len piece p (last + 1) next old new
+  pub inside : last < onward.end
+  pub worked : IsWorkedOver plan opening len piece p (last + 1) onward.next old new
 
 -- of the stretch the offsets below `end` are worked, and nothing is staged of the others
 pub record IsWorkedTo (plan : Plan) (opening : Option Opening) (len : ℕ) (piece : Piece) (p end : ℕ) (old new : Receipt) : Type 0 where
@@ -106,23 +119,22 @@ pub record IsWorkedTo (plan : Plan) (opening : Option Opening) (len : ℕ) (piec
   pub worked : IsWorkedOver plan opening len piece p upto next old new
 
 -- The range ends at the last position of the stretch, which was attempted, or before it, and what lies past its end isn't staged.
-pub record IsCutAt (plan : Plan) (opening : Option Opening) (len : ℕ) (piece : Piece) (p : ℕ) (before known : Option KnownJob) (end : ℕ) (old new : Receipt) : Type 0 where
+pub record IsCutAt (plan : Plan) (opening : Option Opening) (len : ℕ) (piece : Piece) (p : ℕ) (before known : Option KnownJob) (old new : Receipt) : Type 0 where
   pub now : Piece
   pub last : ℕ
   pub claimed : HasClaimed piece now (Some last) known
-  pub ends : now.range.to ≡ end
-  pub past : end ≤ last
-  pub behind : first_open piece before ≤ end
-  pub none : end ≤ p → new ≡ old
-  pub some : p < end → IsWorkedTo plan opening len piece p end old new
+  pub past : now.range.to ≤ last
+  pub behind : first_open piece before ≤ now.range.to
+  pub none : now.range.to ≤ p → new ≡ old
+  pub some : p < now.range.to → IsWorkedTo plan opening len piece p now.range.to old new
 
 abbrev pub IsStretchDone : Plan → Option Opening → ℕ → Piece → ℕ → Option KnownJob → Option KnownJob → Receipt → Receipt → Stretch → Type 0
-IsStretchDone plan opening len piece p before known old new (Claimed next room end) = IsAllClaimed plan opening len piece p known next end old new
-IsStretchDone plan opening len piece p before known old new (Cut end) = IsCutAt plan opening len piece p before known end old new
+IsStretchDone plan opening len piece p before known old new (Claimed onward) = IsAllClaimed plan opening len piece p known onward old new
+IsStretchDone plan opening len piece p before known old new Cut = IsCutAt plan opening len piece p before known old new
 
 -- work on its last position was refused, which the pass has claimed
 pub record IsStretchRefused (shelf : ObservedShelf) (store : StoreCounts) (plan : Plan) (opening : Option Opening) (len : ℕ) (piece : Piece) (known : Option KnownJob) (refusal : ExecRefusal) : Type 0 where
   pub now : Piece
-  pub attempted : Option ℕ
-  pub claimed : HasClaimed piece now attempted known
-  pub refused : IsPieceRefused shelf store plan opening len now attempted refusal
+  pub last : ℕ
+  pub claimed : HasClaimed piece now (Some last) known
+  pub refused : IsPieceRefused shelf store plan opening len now (Some last) refusal

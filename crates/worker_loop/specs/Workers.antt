@@ -7,7 +7,7 @@ use Rattle.beam_values.specs.declared.file_text.FileText.{FileText}
 use Rattle.beam_ports.specs.Counts.{Rose, rise}
 use Rattle.beam_ports.specs.Files.{Opening}
 use Rattle.beam_ports.specs.Observed.{ObservedStore, observed_store}
-use Rattle.book_core.specs.Book.{BookData}
+use Rattle.book_core.specs.Book.{SeenBook}
 use Rattle.book_core.specs.Steps.{Action, Answer, Fail, Finished, Noted, Spent, Step, Stop, Stopped, Take}
 use Rattle.chain_exec.specs.Causes.{ObservedShelf, observed_shelf}
 use Rattle.retry_core.specs.Shares.{risen}
@@ -30,8 +30,8 @@ use Rattle.worker_loop.specs.declared.crew.Seat.{Seat}
 
 -- in the last turn of the pass this step of its slot was made and so answered, in a book of the setting
 pub record HasMadeLast (setting : Setting) (entry : Entry) (action : Action) (answer : Answer) : Type 0 where
-  pub lent : BookData
-  pub back : BookData
+  pub lent : SeenBook
+  pub back : SeenBook
   pub book : IsBookOf setting lent
   pub made : Step setting.known.told lent (unwrap_or entry.slot 0) action answer back
   pub last : entry.last ≡ made_in lent (unwrap_or entry.slot 0) action answer

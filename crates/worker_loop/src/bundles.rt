@@ -1,135 +1,291 @@
 //! The work on one job, between the turns of its pass.
-ghost use Rattle.std.specs.Prelude.{◌≡◌, ◌≤◌, ◌<◌, ◌≤ℤ◌, ℕ, Option as OptionOf, [], None, Some};
-ghost use Rattle.std.specs.Prelude.{true, length, map, All, IsSome, OnOk, IfOk, IfErr};
-ghost use Rattle.beam_values.specs.Times.{greatest_time};
-ghost use Rattle.beam_values.specs.declared.piece.Piece.{Piece as PieceData};
+ghost use Rattle.std.specs.Prelude.{◌≡◌, ◌≤◌, ◌<◌, ℕ, List as ListOf, Option as OptionOf, None, Some};
+ghost use Rattle.std.specs.Prelude.{[], true, false, length, map, All, IsSome, IsTrue, IfOk, IfErr};
 ghost use Rattle.beam_model.specs.Chains.{Arrives};
 ghost use Rattle.beam_model.specs.Flow.{batch_outputs};
 ghost use Rattle.beam_model.specs.Positions.{Emission};
 ghost use Rattle.beam_model.specs.Spread.{emission_outputs};
+ghost use Rattle.beam_ports.specs.Files.{Opening};
 ghost use Rattle.beam_ports.specs.Observed.{observed_store};
+ghost use Rattle.beam_values.specs.declared.file_text.FileText.{FileText};
 ghost use Rattle.bundle_commit.specs.declared.job.Job.TheVariants as jobs;
 ghost use Rattle.chain_exec.specs.Causes.{IsCallRefused, observed_shelf};
 ghost use Rattle.chain_exec.specs.Positions.{IsTimely};
 ghost use Rattle.chain_exec.specs.Sources.{source_at};
 ghost use Rattle.worker_table.specs.Calls.{CanCommitAs, IsJobOfPlan};
-ghost use Rattle.worker_table.specs.Passes.{IsOf, job_known, note_of_pass, setting_of, slot_of};
-ghost use Rattle.worker_loop.specs.Bundles.{CanRead, HasClaimed, IsFit, IsJobRefused};
-ghost use Rattle.worker_loop.specs.Bundles.{IsPieceRefused, IsPieceWorked, OnlyClaims};
+ghost use Rattle.worker_table.specs.Notes.{Setting};
+ghost use Rattle.worker_loop.specs.Bundles.{CanRead, HasClaimedTo, IsFit, IsJobRefused};
+ghost use Rattle.worker_loop.specs.Bundles.{IsPieceEnd, StaysAble, counts_of};
+ghost use Rattle.worker_loop.specs.Openings.{AreOpened, file_names};
 ghost use Rattle.worker_loop.specs.Outside.{IsKitKept};
-ghost use Rattle.worker_loop.specs.Reading.{AreReaders};
+ghost use Rattle.worker_loop.specs.Reading.{AreReaders, HasTurned, IsReading};
 
-use crate::reading::{Reader, place_of};
-use crate::shop::Shop;
-use crate::stretches::{Stretch, claim, longer, work_stretch};
-use beam_ports::{Gate, Store};
-use beam_values::{Pane, Piece, Time};
+use crate::bench::{Bench, Progress, Stretch, longer};
+use crate::claims::Claims;
+use crate::kit::Kit;
+use crate::reading::{Reader, place_of, readers_of};
+use beam_ports::{Opened, Store};
+use beam_values::{NoMemory, Options, Pane, Piece, Time};
 use bundle_commit::{Job, Receipt, Staging};
 use chain_exec::{Buffers, ExecRefusal, run_batch};
 use dofn_traits::Shelf;
 use pipeline_graph::Graph;
 use pipeline_graph::laws::{
     nodes_have_inputs_and_settings_of_their_kind, nodes_take_elements_of_their_strategy,
-    strategies_follow_kinds,
+    plans_are_small_and_write_something, strategies_follow_kinds,
 };
 use sdf_library::Pager;
 use std::alloc::Global;
-use std::sync::Wait;
 use windowing::laws::windows_hold_their_time;
-use worker_table::WorkerPass;
 
-/// What a worker keeps from job to job.
+/// What a worker keeps from job to job, beside its kit.
 #[derive(Drop)]
-pub struct Workbench {
+pub struct Worker {
     pub readers: Vec<Reader>,
-    /// The place of the reader that was used last.
-    pub last: usize,
-    pub buffers: Buffers,
+    /// The place of the reader whose item was read last.
+    pub place: usize,
+    pub bench: Bench,
     /// How many positions the next stretch has after its first one, at most.
     pub more: u32,
+    /// How many positions of a job may emit a value.
+    pub bundle: u32,
 }
 
-/// Works a job that the pass has just taken, of a piece a bundle of its positions; the functions are told when
-/// the bundle starts and when it is over, also where it was refused. A refused job is still the pass's; what was
-/// staged of it is dropped.
-pub fn work_job<R: Wait, F: Shelf, S: Store, G: Gate>(
-    rt: &R,
-    shop: &Shop<'_, G>,
-    slot: u32,
-    pass: &mut WorkerPass,
-    job: &Job,
-    shelf: &mut F,
-    store: &mut S,
-    bench: &mut Workbench,
-) -> Result<Receipt, ExecRefusal>
-    requires table { IsOf shop.now.table.now pass.old }
-    requires slot { IsSome (slot_of pass.old) }
-    requires taken { job_known pass.old ≡ Some (record { job = job.now; attempted = None }) }
-    requires of_plan { IsJobOfPlan (setting_of shop.now.table.now).plan job.now }
-    requires plan { shop.now.graph.now ≡ (setting_of shop.now.table.now).plan }
-    requires strict { (setting_of shop.now.table.now).known.strict ≡ true
-        → F.strict shelf.old ≡ true }
-    requires readers { AreReaders (setting_of shop.now.table.now).known.told
-        (S.opened store.old) shop.now.graph.now bench.old.readers.items }
-    ensures table { IsOf shop.now.table.now pass.new }
-    ensures claims { OnlyClaims (note_of_pass pass.old) (note_of_pass pass.new) }
-    ensures given { IfOk result (CanCommitAs (setting_of shop.now.table.now) (job_known pass.new)) }
-    ensures refused { IfErr result (IsJobRefused (setting_of shop.now.table.now)
-        (observed_shelf F.strict F.faults shelf.old shelf.new)
-        (observed_store S.files S.faults store.old store.new) (job_known pass.new)) }
-    ensures readers { AreReaders (setting_of shop.now.table.now).known.told
-        (S.opened store.new) shop.now.graph.now bench.new.readers.items }
-    ensures kept { IsKitKept F.faults F.strict S.faults S.files
-        S.opened shelf.old shelf.new store.old store.new }
-{
-    shelf.start_bundle();
-    let worked = work_in_bundle(rt, shop, slot, pass, job, shelf, store, bench);
-    shelf.finish_bundle();
-    worked
-}
+impl Worker {
+    /// It has a reader for each item of the plan, and has read nothing.
+    pub fn new(
+        alloc: Global,
+        graph: &Graph,
+        files: &[Opened],
+        options: &Options,
+    ) -> Result<Worker, NoMemory>
+        ensures { IfOk result (λ worker. (told : OptionOf (ListOf FileText))
+            (opened : ℕ → OptionOf Opening) → AreOpened told opened (file_names graph.now) files.now
+            → IsReading told opened graph.now
+            worker.readers.items worker.place worker.bench.pager) }
+    {
+        plans_are_small_and_write_something();
+        nodes_have_inputs_and_settings_of_their_kind();
+        let readers = readers_of(alloc, graph.plan().nodes.as_slice(), files)?;
+        let place = readers.len();
+        Ok(Worker {
+            readers,
+            place,
+            bench: Bench::new(alloc)?,
+            more: 0,
+            bundle: options.bundle,
+        })
+    }
 
-// Works a job between the start of its bundle and the finish.
-fn work_in_bundle<R: Wait, F: Shelf, S: Store, G: Gate>(
-    rt: &R,
-    shop: &Shop<'_, G>,
-    slot: u32,
-    pass: &mut WorkerPass,
-    job: &Job,
-    shelf: &mut F,
-    store: &mut S,
-    bench: &mut Workbench,
-) -> Result<Receipt, ExecRefusal>
-    requires table { IsOf shop.now.table.now pass.old }
-    requires slot { IsSome (slot_of pass.old) }
-    requires taken { job_known pass.old ≡ Some (record { job = job.now; attempted = None }) }
-    requires of_plan { IsJobOfPlan (setting_of shop.now.table.now).plan job.now }
-    requires plan { shop.now.graph.now ≡ (setting_of shop.now.table.now).plan }
-    requires strict { (setting_of shop.now.table.now).known.strict ≡ true
-        → F.strict shelf.old ≡ true }
-    requires readers { AreReaders (setting_of shop.now.table.now).known.told
-        (S.opened store.old) shop.now.graph.now bench.old.readers.items }
-    ensures table { IsOf shop.now.table.now pass.new }
-    ensures claims { OnlyClaims (note_of_pass pass.old) (note_of_pass pass.new) }
-    ensures given { IfOk result (CanCommitAs (setting_of shop.now.table.now) (job_known pass.new)) }
-    ensures refused { IfErr result (IsJobRefused (setting_of shop.now.table.now)
-        (observed_shelf F.strict F.faults shelf.old shelf.new)
-        (observed_store S.files S.faults store.old store.new) (job_known pass.new)) }
-    ensures readers { AreReaders (setting_of shop.now.table.now).known.told
-        (S.opened store.new) shop.now.graph.now bench.new.readers.items }
-    ensures kept { IsKitKept F.faults F.strict S.faults S.files
-        S.opened shelf.old shelf.new store.old store.new }
-{
-    match job {
-        Job::Span { piece } => work_span(rt, shop, slot, pass, piece, shelf, store, bench),
-        Job::Batch { node, panes, .. } => work_batch(
-            shop.alloc,
-            shop.graph,
-            *node,
-            panes.as_slice(),
-            shelf,
-            &mut bench.buffers,
-        ),
-        Job::Key { .. } => unreachable!(),
+    /// Works a job that the pass has just taken, of a piece a bundle of its positions; the functions are told when
+    /// the bundle starts and when it is over, also where it was refused. A refused job is still the pass's; what was
+    /// staged of it is dropped.
+    pub fn work_job<C: Claims, F: Shelf, S: Store>(
+        &mut self,
+        graph: &Graph,
+        claims: &C,
+        pass: &mut C::Pass,
+        kit: &mut Kit<F, S>,
+        job: &Job,
+    ) -> Result<Receipt, ExecRefusal>
+        ghost setting: { Setting }
+        requires own { C.is_of claims.now pass.old }
+        requires taken { C.known claims.now pass.old
+            ≡ Some (record { job = job.now; attempted = None }) }
+        requires of_plan { IsJobOfPlan setting.plan job.now }
+        requires plan { graph.now ≡ setting.plan }
+        requires strict { setting.known.strict ≡ true → F.strict kit.old.shelf ≡ true }
+        requires reading { IsReading setting.known.told (S.opened kit.old.store) graph.now
+            self.old.readers.items self.old.place self.old.bench.pager }
+        ensures own { C.is_of claims.now pass.new }
+        ensures claims { C.stays claims.now pass.old pass.new }
+        ensures given { IfOk result (CanCommitAs setting (C.known claims.now pass.new)) }
+        ensures refused { IfErr result (IsJobRefused setting
+            (observed_shelf F.strict F.faults kit.old.shelf kit.new.shelf)
+            (observed_store S.files S.faults kit.old.store kit.new.store)
+            (C.known claims.now pass.new)) }
+        ensures reading { IsReading setting.known.told (S.opened kit.new.store) graph.now
+            self.new.readers.items self.new.place self.new.bench.pager }
+        ensures kept { IsKitKept F.faults F.strict S.faults S.files S.opened
+            kit.old.shelf kit.new.shelf kit.old.store kit.new.store }
+        ensures files { kit.new.files ≡ kit.old.files }
+    {
+        kit.shelf.start_bundle();
+        let worked = self.work_in_bundle(graph, claims, pass, kit, job);
+        kit.shelf.finish_bundle();
+        worked
+    }
+
+    // Works a job between the start of its bundle and the finish.
+    fn work_in_bundle<C: Claims, F: Shelf, S: Store>(
+        &mut self,
+        graph: &Graph,
+        claims: &C,
+        pass: &mut C::Pass,
+        kit: &mut Kit<F, S>,
+        job: &Job,
+    ) -> Result<Receipt, ExecRefusal>
+        ghost setting: { Setting }
+        requires own { C.is_of claims.now pass.old }
+        requires taken { C.known claims.now pass.old
+            ≡ Some (record { job = job.now; attempted = None }) }
+        requires of_plan { IsJobOfPlan setting.plan job.now }
+        requires plan { graph.now ≡ setting.plan }
+        requires strict { setting.known.strict ≡ true → F.strict kit.old.shelf ≡ true }
+        requires reading { IsReading setting.known.told (S.opened kit.old.store) graph.now
+            self.old.readers.items self.old.place self.old.bench.pager }
+        ensures own { C.is_of claims.now pass.new }
+        ensures claims { C.stays claims.now pass.old pass.new }
+        ensures given { IfOk result (CanCommitAs setting (C.known claims.now pass.new)) }
+        ensures refused { IfErr result (IsJobRefused setting
+            (observed_shelf F.strict F.faults kit.old.shelf kit.new.shelf)
+            (observed_store S.files S.faults kit.old.store kit.new.store)
+            (C.known claims.now pass.new)) }
+        ensures reading { IsReading setting.known.told (S.opened kit.new.store) graph.now
+            self.new.readers.items self.new.place self.new.bench.pager }
+        ensures kept { IsKitKept F.faults F.strict S.faults S.files S.opened
+            kit.old.shelf kit.new.shelf kit.old.store kit.new.store }
+        ensures files { kit.new.files ≡ kit.old.files }
+    {
+        match job {
+            Job::Span { piece } => self.work_span(graph, claims, pass, kit, piece),
+            Job::Batch { node, panes, .. } => work_batch(
+                self.bench.alloc,
+                graph,
+                *node,
+                panes.as_slice(),
+                &mut kit.shelf,
+                &mut self.bench.buffers,
+            ),
+            Job::Key { .. } => unreachable!(),
+        }
+    }
+
+    // Works positions of a piece with the reader of its item. The first one is claimed before it is worked, and alone: a
+    // range of which nothing is attempted can be split before its start, so others could take it again and again.
+    fn work_span<C: Claims, F: Shelf, S: Store>(
+        &mut self,
+        graph: &Graph,
+        claims: &C,
+        pass: &mut C::Pass,
+        kit: &mut Kit<F, S>,
+        piece: &Piece,
+    ) -> Result<Receipt, ExecRefusal>
+        ghost setting: { Setting }
+        requires own { C.is_of claims.now pass.old }
+        requires taken { C.known claims.now pass.old
+            ≡ Some (record { job = jobs.Span piece.now; attempted = None }) }
+        requires plan { graph.now ≡ setting.plan }
+        requires strict { setting.known.strict ≡ true → F.strict kit.old.shelf ≡ true }
+        requires reading { IsReading setting.known.told (S.opened kit.old.store) graph.now
+            self.old.readers.items self.old.place self.old.bench.pager }
+        ensures own { C.is_of claims.now pass.new }
+        ensures claims { C.stays claims.now pass.old pass.new }
+        ensures given { IfOk result (CanCommitAs setting (C.known claims.now pass.new)) }
+        ensures refused { IfErr result (IsJobRefused setting
+            (observed_shelf F.strict F.faults kit.old.shelf kit.new.shelf)
+            (observed_store S.files S.faults kit.old.store kit.new.store)
+            (C.known claims.now pass.new)) }
+        ensures reading { IsReading setting.known.told (S.opened kit.new.store) graph.now
+            self.new.readers.items self.new.place self.new.bench.pager }
+        ensures kept { IsKitKept F.faults F.strict S.faults S.files S.opened
+            kit.old.shelf kit.new.shelf kit.old.store kit.new.store }
+        ensures files { kit.new.files ≡ kit.old.files }
+    {
+        self.bench.staging = Staging::new(self.bench.alloc, piece.seen);
+        let from = piece.range.from();
+        let end = claims.claim_end(pass, from);
+        if end <= from {
+            return Ok(self.bench.take_receipt());
+        }
+        if !self.turn_to(piece) {
+            // The readers of a run hold the items of all its pieces.
+            return Err(ExecRefusal::NoMemory);
+        }
+        match self.work_positions(graph, claims, pass, kit, piece, end) {
+            Ok(()) => Ok(self.bench.take_receipt()),
+            Err(refusal) => Err(refusal),
+        }
+    }
+
+    // Turns to the item of a piece. What was held of another one is let go.
+    fn turn_to(&mut self, piece: &Piece) -> bool
+        ensures turned { IsTrue result → HasTurned piece.now self.old.readers.items
+            self.old.place self.new.place self.old.bench.pager self.new.bench.pager }
+        ensures readers { self.new.readers.items ≡ self.old.readers.items }
+        ensures staging { self.new.bench.staging ≡ self.old.bench.staging }
+        ensures stays { result ≡ false → self.new ≡ self.old }
+    {
+        let Some(place) = place_of(self.readers.as_slice(), self.place, piece) else {
+            return false;
+        };
+        if place != self.place {
+            let reader = self.readers[place];
+            self.bench.pager = Pager::new(self.bench.alloc, reader.file, reader.len);
+            self.place = place;
+        }
+        true
+    }
+
+    // Works the first position of a piece, which is claimed, and then works and claims one stretch of positions after
+    // another, until a claim is refused or as many as are in a bundle emitted a value. What the claimed ones bring is staged.
+    fn work_positions<C: Claims, F: Shelf, S: Store>(
+        &mut self,
+        graph: &Graph,
+        claims: &C,
+        pass: &mut C::Pass,
+        kit: &mut Kit<F, S>,
+        piece: &Piece,
+        end: u64,
+    ) -> Result<(), ExecRefusal>
+        requires own { C.is_of claims.now pass.old }
+        requires claimed { HasClaimedTo piece.now end (C.known claims.now pass.old) }
+        requires inside { piece.now.range.from < end }
+        requires nothing { self.old.bench.staging
+            ≡ record { arrivals = []; seen = piece.now.seen; logged = None } }
+        requires able { CanRead graph.now piece.now.node
+            (S.opened kit.old.store self.old.bench.pager.file) self.old.bench.pager }
+        requires reaches { piece.now.range.to ≤ self.old.bench.pager.len }
+        ensures own { C.is_of claims.now pass.new }
+        ensures claims { C.stays claims.now pass.old pass.new }
+        ensures end { IsPieceEnd (observed_shelf F.strict F.faults kit.old.shelf kit.new.shelf)
+            (counts_of S.faults kit.old.store kit.new.store) graph.now
+            (S.opened kit.old.store self.old.bench.pager.file) self.old.bench.pager.len
+            piece.now (C.known claims.now pass.new) self.new.bench.staging result }
+        ensures stays { StaysAble F.faults F.strict S.faults S.files S.opened graph.now
+            piece.now.node kit.old kit.new self.old.bench.pager self.new.bench.pager }
+        ensures readers { self.new.readers.items ≡ self.old.readers.items }
+        ensures place { self.new.place ≡ self.old.place }
+    {
+        outputs_are_fit(graph);
+        let p = piece.range.from();
+        let step = self.bench.work_next(graph, kit, piece, p)?;
+        let mut at = Progress {
+            next: step.next,
+            end,
+            room: self.bundle.saturating_sub(u32::from(step.emitted)),
+        };
+        'stretches: while at.room > 0 {
+            if at.next >= at.end {
+                let _end = claims.claim_end(pass, at.next);
+                break;
+            }
+            let more = self.more;
+            match self
+                .bench
+                .work_stretch(graph, claims, pass, kit, piece, at, more)?
+            {
+                Stretch::Claimed(onward) => {
+                    at = onward;
+                    self.more = longer(more);
+                }
+                Stretch::Cut => {
+                    self.more = 0;
+                    break;
+                }
+            }
+        }
+        Ok(())
     }
 }
 
@@ -155,145 +311,6 @@ fn work_batch<F: Shelf>(
     let mut staging = Staging::new(alloc, Time::LEAST);
     run_batch(alloc, graph, shelf, node, panes, buffers, &mut staging)?;
     Ok(staging.seal())
-}
-
-// Works positions of a piece with the reader of its item.
-fn work_span<R: Wait, F: Shelf, S: Store, G: Gate>(
-    rt: &R,
-    shop: &Shop<'_, G>,
-    slot: u32,
-    pass: &mut WorkerPass,
-    piece: &Piece,
-    shelf: &mut F,
-    store: &mut S,
-    bench: &mut Workbench,
-) -> Result<Receipt, ExecRefusal>
-    requires table { IsOf shop.now.table.now pass.old }
-    requires slot { IsSome (slot_of pass.old) }
-    requires taken { job_known pass.old
-        ≡ Some (record { job = jobs.Span piece.now; attempted = None }) }
-    requires plan { shop.now.graph.now ≡ (setting_of shop.now.table.now).plan }
-    requires strict { (setting_of shop.now.table.now).known.strict ≡ true
-        → F.strict shelf.old ≡ true }
-    requires readers { AreReaders (setting_of shop.now.table.now).known.told
-        (S.opened store.old) shop.now.graph.now bench.old.readers.items }
-    ensures table { IsOf shop.now.table.now pass.new }
-    ensures claims { OnlyClaims (note_of_pass pass.old) (note_of_pass pass.new) }
-    ensures given { IfOk result (CanCommitAs (setting_of shop.now.table.now) (job_known pass.new)) }
-    ensures refused { IfErr result (IsJobRefused (setting_of shop.now.table.now)
-        (observed_shelf F.strict F.faults shelf.old shelf.new)
-        (observed_store S.files S.faults store.old store.new) (job_known pass.new)) }
-    ensures readers { AreReaders (setting_of shop.now.table.now).known.told
-        (S.opened store.new) shop.now.graph.now bench.new.readers.items }
-    ensures kept { IsKitKept F.faults F.strict S.faults S.files
-        S.opened shelf.old shelf.new store.old store.new }
-{
-    let mut staging = Staging::new(shop.alloc, piece.seen);
-    let Some(place) = place_of(bench.readers.as_slice(), bench.last, piece) else {
-        // The readers of a run hold the items of all its pieces.
-        return Err(ExecRefusal::NoMemory);
-    };
-    bench.last = place;
-    let pager = &mut bench.readers[place].pager;
-    let buffers = &mut bench.buffers;
-    let more = &mut bench.more;
-    match work_positions(
-        rt,
-        shop,
-        slot,
-        pass,
-        piece,
-        shelf,
-        store,
-        pager,
-        buffers,
-        more,
-        &mut staging,
-    ) {
-        Ok(()) => Ok(sealed(staging)),
-        Err(refusal) => Err(refusal),
-    }
-}
-
-// What was seen is a time.
-fn sealed(staging: Staging) -> Receipt
-    ensures same { result ≡ staging }
-    ensures time { result.seen ≤ℤ greatest_time }
-{
-    let receipt = staging.seal();
-    let _ms = receipt.seen.ms();
-    receipt
-}
-
-// Works and claims positions of a piece that the pass has just taken, one stretch of them after another, until a
-// claim is refused or `bundle` of them emitted a value. What the claimed ones bring is staged.
-fn work_positions<R: Wait, F: Shelf, S: Store, G: Gate>(
-    rt: &R,
-    shop: &Shop<'_, G>,
-    slot: u32,
-    pass: &mut WorkerPass,
-    piece: &Piece,
-    shelf: &mut F,
-    store: &mut S,
-    pager: &mut Pager,
-    buffers: &mut Buffers,
-    more: &mut u32,
-    staging: &mut Staging,
-) -> Result<(), ExecRefusal>
-    requires table { IsOf shop.now.table.now pass.old }
-    requires slot { IsSome (slot_of pass.old) }
-    requires taken { job_known pass.old
-        ≡ Some (record { job = jobs.Span piece.now; attempted = None }) }
-    requires nothing { staging.old
-        ≡ record { arrivals = []; seen = piece.now.seen; logged = None } }
-    requires able { CanRead shop.now.graph.now piece.now.node
-        (S.opened store.old pager.old.file) pager.old }
-    requires reaches { piece.now.range.to ≤ pager.old.len }
-    ensures table { IsOf shop.now.table.now pass.new }
-    ensures claims { OnlyClaims (note_of_pass pass.old) (note_of_pass pass.new) }
-    ensures claimed { (now : PieceData) × (attempted : OptionOf ℕ)
-        × HasClaimed piece.now now attempted (job_known pass.new)
-        × OnOk result (IsPieceWorked shop.now.graph.now
-        (S.opened store.old pager.old.file) pager.old.len now attempted staging.new)
-        × IfErr result (IsPieceRefused (observed_shelf F.strict F.faults shelf.old shelf.new)
-        (record { before = S.faults store.old; after = S.faults store.new })
-        shop.now.graph.now (S.opened store.old pager.old.file) pager.old.len now attempted) }
-    ensures able { CanRead shop.now.graph.now piece.now.node
-        (S.opened store.new pager.new.file) pager.new }
-    ensures file { pager.new.file ≡ pager.old.file }
-    ensures len { pager.new.len ≡ pager.old.len }
-    ensures kept { IsKitKept F.faults F.strict S.faults S.files
-        S.opened shelf.old shelf.new store.old store.new }
-{
-    outputs_are_fit(shop.graph);
-    let mut p = piece.range.from();
-    let mut end = piece.range.to();
-    let mut room = shop.options.bundle;
-    'stretches: while room > 0 {
-        if p >= end {
-            let _end = claim(rt, shop, slot, pass, p);
-            break;
-        }
-        match work_stretch(
-            rt, shop, slot, pass, piece, end, p, *more, room, shelf, store, pager, buffers, staging,
-        )? {
-            Stretch::Claimed {
-                next,
-                room: left,
-                end: now,
-            } => {
-                p = next;
-                room = left;
-                end = now;
-                *more = longer(*more);
-            }
-            Stretch::Cut { .. } => {
-                *more = 0;
-                break;
-            }
-        }
-    }
-    Ok(())
 }
 
 // A law: where the outputs of a source can get, and in which windows.

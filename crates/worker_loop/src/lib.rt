@@ -9,19 +9,22 @@
 //! them before the claim of its last position; what turns out to be another's is dropped again. Nothing that is promised
 //! depends on how large pieces, bundles and stretches are, nor on the order in which workers come.
 //!
-//! Read `workers.rt` first, then `bundles.rt`, `stretches.rt` and `reading.rt`; then `crew.rt`.
+//! Read `workers.rt` first, then `bundles.rt`, `bench.rt` and `reading.rt`; then `crew.rt`.
 #![tactic(auto)]
 
+mod bench;
 mod bundles;
+mod claims;
 mod crew;
 mod kit;
 mod pairs;
 mod reading;
 mod shop;
-mod stretches;
+mod trail;
 mod workers;
 
+pub use bench::work_position;
 pub use crew::{AllEnd, work_all};
 pub use kit::Kit;
-pub use reading::{Reader, lengths_of, names_in, readers_of};
+pub use reading::{Reader, lengths_of, names_in, place_of, readers_of};
 pub use workers::{WorkerEnd, work};

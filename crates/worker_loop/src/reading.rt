@@ -10,15 +10,16 @@ ghost use Rattle.worker_loop.specs.declared.reading.Reader.{Reader};
 
 use beam_ports::Opened;
 use beam_values::{Args, Bytes, FileLen, List, NoMemory, Node, NodeKind, Piece, SourceKind};
-use sdf_library::Pager;
 use std::alloc::Global;
 
-/// An item of a source, and what is held of it. Of what is counted or made the pager has the length alone.
-#[derive(Drop)]
+/// An item of a source, as a store has opened it. Of what is counted or made only the length tells something.
+#[derive(Clone, Copy, Debug, PartialEq, Eq)]
 pub struct Reader {
     pub node: u32,
     pub item: u32,
-    pub pager: Pager,
+    /// The number of the opened file.
+    pub file: u32,
+    pub len: u64,
 }
 
 /// A reader for each item of the sources, by node and item. The files are those of the plan, in this order.
@@ -31,7 +32,7 @@ pub fn readers_of(alloc: Global, nodes: &[Node], files: &[Opened]) -> Result<Vec
     let mut rest = files;
     for number in 0..nodes.len() as u32 {
         let kind = &nodes[number as usize].kind;
-        add_readers(alloc, number, kind, rest, &mut readers)?;
+        add_readers(number, kind, rest, &mut readers)?;
         rest = rest.split_at(names_in(kind).len().min(rest.len())).1;
     }
     Ok(readers)
@@ -48,7 +49,6 @@ pub fn names_in(kind: &NodeKind) -> &[Bytes]
 }
 
 fn add_readers(
-    alloc: Global,
     node: u32,
     kind: &NodeKind,
     opened: &[Opened],
@@ -70,33 +70,32 @@ fn add_readers(
     match work {
         SourceKind::Lines | SourceKind::TimedLines => {
             let own = opened.split_at(files.len().min(opened.len())).0;
-            add_files(alloc, node, own, readers)
+            add_files(node, own, readers)
         }
         SourceKind::Count | SourceKind::Made => {
-            let pager = Pager::new(alloc, 0, count_in(args));
             readers.push(Reader {
                 node,
                 item: 0,
-                pager,
+                file: 0,
+                len: count_in(args),
             })?;
             Ok(())
         }
     }
 }
 
-fn add_files(
-    alloc: Global,
-    node: u32,
-    opened: &[Opened],
-    readers: &mut Vec<Reader>,
-) -> Result<(), NoMemory>
+fn add_files(node: u32, opened: &[Opened], readers: &mut Vec<Reader>) -> Result<(), NoMemory>
     requires { length opened.now ≤ 256 }
     ensures { OnOk result (readers.new.items ≡ readers.old.items ++ file_readers node opened.now) }
 {
     for item in 0..opened.len() as u32 {
         let file = opened[item as usize];
-        let pager = Pager::new(alloc, file.file, file.len);
-        readers.push(Reader { node, item, pager })?;
+        readers.push(Reader {
+            node,
+            item,
+            file: file.file,
+            len: file.len,
+        })?;
     }
     Ok(())
 }
@@ -120,7 +119,7 @@ pub fn lengths_of(alloc: Global, readers: &[Reader]) -> Result<List<FileLen>, No
         lengths.push(FileLen {
             node: reader.node,
             item: reader.item,
-            len: reader.pager.bytes().len,
+            len: reader.len,
         })?;
     }
     Ok(lengths)
@@ -156,7 +155,5 @@ fn find_reader(readers: &[Reader], piece: &Piece) -> Option<usize>
 fn is_for(reader: &Reader, piece: &Piece) -> bool
     ensures { result ≡ is_reader_for piece.now reader.now }
 {
-    reader.node == piece.node
-        && reader.item == piece.item
-        && piece.range.to() <= reader.pager.bytes().len
+    reader.node == piece.node && reader.item == piece.item && piece.range.to() <= reader.len
 }

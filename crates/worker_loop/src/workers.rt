@@ -1,10 +1,7 @@
 //! One worker, with a kit of its own.
-ghost use Rattle.std.specs.Prelude.{◌≡◌, ◌≤◌, ℕ, List as ListOf, Option as OptionOf, None, Some};
-ghost use Rattle.std.specs.Prelude.{IfOk, IsSome, true, false};
+ghost use Rattle.std.specs.Prelude.{◌≡◌, ◌≤◌, None, Some, IsSome, true, false};
 ghost use Rattle.beam_ports.specs.Counts.{greatest_count};
-ghost use Rattle.beam_ports.specs.Files.{Opening};
 ghost use Rattle.beam_ports.specs.Observed.{observed_store};
-ghost use Rattle.beam_values.specs.declared.file_text.FileText.{FileText};
 ghost use Rattle.book_core.specs.Steps.{Fail};
 ghost use Rattle.chain_exec.specs.Causes.{observed_shelf};
 ghost use Rattle.retry_core.specs.Shares.{share_after};
@@ -14,26 +11,22 @@ ghost use Rattle.worker_table.specs.Passes.{IsOf, entry_of, job_known, note_of_p
 ghost use Rattle.worker_table.specs.Passes.{slot_of};
 ghost use Rattle.worker_table.specs.Turns.{KeepsOthers};
 ghost use Rattle.worker_loop.specs.Kits.{IsKitFor};
-ghost use Rattle.worker_loop.specs.Openings.{AreOpened, file_names};
 ghost use Rattle.worker_loop.specs.Outside.{IsKitKept};
-ghost use Rattle.worker_loop.specs.Reading.{AreReaders};
+ghost use Rattle.worker_loop.specs.Reading.{IsReading};
 ghost use Rattle.worker_loop.specs.Workers.{AreFailsCounted, CountsOn, EndsAs, FailsOnce};
 ghost use Rattle.worker_loop.specs.Workers.{GoesOnOrEnds, share_with};
 
-use crate::bundles::{Workbench, work_job};
+use crate::bundles::Worker;
+use crate::claims::Turns;
 use crate::kit::Kit;
-use crate::reading::readers_of;
 use crate::shop::Shop;
-use beam_ports::{Gate, GatePoint, Opened, Store};
+use beam_ports::{Gate, GatePoint, Store};
 use beam_values::{Cause, NoMemory, Options};
 use book_core::{Failure, Taken};
 use bundle_commit::{Job, Receipt};
-use chain_exec::{Buffers, ExecRefusal};
+use chain_exec::ExecRefusal;
 use dofn_traits::Shelf;
 use pipeline_graph::Graph;
-use pipeline_graph::laws::{
-    nodes_have_inputs_and_settings_of_their_kind, plans_are_small_and_write_something,
-};
 use retry_core::FaultShare;
 use std::alloc::Global;
 use std::sync::Wait;
@@ -119,81 +112,81 @@ impl<'a, G: Gate> Shop<'a, G> {
     {
         counts_have_64_bits(share);
         let Ok(slot) = self.table.enroll(rt, pass) else {
-            return self.give_up(rt, pass);
+            return give_up(rt, self.table, pass);
         };
-        let Ok(mut bench) = workbench(self.alloc, self.graph, kit.files.as_slice()) else {
-            return self.give_up(rt, pass);
+        let files = kit.files.as_slice();
+        let Ok(mut worker) = Worker::new(self.alloc, self.graph, files, self.options) else {
+            return give_up(rt, self.table, pass);
+        };
+        let turns = Turns {
+            rt,
+            table: self.table,
+            gate: self.gate,
+            slot,
         };
         for _ in rt.forever() {
-            let end = self.round(
-                rt,
-                slot,
-                pass,
-                &mut kit.shelf,
-                &mut kit.store,
-                &mut bench,
-                share,
-            );
+            let end = turns.round(self.graph, pass, kit, &mut worker, share);
             if let Some(end) = end {
                 return end;
             }
         }
         unreachable!()
     }
+}
 
+impl<'a, R: Wait, G: Gate> Turns<'a, R, G> {
     // Takes a job and works it. Where there is none while other slots work, the one with the most left is helped.
-    fn round<R: Wait, F: Shelf, S: Store>(
+    fn round<F: Shelf, S: Store>(
         &self,
-        rt: &R,
-        slot: u32,
+        graph: &Graph,
         pass: &mut WorkerPass,
-        shelf: &mut F,
-        store: &mut S,
-        bench: &mut Workbench,
+        kit: &mut Kit<F, S>,
+        worker: &mut Worker,
         share: &mut FaultShare,
     ) -> Option<WorkerEnd>
         requires table { IsOf self.now.table.now pass.old }
         requires slot { IsSome (slot_of pass.old) }
         requires free { job_known pass.old ≡ None }
         requires owes { (entry_of pass.old).owes_split ≡ false }
-        requires plan { self.now.graph.now ≡ (setting_of self.now.table.now).plan }
+        requires plan { graph.now ≡ (setting_of self.now.table.now).plan }
         requires strict { (setting_of self.now.table.now).known.strict ≡ true
-            → F.strict shelf.old ≡ true }
-        requires readers { AreReaders (setting_of self.now.table.now).known.told
-            (S.opened store.old) self.now.graph.now bench.old.readers.items }
+            → F.strict kit.old.shelf ≡ true }
+        requires reading { IsReading (setting_of self.now.table.now).known.told
+            (S.opened kit.old.store) graph.now worker.old.readers.items
+            worker.old.place worker.old.bench.pager }
         ensures table { IsOf self.now.table.now pass.new }
         ensures end { GoesOnOrEnds (setting_of self.now.table.now) result (entry_of pass.new) }
         ensures others { KeepsOthers (note_of_pass pass.old) (note_of_pass pass.new) }
         ensures slot { slot_of pass.new ≡ slot_of pass.old }
-        ensures fails { FailsOnce (observed_shelf F.strict F.faults shelf.old shelf.new)
-            (observed_store S.files S.faults store.old store.new)
+        ensures fails { FailsOnce (observed_shelf F.strict F.faults kit.old.shelf kit.new.shelf)
+            (observed_store S.files S.faults kit.old.store kit.new.store)
             (entry_of pass.old) (entry_of pass.new) }
         ensures share { CountsOn share.old share.new (entry_of pass.old) (entry_of pass.new) }
-        ensures readers { AreReaders (setting_of self.now.table.now).known.told
-            (S.opened store.new) self.now.graph.now bench.new.readers.items }
-        ensures kept { IsKitKept F.faults F.strict S.faults S.files
-            S.opened shelf.old shelf.new store.old store.new }
+        ensures reading { IsReading (setting_of self.now.table.now).known.told
+            (S.opened kit.new.store) graph.now worker.new.readers.items
+            worker.new.place worker.new.bench.pager }
+        ensures kept { IsKitKept F.faults F.strict S.faults S.files S.opened
+            kit.old.shelf kit.new.shelf kit.old.store kit.new.store }
+        ensures files { kit.new.files ≡ kit.old.files }
     {
-        self.gate.pass(slot, GatePoint::Job);
-        match self.table.take_job(rt, pass) {
-            Ok(Taken::Job(job)) => self.do_job(rt, slot, pass, &job, shelf, store, bench, share),
-            Ok(Taken::Nothing) => self.help(rt, pass),
+        self.gate.pass(self.slot, GatePoint::Job);
+        match self.table.take_job(self.rt, pass) {
+            Ok(Taken::Job(job)) => self.do_job(graph, pass, kit, worker, &job, share),
+            Ok(Taken::Nothing) => self.help(pass),
             Ok(Taken::Finished) => Some(WorkerEnd::Finished),
             Ok(Taken::Stopped) => Some(WorkerEnd::Stopped),
-            Err(NoMemory) => Some(self.give_up(rt, pass)),
+            Err(NoMemory) => Some(give_up(self.rt, self.table, pass)),
         }
     }
 
     // Works a job that the pass has taken, and commits it or gives it back.
-    fn do_job<R: Wait, F: Shelf, S: Store>(
+    fn do_job<F: Shelf, S: Store>(
         &self,
-        rt: &R,
-        slot: u32,
+        graph: &Graph,
         pass: &mut WorkerPass,
+        kit: &mut Kit<F, S>,
+        worker: &mut Worker,
         job: &Job,
-        shelf: &mut F,
-        store: &mut S,
-        bench: &mut Workbench,
         share: &mut FaultShare,
     ) -> Option<WorkerEnd>
         requires table { IsOf self.now.table.now pass.old }
@@ -201,32 +194,35 @@ impl<'a, G: Gate> Shop<'a, G> {
         requires taken { job_known pass.old ≡ Some (record { job = job.now; attempted = None }) }
         requires of_plan { IsJobOfPlan (setting_of self.now.table.now).plan job.now }
         requires owes { (entry_of pass.old).owes_split ≡ false }
-        requires plan { self.now.graph.now ≡ (setting_of self.now.table.now).plan }
+        requires plan { graph.now ≡ (setting_of self.now.table.now).plan }
         requires strict { (setting_of self.now.table.now).known.strict ≡ true
-            → F.strict shelf.old ≡ true }
-        requires readers { AreReaders (setting_of self.now.table.now).known.told
-            (S.opened store.old) self.now.graph.now bench.old.readers.items }
+            → F.strict kit.old.shelf ≡ true }
+        requires reading { IsReading (setting_of self.now.table.now).known.told
+            (S.opened kit.old.store) graph.now worker.old.readers.items
+            worker.old.place worker.old.bench.pager }
         ensures table { IsOf self.now.table.now pass.new }
         ensures end { GoesOnOrEnds (setting_of self.now.table.now) result (entry_of pass.new) }
         ensures others { KeepsOthers (note_of_pass pass.old) (note_of_pass pass.new) }
         ensures slot { slot_of pass.new ≡ slot_of pass.old }
-        ensures fails { FailsOnce (observed_shelf F.strict F.faults shelf.old shelf.new)
-            (observed_store S.files S.faults store.old store.new)
+        ensures fails { FailsOnce (observed_shelf F.strict F.faults kit.old.shelf kit.new.shelf)
+            (observed_store S.files S.faults kit.old.store kit.new.store)
             (entry_of pass.old) (entry_of pass.new) }
         ensures share { CountsOn share.old share.new (entry_of pass.old) (entry_of pass.new) }
-        ensures readers { AreReaders (setting_of self.now.table.now).known.told
-            (S.opened store.new) self.now.graph.now bench.new.readers.items }
-        ensures kept { IsKitKept F.faults F.strict S.faults S.files
-            S.opened shelf.old shelf.new store.old store.new }
+        ensures reading { IsReading (setting_of self.now.table.now).known.told
+            (S.opened kit.new.store) graph.now worker.new.readers.items
+            worker.new.place worker.new.bench.pager }
+        ensures kept { IsKitKept F.faults F.strict S.faults S.files S.opened
+            kit.old.shelf kit.new.shelf kit.old.store kit.new.store }
+        ensures files { kit.new.files ≡ kit.old.files }
     {
-        match work_job(rt, self, slot, pass, job, shelf, store, bench) {
-            Ok(receipt) => self.commit(rt, pass, receipt),
-            Err(ExecRefusal::Faulted { at, cause }) => self.give_back(rt, pass, at, cause, share),
-            Err(ExecRefusal::NoMemory) => Some(self.give_up(rt, pass)),
+        match worker.work_job(graph, self, pass, kit, job) {
+            Ok(receipt) => self.commit(pass, receipt),
+            Err(ExecRefusal::Faulted { at, cause }) => self.give_back(pass, at, cause, share),
+            Err(ExecRefusal::NoMemory) => Some(give_up(self.rt, self.table, pass)),
         }
     }
 
-    fn commit<R: Wait>(&self, rt: &R, pass: &mut WorkerPass, receipt: Receipt) -> Option<WorkerEnd>
+    fn commit(&self, pass: &mut WorkerPass, receipt: Receipt) -> Option<WorkerEnd>
         requires table { IsOf self.now.table.now pass.old }
         requires slot { IsSome (slot_of pass.old) }
         requires given { CanCommitAs (setting_of self.now.table.now) (job_known pass.old) receipt }
@@ -236,16 +232,15 @@ impl<'a, G: Gate> Shop<'a, G> {
         ensures others { KeepsOthers (note_of_pass pass.old) (note_of_pass pass.new) }
         ensures keeps { KeepsSlot (entry_of pass.old) (entry_of pass.new) }
     {
-        match self.table.commit(rt, pass, receipt) {
+        match self.table.commit(self.rt, pass, receipt) {
             Ok(()) => None,
-            Err(_unplaced) => Some(self.give_up(rt, pass)),
+            Err(_unplaced) => Some(give_up(self.rt, self.table, pass)),
         }
     }
 
     // The pass's job failed, and is counted in the share.
-    fn give_back<R: Wait>(
+    fn give_back(
         &self,
-        rt: &R,
         pass: &mut WorkerPass,
         at: u32,
         cause: Cause,
@@ -266,14 +261,14 @@ impl<'a, G: Gate> Shop<'a, G> {
         ensures share { share.new ≡ share_after share.old cause 1 }
     {
         share.rise(cause, 1);
-        match self.table.fail(rt, pass, at, cause) {
+        match self.table.fail(self.rt, pass, at, cause) {
             Failure::Retry => None,
             Failure::Spent(_note) => Some(WorkerEnd::Spent),
         }
     }
 
     // Splits the range of another slot. Where none can be split, the table lets others work before the worker looks again.
-    fn help<R: Wait>(&self, rt: &R, pass: &mut WorkerPass) -> Option<WorkerEnd>
+    fn help(&self, pass: &mut WorkerPass) -> Option<WorkerEnd>
         requires table { IsOf self.now.table.now pass.old }
         requires slot { IsSome (slot_of pass.old) }
         requires free { job_known pass.old ≡ None }
@@ -282,40 +277,23 @@ impl<'a, G: Gate> Shop<'a, G> {
         ensures others { KeepsOthers (note_of_pass pass.old) (note_of_pass pass.new) }
         ensures keeps { KeepsSlot (entry_of pass.old) (entry_of pass.new) }
     {
-        match self.table.split_other(rt, pass) {
+        match self.table.split_other(self.rt, pass) {
             Ok(_at) => None,
-            Err(NoMemory) => Some(self.give_up(rt, pass)),
+            Err(NoMemory) => Some(give_up(self.rt, self.table, pass)),
         }
-    }
-
-    // There is no memory, so the book is stopped.
-    fn give_up<R: Wait>(&self, rt: &R, pass: &mut WorkerPass) -> WorkerEnd
-        requires table { IsOf self.now.table.now pass.old }
-        ensures table { IsOf self.now.table.now pass.new }
-        ensures end { EndsAs (setting_of self.now.table.now) result (entry_of pass.new) }
-        ensures others { KeepsOthers (note_of_pass pass.old) (note_of_pass pass.new) }
-        ensures keeps { KeepsSlot (entry_of pass.old) (entry_of pass.new) }
-    {
-        self.table.stop(rt, pass);
-        WorkerEnd::NoMemory
     }
 }
 
-// A reader for each item of the plan, before anything is read.
-fn workbench(alloc: Global, graph: &Graph, files: &[Opened]) -> Result<Workbench, NoMemory>
-    ensures { IfOk result (λ bench. (told : OptionOf (ListOf FileText))
-        (opened : ℕ → OptionOf Opening) → AreOpened told opened (file_names graph.now) files.now
-        → AreReaders told opened graph.now bench.readers.items) }
+// There is no memory, so the book is stopped.
+fn give_up<R: Wait>(rt: &R, table: &Table, pass: &mut WorkerPass) -> WorkerEnd
+    requires table { IsOf table.now pass.old }
+    ensures table { IsOf table.now pass.new }
+    ensures end { EndsAs (setting_of table.now) result (entry_of pass.new) }
+    ensures others { KeepsOthers (note_of_pass pass.old) (note_of_pass pass.new) }
+    ensures keeps { KeepsSlot (entry_of pass.old) (entry_of pass.new) }
 {
-    plans_are_small_and_write_something();
-    nodes_have_inputs_and_settings_of_their_kind();
-    let nodes = graph.plan().nodes.as_slice();
-    Ok(Workbench {
-        readers: readers_of(alloc, nodes, files)?,
-        last: 0,
-        buffers: Buffers::new(alloc),
-        more: 0,
-    })
+    table.stop(rt, pass);
+    WorkerEnd::NoMemory
 }
 
 // A law of the counts of a share.

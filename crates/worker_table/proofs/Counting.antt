@@ -6,7 +6,7 @@ use Rattle.std.proofs.lemmas.List.Sums.{sum_by-cons}
 use Rattle.std.proofs.lemmas.Bool.Decides.{nat_tests}
 use Rattle.turn_desk.specs.declared.held.Note.{Note}
 use Rattle.turn_desk.specs.Notes.{AreDistinct, Each, IsNotFree, IsSound, size_of}
-use Rattle.book_core.specs.Book.{BookData}
+use Rattle.book_core.specs.Book.{SeenBook}
 use Rattle.book_core.specs.Runs.{IsThrough}
 use Rattle.worker_table.specs.Ends.{IsEnded}
 use Rattle.worker_table.specs.Fits.{Fits, FitEntries, FitsEntry, HasNoJobLeft, IsEndingOf, IsSlotOf}
@@ -126,7 +126,7 @@ module _ (f : Owner → ℕ) (h : Entry → ℕ) (agree : (n : ℕ) (e : Entry) 
       let d : o.number ≢ n = λ e. let z : zero ≡ suc i = only zero o refl e in omega (arith, z) in
       let m : only_if (nat_eq o.number n) o ≡ 0 = grind (arith, nat_tests) in omega (arith, m, r)
 
-  entry_owned : (b : BookData) (owners : List Owner) (n : ℕ) (e : Entry) (slot : Option ℕ) → e.slot ≡ slot → FitsEntry b owners n e → owned n owners ≤ h e
+  entry_owned : (b : SeenBook) (owners : List Owner) (n : ℕ) (e : Entry) (slot : Option ℕ) → e.slot ≡ slot → FitsEntry b owners n e → owned n owners ≤ h e
   entry_owned b owners n e None is fit =
       let r = owned_none n owners (λ i o at own. let z : e.slot ≡ Some i = fit.alone i o at own in let w : None ≡ Some i = sym is ∙ z in cc) in omega (arith, r)
   entry_owned b owners n e (Some i) is fit =
@@ -134,7 +134,7 @@ module _ (f : Owner → ℕ) (h : Entry → ℕ) (agree : (n : ℕ) (e : Entry) 
       let o = owned_one n owners i (owner_of n e.calls e.reads) (λ j o at own. let z : e.slot ≡ Some j = fit.alone j o at own in let w : Some i ≡ Some j = sym is ∙ z in let v : i ≡ j = cc in sym v) s.0 in
       omega (arith, o, agree n e)
 
-  entries_owned : (b : BookData) (owners : List Owner) (ns : List ℕ) (es : List Entry) → FitEntries b owners ns es → owned_by ns owners ≤ sum_by h es
+  entries_owned : (b : SeenBook) (owners : List Owner) (ns : List ℕ) (es : List Entry) → FitEntries b owners ns es → owned_by ns owners ≤ sum_by h es
   entries_owned b owners [] [] fit = omega arith
   entries_owned b owners (n ∷ ns) (e ∷ es) fit = let r = entries_owned b owners ns es fit.1 in let o = entry_owned b owners n e e.slot refl fit.0 in omega (arith, sum_by-cons h e es)
   entries_owned b owners [] (e ∷ es) fit = absurd fit
@@ -161,7 +161,7 @@ module _ (f : Owner → ℕ) (h : Entry → ℕ) (agree : (n : ℕ) (e : Entry) 
   number_at (p ∷ os) (suc i) o all at = number_at os i o all.1 at
 
   -- what all owners have together is at most what the note has
-  pub sum_within : (b : BookData) (owners : List Owner) (m : Note (List Entry)) → IsSound m → size_of m ≡ 4294967296 → AllByRecursion (λ p. p.number < 4294967296) owners → FitEntries b owners m.numbers m.about
+  pub sum_within : (b : SeenBook) (owners : List Owner) (m : Note (List Entry)) → IsSound m → size_of m ≡ 4294967296 → AllByRecursion (λ p. p.number < 4294967296) owners → FitEntries b owners m.numbers m.about
       → ((n : ℕ) → 0 < n → n ≤ m.free → (i : ℕ) (o : Owner) → slice_get owners i ≡ Some o → o.number ≢ n) → sum_by f owners ≤ sum_by h m.about
   sum_within b owners m sound all numbers fit free =
       let s = sum_owned m.numbers owners (λ i o at. has_all 4294967296 m.free o.number m.numbers sound.free sound.distinct sound.below sound.taken all (number_at owners i o numbers at)
@@ -171,7 +171,7 @@ module _ (f : Owner → ℕ) (h : Entry → ℕ) (agree : (n : ℕ) (e : Entry) 
 
 -- ---- the book at the end
 
-module _ (setting : Setting) (b : BookData) (owners : List Owner) (m : Note (List Entry)) (sound : IsSound m) (all : size_of m ≡ 4294967296) (fit : Fits setting b owners m) where
+module _ (setting : Setting) (b : SeenBook) (owners : List Owner) (m : Note (List Entry)) (sound : IsSound m) (all : size_of m ≡ 4294967296) (fit : Fits setting b owners m) where
   pub calls_within : b.calls ≤ sum_by (λ (e : Entry). e.calls) m.about
   calls_within =
       let s = sum_within (λ o. o.calls) (λ e. e.calls) (λ n e. refl) b owners m sound all fit.owners_of.numbers fit.entries fit.free in
@@ -183,12 +183,12 @@ module _ (setting : Setting) (b : BookData) (owners : List Owner) (m : Note (Lis
       let c = fit.owners_of.reads in omega arith
 
 -- how each pass ended is so of the book
-ended_as : (b : BookData) (ending : Ending) → (HasNoJobLeft b → IsThrough b) → IsEndingOf b ending → IsEnded b ending
+ended_as : (b : SeenBook) (ending : Ending) → (HasNoJobLeft b → IsThrough b) → IsEndingOf b ending → IsEnded b ending
 ended_as b GoesOn through fit = tt
 ended_as b HasFinished through fit = (fit, through fit)
 ended_as b IsStopped through fit = fit
 
-pub ended_all : (b : BookData) (owners : List Owner) (ns : List ℕ) (es : List Entry) → (HasNoJobLeft b → IsThrough b) → FitEntries b owners ns es → AllByRecursion (λ (e : Entry). IsEnded b e.ending) es
+pub ended_all : (b : SeenBook) (owners : List Owner) (ns : List ℕ) (es : List Entry) → (HasNoJobLeft b → IsThrough b) → FitEntries b owners ns es → AllByRecursion (λ (e : Entry). IsEnded b e.ending) es
 ended_all b owners [] [] through fit = tt
 ended_all b owners (n ∷ ns) (e ∷ es) through fit = (ended_as b e.ending through fit.0.ending, ended_all b owners ns es through fit.1)
 ended_all b owners [] (e ∷ es) through fit = absurd fit

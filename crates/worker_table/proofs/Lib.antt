@@ -1,4 +1,3 @@
-pub mod Carried
 pub mod Stepping
 pub mod Turning
 pub mod Tells

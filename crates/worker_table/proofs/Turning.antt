@@ -1,157 +1,109 @@
--- From a turn's step on the book to the move that it is, and to what the call says of its turn.
-use Rattle.std.proofs.Common.{◌≡◌, ℕ, ◌<◌, zero, suc, List, [], ◌∷◌, ◌++◌, length, refl, sym, ap, ◌∙◌, subst, arith}
-use Rattle.std.specs.Prelude.{Option, Some, None, Result, Ok, Err, OnErr, IfOk, slice_get, slice_set}
-use Rattle.beam_values.specs.declared.fault.Cause.{Cause}
-use Rattle.beam_values.specs.declared.file_text.FileText.{FileText}
-use Rattle.book_core.specs.Calls.{Makes}
+-- From an act to the turn that it makes, and from that to the turn that a call speaks of.
+use Rattle.std.proofs.Common.{◌≡◌, ℕ, ◌<◌, List, [], ◌∷◌, length, refl, sym, ap, ◌∙◌, subst, arith}
+use Rattle.std.specs.Prelude.{Option, Some, None, Result, Ok, Err, IsSomeAnd}
+use Rattle.bundle_commit.specs.declared.job.Receipt.{Receipt}
+use Rattle.turn_desk.specs.declared.desk.Desk.{Desk}
+use Rattle.turn_desk.specs.declared.desk.Pass.{Pass}
+use Rattle.turn_desk.specs.declared.held.Held.{Ghosts}
 use Rattle.turn_desk.specs.declared.held.Note.{Note}
 use Rattle.turn_desk.specs.Notes.{IsSound}
-use Rattle.book_core.specs.Book.{BookData, slot_at}
-use Rattle.book_core.specs.Runs.{IsHonestAction}
-use Rattle.book_core.specs.Steps.{Action, Answer, Enroll, Enrolled, Fail, IsNextFor, NoMemory, Split, SplitAt, Step}
-use Rattle.worker_table.specs.Calls.{Helping, IsHelpAnswer, enroll_deed, failed_at, help_deed}
-use Rattle.worker_table.specs.Fits.{Fits, FitEntries, FitsEntry, IsBookOf, IsJobOf, IsSlotOf}
-use Rattle.worker_table.specs.Moves.{Deed, Rests, Steps, Enrolls, FindsNone, Helps, Does, FirstDoes, IsOwnAction, Moves, calls_after, entry_after, first_after, known_at, note_after, reads_after}
-use Rattle.worker_table.specs.Notes.{Setting, Owner, owner_of, Entry}
-use Rattle.worker_table.specs.Places.{set_as_it_was}
-use Rattle.worker_table.specs.Turns.{HasEnrolled, HasHelped, Turned, entry_in, first_entry, number_in}
-use Rattle.worker_table.specs.declared.held.Shared.{Shared}
+use Rattle.book_core.specs.Book.{SeenBook}
+use Rattle.book_core.specs.Steps.{Commit}
+use Rattle.book_core.specs.Work.{Surroundings}
+use Rattle.book_core.specs.declared.live.Unplaced.{Unplaced}
+use Rattle.worker_table.specs.Calls.{CanCommitAs, Helping, IsHelpAnswer, Placing, commit_answer, help_deed}
+use Rattle.worker_table.specs.Carried.{can_commit}
+use Rattle.worker_table.specs.Fits.{Fits, FitEntries, FitsEntry, IsBookOf, IsKnownIn, IsSlotOf}
+use Rattle.worker_table.specs.Laws.{first_fits}
+use Rattle.worker_table.specs.Moves.{Deed, Steps, Does, Moves, entry_after, entry_in, first_after, note_after, number_in, owners_after}
+use Rattle.worker_table.specs.Notes.{Setting, Owner, Entry}
+use Rattle.worker_table.specs.Passes.{IsOf, IsSeatOf, note_in, slot_of}
+use Rattle.worker_table.specs.Turns.{HasCommitted, HasHelped, KeepsOthers, Turned, first_entry, later_of}
 use Rattle.worker_table.specs.declared.help.Help.{Help}
 use Rattle.worker_table.specs.declared.help.Help.TheVariants as help
+use Rattle.worker_table.specs.declared.pass.Table.{Table}
+use Rattle.worker_table.specs.declared.pass.WorkerPass.{WorkerPass}
 
-first_fits : (b : BookData) (owners : List Owner) (ns : List ℕ) (es : List Entry) → 0 < length ns → FitEntries b owners ns es → FitsEntry b owners (number_in ns) (entry_in es)
-first_fits b owners (n ∷ ns) (e ∷ es) some fit = fit.0
-first_fits b owners [] es some fit = absurd (omega arith)
-first_fits b owners (n ∷ ns) [] some fit = absurd fit
+known_by : (setting : Setting) (b : SeenBook) (owners : List Owner) (number : ℕ) (e : Entry) → IsBookOf setting b → FitsEntry b owners number e → IsKnownIn setting b e
+known_by setting b owners number e book fit = record { plan = book.plan; job = λ i slot. (subst (IsSlotOf b owners number e.job e.calls e.reads) slot fit.slot).1 }
 
-first_is : (deed : Deed) (b b' : BookData) (owners : List Owner) (ns : List ℕ) (es : List Entry) → 0 < length ns → FitEntries b owners ns es → entry_in (first_after deed b es b') ≡ entry_after deed b (entry_in es) b'
+-- what is noted of a pass, of the book that its turn lends
+pub known_lent : (setting : Setting) (b : SeenBook) (owners : List Owner) (m : Note (List Entry)) → IsSound m → Fits setting b owners m → IsKnownIn setting b (first_entry m)
+known_lent setting b owners m sound fit = known_by setting b owners _ (first_entry m) fit.book (first_fits b owners m.numbers m.about sound.own fit.entries)
+
+first_is : (deed : Deed) (b b' : SeenBook) (owners : List Owner) (ns : List ℕ) (es : List Entry) → 0 < length ns → FitEntries b owners ns es → entry_in (first_after deed b es b') ≡ entry_after deed b (entry_in es) b'
 first_is deed b b' owners (n ∷ ns) (e ∷ es) some fit = refl
 first_is deed b b' owners [] es some fit = absurd (omega arith)
 first_is deed b b' owners (n ∷ ns) [] some fit = absurd fit
 
-first_does : (setting : Setting) (b b' : BookData) (owners owners' : List Owner) (deed : Deed) (ns : List ℕ) (es : List Entry) → 0 < length ns → FitEntries b owners ns es
-    → Does setting.known (number_in ns) (entry_in es) b owners deed b' owners' → FirstDoes setting.known ns es b owners deed b' owners'
-first_does setting b b' owners owners' deed (n ∷ ns) (e ∷ es) some fit does = does
-first_does setting b b' owners owners' deed [] es some fit does = absurd (omega arith)
-first_does setting b b' owners owners' deed (n ∷ ns) [] some fit does = absurd fit
+pub turned : (setting : Setting) (b b' : SeenBook) (owners : List Owner) (m n : Note (List Entry)) (deed : Deed) (makes : SeenBook → SeenBook → Type 0) → IsSound m → Fits setting b owners m → makes b b'
+    → n ≡ note_after deed b m b' → Turned setting m n deed makes
+turned setting b b' owners m n deed makes sound fit made is = record {
+  lent = b;
+  back = b';
+  book = fit.book;
+  owners = owners;
+  fits = fit;
+  fit = first_fits b owners m.numbers m.about sound.own fit.entries;
+  made = made;
+  note = is;
+  first = ap first_entry is ∙ first_is deed b b' owners m.numbers m.about sound.own fit.entries;
+}
 
-failed_is : (owners : List Owner) (i n calls reads at : ℕ) (cause : Cause) → slice_get owners i ≡ Some (owner_of n calls reads)
-    → failed_at owners i at cause ≡ slice_set owners i (owner_of n (calls_after (Fail at cause) calls) (reads_after (Fail at cause) reads))
-failed_is [] i n calls reads at cause h = cc
-failed_is (o ∷ os) zero n calls reads at cause h =
-    let w : o ≡ owner_of n calls reads = cc in
-    ap (λ (z : Owner). owner_of z.number (calls_after (Fail at cause) z.calls) (reads_after (Fail at cause) z.reads) ∷ os) w
-failed_is (o ∷ os) (suc i) n calls reads at cause h = ap (λ k. o ∷ k) (failed_is os i n calls reads at cause h)
+-- and the move that it is, where the turn has the note tn, and the deed is named by what is remembered of the act
+pub moved : (known : Surroundings) (b b' : SeenBook) (owners owners' : List Owner) (m tn : Note (List Entry)) (deed did : Deed) → tn ≡ m → did ≡ deed → Does known (first_entry m) b deed b'
+    → owners' ≡ owners_after (number_in tn.numbers) (first_entry tn) did owners → Moves known b owners tn b' owners' (note_after did b tn b')
+moved known b b' owners owners' m tn deed did noted is does owned =
+    record { deed = did; does = subst (λ (z : Entry × Deed). Does known z.0 b z.1 b') (λ k. (first_entry (sym noted k), sym is k)) does; owners_of = owned; note = refl }
 
--- In a call: L is what the turn lent, x what it showed, y what it gives back, and tn its note.
-module _ (setting : Setting) (L x : Shared) (m : Note (List Entry)) (same : x ≡ L) (sound : IsSound m) (fit : Fits setting L.book.value L.owners.value m) where
-  fit_now : Fits setting x.book.value x.owners.value m
-  fit_now = subst (λ (z : Shared). Fits setting z.book.value z.owners.value m) (sym same) fit
+later_stay : (deed : Deed) (b b' : SeenBook) (es : List Entry) → (later_of (first_after deed b es b') ≡ later_of es) × (length (first_after deed b es b') ≡ length es)
+later_stay deed b b' [] = (refl, refl)
+later_stay deed b b' (e ∷ es) = (refl, refl)
 
-  pub book_now : IsBookOf setting x.book.value
-  book_now = fit_now.book
+pub keeps_others : (setting : Setting) (m n : Note (List Entry)) (deed : Deed) (makes : SeenBook → SeenBook → Type 0) → Turned setting m n deed makes → KeepsOthers m n
+keeps_others setting m n deed makes turn = record {
+  numbers = ap (λ (z : Note (List Entry)). z.numbers) turn.note;
+  free = ap (λ (z : Note (List Entry)). z.free) turn.note;
+  others = ap (λ (z : Note (List Entry)). later_of z.about) turn.note ∙ (later_stay deed turn.lent turn.back m.about).0;
+  count = ap (λ (z : Note (List Entry)). length z.about) turn.note ∙ (later_stay deed turn.lent turn.back m.about).1;
+}
 
-  entry_now : FitsEntry x.book.value x.owners.value (number_in m.numbers) (first_entry m)
-  entry_now = first_fits x.book.value x.owners.value m.numbers m.about sound.own fit_now.entries
+module _ (setting : Setting) (m n : Note (List Entry)) where
+  -- the same turn, of which something else is said
+  pub retold : (deed : Deed) (makes means : SeenBook → SeenBook → Type 0) (turn : Turned setting m n deed makes) → means turn.lent turn.back → Turned setting m n deed means
+  retold deed makes means turn made =
+      record { lent = turn.lent; back = turn.back; book = turn.book; owners = turn.owners; fits = turn.fits; fit = turn.fit; made = made; note = turn.note; first = turn.first }
 
-  slot_now : (i : ℕ) → (first_entry m).slot ≡ Some i → IsSlotOf x.book.value x.owners.value (number_in m.numbers) (first_entry m).job (first_entry m).calls (first_entry m).reads (Some i)
-  slot_now i slot = subst (IsSlotOf x.book.value x.owners.value (number_in m.numbers) (first_entry m).job (first_entry m).calls (first_entry m).reads) slot entry_now.slot
+  pub known_turned : (deed : Deed) (makes : SeenBook → SeenBook → Type 0) (turn : Turned setting m n deed makes) → IsKnownIn setting turn.lent (first_entry m)
+  known_turned deed makes turn = known_by setting turn.lent turn.owners _ (first_entry m) turn.book turn.fit
 
-  pub job_now : (i : ℕ) → (first_entry m).slot ≡ Some i → IsJobOf x.book.value.panes (first_entry m).job (slot_at x.book.value i)
-  job_now i slot = (slot_now i slot).1
+  pub commit_turn : {U : Type 0} (i : ℕ) (receipt : Receipt) (answer : Result U Unplaced) → (first_entry m).slot ≡ Some i → CanCommitAs setting (first_entry m).job receipt
+      → Turned setting m n (Steps i Commit (commit_answer answer)) (λ b new. Placing b i receipt answer new) → HasCommitted setting m n i receipt answer
+  commit_turn {U} i receipt (Ok u) slot given turn =
+      retold _ _ _ turn (turn.made setting.known.told (can_commit setting turn.lent i (first_entry m) (known_turned _ _ turn) slot receipt given).1)
+  commit_turn {U} i receipt (Err unplaced) slot given turn =
+      retold _ _ _ turn ((can_commit setting turn.lent i (first_entry m) (known_turned _ _ turn) slot receipt given).1, turn.made.1)
 
-  module _ (y : Shared) where
-    -- a step that is no fail leaves the owners
-    pub quiet_does : (i : ℕ) (action : Action) (answer : Answer) → ((n : ℕ) → calls_after action n ≡ n) → ((n : ℕ) → reads_after action n ≡ n) → (first_entry m).slot ≡ Some i → IsOwnAction action
-        → IsHonestAction setting.known x.book.value i action → Step setting.known.told x.book.value i action answer y.book.value → y.owners.value ≡ x.owners.value
-        → Does setting.known (number_in m.numbers) (first_entry m) x.book.value x.owners.value (Steps i action answer) y.book.value y.owners.value
-    quiet_does i action answer calls reads slot own honest step owners =
-        let n : ℕ = number_in m.numbers in
-        let e : Entry = first_entry m in (
-          slot,
-          own,
-          step,
-          honest,
-          owners ∙ sym (set_as_it_was x.owners.value i (owner_of n e.calls e.reads) (owner_of n (calls_after action e.calls) (reads_after action e.reads)) (slot_now i slot).0
-              (λ j. owner_of n (calls e.calls j) (reads e.reads j))),
-        )
+  pub help_turn : {E : Type 0} (i : ℕ) (found : Help) (answer : Result (Option ℕ) E) → IsHelpAnswer found answer → Turned setting m n (help_deed found) (λ b new. Helping b i found new) → HasHelped setting m n i answer
+  help_turn {E} i help.Nobody (Ok None) same turn = turn
+  help_turn {E} i (help.Cut other at) (Ok (Some p)) same turn =
+      subst (λ (q : ℕ). HasHelped {E = E} setting m n i (Ok (Some q))) (sym same) (other, retold _ _ _ turn (turn.made.0, turn.made.1 setting.known.told))
+  help_turn {E} i (help.Refused other) (Err none) same turn = (other, turn)
+  help_turn {E} i _ _ same turn = absurd same
 
-    pub fail_does : (i at : ℕ) (cause : Cause) (answer : Answer) → (first_entry m).slot ≡ Some i → IsHonestAction setting.known x.book.value i (Fail at cause)
-        → Step setting.known.told x.book.value i (Fail at cause) answer y.book.value → y.owners.value ≡ failed_at x.owners.value i at cause
-        → Does setting.known (number_in m.numbers) (first_entry m) x.book.value x.owners.value (Steps i (Fail at cause) answer) y.book.value y.owners.value
-    fail_does i at cause answer slot honest step owners =
-        let e : Entry = first_entry m in
-        (slot, tt, step, honest, owners ∙ failed_is x.owners.value i (number_in m.numbers) e.calls e.reads at cause (slot_now i slot).0)
+-- ---- the pass of a table
 
-    pub help_does : (i : ℕ) (found : Help) → (first_entry m).slot ≡ Some i → Helping x.book.value i found y.book.value → y.owners.value ≡ x.owners.value
-        → Does setting.known (number_in m.numbers) (first_entry m) x.book.value x.owners.value (help_deed found) y.book.value y.owners.value
-    help_does i help.Nobody slot step owners = (i, slot, step.0, step.1, owners)
-    help_does i (help.Cut other at) slot step owners = (i, slot, step.0, step.1 setting.known.told, owners)
-    help_does i (help.Refused other) slot step owners = (i, slot, step.0, step.1, owners)
+-- a pass knows the slot that is noted
+noted_slot : {V C : Type 0} {g : Ghosts V (List Entry) C} (desk : Desk V (List Entry) C) (pass : Option (Pass V (List Entry) C g)) (slot : Option ℕ) → IsSeatOf desk pass slot → (first_entry (note_in pass)).slot ≡ slot
+noted_slot {V} {C} {g} desk (Some pass) slot seat = seat.1
+noted_slot {V} {C} {g} desk None slot seat = absurd seat
 
-    pub enroll_does : {E : Type 0} (answer : Result ℕ E) → (first_entry m).slot ≡ None → IfOk answer (λ i. Step setting.known.told x.book.value i Enroll (Enrolled i) y.book.value)
-        → IfOk answer (λ i. y.owners.value ≡ x.owners.value ++ owner_of (number_in m.numbers) 0 0 ∷ []) → OnErr answer ((y.book.value ≡ x.book.value) × (y.owners.value ≡ x.owners.value))
-        → Does setting.known (number_in m.numbers) (first_entry m) x.book.value x.owners.value (enroll_deed answer) y.book.value y.owners.value
-    enroll_does {E} (Ok i) slot step owners none = (slot, step, owners)
-    enroll_does {E} (Err e) slot step owners none = none
+pub seat_noted : {V C : Type 0} {g : Ghosts V (List Entry) C} (desk : Desk V (List Entry) C) (pass : Option (Pass V (List Entry) C g)) (slot : Option ℕ) → IsSeatOf desk pass slot → 0 < length (note_in pass).about
+seat_noted {V} {C} {g} desk (Some pass) slot seat = seat.2
+seat_noted {V} {C} {g} desk None slot seat = absurd seat
 
-    module _ (tn : Note (List Entry)) (deed : Deed) (noted : tn ≡ m) where
-      pub moves_given : (d : Deed) → deed ≡ d → Does setting.known (number_in m.numbers) (first_entry m) x.book.value x.owners.value d y.book.value y.owners.value
-          → Moves setting.known L.book.value L.owners.value tn y.book.value y.owners.value (note_after deed L.book.value tn y.book.value)
-      moves_given d is does =
-          let P : Shared × Note (List Entry) → Type 0 = λ z. Moves setting.known z.0.book.value z.0.owners.value z.1 y.book.value y.owners.value (note_after deed z.0.book.value z.1 y.book.value) in
-          let own = first_does setting x.book.value y.book.value x.owners.value y.owners.value d m.numbers m.about sound.own fit_now.entries does in
-          let here : Moves setting.known x.book.value x.owners.value m y.book.value y.owners.value (note_after deed x.book.value m y.book.value) = record {
-            deed = deed;
-            does = subst (λ (e : Deed). FirstDoes setting.known m.numbers m.about x.book.value x.owners.value e y.book.value y.owners.value) (sym is) own;
-            note = refl;
-          } in
-          subst P (λ j. (same j, sym noted j)) here
+pub seated : (table : Table) (old new : WorkerPass) → IsOf table old → IsSeatOf table.desk new.pass (slot_of new) → new.slot ≡ old.slot → slot_of new ≡ slot_of old → IsOf table new
+seated table old new was seat kept stays = subst (IsSeatOf table.desk new.pass) (stays ∙ noted_slot table.desk old.pass old.slot was ∙ sym kept) seat
 
-      pub turn_given : (n : Note (List Entry)) (d : Deed) (makes : BookData → BookData → Type 0) → deed ≡ d → makes x.book.value y.book.value → n ≡ note_after deed L.book.value tn y.book.value → Turned setting m n d makes
-      turn_given n d makes is made e =
-          let here : n ≡ note_after d x.book.value m y.book.value = e ∙ (λ j. note_after (is j) (sym same j).book.value (noted j) y.book.value) in
-          record {
-            lent = x.book.value;
-            back = y.book.value;
-            book = fit_now.book;
-            owners = x.owners.value;
-            fits = fit_now;
-            fit = entry_now;
-            made = made;
-            note = here;
-            first = ap first_entry here ∙ first_is d x.book.value y.book.value x.owners.value m.numbers m.about sound.own fit_now.entries;
-          }
-
-      -- what the note says of the pass's job then
-      pub job_given : (n : Note (List Entry)) (i : ℕ) (action : Action) (answer : Answer) → deed ≡ Steps i action answer → n ≡ note_after deed L.book.value tn y.book.value → (first_entry n).job ≡ known_at y.book.value i
-      job_given n i action answer is e =
-          let d = Steps i action answer in
-          ap (λ (z : Note (List Entry)). (first_entry z).job) (e ∙ (λ j. note_after (is j) (sym same j).book.value (noted j) y.book.value))
-          ∙ ap (λ (z : Entry). z.job) (first_is d x.book.value y.book.value x.owners.value m.numbers m.about sound.own fit_now.entries)
-
-      pub help_turn : {E : Type 0} (n : Note (List Entry)) (i : ℕ) (found : Help) (answer : Result (Option ℕ) E) → deed ≡ help_deed found → Helping x.book.value i found y.book.value → IsHelpAnswer found answer
-          → n ≡ note_after deed L.book.value tn y.book.value → HasHelped setting m n i answer
-      help_turn {E} n i help.Nobody (Ok None) is step same e = turn_given n FindsNone (λ b b'. IsNextFor b i None × (b' ≡ b)) is step e
-      help_turn {E} n i (help.Cut other at) (Ok (Some p)) is step same e =
-          subst (λ (q : ℕ). HasHelped {E = E} setting m n i (Ok (Some q))) (sym same)
-          (other, turn_given n (Helps other (SplitAt (Some at))) (λ b b'. IsNextFor b i (Some other) × Step setting.known.told b other (Split 1 2) (SplitAt (Some at)) b') is (step.0, step.1 setting.known.told) e)
-      help_turn {E} n i (help.Refused other) (Err none) is step same e = (other, turn_given n (Helps other NoMemory) (λ b b'. IsNextFor b i (Some other) × (b' ≡ b)) is step e)
-      help_turn {E} n i _ _ is step same e = absurd same
-
-      pub enroll_turn : {E : Type 0} (n : Note (List Entry)) (answer : Result ℕ E) → deed ≡ enroll_deed answer → IfOk answer (λ i. Step setting.known.told x.book.value i Enroll (Enrolled i) y.book.value)
-          → OnErr answer ((y.book.value ≡ x.book.value) × (y.owners.value ≡ x.owners.value)) → n ≡ note_after deed L.book.value tn y.book.value → HasEnrolled setting m n answer
-      enroll_turn {E} n (Ok i) is step none e = turn_given n (Enrolls i) (λ b b'. Step setting.known.told b i Enroll (Enrolled i) b') is step e
-      enroll_turn {E} n (Err refused) is step none e = turn_given n Rests (λ b b'. b' ≡ b) is none.0 e
-
--- the step that an enroll is, of the told files
-pub enroll_step : {E : Type 0} (told : Option (List FileText)) (b new : BookData) (answer : Result ℕ E) → IfOk answer (λ i. Makes b i Enroll (Enrolled i) new) → IfOk answer (λ i. Step told b i Enroll (Enrolled i) new)
-enroll_step {E} told b new (Ok i) made = made told
-enroll_step {E} told b new (Err e) made = tt
-
--- the owners that were handed in are those that the turn showed, and the pass's own behind them
-pub enroll_given : {E : Type 0} (x shown : Shared) (owners : List Owner) (handed : List Owner) (tn m : Note (List Entry)) (answer : Result ℕ E) → IfOk answer (λ i. owners ≡ handed)
-    → handed ≡ shown.owners.value ++ owner_of (number_in tn.numbers) 0 0 ∷ [] → shown ≡ x → tn ≡ m
-    → IfOk answer (λ i. owners ≡ x.owners.value ++ owner_of (number_in m.numbers) 0 0 ∷ [])
-enroll_given {E} x shown owners handed tn m (Ok i) is picked same noted = is ∙ picked ∙ (λ j. (same j).owners.value ++ owner_of (number_in (noted j).numbers) 0 0 ∷ [])
-enroll_given {E} x shown owners handed tn m (Err e) is picked same noted = tt
+pub at_slot : (P : ℕ → Type 0) (slot : Option ℕ) (i : ℕ) → slot ≡ Some i → P i → IsSomeAnd slot P
+at_slot P slot i is p = subst (λ (s : Option ℕ). IsSomeAnd s P) (sym is) p

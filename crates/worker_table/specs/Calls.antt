@@ -1,23 +1,25 @@
 -- What the calls of a table ask of a pass, and what they tell it.
-use Rattle.std.specs.Prelude.{◌≡◌, ℕ, zero, suc, ◌<◌, Bool, true, false, List, [], ◌∷◌, length, Option, Some, None, Result, Ok, Err}
+use Rattle.std.specs.Prelude.{◌≡◌, ℕ, ◌<◌, Bool, true, false, List, length, Option, Some, None, Result, Ok, Err}
 use Rattle.beam_values.specs.Tracking.{MayClaim, is_granted}
 use Rattle.beam_values.specs.declared.fault.Cause.{Cause}
+use Rattle.beam_values.specs.declared.file_text.FileText.{FileText}
 use Rattle.beam_values.specs.declared.piece.Piece.{Piece}
 use Rattle.beam_values.specs.declared.plan.Plan.{Plan}
 use Rattle.bundle_commit.specs.declared.job.Job.{Job}
 use Rattle.bundle_commit.specs.declared.job.Job.TheVariants as job
 use Rattle.bundle_commit.specs.declared.job.Receipt.{Receipt}
-use Rattle.book_core.specs.Book.{BookData, tracker_of}
+use Rattle.book_core.specs.Book.{SeenBook, tracker_of}
 use Rattle.book_core.specs.Calls.{Makes, answer_of}
-use Rattle.book_core.specs.Steps.{Answer, Committed, Fail, IsNextFor, NoMemory, Split, SplitAt}
+use Rattle.book_core.specs.Steps.{Answer, CanCommit, Committed, Enrolled, Fail, IsCommitting, IsNextFor, IsWithinLimits, NoMemory, Split, SplitAt}
 use Rattle.book_core.specs.Work.{IsGiven, IsHonest}
 use Rattle.book_core.specs.declared.live.Failure.{Failure}
 use Rattle.book_core.specs.declared.live.Failure.TheVariants as failure
 use Rattle.book_core.specs.declared.live.Taken.{Taken}
 use Rattle.book_core.specs.declared.live.Taken.TheVariants as taken
+use Rattle.book_core.specs.declared.live.Unplaced.{Unplaced}
 use Rattle.worker_table.specs.Fits.{IsShortened}
-use Rattle.worker_table.specs.Moves.{Deed, Rests, Enrolls, FindsNone, Helps, calls_after, reads_after}
-use Rattle.worker_table.specs.Notes.{Setting, Owner, owner_of, KnownJob, Ending, HasFinished, IsStopped, Entry}
+use Rattle.worker_table.specs.Moves.{Deed, Enrolls, FindsNone, Helps, calls_after, reads_after}
+use Rattle.worker_table.specs.Notes.{Setting, KnownJob, Ending, HasFinished, IsStopped, Entry}
 use Rattle.worker_table.specs.declared.help.Help.{Help}
 use Rattle.worker_table.specs.declared.help.Help.TheVariants as help
 
@@ -52,6 +54,15 @@ take_answer (Err e) = NoMemory
 abbrev pub commit_answer : {U E : Type 0} → Result U E → Answer
 commit_answer (Ok u) = Committed
 commit_answer (Err e) = NoMemory
+
+-- the slot of an enroll that found no memory is noted as slot 0
+abbrev pub enrolled_slot : {E : Type 0} → Result ℕ E → ℕ
+enrolled_slot (Ok i) = i
+enrolled_slot (Err e) = 0
+
+abbrev pub enroll_answer : {E : Type 0} → Result ℕ E → Answer
+enroll_answer (Ok i) = Enrolled i
+enroll_answer (Err e) = NoMemory
 
 -- ---- what the pass knows then
 
@@ -151,25 +162,23 @@ pub record AfterStop (e e' : Entry) : Type 0 where
 -- ---- what is asked of the book
 
 -- an idle slot helps another: none was found, or its range was split, or there was no memory for that
-abbrev pub Helping : BookData → ℕ → Help → BookData → Type 0
+abbrev pub Helping : SeenBook → ℕ → Help → SeenBook → Type 0
 Helping b slot help.Nobody b' = IsNextFor b slot None × (b' ≡ b)
 Helping b slot (help.Cut other at) b' = IsNextFor b slot (Some other) × Makes b other (Split 1 2) (SplitAt (Some at)) b'
 Helping b slot (help.Refused other) b' = IsNextFor b slot (Some other) × (b' ≡ b)
 
+-- the receipt of the slot's job is placed, whatever the files are; or there was no memory for that, and it is handed back
+abbrev pub Placing : {U : Type 0} → SeenBook → ℕ → Receipt → Result U Unplaced → SeenBook → Type 0
+Placing b slot receipt (Ok u) b' = (told : Option (List FileText)) → CanCommit told b slot receipt → IsCommitting told b slot receipt b' × IsWithinLimits b'
+Placing b slot receipt (Err unplaced) b' = (unplaced.receipt ≡ receipt) × (b' ≡ b)
+
 abbrev pub enroll_deed : {E : Type 0} → Result ℕ E → Deed
-enroll_deed (Ok i) = Enrolls i
-enroll_deed (Err e) = Rests
+enroll_deed answer = Enrolls (enrolled_slot answer) (enroll_answer answer)
 
 abbrev pub help_deed : Help → Deed
 help_deed help.Nobody = FindsNone
 help_deed (help.Cut other at) = Helps other (SplitAt (Some at))
 help_deed (help.Refused other) = Helps other NoMemory
-
--- the owners after a fail that was made through a slot
-abbrev pub failed_at : List Owner → ℕ → ℕ → Cause → List Owner
-failed_at [] i at cause = []
-failed_at (o ∷ os) zero at cause = owner_of o.number (calls_after (Fail at cause) o.calls) (reads_after (Fail at cause) o.reads) ∷ os
-failed_at (o ∷ os) (suc i) at cause = o ∷ failed_at os i at cause
 
 -- what is answered: where the range was split
 abbrev pub IsHelpAnswer : {E : Type 0} → Help → Result (Option ℕ) E → Type 0

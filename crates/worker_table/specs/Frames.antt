@@ -1,8 +1,8 @@
 -- What a step of one slot leaves of the rest of the book.
-use Rattle.std.proofs.Common.{◌≡◌, ◌≢◌, ℕ, ◌≤◌, List, [], ◌∷◌, ◌++◌, length, length-append, append-nil, true, false, Bool, refl, sym, ap, ◌∙◌, subst, arith}
+use Rattle.std.proofs.Common.{◌≡◌, ◌≢◌, ℕ, zero, suc, ◌≤◌, List, [], ◌∷◌, ◌++◌, length, length-append, append-nil, true, false, Bool, refl, sym, ap, ◌∙◌, subst, arith}
 use Rattle.std.specs.Prelude.{Option, Some, None, slice_get, slice_set}
-use Rattle.std.specs.List.{flat_map}
-use Rattle.std.proofs.lemmas.List.Concat.{flat_map-append}
+use Rattle.std.specs.List.{All}
+use Rattle.std.proofs.lemmas.List.Elements.{All-nil, All-cons, All-head, All-tail}
 use Rattle.beam_values.specs.declared.cell.Pane.{Pane}
 use Rattle.beam_values.specs.declared.fault.Cause.{Cause}
 use Rattle.beam_values.specs.declared.fault.Cause.TheVariants.{Call, Read}
@@ -12,7 +12,7 @@ use Rattle.beam_values.specs.declared.outcome.StopCause.{StopCause}
 use Rattle.beam_values.specs.declared.outcome.StopCause.TheVariants as stop
 use Rattle.beam_values.specs.declared.piece.Piece.{Piece}
 use Rattle.group_cells.specs.Commits.{as_commit}
-use Rattle.book_core.specs.Book.{BookData, batch_of, last_commit, piece_of, slot_at}
+use Rattle.book_core.specs.Book.{SeenBook, last_commit, slot_at}
 use Rattle.book_core.specs.Changes.{with_slot, counted, ends_run, failed, given_back, note_of, or_stopped, stopped_where}
 use Rattle.book_core.specs.Jobs.{Due, GivenBack, Oldest, Next, due_or_piece, first_due, next_job, without_due, without_first}
 use Rattle.book_core.specs.Steps.{Action, Enroll, Take, Claim, Split, Commit, Fail, Stop, Answer, Enrolled, TakenJob, Nothing, Finished, Stopped, Claimed, SplitAt, Committed, Spent, Noted, NoMemory, Step, IsWorking, IsIdle, IsRunning}
@@ -21,49 +21,53 @@ use Rattle.book_core.specs.declared.live.Live.TheVariants as live
 use Rattle.worker_table.specs.Fits.{HasNoJobLeft, IsEndingOf}
 use Rattle.worker_table.specs.Moves.{IsOwnAction, calls_after, reads_after, ending_after}
 use Rattle.worker_table.specs.Notes.{Ending, GoesOn, HasFinished, IsStopped}
-use Rattle.worker_table.specs.Places.{set_elsewhere, set_length, end_elsewhere, gives_some}
+use Rattle.worker_table.specs.Places.{set_elsewhere, set_length, end_elsewhere}
 
 -- ---- no job is left
 
 none_some : {X : Type 0} (x : X) → Some x ≡ None → ⊥
 none_some x e = cc
 
-none_first : (b : BookData) (pieces : List Piece) → without_first b pieces ≡ None → pieces ≡ []
+none_first : (b : SeenBook) (pieces : List Piece) → without_first b pieces ≡ None → pieces ≡ []
 none_first b [] e = refl
 none_first b (piece ∷ later) e = absurd (none_some _ e)
 
-none_due : (b : BookData) → next_job b ≡ None → (first_due b ≡ None) × (b.pending ≡ [])
+none_due : (b : SeenBook) → next_job b ≡ None → (first_due b ≡ None) × (b.pending ≡ [])
 none_due b e = by (first_due b) refl e
   where
     by : (due : Option Due) → first_due b ≡ due → due_or_piece b due ≡ None → (first_due b ≡ None) × (b.pending ≡ [])
     by None first h = (first, none_first b b.pending h)
     by (Some due) first h = absurd (none_some _ h)
 
-none_next : (b : BookData) → first_due b ≡ None → b.pending ≡ [] → next_job b ≡ None
+none_next : (b : SeenBook) → first_due b ≡ None → b.pending ≡ [] → next_job b ≡ None
 none_next b first pending = ap (due_or_piece b) first ∙ ap (without_first b) pending
 
 -- the slot works, so the book is not idle
-pub working_busy : (b : BookData) (i : ℕ) (job : Live) → IsWorking b i job → IsIdle b → ⊥
-working_busy b i (live.Span piece attempted) at idle = gives_some piece_of b.slots i (Some (live.Span piece attempted)) piece at refl idle.0
-working_busy b i (live.Batch batch) at idle = gives_some batch_of b.slots i (Some (live.Batch batch)) batch at refl idle.1
-
-none_enrolled : {Y : Type 0} (f : Option Live → List Y) (xs : List (Option Live)) → f None ≡ [] → flat_map f xs ≡ [] → flat_map f (xs ++ None ∷ []) ≡ []
-none_enrolled f xs none h = flat_map-append f xs (None ∷ []) ∙ ap (λ l. l ++ flat_map f (None ∷ [])) h ∙ one
+pub working_busy : (b : SeenBook) (i : ℕ) (job : Live) → IsWorking b i job → IsIdle b → ⊥
+working_busy b i job works idle = by b.slots i works idle
   where
-    one : flat_map f (None ∷ []) ≡ []
-    one = ap (λ l. l ++ []) none
+    by : (slots : List (Option Live)) (i : ℕ) → slice_get slots i ≡ Some (Some job) → All (λ slot. slot ≡ None) slots → ⊥
+    by [] i at idle = cc
+    by (s ∷ ss) zero at idle = let none : s ≡ None = All-head (λ slot. slot ≡ None) s ss idle in let some : s ≡ Some job = cc in none_some job (sym some ∙ none)
+    by (s ∷ ss) (suc i) at idle = by ss i at (All-tail (λ slot. slot ≡ None) s ss idle)
 
-enrolled_left : (b : BookData) → HasNoJobLeft b → HasNoJobLeft (record b { slots = b.slots ++ None ∷ [] })
+-- one more slot works nothing
+idle_behind : (slots : List (Option Live)) → All (λ slot. slot ≡ None) slots → All (λ slot. slot ≡ None) (slots ++ None ∷ [])
+idle_behind [] idle = All-cons (λ slot. slot ≡ None) None [] refl (All-nil (λ slot. slot ≡ None))
+idle_behind (s ∷ ss) idle =
+    All-cons (λ slot. slot ≡ None) s (ss ++ None ∷ []) (All-head (λ slot. slot ≡ None) s ss idle) (idle_behind ss (All-tail (λ slot. slot ≡ None) s ss idle))
+
+enrolled_left : (b : SeenBook) → HasNoJobLeft b → HasNoJobLeft (record b { slots = b.slots ++ None ∷ [] })
 enrolled_left b left =
     let due = none_due b left.0 in
-    (none_next (record b { slots = b.slots ++ None ∷ [] }) due.0 due.1, (none_enrolled piece_of b.slots refl left.1.0, none_enrolled batch_of b.slots refl left.1.1))
+    (none_next (record b { slots = b.slots ++ None ∷ [] }) due.0 due.1, idle_behind b.slots left.1)
 
-stopped_left : (b : BookData) (stopped : Option StopCause) → HasNoJobLeft b → HasNoJobLeft (record b { stopped = stopped })
+stopped_left : (b : SeenBook) (stopped : Option StopCause) → HasNoJobLeft b → HasNoJobLeft (record b { stopped = stopped })
 stopped_left b stopped left = let due = none_due b left.0 in (none_next (record b { stopped = stopped }) due.0 due.1, left.1)
 
 -- ---- changes that leave the lists by which others know the book
 
-pub record KeepsLists (b c : BookData) : Type 0 where
+pub record KeepsLists (b c : SeenBook) : Type 0 where
   pub slots : c.slots ≡ b.slots
   pub commits : c.commits ≡ b.commits
   pub panes : c.panes ≡ b.panes
@@ -71,27 +75,27 @@ pub record KeepsLists (b c : BookData) : Type 0 where
   pub calls : c.calls ≡ b.calls
   pub reads : c.reads ≡ b.reads
 
-pieces_keep : (b : BookData) (pieces : List Piece) (next : Next) → without_first b pieces ≡ Some next → KeepsLists b next.rest
+pieces_keep : (b : SeenBook) (pieces : List Piece) (next : Next) → without_first b pieces ≡ Some next → KeepsLists b next.rest
 pieces_keep b [] next h = absurd (cc)
 pieces_keep b (piece ∷ later) next h =
     let is : record { job = live.Span piece None; rest = record b { pending = later } } ≡ next = cc in
     subst (λ (n : Next). KeepsLists b n.rest) is (record { slots = refl; commits = refl; panes = refl; stopped = refl; calls = refl; reads = refl })
 
-due_keep : (b : BookData) (due : Due) → KeepsLists b (without_due b due).rest
+due_keep : (b : SeenBook) (due : Due) → KeepsLists b (without_due b due).rest
 due_keep b (GivenBack batch) = record { slots = refl; commits = refl; panes = refl; stopped = refl; calls = refl; reads = refl }
 due_keep b (Oldest batch) = record { slots = refl; commits = refl; panes = refl; stopped = refl; calls = refl; reads = refl }
 
-pub next_keep : (b : BookData) (due : Option Due) (next : Next) → due_or_piece b due ≡ Some next → KeepsLists b next.rest
+pub next_keep : (b : SeenBook) (due : Option Due) (next : Next) → due_or_piece b due ≡ Some next → KeepsLists b next.rest
 next_keep b (Some due) next h = let is : without_due b due ≡ next = cc in subst (λ (n : Next). KeepsLists b n.rest) is (due_keep b due)
 next_keep b None next h = pieces_keep b b.pending next h
 
-back_keeps : (b : BookData) (job : Live) → KeepsLists b (given_back b job)
-back_keeps b (live.Span piece attempted) = record { slots = refl; commits = refl; panes = refl; stopped = refl; calls = refl; reads = refl }
-back_keeps b (live.Batch batch) = record { slots = refl; commits = refl; panes = refl; stopped = refl; calls = refl; reads = refl }
+back_keeps : (b : SeenBook) (job : Live) (at : ℕ) (cause : Cause) → KeepsLists b (given_back b job at cause)
+back_keeps b (live.Span piece attempted) at cause = record { slots = refl; commits = refl; panes = refl; stopped = refl; calls = refl; reads = refl }
+back_keeps b (live.Batch batch) at cause = record { slots = refl; commits = refl; panes = refl; stopped = refl; calls = refl; reads = refl }
 
 -- ---- a fail
 
-pub record LeavesAtFail (b : BookData) (slot at : ℕ) (cause : Cause) (spent : Bool) (new : BookData) : Type 0 where
+pub record LeavesAtFail (b : SeenBook) (slot at : ℕ) (cause : Cause) (spent : Bool) (new : SeenBook) : Type 0 where
   pub slots : new.slots ≡ slice_set b.slots slot None
   pub commits : new.commits ≡ b.commits
   pub panes : new.panes ≡ b.panes
@@ -104,7 +108,7 @@ or_some : (kept : Option StopCause) (new : StopCause) → or_stopped kept new �
 or_some None new e = none_some new e
 or_some (Some kept) new e = none_some kept e
 
-cause_leaves : (b back : BookData) (slot at : ℕ) (cause : Cause) (spent : Bool) (note : FaultNote) → KeepsLists (with_slot b slot None) back
+cause_leaves : (b back : SeenBook) (slot at : ℕ) (cause : Cause) (spent : Bool) (note : FaultNote) → KeepsLists (with_slot b slot None) back
     → LeavesAtFail b slot at cause spent (stopped_where spent (counted back cause) note)
 cause_leaves b back slot at Call true note keeps = record {
   slots = keeps.slots;
@@ -143,12 +147,12 @@ cause_leaves b back slot at Read false note keeps = record {
   reads = let k = keeps.reads in omega (arith, k);
 }
 
-pub fail_leaves : (b : BookData) (slot at : ℕ) (job : Live) (cause : Cause) → LeavesAtFail b slot at cause (ends_run b job cause) (failed b slot job at cause)
-fail_leaves b slot at job cause = cause_leaves b (given_back (with_slot b slot None) job) slot at cause (ends_run b job cause) (note_of job at cause) (back_keeps (with_slot b slot None) job)
+pub fail_leaves : (b : SeenBook) (slot at : ℕ) (job : Live) (cause : Cause) → LeavesAtFail b slot at cause (ends_run b job cause) (failed b slot job at cause)
+fail_leaves b slot at job cause = cause_leaves b (given_back (with_slot b slot None) job at cause) slot at cause (ends_run b job cause) (note_of job at cause) (back_keeps (with_slot b slot None) job at cause)
 
 -- ---- what a step leaves
 
-pub record Frame (b : BookData) (i : ℕ) (b' : BookData) : Type 0 where
+pub record Frame (b : SeenBook) (i : ℕ) (b' : SeenBook) : Type 0 where
   -- what the other slots work
   pub others : (j : ℕ) → j ≢ i → slot_at b' j ≡ slot_at b j
   pub commits : last_commit b ≤ last_commit b'
@@ -157,14 +161,14 @@ pub record Frame (b : BookData) (i : ℕ) (b' : BookData) : Type 0 where
   pub stopped : (IsRunning b → ⊥) → IsRunning b' → ⊥
   pub left : HasNoJobLeft b → HasNoJobLeft b'
 
-same_panes : (b : BookData) (panes : List Pane) → panes ≡ b.panes → (more : List Pane) × (panes ≡ b.panes ++ more)
+same_panes : (b : SeenBook) (panes : List Pane) → panes ≡ b.panes → (more : List Pane) × (panes ≡ b.panes ++ more)
 same_panes b panes e = ([], e ∙ sym (append-nil b.panes))
 
-frame_same : (b b' : BookData) (i : ℕ) → b' ≡ b → Frame b i b'
+frame_same : (b b' : SeenBook) (i : ℕ) → b' ≡ b → Frame b i b'
 frame_same b b' i e = subst (Frame b i) (sym e) (record { others = λ j d. refl; commits = omega arith; panes = same_panes b b.panes refl; stopped = λ h. h; left = λ h. h })
 
 -- a step of a slot that works
-frame_busy : (b b' : BookData) (i : ℕ) (job : Live) (slot : Option Live) → IsWorking b i job → b'.slots ≡ slice_set b.slots i slot → last_commit b ≤ last_commit b'
+frame_busy : (b b' : SeenBook) (i : ℕ) (job : Live) (slot : Option Live) → IsWorking b i job → b'.slots ≡ slice_set b.slots i slot → last_commit b ≤ last_commit b'
     → (more : List Pane) × (b'.panes ≡ b.panes ++ more) → ((IsRunning b → ⊥) → IsRunning b' → ⊥) → Frame b i b'
 frame_busy b b' i job slot works slots commits panes stopped = record {
   others = λ j d. ap (λ (s : List (Option Live)). slice_get s j) slots ∙ set_elsewhere b.slots i j slot d;
@@ -174,7 +178,7 @@ frame_busy b b' i job slot works slots commits panes stopped = record {
   left = λ left. absurd (working_busy b i job works left.1);
 }
 
-take_frame : (b : BookData) (i : ℕ) (next : Next) → next_job b ≡ Some next → Frame b i (with_slot next.rest i (Some next.job))
+take_frame : (b : SeenBook) (i : ℕ) (next : Next) → next_job b ≡ Some next → Frame b i (with_slot next.rest i (Some next.job))
 take_frame b i next is_next =
     let keeps = next_keep b (first_due b) next is_next in record {
       others = λ j d. set_elsewhere next.rest.slots i j (Some next.job) d ∙ ap (λ (s : List (Option Live)). slice_get s j) keeps.slots;
@@ -184,7 +188,7 @@ take_frame b i next is_next =
       left = λ left. absurd (none_some next (sym is_next ∙ left.0));
     }
 
-enroll_frame : (b : BookData) (i : ℕ) → i ≡ length b.slots → Frame b i (record b { slots = b.slots ++ None ∷ [] })
+enroll_frame : (b : SeenBook) (i : ℕ) → i ≡ length b.slots → Frame b i (record b { slots = b.slots ++ None ∷ [] })
 enroll_frame b i e = record {
   others = λ j d. end_elsewhere b.slots None j (λ f. d (f ∙ sym e));
   commits = omega arith;
@@ -193,7 +197,7 @@ enroll_frame b i e = record {
   left = enrolled_left b;
 }
 
-pub step_frame : (told : Option (List FileText)) (b b' : BookData) (i : ℕ) (action : Action) (answer : Answer) → Step told b i action answer b' → Frame b i b'
+pub step_frame : (told : Option (List FileText)) (b b' : SeenBook) (i : ℕ) (action : Action) (answer : Answer) → Step told b i action answer b' → Frame b i b'
 step_frame told b b' i Enroll (Enrolled number) step = subst (Frame b i) (sym step.2) (enroll_frame b i (step.1 ∙ step.0))
 step_frame told b b' i Enroll NoMemory step = frame_same b b' i step
 step_frame told b b' i Take (TakenJob job) step = subst (Frame b i) (sym step.is) (take_frame b i step.next step.is_next)
@@ -227,71 +231,71 @@ step_frame told b b' i Stop Noted step =
 step_frame told b b' i _ _ step = absurd step
 
 -- how a pass ended stays so
-pub ending_stays : (b b' : BookData) (ending : Ending) → ((IsRunning b → ⊥) → IsRunning b' → ⊥) → (HasNoJobLeft b → HasNoJobLeft b') → IsEndingOf b ending → IsEndingOf b' ending
+pub ending_stays : (b b' : SeenBook) (ending : Ending) → ((IsRunning b → ⊥) → IsRunning b' → ⊥) → (HasNoJobLeft b → HasNoJobLeft b') → IsEndingOf b ending → IsEndingOf b' ending
 ending_stays b b' GoesOn stopped left fit = tt
 ending_stays b b' HasFinished stopped left fit = left fit
 ending_stays b b' IsStopped stopped left fit = stopped fit
 
 -- a fail that is the last one stops the book
-spent_stops : (told : Option (List FileText)) (b b' : BookData) (i at : ℕ) (cause : Cause) (note : FaultNote) → Step told b i (Fail at cause) (Spent note) b' → IsRunning b' → ⊥
+spent_stops : (told : Option (List FileText)) (b b' : SeenBook) (i at : ℕ) (cause : Cause) (note : FaultNote) → Step told b i (Fail at cause) (Spent note) b' → IsRunning b' → ⊥
 spent_stops told b b' i at cause note step =
-    subst (λ (x : BookData). IsRunning x → ⊥) (sym step.is) ((fail_leaves b i at step.job cause).spent_stops step.answers.0)
+    subst (λ (x : SeenBook). IsRunning x → ⊥) (sym step.is) ((fail_leaves b i at step.job cause).spent_stops step.answers.0)
 
 -- how the pass ended is so of the book after its step
-pub ending_made : (told : Option (List FileText)) (b b' : BookData) (i : ℕ) (action : Action) (answer : Answer) (ending : Ending) → Step told b i action answer b' → IsEndingOf b ending
+pub ending_made : (told : Option (List FileText)) (b b' : SeenBook) (i : ℕ) (action : Action) (answer : Answer) (ending : Ending) → Step told b i action answer b' → IsEndingOf b ending
     → IsEndingOf b' (ending_after action answer ending)
 ending_made told b b' i Take Finished ending step fit = (step_frame told b b' i Take Finished step).left (step.2, step.3)
 ending_made told b b' i Take Stopped ending step fit = (step_frame told b b' i Take Stopped step).stopped step.0
 ending_made told b b' i (Fail at cause) (Spent note) ending step fit = spent_stops told b b' i at cause note step
-ending_made told b b' i Stop Noted ending step fit = subst (λ (x : BookData). IsRunning x → ⊥) (sym step) (λ running. or_some b.stopped stop.NoMemory running)
+ending_made told b b' i Stop Noted ending step fit = subst (λ (x : SeenBook). IsRunning x → ⊥) (sym step) (λ running. or_some b.stopped stop.NoMemory running)
 ending_made told b b' i action answer ending step fit = let frame = step_frame told b b' i action answer step in ending_stays b b' ending frame.stopped frame.left fit
 
 -- no step but an enroll makes a slot
-pub step_slots : (told : Option (List FileText)) (b b' : BookData) (i : ℕ) (action : Action) (answer : Answer) → IsOwnAction action → Step told b i action answer b' → length b'.slots ≡ length b.slots
+pub step_slots : (told : Option (List FileText)) (b b' : SeenBook) (i : ℕ) (action : Action) (answer : Answer) → IsOwnAction action → Step told b i action answer b' → length b'.slots ≡ length b.slots
 step_slots told b b' i Take (TakenJob job) own step =
-    ap (λ (x : BookData). length x.slots) step.is ∙ set_length step.next.rest.slots i (Some step.next.job) ∙ ap length (next_keep b (first_due b) step.next step.is_next).slots
-step_slots told b b' i Take Nothing own step = ap (λ (x : BookData). length x.slots) step.4
-step_slots told b b' i Take Finished own step = ap (λ (x : BookData). length x.slots) step.4
-step_slots told b b' i Take Stopped own step = ap (λ (x : BookData). length x.slots) step.2
-step_slots told b b' i Take NoMemory own step = ap (λ (x : BookData). length x.slots) step.1
-step_slots told b b' i (Claim p) (Claimed granted) own step = ap (λ (x : BookData). length x.slots) step.is ∙ set_length b.slots i _
-step_slots told b b' i (Split num den) (SplitAt (Some at)) own step = ap (λ (x : BookData). length x.slots) step.0.is ∙ set_length b.slots i _
-step_slots told b b' i (Split num den) (SplitAt None) own step = ap (λ (x : BookData). length x.slots) step.1
-step_slots told b b' i (Split num den) NoMemory own step = ap (λ (x : BookData). length x.slots) step
-step_slots told b b' i Commit Committed own step = ap (λ (x : BookData). length x.slots) step.1.commit.is ∙ set_length b.slots i None
-step_slots told b b' i Commit NoMemory own step = ap (λ (x : BookData). length x.slots) step.1
+    ap (λ (x : SeenBook). length x.slots) step.is ∙ set_length step.next.rest.slots i (Some step.next.job) ∙ ap length (next_keep b (first_due b) step.next step.is_next).slots
+step_slots told b b' i Take Nothing own step = ap (λ (x : SeenBook). length x.slots) step.4
+step_slots told b b' i Take Finished own step = ap (λ (x : SeenBook). length x.slots) step.4
+step_slots told b b' i Take Stopped own step = ap (λ (x : SeenBook). length x.slots) step.2
+step_slots told b b' i Take NoMemory own step = ap (λ (x : SeenBook). length x.slots) step.1
+step_slots told b b' i (Claim p) (Claimed granted) own step = ap (λ (x : SeenBook). length x.slots) step.is ∙ set_length b.slots i _
+step_slots told b b' i (Split num den) (SplitAt (Some at)) own step = ap (λ (x : SeenBook). length x.slots) step.0.is ∙ set_length b.slots i _
+step_slots told b b' i (Split num den) (SplitAt None) own step = ap (λ (x : SeenBook). length x.slots) step.1
+step_slots told b b' i (Split num den) NoMemory own step = ap (λ (x : SeenBook). length x.slots) step
+step_slots told b b' i Commit Committed own step = ap (λ (x : SeenBook). length x.slots) step.1.commit.is ∙ set_length b.slots i None
+step_slots told b b' i Commit NoMemory own step = ap (λ (x : SeenBook). length x.slots) step.1
 step_slots told b b' i (Fail at cause) answer own step =
-    ap (λ (x : BookData). length x.slots) step.is ∙ ap length (fail_leaves b i at step.job cause).slots ∙ set_length b.slots i None
-step_slots told b b' i Stop Noted own step = ap (λ (x : BookData). length x.slots) step
+    ap (λ (x : SeenBook). length x.slots) step.is ∙ ap length (fail_leaves b i at step.job cause).slots ∙ set_length b.slots i None
+step_slots told b b' i Stop Noted own step = ap (λ (x : SeenBook). length x.slots) step
 step_slots told b b' i Enroll answer own step = absurd own
 step_slots told b b' i _ _ own step = absurd step
 
 -- the book counts at most the fails that the step is
-pub record AddsFails (b : BookData) (action : Action) (b' : BookData) : Type 0 where
+pub record AddsFails (b : SeenBook) (action : Action) (b' : SeenBook) : Type 0 where
   pub calls : b'.calls ≤ calls_after action b.calls
   pub reads : b'.reads ≤ reads_after action b.reads
 
-adds_none : (b : BookData) (action : Action) (b' : BookData) → b'.calls ≡ b.calls → b'.reads ≡ b.reads → calls_after action b.calls ≡ b.calls → reads_after action b.reads ≡ b.reads → AddsFails b action b'
+adds_none : (b : SeenBook) (action : Action) (b' : SeenBook) → b'.calls ≡ b.calls → b'.reads ≡ b.reads → calls_after action b.calls ≡ b.calls → reads_after action b.reads ≡ b.reads → AddsFails b action b'
 adds_none b action b' calls reads c r = record { calls = omega (arith, calls, c); reads = omega (arith, reads, r) }
 
-pub step_fails : (told : Option (List FileText)) (b b' : BookData) (i : ℕ) (action : Action) (answer : Answer) → Step told b i action answer b' → AddsFails b action b'
-step_fails told b b' i Enroll (Enrolled number) step = adds_none b Enroll b' (ap (λ (x : BookData). x.calls) step.2) (ap (λ (x : BookData). x.reads) step.2) refl refl
-step_fails told b b' i Enroll NoMemory step = adds_none b Enroll b' (ap (λ (x : BookData). x.calls) step) (ap (λ (x : BookData). x.reads) step) refl refl
+pub step_fails : (told : Option (List FileText)) (b b' : SeenBook) (i : ℕ) (action : Action) (answer : Answer) → Step told b i action answer b' → AddsFails b action b'
+step_fails told b b' i Enroll (Enrolled number) step = adds_none b Enroll b' (ap (λ (x : SeenBook). x.calls) step.2) (ap (λ (x : SeenBook). x.reads) step.2) refl refl
+step_fails told b b' i Enroll NoMemory step = adds_none b Enroll b' (ap (λ (x : SeenBook). x.calls) step) (ap (λ (x : SeenBook). x.reads) step) refl refl
 step_fails told b b' i Take (TakenJob job) step =
     let keeps = next_keep b (first_due b) step.next step.is_next in
-    adds_none b Take b' (ap (λ (x : BookData). x.calls) step.is ∙ keeps.calls) (ap (λ (x : BookData). x.reads) step.is ∙ keeps.reads) refl refl
-step_fails told b b' i Take Nothing step = adds_none b Take b' (ap (λ (x : BookData). x.calls) step.4) (ap (λ (x : BookData). x.reads) step.4) refl refl
-step_fails told b b' i Take Finished step = adds_none b Take b' (ap (λ (x : BookData). x.calls) step.4) (ap (λ (x : BookData). x.reads) step.4) refl refl
-step_fails told b b' i Take Stopped step = adds_none b Take b' (ap (λ (x : BookData). x.calls) step.2) (ap (λ (x : BookData). x.reads) step.2) refl refl
-step_fails told b b' i Take NoMemory step = adds_none b Take b' (ap (λ (x : BookData). x.calls) step.1) (ap (λ (x : BookData). x.reads) step.1) refl refl
-step_fails told b b' i (Claim p) (Claimed granted) step = adds_none b (Claim p) b' (ap (λ (x : BookData). x.calls) step.is) (ap (λ (x : BookData). x.reads) step.is) refl refl
-step_fails told b b' i (Split num den) (SplitAt (Some at)) step = adds_none b (Split num den) b' (ap (λ (x : BookData). x.calls) step.0.is) (ap (λ (x : BookData). x.reads) step.0.is) refl refl
-step_fails told b b' i (Split num den) (SplitAt None) step = adds_none b (Split num den) b' (ap (λ (x : BookData). x.calls) step.1) (ap (λ (x : BookData). x.reads) step.1) refl refl
-step_fails told b b' i (Split num den) NoMemory step = adds_none b (Split num den) b' (ap (λ (x : BookData). x.calls) step) (ap (λ (x : BookData). x.reads) step) refl refl
-step_fails told b b' i Commit Committed step = adds_none b Commit b' (ap (λ (x : BookData). x.calls) step.1.commit.is) (ap (λ (x : BookData). x.reads) step.1.commit.is) refl refl
-step_fails told b b' i Commit NoMemory step = adds_none b Commit b' (ap (λ (x : BookData). x.calls) step.1) (ap (λ (x : BookData). x.reads) step.1) refl refl
+    adds_none b Take b' (ap (λ (x : SeenBook). x.calls) step.is ∙ keeps.calls) (ap (λ (x : SeenBook). x.reads) step.is ∙ keeps.reads) refl refl
+step_fails told b b' i Take Nothing step = adds_none b Take b' (ap (λ (x : SeenBook). x.calls) step.4) (ap (λ (x : SeenBook). x.reads) step.4) refl refl
+step_fails told b b' i Take Finished step = adds_none b Take b' (ap (λ (x : SeenBook). x.calls) step.4) (ap (λ (x : SeenBook). x.reads) step.4) refl refl
+step_fails told b b' i Take Stopped step = adds_none b Take b' (ap (λ (x : SeenBook). x.calls) step.2) (ap (λ (x : SeenBook). x.reads) step.2) refl refl
+step_fails told b b' i Take NoMemory step = adds_none b Take b' (ap (λ (x : SeenBook). x.calls) step.1) (ap (λ (x : SeenBook). x.reads) step.1) refl refl
+step_fails told b b' i (Claim p) (Claimed granted) step = adds_none b (Claim p) b' (ap (λ (x : SeenBook). x.calls) step.is) (ap (λ (x : SeenBook). x.reads) step.is) refl refl
+step_fails told b b' i (Split num den) (SplitAt (Some at)) step = adds_none b (Split num den) b' (ap (λ (x : SeenBook). x.calls) step.0.is) (ap (λ (x : SeenBook). x.reads) step.0.is) refl refl
+step_fails told b b' i (Split num den) (SplitAt None) step = adds_none b (Split num den) b' (ap (λ (x : SeenBook). x.calls) step.1) (ap (λ (x : SeenBook). x.reads) step.1) refl refl
+step_fails told b b' i (Split num den) NoMemory step = adds_none b (Split num den) b' (ap (λ (x : SeenBook). x.calls) step) (ap (λ (x : SeenBook). x.reads) step) refl refl
+step_fails told b b' i Commit Committed step = adds_none b Commit b' (ap (λ (x : SeenBook). x.calls) step.1.commit.is) (ap (λ (x : SeenBook). x.reads) step.1.commit.is) refl refl
+step_fails told b b' i Commit NoMemory step = adds_none b Commit b' (ap (λ (x : SeenBook). x.calls) step.1) (ap (λ (x : SeenBook). x.reads) step.1) refl refl
 step_fails told b b' i (Fail at cause) answer step =
     let leaves = fail_leaves b i at step.job cause in
     subst (AddsFails b (Fail at cause)) (sym step.is) (record { calls = leaves.calls; reads = leaves.reads })
-step_fails told b b' i Stop Noted step = adds_none b Stop b' (ap (λ (x : BookData). x.calls) step) (ap (λ (x : BookData). x.reads) step) refl refl
+step_fails told b b' i Stop Noted step = adds_none b Stop b' (ap (λ (x : SeenBook). x.calls) step) (ap (λ (x : SeenBook). x.reads) step) refl refl
 step_fails told b b' i _ _ step = absurd step

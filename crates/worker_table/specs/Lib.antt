@@ -6,6 +6,7 @@ pub mod Frames
 pub mod Honest
 pub mod Known
 pub mod Laws
+pub mod Carried
 pub mod Turns
 pub mod Calls
 pub mod Passes

@@ -4,7 +4,7 @@ use Rattle.beam_values.specs.declared.options.Options.{Options}
 use Rattle.beam_values.specs.declared.piece.FileLen.{FileLen}
 use Rattle.beam_values.specs.declared.plan.Plan.{Plan}
 use Rattle.bundle_commit.specs.declared.job.Job.{Job}
-use Rattle.book_core.specs.Book.{BookData}
+use Rattle.book_core.specs.Book.{SeenBook}
 use Rattle.book_core.specs.Runs.{MadeStep}
 use Rattle.book_core.specs.Work.{Surroundings}
 
@@ -37,7 +37,7 @@ pub data Ending : Type 0 where
 
 -- the book that a turn lent, and the step that was made in it, if one was
 pub record LastTurn : Type 0 where
-  pub book : BookData
+  pub book : SeenBook
   pub made : Option MadeStep
 
 -- what a note says of one pass
@@ -68,5 +68,5 @@ no_setting = record {
 }
 
 -- of a table with this book
-abbrev pub setting_for : Surroundings → BookData → Setting
+abbrev pub setting_for : Surroundings → SeenBook → Setting
 setting_for known b = record { known = known; plan = b.plan; files = b.files; options = b.options }

@@ -1,8 +1,7 @@
 -- One place of a list is set, or one more is put behind it: what the list has then.
 use Rattle.std.proofs.Common.{◌≡◌, ◌≢◌, ◌⊎◌, inl, inr, ℕ, zero, suc, ◌+◌, ◌<◌, List, [], ◌∷◌, ◌++◌, length, refl, sym, ap, ◌∙◌, arith}
 use Rattle.std.specs.Prelude.{Some, slice_get, slice_set}
-use Rattle.std.specs.List.{AllByRecursion, flat_map, sum_by}
-use Rattle.std.proofs.lemmas.List.Concat.{flat_map-cons}
+use Rattle.std.specs.List.{AllByRecursion, sum_by}
 use Rattle.std.proofs.lemmas.List.Sums.{sum_by-set}
 use Rattle.std.proofs.lemmas.Option.{slice_get_within, get_or_from_slice_get}
 
@@ -68,17 +67,3 @@ each_behind P (z ∷ zs) y h all = (all.0, each_behind P zs y h all.1)
 
 pub sum_set : {X : Type 0} (f : X → ℕ) (xs : List X) (i : ℕ) (x y : X) → slice_get xs i ≡ Some x → sum_by f (slice_set xs i y) + f x ≡ sum_by f xs + f y
 sum_set f xs i x y h = omega (arith, sum_by-set f xs i y x (slice_get_within xs i x h), ap f (get_or_from_slice_get xs i x x h))
-
--- ---- lists of which a member gives something
-
-none_behind : {Y : Type 0} (xs ys : List Y) → xs ++ ys ≡ [] → ys ≡ []
-none_behind [] ys h = h
-none_behind (x ∷ xs) ys h = cc
-
-pub gives_some : {X Y : Type 0} (f : X → List Y) (xs : List X) (i : ℕ) (x : X) (y : Y) → slice_get xs i ≡ Some x → f x ≡ y ∷ [] → flat_map f xs ≡ [] → ⊥
-gives_some f [] i x y at e none = cc
-gives_some f (z ∷ zs) zero x y at e none =
-    let same : z ≡ x = cc in
-    let h : (y ∷ []) ++ flat_map f zs ≡ [] = ap (λ l. l ++ flat_map f zs) (sym (ap f same ∙ e)) ∙ sym (flat_map-cons f z zs) ∙ none in
-    cc
-gives_some f (z ∷ zs) (suc i) x y at e none = gives_some f zs i x y at e (none_behind (f z) (flat_map f zs) (sym (flat_map-cons f z zs) ∙ none))

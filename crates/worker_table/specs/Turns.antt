@@ -1,30 +1,24 @@
 -- What one turn of a pass did.
 use Rattle.std.specs.Prelude.{◌≡◌, ℕ, List, [], ◌∷◌, length, Option, Some, None, Result, Ok, Err}
+use Rattle.bundle_commit.specs.declared.job.Receipt.{Receipt}
 use Rattle.turn_desk.specs.declared.held.Note.{Note}
-use Rattle.book_core.specs.Book.{BookData}
-use Rattle.book_core.specs.Steps.{Action, Answer, Enroll, Enrolled, IsNextFor, NoMemory, Noted, Split, SplitAt, Step, Stop}
+use Rattle.book_core.specs.Book.{SeenBook}
+use Rattle.book_core.specs.Steps.{Action, Answer, CanCommit, Commit, Committed, Enroll, IsCommitting, IsNextFor, IsWithinLimits, NoMemory, Noted, Split, SplitAt, Step, Stop}
+use Rattle.worker_table.specs.Calls.{enroll_answer, enroll_deed, enrolled_slot}
 use Rattle.worker_table.specs.Fits.{Fits, FitsEntry, IsBookOf}
-use Rattle.worker_table.specs.Moves.{Deed, Rests, Steps, Stops, Enrolls, FindsNone, Helps, entry_after, note_after}
-use Rattle.worker_table.specs.Notes.{Setting, Owner, Entry, fresh}
-
-abbrev pub entry_in : List Entry → Entry
-entry_in [] = fresh
-entry_in (e ∷ es) = e
+use Rattle.worker_table.specs.Moves.{Deed, Steps, Stops, FindsNone, Helps, entry_after, note_after}
+pub use Rattle.worker_table.specs.Moves.{entry_in, number_in}
+use Rattle.worker_table.specs.Notes.{Setting, Owner, Entry}
 
 -- what a note says of its own pass
 abbrev pub first_entry : Note (List Entry) → Entry
 first_entry note = entry_in note.about
 
--- the pass's own number
-abbrev pub number_in : List ℕ → ℕ
-number_in [] = 0
-number_in (n ∷ ns) = n
-
 -- One turn: the book that it lent, the book that it gave back, and the new note, which is that after the deed. The book that was lent fits the old note, for some
 -- owners of its slots, and so the pass's own entry.
-pub record Turned (setting : Setting) (m n : Note (List Entry)) (deed : Deed) (makes : BookData → BookData → Type 0) : Type 0 where
-  pub lent : BookData
-  pub back : BookData
+pub record Turned (setting : Setting) (m n : Note (List Entry)) (deed : Deed) (makes : SeenBook → SeenBook → Type 0) : Type 0 where
+  pub lent : SeenBook
+  pub back : SeenBook
   pub book : IsBookOf setting lent
   pub owners : List Owner
   pub fits : Fits setting lent owners m
@@ -37,10 +31,14 @@ pub record Turned (setting : Setting) (m n : Note (List Entry)) (deed : Deed) (m
 abbrev pub HasStepped : Setting → Note (List Entry) → Note (List Entry) → ℕ → Action → Answer → Type 0
 HasStepped setting m n i action answer = Turned setting m n (Steps i action answer) (λ b b'. Step setting.known.told b i action answer b')
 
--- a turn in which the pass got the next slot, or nothing was changed
+-- A turn in which the receipt of the slot's job was placed, and no other; or there was no memory for that, and it can be placed at any later turn.
+abbrev pub HasCommitted : {U E : Type 0} → Setting → Note (List Entry) → Note (List Entry) → ℕ → Receipt → Result U E → Type 0
+HasCommitted setting m n i receipt (Ok u) = Turned setting m n (Steps i Commit Committed) (λ b b'. IsCommitting setting.known.told b i receipt b' × IsWithinLimits b')
+HasCommitted setting m n i receipt (Err e) = Turned setting m n (Steps i Commit NoMemory) (λ b b'. CanCommit setting.known.told b i receipt × (b' ≡ b))
+
+-- a turn in which the pass got the next slot, or there was no memory for one
 abbrev pub HasEnrolled : {E : Type 0} → Setting → Note (List Entry) → Note (List Entry) → Result ℕ E → Type 0
-HasEnrolled setting m n (Ok i) = Turned setting m n (Enrolls i) (λ b b'. Step setting.known.told b i Enroll (Enrolled i) b')
-HasEnrolled setting m n (Err e) = Turned setting m n Rests (λ b b'. b' ≡ b)
+HasEnrolled setting m n answer = Turned setting m n (enroll_deed answer) (λ b b'. Step setting.known.told b (enrolled_slot answer) Enroll (enroll_answer answer) b')
 
 abbrev pub HasStopped : Setting → Note (List Entry) → Note (List Entry) → Type 0
 HasStopped setting m n = Turned setting m n Stops (λ b b'. Step setting.known.told b 0 Stop Noted b')

@@ -87,8 +87,9 @@ impl Held for Shared {
     ghost keeps_own = { λ c x y m n.
         mover_fits c x.book.value y.book.value x.owners.value y.owners.value m n };
 
-    ghost keeps_others = { λ c x y m n other.
-        others_fit c x.book.value y.book.value x.owners.value y.owners.value m n other };
+    ghost keeps_others = { λ c x y m n other sound also apart fit move theirs.
+        others_fit c x.book.value y.book.value x.owners.value y.owners.value m n sound fit move
+        other apart theirs };
 
     ghost parts_fit = { λ c x m. split_fits c x.book.value x.owners.value m };
 

@@ -11,15 +11,16 @@
 //! noted: it has no slot but theirs. No call takes a shelf or a store, so elements are worked between turns.
 //!
 //! Read `specs/Notes.antt` first, for what is noted; then `specs/Fits.antt` and `specs/Moves.antt`, for when it is
-//! true and for what a pass may do; and then `table.rt` and `turns.rt`.
+//! true and for what a pass may do; then `act.rt` and `acts.rt`, for what it does; and then `turns.rt` and `table.rt`.
 #![tactic(auto)]
 
+mod act;
+mod acts;
 mod did;
 mod held;
 mod help;
-mod in_turn;
 mod pass;
-mod steps;
+mod stance;
 mod table;
 #[cfg(test)]
 mod tests;

@@ -10,7 +10,7 @@ ghost use Rattle.worker_table.specs.Fits.{Fits, IsBookOf};
 ghost use Rattle.worker_table.specs.Notes.{Owner, Setting, fresh, setting_for};
 ghost use Rattle.worker_table.specs.Passes.{IsOf, note_of_pass, setting_of, slot_of};
 
-use crate::did::owned_by;
+use crate::did::nobody;
 use crate::held::{Shared, TableSetting};
 use crate::pass::{Table, WorkerPass};
 use beam_values::NoMemory;
@@ -31,7 +31,7 @@ impl Table {
         ensures note { IfOk result (λ r. note_of_pass r.1 ≡ opening_note (fresh ∷ [])) }
     {
         let setting = picked(&book);
-        let owners = owned_by(&0, &0);
+        let owners = nobody();
         let book = Box::new(alloc, book)?;
         let Ok((desk, own)) = Desk::new_with(alloc, Shared { book, owners }, setting) else {
             return Err(NoMemory);

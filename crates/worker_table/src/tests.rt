@@ -3,7 +3,7 @@
 ghost use Rattle.std.specs.Prelude.{◌≡◌, [], ◌∷◌, IfOk, None, false};
 ghost use Rattle.beam_model.specs.Positions.{items};
 ghost use Rattle.turn_desk.specs.Notes.{size_of};
-ghost use Rattle.book_core.specs.Runs.{AreLengthsOf};
+ghost use Rattle.book_core.specs.Runs.{AreLengthsOf, Reached};
 ghost use Rattle.worker_table.specs.Passes.{IsOf, entry_of, note_of_pass, setting_of, slot_of};
 
 use crate::{Table, WorkerPass};
@@ -44,8 +44,10 @@ fn lines(alloc: Global) -> Result<Plan, NoMemory>
 }
 
 // The book of a file of ten bytes.
+#[tactic(auto, using(crate::proofs::Opened::opening_reached))]
 fn open_book(alloc: Global) -> Result<Book, Fail>
-    ensures { IfOk result (λ book. book.slots ≡ []) }
+    ensures reached { IfOk result (Reached None) }
+    ensures slots { IfOk result (λ book. book.slots ≡ []) }
 {
     let Ok(graph) = Graph::check(alloc, lines(alloc)?) else {
         return Err("refused".into());
@@ -66,9 +68,7 @@ fn open_table(alloc: Global) -> Result<(Table, WorkerPass), Fail>
     ensures free { IfOk result (λ r. (note_of_pass r.1).free ≡ 4294967295) }
     ensures all { IfOk result (λ r. size_of (note_of_pass r.1) ≡ 4294967296) }
 {
-    let book = open_book(alloc)?;
-    book.is_reached();
-    Ok(Table::new(alloc, book)?)
+    Ok(Table::new(alloc, open_book(alloc)?)?)
 }
 
 // Takes a job, if there is one, and fails it; then no job is given out any more.

@@ -1,24 +1,71 @@
 //! The turns of a pass: one step of the book each.
-ghost use Rattle.std.specs.Prelude.{◌≡◌, None, IsSome, IsSomeAnd, IfErr, false, nat_lt};
+ghost use Rattle.std.specs.Prelude.{◌≡◌, None, Some, IsSome, IsSomeAnd, IfErr, false, nat_lt};
 ghost use Rattle.book_core.specs.Calls.{failure_of};
-ghost use Rattle.book_core.specs.Steps.{Claim, Claimed, Commit, Fail, Take};
+ghost use Rattle.book_core.specs.Steps.{Claim, Claimed, Fail, Take};
 ghost use Rattle.worker_table.specs.Calls.{AfterClaim, AfterCommit, AfterEnroll, AfterFail};
 ghost use Rattle.worker_table.specs.Calls.{AfterHelp, AfterStop, AfterTake, CanClaimAs};
 ghost use Rattle.worker_table.specs.Calls.{CanCommitAs, CanFailAs, EndsAt, GoesOnAs, KeepsSlot};
-ghost use Rattle.worker_table.specs.Calls.{commit_answer, take_answer};
-ghost use Rattle.worker_table.specs.Passes.{IsOf, entry_of, job_known, note_of_pass, setting_of};
-ghost use Rattle.worker_table.specs.Passes.{slot_of};
-ghost use Rattle.worker_table.specs.Turns.{HasEnrolled, HasHelped, HasStepped, HasStopped};
-ghost use Rattle.worker_table.specs.Turns.{KeepsOthers};
+ghost use Rattle.worker_table.specs.Calls.{take_answer};
+ghost use Rattle.worker_table.specs.Passes.{IsOf, IsSeatOf, entry_of, job_known, note_of_pass};
+ghost use Rattle.worker_table.specs.Passes.{setting_of, slot_of};
+ghost use Rattle.worker_table.specs.Turns.{HasCommitted, HasEnrolled, HasHelped, HasStepped};
+ghost use Rattle.worker_table.specs.Turns.{HasStopped, KeepsOthers, Turned};
 
-use crate::in_turn;
+use crate::act::Act;
+use crate::acts::{Claiming, Committing, Enrolling, Failing, HelpingOther, Stopping, Taking};
+use crate::did::{Did, owned_by};
 use crate::pass::{Table, WorkerPass};
 use beam_values::{Cause, NoMemory};
+use book_core::laws::{cells_are_kept, panes_are_held_once};
 use book_core::{Failure, Taken, Unplaced};
-use bundle_commit::{Job, Receipt};
+use bundle_commit::Receipt;
+use std::snapshot::Snapshot;
 use std::sync::Wait;
 
 impl Table {
+    // One turn of the pass: the act is done on the book, and noted.
+    fn turn<R: Wait, A: Act>(&self, rt: &R, pass: &mut WorkerPass, act: A) -> A::Answer
+        requires table { IsOf self.now pass.old }
+        requires may { A.may act (setting_of self.now) (entry_of pass.old) }
+        ensures seat { IsSeatOf self.now.desk pass.new.pass (slot_of pass.new) }
+        ensures slot { pass.new.slot ≡ pass.old.slot }
+        ensures turn { Turned (setting_of self.now) (note_of_pass pass.old) (note_of_pass pass.new)
+            (A.deed act result) (λ b new. A.makes act b result new) }
+        ensures others { KeepsOthers (note_of_pass pass.old) (note_of_pass pass.new) }
+    {
+        let Some(mut own) = pass.pass.take() else {
+            unreachable!();
+        };
+        act.before().stand(rt, &self.desk, &mut own);
+        let asked = Snapshot::of(&act);
+        let mut turn = self.desk.take(rt, own);
+        let begun = Snapshot::of(&turn);
+        let shared = turn.value();
+        let answer = act.act(&mut shared.book);
+        shared.owners = owned_by(&begun, &asked, &answer);
+        let did = Did {
+            act: asked,
+            answer: Snapshot::of(&answer),
+        };
+        let mut own = self.desk.give(turn, &did);
+        A::after(&answer).stand(rt, &self.desk, &mut own);
+        pass.pass = Some(own);
+        answer
+    }
+
+    // The slot of a pass that has one.
+    fn slot(&self, pass: &WorkerPass) -> u32
+        requires table { IsOf self.now pass.now }
+        requires slot { IsSome (slot_of pass.now) }
+        ensures noted { slot_of pass.now ≡ Some result }
+        ensures kept { pass.now.slot ≡ Some result }
+    {
+        let (Some(_), Some(slot)) = (&pass.pass, pass.slot) else {
+            unreachable!();
+        };
+        slot
+    }
+
     /// The pass gets a slot. Where there is no memory for it, it has none.
     pub fn enroll<R: Wait>(&self, rt: &R, pass: &mut WorkerPass) -> Result<u32, NoMemory>
         requires table { IsOf self.now pass.old }
@@ -29,15 +76,8 @@ impl Table {
         ensures told { AfterEnroll result (entry_of pass.old) (entry_of pass.new) }
         ensures others { KeepsOthers (note_of_pass pass.old) (note_of_pass pass.new) }
     {
-        let Some(own) = pass.pass.take() else {
-            unreachable!();
-        };
-        let (answer, mut own) = in_turn::enroll(&self.desk, rt, own);
-        if let Ok(slot) = answer {
-            self.desk.enter(&mut own);
-            pass.slot = Some(slot);
-        }
-        pass.pass = Some(own);
+        let answer = self.turn(rt, pass, Enrolling);
+        pass.slot = answer.ok();
         answer
     }
 
@@ -55,18 +95,10 @@ impl Table {
         ensures stays { KeepsSlot (entry_of pass.old) (entry_of pass.new) }
         ensures others { KeepsOthers (note_of_pass pass.old) (note_of_pass pass.new) }
     {
-        let (Some(mut own), Some(slot)) = (pass.pass.take(), pass.slot) else {
-            unreachable!();
-        };
-        self.desk.step_aside(rt, &mut own);
-        let (answer, mut own) = in_turn::take_job(&self.desk, rt, own, slot);
-        match &answer {
-            Ok(Taken::Job(job)) => self.desk.turn_to(rt, &mut own, kind_of(job)),
-            Ok(Taken::Finished | Taken::Stopped) => self.desk.leave(rt, &mut own),
-            Ok(Taken::Nothing) | Err(NoMemory) => {}
-        }
-        pass.pass = Some(own);
-        answer
+        panes_are_held_once();
+        cells_are_kept();
+        let slot = self.slot(pass);
+        self.turn(rt, pass, Taking { slot })
     }
 
     /// The pass's range attempts a position.
@@ -98,12 +130,8 @@ impl Table {
         ensures stays { GoesOnAs (entry_of pass.old) (entry_of pass.new) }
         ensures others { KeepsOthers (note_of_pass pass.old) (note_of_pass pass.new) }
     {
-        let (Some(own), Some(slot)) = (pass.pass.take(), pass.slot) else {
-            unreachable!();
-        };
-        let (end, own) = in_turn::claim(&self.desk, rt, own, slot, p);
-        pass.pass = Some(own);
-        end
+        let slot = self.slot(pass);
+        self.turn(rt, pass, Claiming { slot, p })
     }
 
     /// The pass helps the slot whose range has the most left: it is split at a half. Answers where, or none where no
@@ -121,15 +149,8 @@ impl Table {
         ensures told { AfterHelp (entry_of pass.old) (entry_of pass.new) }
         ensures others { KeepsOthers (note_of_pass pass.old) (note_of_pass pass.new) }
     {
-        let (Some(own), Some(slot)) = (pass.pass.take(), pass.slot) else {
-            unreachable!();
-        };
-        let (answer, mut own) = in_turn::split_other(&self.desk, rt, own, slot);
-        if let Ok(None) = answer {
-            self.desk.rest(rt, &mut own);
-        }
-        pass.pass = Some(own);
-        answer
+        let slot = self.slot(pass);
+        self.turn(rt, pass, HelpingOther { slot }).cut_at()
     }
 
     /// Places the receipt of the pass's job. Where there is no memory nothing is changed, and the receipt is handed back.
@@ -143,19 +164,17 @@ impl Table {
         requires slot { IsSome (slot_of pass.old) }
         requires given { CanCommitAs (setting_of self.now) (job_known pass.old) receipt }
         ensures table { IsOf self.now pass.new }
-        ensures turn { IsSomeAnd (slot_of pass.old) (λ i. HasStepped (setting_of self.now)
-            (note_of_pass pass.old) (note_of_pass pass.new) i Commit (commit_answer result)) }
+        ensures turn { IsSomeAnd (slot_of pass.old) (λ i. HasCommitted (setting_of self.now)
+            (note_of_pass pass.old) (note_of_pass pass.new) i receipt result) }
         ensures told { AfterCommit result (entry_of pass.new) }
         ensures back { IfErr result (λ unplaced. unplaced.receipt ≡ receipt) }
+        ensures again { IfErr result (λ unplaced.
+            CanCommitAs (setting_of self.now) (job_known pass.new) unplaced.receipt) }
         ensures stays { GoesOnAs (entry_of pass.old) (entry_of pass.new) }
         ensures others { KeepsOthers (note_of_pass pass.old) (note_of_pass pass.new) }
     {
-        let (Some(own), Some(slot)) = (pass.pass.take(), pass.slot) else {
-            unreachable!();
-        };
-        let (answer, own) = in_turn::commit(&self.desk, rt, own, slot, receipt);
-        pass.pass = Some(own);
-        answer
+        let slot = self.slot(pass);
+        self.turn(rt, pass, Committing { slot, receipt })
     }
 
     /// The pass's job failed at a node: it is given back, or at the limit the book is stopped.
@@ -169,15 +188,8 @@ impl Table {
         ensures told { AfterFail at cause result (entry_of pass.old) (entry_of pass.new) }
         ensures others { KeepsOthers (note_of_pass pass.old) (note_of_pass pass.new) }
     {
-        let (Some(own), Some(slot)) = (pass.pass.take(), pass.slot) else {
-            unreachable!();
-        };
-        let (answer, mut own) = in_turn::fail(&self.desk, rt, own, slot, at, cause);
-        if let Failure::Spent(_) = answer {
-            self.desk.leave(rt, &mut own);
-        }
-        pass.pass = Some(own);
-        answer
+        let slot = self.slot(pass);
+        self.turn(rt, pass, Failing { slot, at, cause })
     }
 
     /// No job is given out any more. The pass needs no slot.
@@ -189,19 +201,6 @@ impl Table {
         ensures told { AfterStop (entry_of pass.old) (entry_of pass.new) }
         ensures others { KeepsOthers (note_of_pass pass.old) (note_of_pass pass.new) }
     {
-        let Some(own) = pass.pass.take() else {
-            unreachable!();
-        };
-        let mut own = in_turn::stop(&self.desk, rt, own);
-        self.desk.leave(rt, &mut own);
-        pass.pass = Some(own);
-    }
-}
-
-// Jobs of one kind crowd the table alike: those that read, and those of one node.
-fn kind_of(job: &Job) -> u32 {
-    match job {
-        Job::Span { .. } => 0,
-        Job::Batch { node, .. } | Job::Key { node, .. } => node.saturating_add(1),
+        self.turn(rt, pass, Stopping)
     }
 }

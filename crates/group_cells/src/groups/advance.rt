@@ -4,6 +4,7 @@ ghost use Rattle.std.specs.List.{filter};
 ghost use Rattle.beam_values.specs.Checked.{IsChecked};
 ghost use Rattle.beam_values.specs.Firing.{is_expired};
 ghost use Rattle.beam_values.specs.Marks.{marks_at};
+ghost use Rattle.beam_values.specs.declared.plan.Plan.{Plan as PlanOf};
 ghost use Rattle.cell_index.specs.Indexes.{IsIndexOf};
 ghost use Rattle.group_cells.specs.Arrivals.{merging, UnmergedStand};
 ghost use Rattle.group_cells.specs.Commits.{dropped_arrival, is_at_group, is_dropped};
@@ -13,13 +14,13 @@ ghost use Rattle.group_cells.specs.Plain.{AreCellsNext};
 ghost use Rattle.group_cells.specs.Undoing.{undone_all};
 ghost use Rattle.watermarks.specs.Holds.{hold_at};
 
+use crate::arrivals::{mark_into, others_of};
 use crate::groups::draft::Draft;
 use crate::groups::due::DueCells;
 use crate::groups::group_plan::GroupPlan;
 use crate::groups::keyed::{GroupKey, standing_of};
 use crate::groups::placing::Commit;
 use crate::groups::standing::Standing;
-use crate::plain::arrivals::{mark_into, others_of};
 use crate::rules::Rules;
 use beam_values::{Arrival, Duplicate, List, Mark, NoMemory, Pane, StageMarks};
 use cell_index::CellIndex;
@@ -85,6 +86,8 @@ impl Draft {
             }
             Err(refusal) => {
                 self.undo_all(alloc, kept);
+                self.forget_places(alloc);
+                *standing = BTreeMap::new(alloc);
                 Err(refusal)
             }
         }
@@ -147,6 +150,17 @@ impl Draft {
             marks: List::from_vec(marks),
             fired,
         })
+    }
+
+    /// Gives the memory of the indexes back, in which the next commit makes them anew.
+    fn forget_places(&mut self, alloc: Global)
+        ensures index { IsIndexOf self.new.index [] }
+        ensures due { (plan : PlanOf) → IsDueOf plan self.new.due [] }
+        ensures others { (self.new.cells ≡ self.old.cells)
+            × (self.new.dropped ≡ self.old.dropped) × (self.new.changes ≡ self.old.changes) }
+    {
+        self.index = CellIndex::new(alloc);
+        self.due = DueCells::new(alloc);
     }
 
     /// Makes the indexes anew where they aren't whole.

@@ -1,3 +1,6 @@
+//! The cells that are due fire. A cell fires where it lies: it walks back from its last entry to the first
+//! one that no pane has shown, and no further; one that accumulates copies the parts of all.
+
 ghost use Rattle.std.specs.Prelude.{◌≡◌, ◌<◌, ◌≤◌, ◌++◌, List as ListOf, Some, None, [], true, false};
 ghost use Rattle.std.specs.Prelude.{length, option_to_list, slice_get, slice_set, IfOk, OnErr};
 ghost use Rattle.std.specs.Prelude.{OnOk};
@@ -21,7 +24,7 @@ use crate::groups::draft::{Change, Draft};
 use crate::groups::fired::{Unfired, set_fired};
 use crate::groups::group_plan::GroupPlan;
 use crate::groups::ranks::sort_by_ranks;
-use crate::plain::nodes::{cmp_panes, least_with, push_if};
+use crate::panes::{cmp_panes, least_with, push_if};
 use crate::rules::Rules;
 use beam_values::{Cell, List, Mark, NoMemory, Pane, StageMarks, Timing};
 use pane_triggers::laws::{cells_are_due_from_their_next_mark_on, the_next_mark_is_the_least};

@@ -1,13 +1,12 @@
-ghost use Rattle.std.specs.Prelude.{◌≡◌, ◌<◌, ◌^◌, length};
+ghost use Rattle.std.specs.Prelude.{◌≡◌, ◌<◌, ◌^◌, length, IfSome};
 ghost use Rattle.cell_index.specs.Places.{is_cell_of, place_of};
 ghost use Rattle.group_cells.specs.Looking.{IsNextDue, moment_of};
 ghost use Rattle.group_cells.specs.NextDue.{lesser_moment, with_moment};
 
 use crate::firing::unseen;
 use crate::groups::group_plan::GroupPlan;
-use crate::plain::placing::is_same_span;
-use crate::windows::is_cell_at_key;
-use beam_values::{Cell, Span, Trigger, Value};
+use crate::windows::{is_cell_at_key, is_same_span};
+use beam_values::{Boxed, Bytes, Cell, Span, Trigger, Value};
 use pane_triggers::next_mark;
 
 /// The place of the cell of a node, key and window, where the index can't say it.
@@ -21,6 +20,37 @@ pub fn place_among(node: u32, key: &Value, span: Span, cells: &[Cell]) -> Option
         }
     }
     None
+}
+
+/// An equal key that lies where this one does. A sequence can't be shared.
+pub fn shared_key(key: &Value) -> Option<Value>
+    ensures { IfSome result (λ own. own ≡ key.now) }
+{
+    match key {
+        Value::Null => Some(Value::Null),
+        Value::Int(number) => Some(Value::Int(*number)),
+        Value::Blob(bytes) => shared_bytes(bytes),
+        Value::Pair(first, second) => shared_pair(first, second),
+        Value::Seq(_) => None,
+    }
+}
+
+fn shared_bytes(bytes: &Bytes) -> Option<Value>
+    ensures { IfSome result (λ own. own ≡ Value.Blob bytes.now) }
+{
+    match bytes.share() {
+        Ok(own) => Some(Value::Blob(own)),
+        Err(_) => None,
+    }
+}
+
+fn shared_pair(first: &Boxed<Value>, second: &Boxed<Value>) -> Option<Value>
+    ensures { IfSome result (λ own. own ≡ Value.Pair first.now second.now) }
+{
+    match (first.share(), second.share()) {
+        (Ok(key), Ok(value)) => Some(Value::Pair(key, value)),
+        _ => None,
+    }
 }
 
 /// Whether a cell is of a node, key and window.

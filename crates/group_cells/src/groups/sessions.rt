@@ -23,16 +23,15 @@ ghost use Rattle.group_cells.specs.Plain.{AreAllPlaced, ArePlacedAt};
 ghost use Rattle.group_cells.specs.Rounds.{entry_of, open_windows, AreSessionsOver};
 ghost use Rattle.group_cells.specs.Undoing.{undone_all};
 
+use crate::arrivals::mark_into;
 use crate::groups::draft::{Change, Draft};
 use crate::groups::group_plan::GroupPlan;
 use crate::groups::handing::give_way;
 use crate::groups::keyed::{GroupKey, by_key, put, take};
 use crate::groups::placing::Commit;
 use crate::groups::standing::{Places, Standing, listed_again, places_for};
-use crate::plain::arrivals::mark_into;
-use crate::plain::placing::{gives_way, is_same_span, own_spans, takes};
 use crate::rules::Rules;
-use crate::windows::{is_open, push_if, sessions_over};
+use crate::windows::{gives_way, is_open, is_same_span, own_spans, push_if, sessions_over, takes};
 use beam_values::{Arrival, Cell, Duplicate, Element, Entry, List, Mark, NoMemory, Span};
 use cell_index::{CellKey, IndexKey};
 use std::alloc::Global;

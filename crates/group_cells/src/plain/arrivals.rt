@@ -1,14 +1,14 @@
-//! Which arrivals Groups take, which they drop, and which are at other nodes.
+//! Which arrivals Groups take, and which they drop.
 
-ghost use Rattle.std.specs.Prelude.{◌≡◌, map, not, IfOk};
+ghost use Rattle.std.specs.Prelude.{◌≡◌, map, IfOk};
 ghost use Rattle.std.specs.List.{filter};
-ghost use Rattle.beam_values.specs.Marks.{marks_at};
 ghost use Rattle.beam_model.specs.Plans.{default_trigger};
-ghost use Rattle.group_cells.specs.Commits.{arrives_in_time, dropped_arrival, is_at_group};
-ghost use Rattle.group_cells.specs.Commits.{is_dropped, is_taken};
+ghost use Rattle.group_cells.specs.Commits.{arrives_in_time, dropped_arrival, is_dropped};
+ghost use Rattle.group_cells.specs.Commits.{is_taken};
 
+use crate::arrivals::mark_into;
 use crate::rules::{default_trigger, is_group, trigger_at};
-use beam_values::{Arrival, Dropped, Duplicate, List, Mark, NoMemory, Plan, StageMarks, Trigger};
+use beam_values::{Arrival, Dropped, Duplicate, List, NoMemory, Plan, StageMarks, Trigger};
 use pane_triggers::is_dropped as is_expired;
 use std::alloc::Global;
 
@@ -56,24 +56,6 @@ pub fn dropped_of(
     Ok(dropped)
 }
 
-/// Copies of the arrivals at other nodes.
-pub fn others_of(
-    alloc: Global,
-    plan: &Plan,
-    arrivals: &[Arrival],
-) -> Result<List<Arrival>, NoMemory>
-    ensures { IfOk result
-        (λ others. others ≡ filter (λ arrival. not (is_at_group plan.now arrival)) arrivals.now) }
-{
-    let mut others = List::new(alloc);
-    for arrival in arrivals {
-        if !is_group(plan, arrival.node) {
-            others.push(arrival.duplicate(alloc)?)?;
-        }
-    }
-    Ok(others)
-}
-
 /// Whether an element arrives at a Group and in time, by the marks before the commit.
 fn is_taken(plan: &Plan, other: &Trigger, before: &[StageMarks], arrival: &Arrival) -> bool
     requires { other.now ≡ default_trigger }
@@ -96,14 +78,4 @@ fn arrives_in_time(plan: &Plan, other: &Trigger, before: &[StageMarks], arrival:
     let trigger = trigger_at(plan, arrival.node, other);
     let mark = mark_into(before, arrival.node);
     !is_expired(trigger, arrival.element.span.end(), mark)
-}
-
-/// The mark into a node; FINAL where there is no such node.
-pub fn mark_into(marks: &[StageMarks], node: u32) -> Mark
-    ensures { result ≡ (marks_at marks.now node).mark_in }
-{
-    match marks.get(node as usize) {
-        None => Mark::FINAL,
-        Some(stage) => stage.mark_in,
-    }
 }

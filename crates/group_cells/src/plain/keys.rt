@@ -11,7 +11,7 @@ ghost use Rattle.beam_model.specs.Panes.{rules_of};
 ghost use Rattle.group_cells.specs.Commits.{elements_keyed};
 ghost use Rattle.group_cells.specs.Plain.{ArePlacedAt, AreAllPlaced, is_arrival_at};
 
-use crate::plain::arrivals::mark_into;
+use crate::arrivals::mark_into;
 use crate::plain::placing::place_key;
 use crate::rules::rules_of;
 use crate::windows::is_same_key;

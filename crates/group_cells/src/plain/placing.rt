@@ -1,20 +1,18 @@
 //! Where the entries of one Group and key go.
 
-ghost use Rattle.std.specs.Prelude.{◌≡◌, ◌+◌, ◌++◌, ◌<◌, ◌≤◌, length, map, if◌then◌else◌};
+ghost use Rattle.std.specs.Prelude.{◌≡◌, ◌+◌, ◌++◌, ◌<◌, ◌≤◌, length, map};
 ghost use Rattle.std.specs.Prelude.{slice_index_or, slice_set, IfOk, OnOk, MatchOption};
 ghost use Rattle.std.specs.List.{flat_map, list_any};
-ghost use Rattle.beam_values.specs.Spans.{lies_in, same_span};
 ghost use Rattle.beam_values.specs.declared.cell.Cell.{Cell as CellOf};
-ghost use Rattle.group_cells.specs.Placing.{gives_way, is_absorbed, takes, with_entry};
+ghost use Rattle.group_cells.specs.Placing.{with_entry};
 ghost use Rattle.group_cells.specs.Plain.{ArePlacedAt, handed_over_at, once_opened_at};
 ghost use Rattle.group_cells.specs.Plain.{opened_all_at, opened_at, opening_of, put_all_at, put_at};
 ghost use Rattle.group_cells.specs.Plain.{stands_at, takes_at};
 ghost use Rattle.group_cells.specs.Rounds.{entry_of};
 
 use crate::rules::Rules;
-use crate::windows::{is_cell_at_key, windows_for};
+use crate::windows::{gives_way, is_cell_at_key, is_same_span, own_spans, takes, windows_for};
 use beam_values::{Cell, Element, Entry, List, Mark, NoMemory, Span, Value};
-use pane_triggers::is_dropped;
 use std::alloc::Global;
 use std::mem;
 
@@ -45,17 +43,6 @@ pub fn place_key(
     )?;
     open_all(alloc, rules, before, node, key, windows.as_slice(), cells)?;
     put_all(rules, node, key, commit, own, cells)
-}
-
-/// The windows of the elements, one for each, in their order.
-pub fn own_spans(alloc: Global, own: &[Element]) -> Result<List<Span>, NoMemory>
-    ensures { IfOk result (λ spans. spans ≡ map (λ e. e.span) own.now) }
-{
-    let mut spans = List::new(alloc);
-    for element in own {
-        spans.push(element.span)?;
-    }
-    Ok(spans)
 }
 
 fn open_all(
@@ -165,26 +152,6 @@ fn hand_over(
     Ok(())
 }
 
-/// Whether a cell's entries go to a new session: windows merge, and the cell's, which wasn't merged yet
-/// and still takes elements at the mark before the commit, is a smaller one within the session.
-pub fn gives_way(rules: &Rules, before: Mark, session: Span, cell: &Cell) -> bool
-    ensures { result ≡ gives_way rules.now before session cell.now }
-{
-    cell.merged_into.is_none() && is_absorbed(rules, before, session, cell.span)
-}
-
-fn is_absorbed(rules: &Rules, before: Mark, session: Span, span: Span) -> bool
-    ensures { result ≡ is_absorbed rules.now before session span }
-{
-    if !rules.merges {
-        return false;
-    }
-    if is_dropped(&rules.trigger, span.end(), before) {
-        return false;
-    }
-    lies_in(span, session) && !is_same_span(span, session)
-}
-
 fn put_all(
     rules: &Rules,
     node: u32,
@@ -245,35 +212,4 @@ fn takes_at(rules: &Rules, node: u32, key: &Value, entry: &Entry, cell: &Cell) -
     ensures { result ≡ takes_at rules.now node key.now entry.now cell.now }
 {
     is_cell_at_key(node, key, cell) && takes(rules, entry, cell)
-}
-
-/// Whether a cell takes an entry, which belongs to its window.
-pub fn takes(rules: &Rules, entry: &Entry, cell: &Cell) -> bool
-    ensures { result ≡ takes rules.now entry.now cell.now }
-{
-    cell.merged_into.is_none() && belongs(rules, cell.span, entry.element.span)
-}
-
-// An element belongs to the window that is its own; where windows merge, to each in which its own lies.
-fn belongs(rules: &Rules, span: Span, own: Span) -> bool
-    ensures { result ≡ (if rules.now.merges then lies_in own span else same_span own span) }
-{
-    if rules.merges {
-        lies_in(own, span)
-    } else {
-        is_same_span(own, span)
-    }
-}
-
-/// Whether two windows have the same ends.
-pub fn is_same_span(a: Span, b: Span) -> bool
-    ensures { result ≡ same_span a b }
-{
-    a.start() == b.start() && a.end() == b.end()
-}
-
-fn lies_in(inner: Span, outer: Span) -> bool
-    ensures { result ≡ lies_in inner outer }
-{
-    outer.start() <= inner.start() && inner.end() <= outer.end()
 }

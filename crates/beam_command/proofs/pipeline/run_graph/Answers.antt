@@ -1,6 +1,7 @@
 use Rattle.std.proofs.Common.{refl, ap}
+use Rattle.run_engine.specs.Kits.{observed_kits}
 use Rattle.run_engine.specs.declared.run_end.RunEnd.{RunEnd}
-use Rattle.beam_command.specs.Kits.{observed_kits}
+use Rattle.beam_command.specs.Kits.{observed_at}
 use Rattle.beam_command.proofs.Graphs.{finished_end, unprinted_end}
 use Rattle.beam_command.proofs.Kept.{finished_begun, finished_some, idle_opened, if_none, kept_opened, kept_run, outcome_opened, run_begun}
 use Rattle.beam_command.proofs.Stores.{run_opened}
@@ -10,52 +11,49 @@ pub returns-in-Err-clause-outcome : goal.returns-in-Err-clause-outcome
 returns-in-Err-clause-outcome g c = if_none _ _ (ap (λ (end : RunEnd). end.outcome) c.ended.ensures)
 
 pub returns-in-Err-clause-idle : goal.returns-in-Err-clause-idle
-returns-in-Err-clause-idle g c = λ none.
-    idle_opened g.F.Shelf.strict g.F.Shelf.faults g.S.Store.files g.S.Store.faults g.S.Store.opened c.args.kits.now c.open_sources.new.kits c.open_sources.ensures.kept
+returns-in-Err-clause-idle g c = λ none. idle_opened g.S.Store c.args.kits.now c.open_sources.new.kits c.open_sources.ensures.kept
 
 pub returns-in-Err-clause-kept : goal.returns-in-Err-clause-kept
-returns-in-Err-clause-kept g c =
-    kept_opened g.F.Shelf.strict g.F.Shelf.faults g.S.Store.files g.S.Store.faults g.S.Store.opened c.args.kits.now c.open_sources.new.kits c.open_sources.ensures.kept
+returns-in-Err-clause-kept g c = kept_opened g.F.Shelf g.S.Store c.args.kits.now c.open_sources.new.kits c.open_sources.ensures.kept
 
 pub returns-in-Ok-clause-outcome : goal.returns-in-Ok-clause-outcome
 returns-in-Ok-clause-outcome g c =
-    finished_some _ _ c.args.graph c.args.options.now c.run_plan-status.result.status c.run_plan-status.result.outcome c.run_plan-status.ensures.ended c.in-Ok.is _ _ c.finished.result.status
-    c.finished.result.outcome c.finished.ensures _
-    (outcome_opened g.F.Shelf.strict g.F.Shelf.faults g.S.Store.files g.S.Store.faults g.S.Store.opened c.args.graph c.open_sources.new.kits c.run_plan-status.new.kits _ _ c.args.options.now
-    c.run_plan-status.result.status c.run_plan-status.result.outcome c.in_default.ensures.opened c.run_plan-status.ensures.kept c.run_plan-status.ensures.ended c.run_plan-status.ensures.lengths)
+    let run = c.run_plan-status in
+    let seen = observed_kits g.F.Shelf g.S.Store c.open_sources.new.kits run.new.kits in
+    finished_some seen c.args.graph c.args.options.now run.result.status run.result.outcome run.ensures.ended c.in-Ok.is _ _ c.finished.result.status c.finished.result.outcome
+    c.finished.ensures _
+    (outcome_opened g.F.Shelf g.S.Store c.args.graph c.open_sources.new.kits run.new.kits seen c.args.options.now run.result.status run.result.outcome c.in_default.ensures.opened
+    run.ensures.kept run.ensures.ended run.ensures.lengths)
 
 pub returns-in-Ok-clause-idle : goal.returns-in-Ok-clause-idle
 returns-in-Ok-clause-idle g c = λ none.
-    absurd (finished_begun _ _ c.args.graph c.args.options.now c.run_plan-status.result.status c.run_plan-status.result.outcome c.run_plan-status.ensures.ended c.in-Ok.is _ _
-    c.finished.result.status c.finished.result.outcome c.finished.ensures none)
+    let run = c.run_plan-status in
+    absurd (finished_begun (observed_kits g.F.Shelf g.S.Store c.open_sources.new.kits run.new.kits) c.args.graph c.args.options.now run.result.status run.result.outcome run.ensures.ended
+    c.in-Ok.is _ _ c.finished.result.status c.finished.result.outcome c.finished.ensures none)
 
 pub returns-in-Ok-clause-kept : goal.returns-in-Ok-clause-kept
 returns-in-Ok-clause-kept g c =
-    kept_run g.F.Shelf.strict g.F.Shelf.faults g.S.Store.files g.S.Store.faults g.S.Store.opened c.args.kits.now c.open_sources.new.kits c.run_plan-status.new.kits
-    c.open_sources.ensures.kept c.run_plan-status.ensures.kept
+    kept_run g.F.Shelf g.S.Store c.args.kits.now c.open_sources.new.kits c.run_plan-status.new.kits c.open_sources.ensures.kept c.run_plan-status.ensures.kept
 
 pub returns-in-Ok-clause-ends : goal.returns-in-Ok-clause-ends
 returns-in-Ok-clause-ends g c =
-    let run = run_opened g.F.Shelf.strict g.F.Shelf.faults g.S.Store.files g.S.Store.faults g.S.Store.opened c.args.kits.now c.open_sources.new.kits c.run_plan-status.new.kits c.args.graph
-    c.args.options.now c.run_plan-status.result.status c.run_plan-status.result.outcome c.requires.some c.open_sources.ensures.kept c.in_default.ensures.opened
-    c.run_plan-status.ensures.ended in
-    finished_end (observed_kits g.F.Shelf.strict g.F.Shelf.faults g.S.Store.files g.S.Store.faults g.W.Sink.faults g.W.Sink.taken c.args.kits.now c.run_plan-status.new.kits c.args.out.now
-    c.finished.new.out) c.args.graph c.args.options.now c.args.failed c.run_plan-status.result.status c.run_plan-status.result.outcome c.finished.result.outcome c.finished.result.status
-    run.0 run.1 c.in-Ok.is c.finished.ensures
+    let run = c.run_plan-status in
+    let whole = run_opened g.F.Shelf g.S.Store c.args.kits.now c.open_sources.new.kits run.new.kits c.args.graph c.args.options.now run.result.status run.result.outcome c.requires.some
+    c.open_sources.ensures.kept c.in_default.ensures.opened run.ensures.ended in
+    finished_end (observed_at g.F.Shelf g.S.Store g.W.Sink c.args.kits.now run.new.kits c.args.out.now c.finished.new.out) c.args.graph c.args.options.now c.args.failed run.result.status
+    run.result.outcome c.finished.result.outcome c.finished.result.status whole.0 whole.1 c.in-Ok.is c.finished.ensures
 
 pub returns-in_default-status : goal.returns-in_default-status
 returns-in_default-status g c =
-    let run = run_opened g.F.Shelf.strict g.F.Shelf.faults g.S.Store.files g.S.Store.faults g.S.Store.opened c.args.kits.now c.open_sources.new.kits c.run_plan-status.new.kits c.args.graph
-    c.args.options.now c.run_plan-status.result.status c.run_plan-status.result.outcome c.requires.some c.open_sources.ensures.kept c.in_default.ensures.opened
-    c.run_plan-status.ensures.ended in
+    let run = c.run_plan-status in
+    let seen = observed_kits g.F.Shelf g.S.Store c.open_sources.new.kits run.new.kits in
+    let whole = run_opened g.F.Shelf g.S.Store c.args.kits.now c.open_sources.new.kits run.new.kits c.args.graph c.args.options.now run.result.status run.result.outcome c.requires.some
+    c.open_sources.ensures.kept c.in_default.ensures.opened run.ensures.ended in
     record {
-      ends = unprinted_end (observed_kits g.F.Shelf.strict g.F.Shelf.faults g.S.Store.files g.S.Store.faults g.W.Sink.faults g.W.Sink.taken c.args.kits.now c.run_plan-status.new.kits
-          c.args.out.now c.args.out.now) c.args.graph c.args.options.now c.args.failed c.run_plan-status.result.status c.run_plan-status.result.outcome refl run.0 run.1
-          c.in_default-status.not-Ok;
-      outcome = outcome_opened g.F.Shelf.strict g.F.Shelf.faults g.S.Store.files g.S.Store.faults g.S.Store.opened c.args.graph c.open_sources.new.kits c.run_plan-status.new.kits _ _
-          c.args.options.now c.run_plan-status.result.status c.run_plan-status.result.outcome c.in_default.ensures.opened c.run_plan-status.ensures.kept c.run_plan-status.ensures.ended
-          c.run_plan-status.ensures.lengths;
-      idle = λ none. absurd (run_begun _ _ c.args.graph c.args.options.now c.run_plan-status.result.status c.run_plan-status.result.outcome c.run_plan-status.ensures.ended none);
-      kept = kept_run g.F.Shelf.strict g.F.Shelf.faults g.S.Store.files g.S.Store.faults g.S.Store.opened c.args.kits.now c.open_sources.new.kits c.run_plan-status.new.kits
-          c.open_sources.ensures.kept c.run_plan-status.ensures.kept;
+      ends = unprinted_end (observed_at g.F.Shelf g.S.Store g.W.Sink c.args.kits.now run.new.kits c.args.out.now c.args.out.now) c.args.graph c.args.options.now c.args.failed
+          run.result.status run.result.outcome refl whole.0 whole.1 c.in_default-status.not-Ok;
+      outcome = outcome_opened g.F.Shelf g.S.Store c.args.graph c.open_sources.new.kits run.new.kits seen c.args.options.now run.result.status run.result.outcome
+          c.in_default.ensures.opened run.ensures.kept run.ensures.ended run.ensures.lengths;
+      idle = λ none. absurd (run_begun seen c.args.graph c.args.options.now run.result.status run.result.outcome run.ensures.ended none);
+      kept = kept_run g.F.Shelf g.S.Store c.args.kits.now c.open_sources.new.kits run.new.kits c.open_sources.ensures.kept run.ensures.kept;
     }

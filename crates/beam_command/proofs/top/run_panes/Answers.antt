@@ -2,25 +2,22 @@ use Rattle.std.proofs.Common.{◌≡◌, ℤ, to_z, of_z, w64, ap, ◌∙◌, ar
 use Rattle.std.proofs.lemmas.Int.{ints}
 use Rattle.beam_model.specs.Plans.{panes_plan}
 use Rattle.beam_ports.specs.Observed.{observed_sink}
-use Rattle.worker_loop.specs.Kits.{observed_shelves, observed_stores}
 use Rattle.command_words.specs.Commands.{Panes}
-use Rattle.run_engine.specs.Kits.{observed_each}
+use Rattle.run_engine.specs.Kits.{KeepsKit, observed_kits}
 use Rattle.beam_command.proofs.Asked.{pipeline_end}
-use Rattle.beam_command.proofs.Kept.{Keeps, all_same, if_some}
+use Rattle.beam_command.proofs.Kept.{all_same, if_some}
 use Rattle.beam_command.proofs.Stores.{first_is_seen}
 use Rattle.beam_command.proofs.top.run_panes.Goals as goal
 
 pub returns-in-Ok-clause-ends : goal.returns-in-Ok-clause-ends
 returns-in-Ok-clause-ends g c =
     let same : to_z w64 (of_z w64 c.args.size) ≡ c.args.size = omega (arith, ints) in
-    let store = observed_stores g.S.Store.files g.S.Store.faults c.args.kits.now c.run_graph.new.kits in
-    let stores = observed_each g.S.Store.files g.S.Store.faults c.args.kits.now c.run_graph.new.kits in
+    let seen = observed_kits g.F.Shelf g.S.Store c.args.kits.now c.run_graph.new.kits in
     let plan : c.in-Ok.graph ≡ panes_plan c.args.file.now c.args.size = c.in-Ok.ensures ∙ ap (λ (size : ℤ). panes_plan c.args.file.now size) same in
-    let first = first_is_seen g.S.Store.files g.S.Store.faults
-    (Keeps g.F.Shelf.strict g.F.Shelf.faults g.S.Store.files g.S.Store.faults g.S.Store.opened) c.args.kits.now c.run_graph.new.kits c.requires.some c.run_graph.ensures.kept in
-    pipeline_end (observed_shelves g.F.Shelf.strict g.F.Shelf.faults c.args.kits.now c.run_graph.new.kits) store.files store.after store.after stores stores
-    (observed_sink g.W.Sink.faults g.W.Sink.taken c.args.out.now c.run_graph.new.out) (Panes c.args.file.now c.args.size c.args.options.now) c.args.options.now c.in-Ok.graph 0
-    (omega arith) (λ s refused. refused) plan first.0 first.1 plan c.run_graph.result.status c.run_graph.result.outcome c.run_graph.ensures.ends
+    let first = first_is_seen g.S.Store (KeepsKit g.F.Shelf g.S.Store) c.args.kits.now c.run_graph.new.kits c.requires.some c.run_graph.ensures.kept in
+    pipeline_end seen.shelf seen.store.files seen.store.after seen.store.after seen.stores seen.stores (observed_sink g.W.Sink.faults g.W.Sink.taken c.args.out.now c.run_graph.new.out)
+    (Panes c.args.file.now c.args.size c.args.options.now) c.args.options.now c.in-Ok.graph 0 (omega arith) (λ s refused. refused) plan first.0 first.1 plan c.run_graph.result.status
+    c.run_graph.result.outcome c.run_graph.ensures.ends
 
 pub returns-in-Ok-clause-first_plan : goal.returns-in-Ok-clause-first_plan
 returns-in-Ok-clause-first_plan g c =
@@ -31,4 +28,4 @@ pub returns-in-Ok-clause-opened : goal.returns-in-Ok-clause-opened
 returns-in-Ok-clause-opened g c = if_some _ _ (λ o is. is.1) c.run_graph.result.outcome c.run_graph.ensures.outcome
 
 pub returns-in-Err-clause-kept : goal.returns-in-Err-clause-kept
-returns-in-Err-clause-kept g c = all_same g.F.Shelf.strict g.F.Shelf.faults g.S.Store.files g.S.Store.faults g.S.Store.opened c.args.kits.now
+returns-in-Err-clause-kept g c = all_same g.F.Shelf g.S.Store c.args.kits.now

@@ -1,6 +1,6 @@
 use Rattle.std.proofs.Common.{List, sym, subst, ◌∙◌}
 use Rattle.beam_values.specs.declared.marks.StageMarks.{StageMarks}
-use Rattle.group_cells.specs.Commits.{IsCommitted, KeepsLegal}
+use Rattle.group_cells.specs.Commits.{AreRounds, IsCommitted}
 use Rattle.watermarks.specs.Holds.{hold_at}
 use Rattle.book_core.proofs.CommitFired.{all_written, fired_as, rises_as}
 use Rattle.book_core.proofs.committing.fire.Goals as goal
@@ -10,14 +10,14 @@ commit-requires-clause-rises c =
     rises_as c.args.plan.now c.args.held.now c.as_slice.result.now c.args.before.now c.as_mut_slice.result.now
     (c.as_slice.ensures.value ∙ c.in_ok-holds.ensures) (c.as_mut_slice.ensures.value ∙ c.in_ok-marks.ensures.items) c.requires.rises
 
-pub returns-clause-legal : goal.returns-clause-legal
-returns-clause-legal c =
-    subst (λ (l : List StageMarks). KeepsLegal c.args.plan.now c.args.commit l c.from_vec.result c.args.groups.now c.commit.new.self c.in_ok-panes.panes)
+pub returns-clause-rounds : goal.returns-clause-rounds
+returns-clause-rounds c =
+    subst (λ (l : List StageMarks). AreRounds c.args.plan.now c.args.commit l c.from_vec.result c.args.arrivals.now c.args.groups.now.cells c.commit.new.self.cells c.in_ok-panes.panes)
     (c.as_mut_slice.ensures.value ∙ c.in_ok-marks.ensures.items)
-    (subst (λ (l : List StageMarks). KeepsLegal c.args.plan.now c.args.commit c.as_mut_slice.result.now l c.args.groups.now c.commit.new.self c.in_ok-panes.panes)
+    (subst (λ (l : List StageMarks). AreRounds c.args.plan.now c.args.commit c.as_mut_slice.result.now l c.args.arrivals.now c.args.groups.now.cells c.commit.new.self.cells c.in_ok-panes.panes)
     (sym (all_written c.commit.new.marks c.in_ok-marks.marks.items c.in_ok-marks.marks.len c.from_vec.result c.from_vec.ensures
     (c.in_ok-panes.ensures.committed.marks.sized ∙ sym c.requires.marks ∙ sym c.in_ok-marks.ensures.len)))
-    c.in_ok-panes.ensures.legal)
+    c.in_ok-panes.ensures.rounds)
 
 pub returns-clause-committed : goal.returns-clause-committed
 returns-clause-committed c =

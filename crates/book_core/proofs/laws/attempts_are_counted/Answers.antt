@@ -1,5 +1,5 @@
-use Rattle.book_core.proofs.AttemptsKept.{reached_counted, reached_noted}
+use Rattle.book_core.proofs.SaneAlways.{reached_sane}
 use Rattle.book_core.proofs.laws.attempts_are_counted.Goals as goal
 
 pub returns : goal.returns
-returns c = record { counted = reached_counted; noted = reached_noted }
+returns c = record { counted = λ told b reached. (reached_sane told b reached).attempts; noted = λ told b reached. (reached_sane told b reached).stop }

@@ -1,5 +1,5 @@
-use Rattle.book_core.proofs.RisingMarks.{reached_marks}
+use Rattle.book_core.proofs.SaneAlways.{reached_sane}
 use Rattle.book_core.proofs.laws.marks_are_kept.Goals as goal
 
 pub returns : goal.returns
-returns c = reached_marks
+returns c = λ told b reached. (reached_sane told b reached).marks

@@ -1,5 +1,5 @@
-use Rattle.book_core.proofs.Partitioned.{reached_partitioned}
+use Rattle.book_core.proofs.SaneAlways.{reached_sane}
 use Rattle.book_core.proofs.laws.reached_books_are_partitioned.Goals as goal
 
 pub returns : goal.returns
-returns c = reached_partitioned
+returns c = λ told b reached. (reached_sane told b reached).partitioned

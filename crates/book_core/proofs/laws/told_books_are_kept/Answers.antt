@@ -1,5 +1,32 @@
-use Rattle.book_core.proofs.AllKept.{reached_kept_of}
+use Rattle.book_core.proofs.AllKept.{opened_kept_of, reached_kept_of, step_kept_of}
 use Rattle.book_core.proofs.laws.told_books_are_kept.Goals as goal
 
-pub returns : goal.returns
-returns c = reached_kept_of (λ plan n checked. c.no_node_is_stateful.ensures.none plan n checked)
+pub returns-clause-opening : goal.returns-clause-opening
+returns-clause-opening c =
+    opened_kept_of (λ plan checked. record {
+      inputs = λ n node at. c.nodes_take_elements_of_their_strategy.ensures.inputs plan n node checked at;
+      own = c.strategies_follow_kinds.ensures.own plan;
+      onward = c.strategies_follow_kinds.ensures.onward plan;
+    }) (λ plan n node checked at. c.nodes_have_inputs_and_settings_of_their_kind.ensures.settings plan n node checked at)
+    (λ s time allowed. c.windows_hold_their_time.ensures.of_the_kind s time allowed)
+    (λ plan n checked. c.no_node_is_stateful.ensures.none plan n checked)
+
+pub returns-clause-step : goal.returns-clause-step
+returns-clause-step c =
+    step_kept_of (λ plan checked. record {
+      inputs = λ n node at. c.nodes_take_elements_of_their_strategy.ensures.inputs plan n node checked at;
+      own = c.strategies_follow_kinds.ensures.own plan;
+      onward = c.strategies_follow_kinds.ensures.onward plan;
+    }) (λ plan n node checked at. c.nodes_have_inputs_and_settings_of_their_kind.ensures.settings plan n node checked at)
+    (λ s time allowed. c.windows_hold_their_time.ensures.of_the_kind s time allowed)
+    (λ plan n checked. c.no_node_is_stateful.ensures.none plan n checked)
+
+pub returns-clause-reached : goal.returns-clause-reached
+returns-clause-reached c =
+    reached_kept_of (λ plan checked. record {
+      inputs = λ n node at. c.nodes_take_elements_of_their_strategy.ensures.inputs plan n node checked at;
+      own = c.strategies_follow_kinds.ensures.own plan;
+      onward = c.strategies_follow_kinds.ensures.onward plan;
+    }) (λ plan n node checked at. c.nodes_have_inputs_and_settings_of_their_kind.ensures.settings plan n node checked at)
+    (λ s time allowed. c.windows_hold_their_time.ensures.of_the_kind s time allowed)
+    (λ plan n checked. c.no_node_is_stateful.ensures.none plan n checked)

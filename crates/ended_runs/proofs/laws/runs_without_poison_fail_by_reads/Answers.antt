@@ -1,4 +1,4 @@
-use Rattle.book_core.specs.Book.{BookData}
+use Rattle.book_core.specs.Book.{SeenBook}
 use Rattle.book_core.specs.Facts.{AreKept}
 use Rattle.book_core.specs.Runs.{HonestlyReached}
 use Rattle.book_core.specs.Work.{Surroundings}
@@ -9,7 +9,7 @@ use Rattle.ended_runs.proofs.laws.runs_without_poison_fail_by_reads.Goals as goa
 
 pub returns : goal.returns
 returns c =
-    let kept : (known : Surroundings) (b : BookData) → HonestlyReached known b → AreKept b = λ known b reached. c.reached_books_are_kept.ensures known.told b (honest_reached known b reached) in
+    let kept : (known : Surroundings) (b : SeenBook) → HonestlyReached known b → AreKept b = λ known b reached. c.reached_books_are_kept.ensures known.told b (honest_reached known b reached) in
     record {
       calls = λ known told b tells strict lengths none reached.
           no_calls known told tells strict (kept known) b (works_no_poison known told tells strict (kept known) b (takes_none known told tells b lengths none)) reached;

@@ -1,4 +1,4 @@
-use Rattle.worker_loop.proofs.Claims.{source_node}
+use Rattle.worker_loop.proofs.Claiming.{source_node}
 use Rattle.worker_loop.proofs.PieceWork.{emission_fit}
 use Rattle.worker_loop.proofs.bundles.outputs_are_fit.Goals as goal
 

@@ -13,90 +13,67 @@ use Rattle.beam_values.specs.declared.piece.Done.{Done}
 use Rattle.beam_values.specs.declared.piece.Piece.{Piece}
 use Rattle.beam_values.specs.declared.plan.Plan.{Plan}
 use Rattle.group_cells.specs.Commits.{as_commit, HasGap, RisesFrom, SeenGroups}
-use Rattle.book_core.specs.Book.{BookData, last_marks}
+use Rattle.book_core.specs.Book.{SeenBook, last_marks}
 use Rattle.book_core.specs.Changes.{done_cmp, with_residual, with_slot}
 use Rattle.book_core.specs.Committing.{job_holds, node_of, with_done_in}
 use Rattle.book_core.specs.Indexes.{AreHeldIn, all_holds, least_in, room_in}
 use Rattle.book_core.specs.Inside.{data_of}
 use Rattle.book_core.specs.Steps.{CanCommit, IsCommitting, IsWithinLimits}
 use Rattle.book_core.specs.declared.live.Live.{Live}
-use Rattle.book_core.proofs.CellsAlways.{StrategiesOfPlans}
 use Rattle.book_core.proofs.CommitCalls.{are_fired, few_left, holds_there, waits_there, freed_there, gaps_there, given_there, indexed_as, job_attempted, job_back, job_held, job_within, kept_there, left_room, left_there, rises_there, same_back}
 use Rattle.book_core.proofs.CommitHolds.{kept_holds}
 use Rattle.book_core.proofs.CommitStep.{AreFired, commit_indexed, commit_written}
-use Rattle.book_core.proofs.Formed.{reached_formed}
-use Rattle.book_core.proofs.Limits.{reached_within}
 use Rattle.book_core.proofs.Rooms.{lists_length, lists_of}
 use Rattle.book_core.proofs.Steady.{works_within}
 use Rattle.book_core.proofs.book.Book.commit.Goals as goal
 
 pub has_numbers-requires-clause-commits : goal.has_numbers-requires-clause-commits
-has_numbers-requires-clause-commits c = (reached_within None (data_of c.self.inside) c.self.invariant.indexed.reached).commits
+has_numbers-requires-clause-commits c = c.self.invariant.indexed.sane.formed.within.commits
 
 pub has_numbers-requires-clause-panes : goal.has_numbers-requires-clause-panes
-has_numbers-requires-clause-panes c = (reached_within None (data_of c.self.inside) c.self.invariant.indexed.reached).panes
+has_numbers-requires-clause-panes c = c.self.invariant.indexed.sane.formed.within.panes
 
 pub has_numbers-requires-clause-dropped : goal.has_numbers-requires-clause-dropped
-has_numbers-requires-clause-dropped c = (reached_within None (data_of c.self.inside) c.self.invariant.indexed.reached).dropped
+has_numbers-requires-clause-dropped c = c.self.invariant.indexed.sane.formed.within.dropped
 
 pub keep_room-requires-clause-queues : goal.keep_room-requires-clause-queues
 keep_room-requires-clause-queues c =
-    sym (lists_length c.self.inside.queues.items) ∙ (reached_formed None (data_of c.self.inside) c.self.invariant.indexed.reached).queues ∙ ap (λ (plan : Plan). length plan.nodes) (sym c.plan-plan.ensures.value)
+    sym (lists_length c.self.inside.queues.items) ∙ c.self.invariant.indexed.sane.formed.queues ∙ ap (λ (plan : Plan). length plan.nodes) (sym c.plan-plan.ensures.value)
 
 pub keep_room-requires-clause-own : goal.keep_room-requires-clause-own
 keep_room-requires-clause-own c =
-    let strategies : StrategiesOfPlans = λ plan checked. record {
-      inputs = λ n node at. c.nodes_take_elements_of_their_strategy.ensures.inputs plan n node checked at;
-      own = c.strategies_follow_kinds.ensures.own plan;
-      onward = c.strategies_follow_kinds.ensures.onward plan;
-    } in
     let can : CanCommit None (data_of c.self.inside) c.args.slot c.args.receipt =
-    subst (λ (b : BookData). CanCommit None b c.args.slot c.args.receipt) (sym c.self.view_is) c.requires in
+    subst (λ (b : SeenBook). CanCommit None b c.args.slot c.args.receipt) (sym c.self.view_is) c.requires in
     let node_is : c.own_in-own.result.node ≡ node_of can.job = c.own_in-own.ensures.node can.job (ap (λ (l : List (Option Live)). slice_get l c.args.slot) c.as_slice.ensures.value ∙ can.works) in
     omega (
       arith,
       node_is,
-      job_within strategies (data_of c.self.inside) c.args.slot can.job c.args.receipt c.self.inside.held c.self.inside.pieces.room c.self.inside.returned.room can.works c.self.invariant.indexed,
+      job_within (data_of c.self.inside) c.args.slot can.job c.args.receipt c.self.inside.held c.self.inside.pieces.room c.self.inside.returned.room can.works c.self.invariant.indexed,
       ap (λ (plan : Plan). length plan.nodes) c.plan-plan.ensures.value,
     )
 
 pub take_out-requires : goal.take_out-requires
 take_out-requires c =
     let can : CanCommit None (data_of c.self.inside) c.args.slot c.args.receipt =
-    subst (λ (b : BookData). CanCommit None b c.args.slot c.args.receipt) (sym c.self.view_is) c.requires in
+    subst (λ (b : SeenBook). CanCommit None b c.args.slot c.args.receipt) (sym c.self.view_is) c.requires in
     works_within (data_of c.self.inside) c.args.slot can.job can.works
 
 pub residual_of-residual-requires : goal.residual_of-residual-requires
 residual_of-residual-requires c =
-    let strategies : StrategiesOfPlans = λ plan checked. record {
-      inputs = λ n node at. c.nodes_take_elements_of_their_strategy.ensures.inputs plan n node checked at;
-      own = c.strategies_follow_kinds.ensures.own plan;
-      onward = c.strategies_follow_kinds.ensures.onward plan;
-    } in
-    job_attempted strategies (data_of c.self.inside) c.args.slot c.in-Some.job c.args.receipt c.self.inside.held c.self.inside.pieces.room c.self.inside.returned.room c.in-Some.ensures.job c.self.invariant.indexed
+    job_attempted (data_of c.self.inside) c.args.slot c.in-Some.job c.args.receipt c.self.inside.held c.self.inside.pieces.room c.self.inside.returned.room c.in-Some.ensures.job c.self.invariant.indexed
 
 pub free_job-requires-clause-holds : goal.free_job-requires-clause-holds
 free_job-requires-clause-holds c =
-    let strategies : StrategiesOfPlans = λ plan checked. record {
-      inputs = λ n node at. c.nodes_take_elements_of_their_strategy.ensures.inputs plan n node checked at;
-      own = c.strategies_follow_kinds.ensures.own plan;
-      onward = c.strategies_follow_kinds.ensures.onward plan;
-    } in
     let rest = all_holds (with_slot (data_of c.self.inside) c.args.slot None) in (
       rest,
       subst (λ (plan : Plan). AreHeldIn c.keep_room.new.held (job_holds plan c.in-Some.job ++ rest)) (sym c.plan-plan.ensures.value)
-          (job_held strategies (data_of c.self.inside) c.args.slot c.in-Some.job c.args.receipt c.self.inside.held c.self.inside.pieces.room c.self.inside.returned.room c.in-Some.ensures.job c.self.invariant.indexed c.keep_room.new.held c.in-Ok.ensures.marks),
+          (job_held (data_of c.self.inside) c.args.slot c.in-Some.job c.args.receipt c.self.inside.held c.self.inside.pieces.room c.self.inside.returned.room c.in-Some.ensures.job c.self.invariant.indexed c.keep_room.new.held c.in-Ok.ensures.marks),
     )
 
 pub hold_residual-requires-clause-within : goal.hold_residual-requires-clause-within
 hold_residual-requires-clause-within c =
-    let strategies : StrategiesOfPlans = λ plan checked. record {
-      inputs = λ n node at. c.nodes_take_elements_of_their_strategy.ensures.inputs plan n node checked at;
-      own = c.strategies_follow_kinds.ensures.own plan;
-      onward = c.strategies_follow_kinds.ensures.onward plan;
-    } in
     subst (λ (r : Option Piece). ForSome r (λ piece. piece.node < length c.free_job.new.held)) (sym c.residual_of-residual.ensures)
-    (left_there (λ n. n < length c.free_job.new.held) c.in-Some.job c.args.receipt (omega (arith, c.free_job.ensures.sized, c.in-Ok.ensures.sized, c.self.invariant.indexed.sized, job_within strategies (data_of c.self.inside) c.args.slot c.in-Some.job c.args.receipt c.self.inside.held c.self.inside.pieces.room c.self.inside.returned.room c.in-Some.ensures.job c.self.invariant.indexed)))
+    (left_there (λ n. n < length c.free_job.new.held) c.in-Some.job c.args.receipt (omega (arith, c.free_job.ensures.sized, c.in-Ok.ensures.sized, c.self.invariant.indexed.sized, job_within (data_of c.self.inside) c.args.slot c.in-Some.job c.args.receipt c.self.inside.held c.self.inside.pieces.room c.self.inside.returned.room c.in-Some.ensures.job c.self.invariant.indexed)))
 
 pub hold_residual-requires-clause-room : goal.hold_residual-requires-clause-room
 hold_residual-requires-clause-room c =
@@ -107,59 +84,43 @@ hold_residual-requires-clause-room c =
 
 pub fire-fired-requires-clause-gaps : goal.fire-fired-requires-clause-gaps
 fire-fired-requires-clause-gaps c =
-    let strategies : StrategiesOfPlans = λ plan checked. record {
-      inputs = λ n node at. c.nodes_take_elements_of_their_strategy.ensures.inputs plan n node checked at;
-      own = c.strategies_follow_kinds.ensures.own plan;
-      onward = c.strategies_follow_kinds.ensures.onward plan;
-    } in
     let can : CanCommit None (data_of c.self.inside) c.args.slot c.args.receipt =
-    subst (λ (b : BookData). CanCommit None b c.args.slot c.args.receipt) (sym c.self.view_is) c.requires in
+    subst (λ (b : SeenBook). CanCommit None b c.args.slot c.args.receipt) (sym c.self.view_is) c.requires in
     let given = given_there None (data_of c.self.inside) c.args.slot c.in-Some.job c.args.receipt can c.in-Some.ensures.job in
     subst (λ (plan : Plan). All (HasGap plan) c.args.receipt.arrivals) (sym c.plan-plan.ensures.value)
-    (gaps_there strategies (data_of c.self.inside) c.args.slot c.in-Some.job c.args.receipt c.self.inside.held c.self.inside.pieces.room c.self.inside.returned.room c.in-Some.ensures.job c.self.invariant.indexed given)
+    (gaps_there (data_of c.self.inside) c.args.slot c.in-Some.job c.args.receipt c.self.inside.held c.self.inside.pieces.room c.self.inside.returned.room c.in-Some.ensures.job c.self.invariant.indexed (record {
+      inputs = λ n node at. c.nodes_take_elements_of_their_strategy.ensures.inputs c.self.inside.graph n node c.self.invariant.indexed.sane.formed.checked at;
+      own = c.strategies_follow_kinds.ensures.own c.self.inside.graph;
+      onward = c.strategies_follow_kinds.ensures.onward c.self.inside.graph;
+    }) given)
 
 pub fire-fired-requires-clause-rises : goal.fire-fired-requires-clause-rises
 fire-fired-requires-clause-rises c =
-    let strategies : StrategiesOfPlans = λ plan checked. record {
-      inputs = λ n node at. c.nodes_take_elements_of_their_strategy.ensures.inputs plan n node checked at;
-      own = c.strategies_follow_kinds.ensures.own plan;
-      onward = c.strategies_follow_kinds.ensures.onward plan;
-    } in
     let can : CanCommit None (data_of c.self.inside) c.args.slot c.args.receipt =
-    subst (λ (b : BookData). CanCommit None b c.args.slot c.args.receipt) (sym c.self.view_is) c.requires in
+    subst (λ (b : SeenBook). CanCommit None b c.args.slot c.args.receipt) (sym c.self.view_is) c.requires in
     let given = given_there None (data_of c.self.inside) c.args.slot c.in-Some.job c.args.receipt can c.in-Some.ensures.job in
     let freed : AreHeldIn c.free_job.new.held (all_holds (with_slot (data_of c.self.inside) c.args.slot None)) =
-    freed_there strategies (data_of c.self.inside) c.args.slot c.in-Some.job c.args.receipt c.self.inside.held c.self.inside.pieces.room c.self.inside.returned.room c.in-Some.ensures.job c.self.invariant.indexed c.plan-plan.result.now c.plan-plan.ensures.value
+    freed_there (data_of c.self.inside) c.args.slot c.in-Some.job c.args.receipt c.self.inside.held c.self.inside.pieces.room c.self.inside.returned.room c.in-Some.ensures.job c.self.invariant.indexed c.plan-plan.result.now c.plan-plan.ensures.value
     c.keep_room.new.held c.free_job.new.held c.in-Ok.ensures.marks c.free_job.ensures.freed in
     let kept : AreHeldIn c.hold_residual.new.held (kept_holds (data_of c.self.inside) c.args.slot c.in-Some.job c.args.receipt) =
-    kept_there strategies (data_of c.self.inside) c.args.slot c.in-Some.job c.args.receipt c.self.inside.held c.self.inside.pieces.room c.self.inside.returned.room c.in-Some.ensures.job c.self.invariant.indexed c.plan-plan.result.now c.plan-plan.ensures.value
+    kept_there (data_of c.self.inside) c.args.slot c.in-Some.job c.args.receipt c.self.inside.held c.self.inside.pieces.room c.self.inside.returned.room c.in-Some.ensures.job c.self.invariant.indexed c.plan-plan.result.now c.plan-plan.ensures.value
     c.residual_of-residual.result c.residual_of-residual.ensures c.free_job.new.held c.hold_residual.new.held c.hold_residual.ensures.held freed in
     let before_is : c.last_marks-before.result.now ≡ last_marks (data_of c.self.inside) =
     c.last_marks-before.ensures ∙ ap (λ (l : List CommitMarks). unwrap_or (option_map (λ (m : CommitMarks). m.marks) (slice_get l (length l - 1))) []) c.in-Ok.ensures.commits in
     subst (λ (plan : Plan). RisesFrom plan (least_in c.hold_residual.new.held) c.last_marks-before.result.now) (sym c.plan-plan.ensures.value)
     (subst (λ (l : List StageMarks). RisesFrom c.self.inside.graph (least_in c.hold_residual.new.held) l) (sym before_is)
-    (rises_there strategies (data_of c.self.inside) c.args.slot c.in-Some.job c.args.receipt c.self.inside.held c.self.inside.pieces.room c.self.inside.returned.room c.in-Some.ensures.job c.self.invariant.indexed c.hold_residual.new.held given kept))
+    (rises_there (data_of c.self.inside) c.args.slot c.in-Some.job c.args.receipt c.self.inside.held c.self.inside.pieces.room c.self.inside.returned.room c.in-Some.ensures.job c.self.invariant.indexed c.hold_residual.new.held given kept))
 
 pub free_residual-requires-clause-holds : goal.free_residual-requires-clause-holds
 free_residual-requires-clause-holds c =
-    let strategies : StrategiesOfPlans = λ plan checked. record {
-      inputs = λ n node at. c.nodes_take_elements_of_their_strategy.ensures.inputs plan n node checked at;
-      own = c.strategies_follow_kinds.ensures.own plan;
-      onward = c.strategies_follow_kinds.ensures.onward plan;
-    } in
     let freed : AreHeldIn c.free_job.new.held (all_holds (with_slot (data_of c.self.inside) c.args.slot None)) =
-    freed_there strategies (data_of c.self.inside) c.args.slot c.in-Some.job c.args.receipt c.self.inside.held c.self.inside.pieces.room c.self.inside.returned.room c.in-Some.ensures.job c.self.invariant.indexed c.plan-plan.result.now c.plan-plan.ensures.value
+    freed_there (data_of c.self.inside) c.args.slot c.in-Some.job c.args.receipt c.self.inside.held c.self.inside.pieces.room c.self.inside.returned.room c.in-Some.ensures.job c.self.invariant.indexed c.plan-plan.result.now c.plan-plan.ensures.value
     c.keep_room.new.held c.free_job.new.held c.in-Ok.ensures.marks c.free_job.ensures.freed in
     (all_holds (with_slot (data_of c.self.inside) c.args.slot None), c.hold_residual.ensures.held (all_holds (with_slot (data_of c.self.inside) c.args.slot None)) freed)
 
 pub hold_job-requires-clause-within : goal.hold_job-requires-clause-within
 hold_job-requires-clause-within c =
-    let strategies : StrategiesOfPlans = λ plan checked. record {
-      inputs = λ n node at. c.nodes_take_elements_of_their_strategy.ensures.inputs plan n node checked at;
-      own = c.strategies_follow_kinds.ensures.own plan;
-      onward = c.strategies_follow_kinds.ensures.onward plan;
-    } in
-    omega (arith, c.free_residual.ensures.sized, c.hold_residual.ensures.sized, c.free_job.ensures.sized, c.in-Ok.ensures.sized, c.self.invariant.indexed.sized, job_within strategies (data_of c.self.inside) c.args.slot c.in-Some.job c.args.receipt c.self.inside.held c.self.inside.pieces.room c.self.inside.returned.room c.in-Some.ensures.job c.self.invariant.indexed)
+    omega (arith, c.free_residual.ensures.sized, c.hold_residual.ensures.sized, c.free_job.ensures.sized, c.in-Ok.ensures.sized, c.self.invariant.indexed.sized, job_within (data_of c.self.inside) c.args.slot c.in-Some.job c.args.receipt c.self.inside.held c.self.inside.pieces.room c.self.inside.returned.room c.in-Some.ensures.job c.self.invariant.indexed)
 
 pub index_mut-requires : goal.index_mut-requires
 index_mut-requires c =
@@ -173,17 +134,12 @@ index_mut-requires c =
 
 pub invariant_of-self-in_default-fired : goal.invariant_of-self-in_default-fired
 invariant_of-self-in_default-fired c =
-    let strategies : StrategiesOfPlans = λ plan checked. record {
-      inputs = λ n node at. c.nodes_take_elements_of_their_strategy.ensures.inputs plan n node checked at;
-      own = c.strategies_follow_kinds.ensures.own plan;
-      onward = c.strategies_follow_kinds.ensures.onward plan;
-    } in
     let freed : AreHeldIn c.free_job.new.held (all_holds (with_slot (data_of c.self.inside) c.args.slot None)) =
-    freed_there strategies (data_of c.self.inside) c.args.slot c.in-Some.job c.args.receipt c.self.inside.held c.self.inside.pieces.room c.self.inside.returned.room c.in-Some.ensures.job c.self.invariant.indexed c.plan-plan.result.now c.plan-plan.ensures.value
+    freed_there (data_of c.self.inside) c.args.slot c.in-Some.job c.args.receipt c.self.inside.held c.self.inside.pieces.room c.self.inside.returned.room c.in-Some.ensures.job c.self.invariant.indexed c.plan-plan.result.now c.plan-plan.ensures.value
     c.keep_room.new.held c.free_job.new.held c.in-Ok.ensures.marks c.free_job.ensures.freed in
     let rest = all_holds (with_slot (data_of c.self.inside) c.args.slot None) in
     let back : AreHeldIn c.hold_job.new.held (all_holds (data_of c.self.inside)) =
-    job_back strategies (data_of c.self.inside) c.args.slot c.in-Some.job c.args.receipt c.self.inside.held c.self.inside.pieces.room c.self.inside.returned.room c.in-Some.ensures.job c.self.invariant.indexed c.hold_job.new.held
+    job_back (data_of c.self.inside) c.args.slot c.in-Some.job c.args.receipt c.self.inside.held c.self.inside.pieces.room c.self.inside.returned.room c.in-Some.ensures.job c.self.invariant.indexed c.hold_job.new.held
     (subst (λ (plan : Plan). AreHeldIn c.hold_job.new.held (job_holds plan c.in-Some.job ++ rest)) c.plan-plan.ensures.value
     (c.hold_job.ensures.held rest (c.free_residual.ensures.freed rest (c.hold_residual.ensures.held rest freed)))) in
     record {
@@ -210,16 +166,11 @@ put_back-requires c =
 
 pub done_of-requires : goal.done_of-requires
 done_of-requires c =
-    let strategies : StrategiesOfPlans = λ plan checked. record {
-      inputs = λ n node at. c.nodes_take_elements_of_their_strategy.ensures.inputs plan n node checked at;
-      own = c.strategies_follow_kinds.ensures.own plan;
-      onward = c.strategies_follow_kinds.ensures.onward plan;
-    } in
-    job_attempted strategies (data_of c.self.inside) c.args.slot c.in-Some.job c.args.receipt c.self.inside.held c.self.inside.pieces.room c.self.inside.returned.room c.in-Some.ensures.job c.self.invariant.indexed
+    job_attempted (data_of c.self.inside) c.args.slot c.in-Some.job c.args.receipt c.self.inside.held c.self.inside.pieces.room c.self.inside.returned.room c.in-Some.ensures.job c.self.invariant.indexed
 
 pub add-requires-clause-sorted : goal.add-requires-clause-sorted
 add-requires-clause-sorted c =
-    subst (λ (l : List Done). IsSorted done_cmp l) (sym c.in-Ok.ensures.done) (reached_formed None (data_of c.self.inside) c.self.invariant.indexed.reached).done
+    subst (λ (l : List Done). IsSorted done_cmp l) (sym c.in-Ok.ensures.done) c.self.invariant.indexed.sane.formed.done
 
 pub add-requires-clause-room : goal.add-requires-clause-room
 add-requires-clause-room c = record {
@@ -235,18 +186,13 @@ add-requires-clause-room c = record {
 
 pub invariant_of-self-2 : goal.invariant_of-self-2
 invariant_of-self-2 c =
-    let strategies : StrategiesOfPlans = λ plan checked. record {
-      inputs = λ n node at. c.nodes_take_elements_of_their_strategy.ensures.inputs plan n node checked at;
-      own = c.strategies_follow_kinds.ensures.own plan;
-      onward = c.strategies_follow_kinds.ensures.onward plan;
-    } in
     let can : CanCommit None (data_of c.self.inside) c.args.slot c.args.receipt =
-    subst (λ (b : BookData). CanCommit None b c.args.slot c.args.receipt) (sym c.self.view_is) c.requires in
+    subst (λ (b : SeenBook). CanCommit None b c.args.slot c.args.receipt) (sym c.self.view_is) c.requires in
     let freed : AreHeldIn c.free_job.new.held (all_holds (with_slot (data_of c.self.inside) c.args.slot None)) =
-    freed_there strategies (data_of c.self.inside) c.args.slot c.in-Some.job c.args.receipt c.self.inside.held c.self.inside.pieces.room c.self.inside.returned.room c.in-Some.ensures.job c.self.invariant.indexed c.plan-plan.result.now c.plan-plan.ensures.value
+    freed_there (data_of c.self.inside) c.args.slot c.in-Some.job c.args.receipt c.self.inside.held c.self.inside.pieces.room c.self.inside.returned.room c.in-Some.ensures.job c.self.invariant.indexed c.plan-plan.result.now c.plan-plan.ensures.value
     c.keep_room.new.held c.free_job.new.held c.in-Ok.ensures.marks c.free_job.ensures.freed in
     let kept : AreHeldIn c.hold_residual.new.held (kept_holds (data_of c.self.inside) c.args.slot c.in-Some.job c.args.receipt) =
-    kept_there strategies (data_of c.self.inside) c.args.slot c.in-Some.job c.args.receipt c.self.inside.held c.self.inside.pieces.room c.self.inside.returned.room c.in-Some.ensures.job c.self.invariant.indexed c.plan-plan.result.now c.plan-plan.ensures.value
+    kept_there (data_of c.self.inside) c.args.slot c.in-Some.job c.args.receipt c.self.inside.held c.self.inside.pieces.room c.self.inside.returned.room c.in-Some.ensures.job c.self.invariant.indexed c.plan-plan.result.now c.plan-plan.ensures.value
     c.residual_of-residual.result c.residual_of-residual.ensures c.free_job.new.held c.hold_residual.new.held c.hold_residual.ensures.held freed in
     let before_is : c.last_marks-before.result.now ≡ last_marks (data_of c.self.inside) =
     c.last_marks-before.ensures ∙ ap (λ (l : List CommitMarks). unwrap_or (option_map (λ (m : CommitMarks). m.marks) (slice_get l (length l - 1))) []) c.in-Ok.ensures.commits in
@@ -255,14 +201,15 @@ invariant_of-self-2 c =
     c.fire-fired.new.arrivals c.hold_residual.new.held =
     are_fired (data_of c.self.inside) c.args.slot c.in-Some.job c.args.receipt c.self.inside.groups c.fire-fired.new.groups c.in-Ok-fired.fired.panes c.in-Ok-fired.fired.marks
     c.fire-fired.new.arrivals c.hold_residual.new.held c.plan-plan.result.now c.len-number.result c.last_marks-before.result.now
-    c.plan-plan.ensures.value number_is before_is c.in-Some.ensures.job refl refl c.in-Ok-fired.ensures.committed c.in-Ok-fired.ensures.legal c.in-Ok-fired.ensures.few kept
+    c.plan-plan.ensures.value number_is before_is c.in-Some.ensures.job refl refl c.in-Ok-fired.ensures.committed c.in-Ok-fired.ensures.rounds c.in-Ok-fired.ensures.few kept
     (c.if-not-has_numbers.ensures.commits refl)
     (omega (arith, c.if-not-has_numbers.ensures.panes refl, c.len-count.ensures))
-    (omega (arith, c.if-not-has_numbers.ensures.dropped refl, c.len-count.ensures)) in
+    (omega (arith, c.if-not-has_numbers.ensures.dropped refl, c.len-count.ensures))
+    (omega (arith, c.if-not-has_numbers.ensures.cells refl, c.in-Ok-fired.ensures.grown, c.len-count.ensures)) in
     record {
       indexed =
-          commit_indexed strategies (data_of c.self.inside) c.args.slot c.in-Some.job c.args.receipt c.self.inside.groups c.fire-fired.new.groups c.in-Ok-fired.fired.panes c.in-Ok-fired.fired.marks
-          c.fire-fired.new.arrivals c.hold_residual.new.held fired c.self.invariant.indexed.reached
+          commit_indexed (data_of c.self.inside) c.args.slot c.in-Some.job c.args.receipt c.self.inside.groups c.fire-fired.new.groups c.in-Ok-fired.fired.panes c.in-Ok-fired.fired.marks
+          c.fire-fired.new.arrivals c.hold_residual.new.held fired c.self.invariant.indexed.sane
           c.take_out.new.slots.items c.put_back.new.pieces.pending (lists_of c.wait_all.new.queues.items) c.add.new.self.panes.items c.add.new.self.done.items c.add.new.self.written.items c.add.new.self.commits.items
           (record {
             slots_are = c.in-Some.ensures.free;
@@ -290,16 +237,11 @@ invariant_of-self-2 c =
 
 pub returns-clause-ok : goal.returns-clause-ok
 returns-clause-ok c = λ told can.
-    let strategies : StrategiesOfPlans = λ plan checked. record {
-      inputs = λ n node at. c.nodes_take_elements_of_their_strategy.ensures.inputs plan n node checked at;
-      own = c.strategies_follow_kinds.ensures.own plan;
-      onward = c.strategies_follow_kinds.ensures.onward plan;
-    } in
     let freed : AreHeldIn c.free_job.new.held (all_holds (with_slot (data_of c.self.inside) c.args.slot None)) =
-    freed_there strategies (data_of c.self.inside) c.args.slot c.in-Some.job c.args.receipt c.self.inside.held c.self.inside.pieces.room c.self.inside.returned.room c.in-Some.ensures.job c.self.invariant.indexed c.plan-plan.result.now c.plan-plan.ensures.value
+    freed_there (data_of c.self.inside) c.args.slot c.in-Some.job c.args.receipt c.self.inside.held c.self.inside.pieces.room c.self.inside.returned.room c.in-Some.ensures.job c.self.invariant.indexed c.plan-plan.result.now c.plan-plan.ensures.value
     c.keep_room.new.held c.free_job.new.held c.in-Ok.ensures.marks c.free_job.ensures.freed in
     let kept : AreHeldIn c.hold_residual.new.held (kept_holds (data_of c.self.inside) c.args.slot c.in-Some.job c.args.receipt) =
-    kept_there strategies (data_of c.self.inside) c.args.slot c.in-Some.job c.args.receipt c.self.inside.held c.self.inside.pieces.room c.self.inside.returned.room c.in-Some.ensures.job c.self.invariant.indexed c.plan-plan.result.now c.plan-plan.ensures.value
+    kept_there (data_of c.self.inside) c.args.slot c.in-Some.job c.args.receipt c.self.inside.held c.self.inside.pieces.room c.self.inside.returned.room c.in-Some.ensures.job c.self.invariant.indexed c.plan-plan.result.now c.plan-plan.ensures.value
     c.residual_of-residual.result c.residual_of-residual.ensures c.free_job.new.held c.hold_residual.new.held c.hold_residual.ensures.held freed in
     let before_is : c.last_marks-before.result.now ≡ last_marks (data_of c.self.inside) =
     c.last_marks-before.ensures ∙ ap (λ (l : List CommitMarks). unwrap_or (option_map (λ (m : CommitMarks). m.marks) (slice_get l (length l - 1))) []) c.in-Ok.ensures.commits in
@@ -308,10 +250,11 @@ returns-clause-ok c = λ told can.
     c.fire-fired.new.arrivals c.hold_residual.new.held =
     are_fired (data_of c.self.inside) c.args.slot c.in-Some.job c.args.receipt c.self.inside.groups c.fire-fired.new.groups c.in-Ok-fired.fired.panes c.in-Ok-fired.fired.marks
     c.fire-fired.new.arrivals c.hold_residual.new.held c.plan-plan.result.now c.len-number.result c.last_marks-before.result.now
-    c.plan-plan.ensures.value number_is before_is c.in-Some.ensures.job refl refl c.in-Ok-fired.ensures.committed c.in-Ok-fired.ensures.legal c.in-Ok-fired.ensures.few kept
+    c.plan-plan.ensures.value number_is before_is c.in-Some.ensures.job refl refl c.in-Ok-fired.ensures.committed c.in-Ok-fired.ensures.rounds c.in-Ok-fired.ensures.few kept
     (c.if-not-has_numbers.ensures.commits refl)
     (omega (arith, c.if-not-has_numbers.ensures.panes refl, c.len-count.ensures))
-    (omega (arith, c.if-not-has_numbers.ensures.dropped refl, c.len-count.ensures)) in
+    (omega (arith, c.if-not-has_numbers.ensures.dropped refl, c.len-count.ensures))
+    (omega (arith, c.if-not-has_numbers.ensures.cells refl, c.in-Ok-fired.ensures.grown, c.len-count.ensures)) in
     let seen = data_of (record c.self.inside {
       pieces = c.put_back.new.pieces;
       slots = c.take_out.new.slots;
@@ -320,9 +263,9 @@ returns-clause-ok c = λ told can.
       results = c.add.new.self;
       held = c.wait_all.new.held;
     }) in
-    subst (λ (b : BookData). IsCommitting told b c.args.slot c.args.receipt seen × IsWithinLimits seen) c.self.view_is
-    (commit_written strategies (data_of c.self.inside) c.args.slot c.in-Some.job c.args.receipt c.self.inside.groups c.fire-fired.new.groups c.in-Ok-fired.fired.panes c.in-Ok-fired.fired.marks
-    c.fire-fired.new.arrivals c.hold_residual.new.held fired c.self.invariant.indexed.reached
+    subst (λ (b : SeenBook). IsCommitting told b c.args.slot c.args.receipt seen × IsWithinLimits seen) c.self.view_is
+    (commit_written (data_of c.self.inside) c.args.slot c.in-Some.job c.args.receipt c.self.inside.groups c.fire-fired.new.groups c.in-Ok-fired.fired.panes c.in-Ok-fired.fired.marks
+    c.fire-fired.new.arrivals c.hold_residual.new.held fired c.self.invariant.indexed.sane
     c.take_out.new.slots.items c.put_back.new.pieces.pending (lists_of c.wait_all.new.queues.items) c.add.new.self.panes.items c.add.new.self.done.items c.add.new.self.written.items c.add.new.self.commits.items
     (record {
       slots_are = c.in-Some.ensures.free;
@@ -340,4 +283,4 @@ returns-clause-ok c = λ told can.
           ∙ ap (λ (plan : Plan). c.self.inside.results.written.items ++ filter (λ arrival. is_write plan arrival.node) c.fire-fired.new.arrivals) c.plan-plan.ensures.value;
       commits_are = c.add.ensures.commits ∙ ap (λ (l : List CommitMarks). l ++ as_commit c.in-Ok-fired.fired.marks ∷ []) c.in-Ok.ensures.commits;
     })
-    told (subst (λ (b : BookData). CanCommit told b c.args.slot c.args.receipt) (sym c.self.view_is) can))
+    told (subst (λ (b : SeenBook). CanCommit told b c.args.slot c.args.receipt) (sym c.self.view_is) can))

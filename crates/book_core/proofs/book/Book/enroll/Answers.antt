@@ -16,4 +16,4 @@ pub returns-clause-ok : goal.returns-clause-ok
 returns-clause-ok c =
     let less : length c.self.inside.slots.items + 1 < 4294967295 = omega (arith, c.if-number.false, c.len-number.ensures, c.self.inside.slots.ok) in
     makes_seen (data_of c.self.inside) _ _ c.len-number.result Enroll (Enrolled c.len-number.result) c.self.view_is
-    (makes_enroll (data_of c.self.inside) _ c.len-number.result less c.in_ok-push.ensures.items (omega (arith, c.len-number.ensures, c.self.inside.slots.ok)) c.self.invariant.indexed.reached)
+    (makes_enroll (data_of c.self.inside) _ c.len-number.result less c.in_ok-push.ensures.items (omega (arith, c.len-number.ensures, c.self.inside.slots.ok)) c.self.invariant.indexed.sane)

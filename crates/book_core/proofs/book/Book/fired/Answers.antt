@@ -1,8 +1,7 @@
 use Rattle.std.proofs.Common.{rules}
 use Rattle.std.specs.Prelude.{None}
 use Rattle.book_core.specs.Inside.{data_of}
-use Rattle.book_core.proofs.Limits.{reached_within}
 use Rattle.book_core.proofs.book.Book.fired.Goals as goal
 
 pub overflow_cast-result : goal.overflow_cast-result
-overflow_cast-result c = let within = reached_within None (data_of c.self.inside) c.self.invariant.indexed.reached in search (rules, within.panes, c.len.ensures)
+overflow_cast-result c = let within = c.self.invariant.indexed.sane.formed.within in search (rules, within.panes, c.len.ensures)

@@ -4,10 +4,11 @@ use Rattle.beam_values.specs.declared.plan.Node.{Node}
 use Rattle.beam_values.specs.declared.plan.Plan.{Plan}
 use Rattle.beam_values.specs.Marks.{AreMarks}
 use Rattle.beam_model.specs.Holds.{piece_hold}
-use Rattle.book_core.specs.Book.{BookData}
+use Rattle.book_core.specs.Book.{SeenBook}
 use Rattle.book_core.specs.Indexes.{IsIndexed, AreHeldIn, least_in}
 use Rattle.book_core.specs.Runs.{pieces_of, IsOpening}
-use Rattle.book_core.proofs.Opened.{IsFound, IsPieceOf, listed_below, is_opening, is_indexed, opened_as}
+use Rattle.book_core.proofs.Opened.{IsFound, listed_below, is_opening, is_indexed, opened_as}
+use Rattle.book_core.proofs.OpenedPieces.{IsPieceOf}
 use Rattle.book_core.proofs.book.Book.opening.Goals as goal
 
 pub hold_pieces-requires-clause-within : goal.hold_pieces-requires-clause-within
@@ -32,7 +33,7 @@ invariant_of-result c =
     } in
     record {
       indexed =
-          subst (λ (b : BookData). IsIndexed b c.in_ok-held.held c.in_ok-pieces.pieces.room c.new-4.result.room)
+          subst (λ (b : SeenBook). IsIndexed b c.in_ok-held.held c.in_ok-pieces.pieces.room c.new-4.result.room)
           (opened_as c.args.graph c.args.files c.args.options c.in_ok-marks.marks _ refl refl refl found.pending_is c.new-3.ensures.items
           (c.in_ok-queues.ensures ∙ ap (map (λ (node : Node). [])) c.as_slice-2.ensures ∙ ap (λ (plan : Plan). map (λ (node : Node). []) plan.nodes) c.plan-plan.ensures.value)
           (ap (λ r. r.items) c.new-4.ensures) (ap (λ g. g.cells) c.in_ok-groups.ensures) (ap (λ g. g.dropped) c.in_ok-groups.ensures) c.in_ok-results.ensures.panes c.in_ok-results.ensures.done c.in_ok-results.ensures.written c.in_ok-results.ensures.commits
@@ -55,7 +56,7 @@ returns c =
       sized = c.in_ok-held.ensures.sized ∙ ap (λ (plan : Plan). length plan.nodes) c.plan-plan.ensures.value;
       marked = subst (λ (plan : Plan). AreMarks plan (least_in c.in_ok-held.held) c.in_ok-marks.marks) c.plan-plan.ensures.value c.in_ok-marks.ensures;
     } in
-    subst (λ (b : BookData). IsOpening c.args.graph c.args.files c.args.options b)
+    subst (λ (b : SeenBook). IsOpening c.args.graph c.args.files c.args.options b)
     (opened_as c.args.graph c.args.files c.args.options c.in_ok-marks.marks _ refl refl refl found.pending_is c.new-3.ensures.items
     (c.in_ok-queues.ensures ∙ ap (map (λ (node : Node). [])) c.as_slice-2.ensures ∙ ap (λ (plan : Plan). map (λ (node : Node). []) plan.nodes) c.plan-plan.ensures.value)
     (ap (λ r. r.items) c.new-4.ensures) (ap (λ g. g.cells) c.in_ok-groups.ensures) (ap (λ g. g.dropped) c.in_ok-groups.ensures) c.in_ok-results.ensures.panes c.in_ok-results.ensures.done c.in_ok-results.ensures.written c.in_ok-results.ensures.commits

@@ -10,7 +10,6 @@ use Rattle.book_core.specs.Inside.{data_of}
 use Rattle.book_core.specs.declared.live.Live.{Live}
 use Rattle.book_core.specs.Steps.{Split, SplitAt}
 use Rattle.book_core.specs.declared.live.Live.TheVariants as live
-use Rattle.book_core.proofs.Limits.{reached_within}
 use Rattle.book_core.proofs.Splitting.{IsCut, is_cut, indexed_room, indexed_pending, node_within, cut_indexed, makes_cut}
 use Rattle.book_core.proofs.Steady.{attempted_within, works_within, makes_seen}
 use Rattle.book_core.proofs.book.Book.split.Goals as goal
@@ -18,11 +17,11 @@ use Rattle.book_core.proofs.book.Book.split.Goals as goal
 pub tracker_of-tracker-requires : goal.tracker_of-tracker-requires
 tracker_of-tracker-requires c =
     let works : slice_get c.self.inside.slots.items c.args.slot ≡ Some (Some (live.Span c.in-Some.piece c.in-Some.attempted)) = cc (c.in-Some.ensures, c.as_slice.ensures.value) in
-    attempted_within (data_of c.self.inside) c.args.slot c.in-Some.piece c.in-Some.attempted c.self.invariant.indexed.reached works
+    attempted_within (data_of c.self.inside) c.args.slot c.in-Some.piece c.in-Some.attempted c.self.invariant.indexed.sane works
 
 pub overflow_sub-count_pieces : goal.overflow_sub-count_pieces
 overflow_sub-count_pieces c =
-    let within = reached_within _ (data_of c.self.inside) c.self.invariant.indexed.reached in
+    let within = c.self.invariant.indexed.sane.formed.within in
     omega (arith, c.count_pieces.ensures.within, c.as_slice-2.ensures.len, c.self.inside.slots.ok, within.slots)
 
 pub keep_room-requires : goal.keep_room-requires
@@ -96,4 +95,4 @@ returns-clause-ok c =
     omega (arith, c.if-len-count_pieces.false, c.count_pieces.ensures.exact, c.len.ensures, ap (λ (s : List (Option Live)). length (flat_map piece_of s)) c.as_slice-2.ensures.value) in
     makes_seen (data_of c.self.inside) _ _ c.args.slot (Split c.args.num c.args.den) (SplitAt (Some c.from.result)) c.self.view_is
     (makes_cut (data_of c.self.inside) c.args.slot c.args.num c.args.den c.from.result c.in-Some.piece c.in-Some.attempted c.in-Some-try_split.rest c.range.result _ _ works cut
-    c.in_ok-add_residual.ensures.ok refl less c.self.invariant.indexed.reached)
+    c.in_ok-add_residual.ensures.ok refl less c.self.invariant.indexed.sane)

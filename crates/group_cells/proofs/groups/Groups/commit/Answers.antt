@@ -12,7 +12,7 @@ use Rattle.group_cells.specs.Commits.{IsCommitted, KeepsLegal, NoneFalls, SeenGr
 use Rattle.group_cells.specs.Plain.{AreCells, AreCellsNext}
 use Rattle.group_cells.proofs.AllKeys.{keep_legal}
 use Rattle.group_cells.proofs.FiredFew.{commit_few}
-use Rattle.group_cells.proofs.PlainRounds.{cells_kept, committed, rounds}
+use Rattle.group_cells.proofs.PlainRounds.{cells_kept, committed, rounds, rounds_seen}
 use Rattle.group_cells.proofs.RisenMarks.{none_falls}
 use Rattle.group_cells.proofs.groups.Groups.commit.Goals as goal
 
@@ -56,6 +56,16 @@ returns-clause-legal c =
     (c.in_ok-next.ensures.dropped
     ∙ (λ i. (ap (λ (g : SeenGroups). g.dropped) c.self.view_is) i ++ map (dropped_arrival c.args.commit) (filter (is_dropped (plan_is i) before) (c.as_slice.ensures i))))
     (rounds plan before hold c.args.commit arrivals old.cells c.commit.new.self.cells.items next.marks next.fired was nexts))
+
+pub returns-clause-rounds : goal.returns-clause-rounds
+returns-clause-rounds c =
+    let plan = c.args.plan.now in
+    let next = c.in_ok-next.next in
+    let plan_is : c.self.inside.plan ≡ plan = ap (λ (g : SeenGroups). g.plan) c.self.view_is ∙ c.requires.plan in
+    let cells_are : c.self.inside.draft.cells.items ≡ c.args.self.now.cells = ap (λ (g : SeenGroups). g.cells) c.self.view_is in
+    let after_is : c.copy_from_slice.new.self ≡ next.marks = c.copy_from_slice.ensures.after ∙ c.as_slice-2.ensures in
+    rounds_seen c.self.inside.plan plan c.args.marks.now (hold_at c.args.holds.now) c.args.commit c.as_slice.result.now c.args.arrivals.now c.self.inside.draft.cells.items c.args.self.now.cells
+    c.commit.new.self.cells.items next.marks c.copy_from_slice.new.self next.fired plan_is c.as_slice.ensures cells_are (sym after_is) c.self.invariant.cells c.in_ok-next.ensures.cells
 
 pub returns-clause-committed : goal.returns-clause-committed
 returns-clause-committed c =

@@ -2,7 +2,6 @@ use Rattle.std.proofs.Common.{List, ap, arith, length, subst, sym, true, ◌≡�
 use Rattle.std.proofs.lemmas.List.Elements.{All-nil}
 use Rattle.beam_values.specs.Nodes.{is_group}
 use Rattle.beam_values.specs.declared.cell.Cell.{Cell}
-use Rattle.beam_model.specs.Panes.{IsKeyed}
 use Rattle.cell_index.specs.Indexes.{IsIndexOf}
 use Rattle.group_cells.specs.Arrivals.{UnmergedStand}
 use Rattle.group_cells.specs.Due.{IsDueOf}
@@ -24,7 +23,6 @@ invariant_of-result c =
     record {
       cells = subst (λ (l : List Cell). AreCells plan l) none (record {
         groups = All-nil (λ (cell : Cell). is_group plan cell.node ≡ true);
-        keyed = All-nil IsKeyed;
         once = λ node key w. omega arith;
       });
       stand = subst (λ (l : List Cell). UnmergedStand plan l) none (record { each = λ node key group unmerged. tt });

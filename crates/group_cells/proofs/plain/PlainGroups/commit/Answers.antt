@@ -9,7 +9,7 @@ use Rattle.watermarks.specs.Holds.{hold_at}
 use Rattle.group_cells.specs.Commits.{IsCommitted, KeepsLegal, NoneFalls, SeenGroups, dropped_arrival, is_at_group, is_dropped}
 use Rattle.group_cells.specs.Plain.{AreCells, AreCellsNext}
 use Rattle.group_cells.proofs.AllKeys.{keep_legal}
-use Rattle.group_cells.proofs.PlainRounds.{cells_kept, committed, rounds}
+use Rattle.group_cells.proofs.PlainRounds.{cells_kept, committed, rounds, rounds_seen}
 use Rattle.group_cells.proofs.RisenMarks.{none_falls}
 use Rattle.group_cells.proofs.plain.PlainGroups.commit.Goals as goal
 
@@ -42,6 +42,17 @@ returns-clause-legal c =
     (c.in_ok-next.ensures.dropped
     ∙ (λ i. (ap (λ (g : SeenGroups). g.dropped) c.self.view_is) i ++ map (dropped_arrival c.args.commit) (filter (is_dropped plan before) (c.as_slice.ensures i))))
     (rounds plan before hold c.args.commit arrivals old.cells next.cells next.marks next.fired was nexts))
+
+pub returns-clause-rounds : goal.returns-clause-rounds
+returns-clause-rounds c =
+    let plan = c.args.plan.now in
+    let next = c.in_ok-next.next in
+    let plan_is : c.self.inside.plan ≡ plan = ap (λ (g : SeenGroups). g.plan) c.self.view_is ∙ c.requires.plan in
+    let cells_are : c.self.inside.cells ≡ c.args.self.now.cells = ap (λ (g : SeenGroups). g.cells) c.self.view_is in
+    let after_is : c.copy_from_slice.new.self ≡ next.marks = c.copy_from_slice.ensures.after ∙ c.as_slice-2.ensures in
+    rounds_seen plan plan c.args.marks.now (hold_at c.args.holds.now) c.args.commit c.as_slice.result.now c.args.arrivals.now c.self.inside.cells c.args.self.now.cells
+    next.cells next.marks c.copy_from_slice.new.self next.fired refl c.as_slice.ensures cells_are (sym after_is)
+    (subst (λ (p : Plan). AreCells p c.self.inside.cells) plan_is c.self.invariant) c.in_ok-next.ensures.cells
 
 pub returns-clause-committed : goal.returns-clause-committed
 returns-clause-committed c =

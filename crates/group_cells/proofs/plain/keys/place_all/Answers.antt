@@ -3,11 +3,17 @@ use Rattle.std.specs.Prelude.{MatchOption}
 use Rattle.beam_values.specs.Grouping.{key_of}
 use Rattle.beam_values.specs.declared.arrival.Arrival.{Arrival}
 use Rattle.group_cells.specs.declared.plain.keys.Place.{Place}
-use Rattle.group_cells.proofs.PlacedInTurn.{fewer_left, so_far_all, so_far_more}
+use Rattle.group_cells.proofs.PlacedInTurn.{fewer_left, so_far_all, so_far_more, so_far_none}
 use Rattle.group_cells.proofs.plain.keys.place_all.Goals as goal
 
 abbrev First : List Arrival → Place → Type 0
 First left place = (first : Arrival) × (rest : List Arrival) × (left ≡ first ∷ rest) × (place ≡ record { node = first.node; key = key_of first.element })
+
+pub loop-left-init : goal.loop-left-init
+loop-left-init c = record {
+  placed = so_far_none c.args.plan.now c.args.before.now c.args.commit c.args.taken c.args.cells.now.items c.requires.groups;
+  grown = omega arith;
+}
 
 pub loop-left-smaller : goal.loop-left-smaller
 loop-left-smaller c =

@@ -18,7 +18,7 @@ pub returns-in_ok-read_on-clause-bounded : goal.returns-in_ok-read_on-clause-bou
 returns-in_ok-read_on-clause-bounded g c =
     let less = subst (λ (q : Paged). length q.bytes ≤ length c.args.self.now.bytes) (sym c.give_up_before.ensures.left) (held_less c.args.self.now (c.args.p - 1)) in (
       λ none. absurd (false≢true (sym none ∙ c.if-more.true)),
-      λ _. omega (arith, less, c.in_ok-read_on.ensures.size, c.max.ensures, c.saturating_add.ensures, c.held-before.ensures, c.held-held.ensures, c.requires.step),
+      λ _. omega (arith, less, c.in_ok-read_on.ensures.size, c.max.ensures, c.saturating_add.ensures, c.held-before.ensures, c.held-held.ensures),
     )
 
 pub read_on-requires-else-more-clause-held : goal.read_on-requires-else-more-clause-held
@@ -37,7 +37,7 @@ returns-in_ok-read_on-clause-serves g c =
     let len : c.give_up_before.new.self.len ≡ c.args.self.now.len = ap (λ (q : Paged). q.len) c.give_up_before.ensures.left in
     let read = c.in_ok-read_on.ensures in
     serves_here c.read_on.new.self c.args.p (omega (arith, read.base, base))
-    (omega (arith, read.base, base, read.size, len, c.give_up_before.ensures.within, c.max.ensures, c.requires.step, c.requires.inside))
+    (omega (arith, read.base, base, read.size, len, c.give_up_before.ensures.within, c.max.ensures, c.requires.inside))
     (omega (arith, read.base, read.size, read.len, c.give_up_before.ensures.within))
 
 pub returns-in_ok-read_on-clause-more : goal.returns-in_ok-read_on-clause-more
@@ -46,7 +46,7 @@ returns-in_ok-read_on-clause-more g c = λ _.
     let less = subst (λ (q : Paged). length q.bytes ≤ length c.args.self.now.bytes) (sym c.give_up_before.ensures.left) (held_less c.args.self.now (c.args.p - 1)) in
     let kept = c.give_up_before.new.self in
     elim (cases_lt c.max.result (kept.len - (kept.base + length kept.bytes))) [
-      | inl within ↦ inl (omega (arith, within, read.size, less, c.give_up_before.ensures.small, c.max.ensures, c.saturating_add.ensures, c.held-before.ensures, c.held-held.ensures, c.requires.step))
+      | inl within ↦ inl (omega (arith, within, read.size, less, c.give_up_before.ensures.small, c.max.ensures, c.saturating_add.ensures, c.held-before.ensures, c.held-held.ensures))
       | inr past ↦ inr (omega (arith, past, read.size, read.base, read.len, c.give_up_before.ensures.within))
     ]
 
@@ -57,7 +57,7 @@ returns-in_ok-read_on-clause-further g c = λ _ serves.
     let size = ap (λ (q : Paged). length q.bytes) c.give_up_before.ensures.left in
     let kept = c.give_up_before.new.self in
     elim (cases_lt c.max.result (kept.len - (kept.base + length kept.bytes))) [
-      | inl within ↦ inl (omega (arith, within, read.size, read.base, base, size, held_end c.args.self.now c.args.p serves, c.max.ensures, c.requires.step))
+      | inl within ↦ inl (omega (arith, within, read.size, read.base, base, size, held_end c.args.self.now c.args.p serves, c.max.ensures))
       | inr past ↦ inr (omega (arith, past, read.size, read.base, read.len, c.give_up_before.ensures.within))
     ]
 

@@ -6,7 +6,8 @@ use Rattle.beam_ports.specs.declared.store.Opened.{Opened}
 use Rattle.worker_table.specs.Passes.{entry_of, note_of_pass, setting_of}
 use Rattle.worker_loop.specs.Openings.{AreOpened, file_names}
 use Rattle.worker_loop.proofs.Answered.{kit_onward, kit_same}
-use Rattle.worker_loop.proofs.Rounds.{others_onward, rises_few, rises_on, share_same}
+use Rattle.worker_loop.specs.Laws.{others_onward}
+use Rattle.worker_loop.proofs.Rounds.{rises_few, rises_on, share_same}
 use Rattle.worker_loop.proofs.Told.{opened_known}
 use Rattle.worker_loop.proofs.shop.Shop.work.Goals as goal
 
@@ -17,11 +18,11 @@ returns-in_default-clause-share g c =
     let reads = c.give_up.ensures.keeps.reads ∙ told.reads in
     share_same c.args.share.now (entry_of c.give_up.new.pass).calls (entry_of c.give_up.new.pass).reads c.counts_have_64_bits.ensures.calls c.counts_have_64_bits.ensures.reads calls reads
 
-pub returns-in_default-workbench-clause-share : goal.returns-in_default-workbench-clause-share
-returns-in_default-workbench-clause-share g c =
+pub returns-in_default-new-clause-share : goal.returns-in_default-new-clause-share
+returns-in_default-new-clause-share g c =
     let told = c.in-Ok.ensures.told in
-    let keeps = c.give_up-in_default-workbench.ensures.keeps in
-    share_same c.args.share.now (entry_of c.give_up-in_default-workbench.new.pass).calls (entry_of c.give_up-in_default-workbench.new.pass).reads c.counts_have_64_bits.ensures.calls c.counts_have_64_bits.ensures.reads (keeps.calls ∙ told.calls) (keeps.reads ∙ told.reads)
+    let keeps = c.give_up-in_default-new.ensures.keeps in
+    share_same c.args.share.now (entry_of c.give_up-in_default-new.new.pass).calls (entry_of c.give_up-in_default-new.new.pass).reads c.counts_have_64_bits.ensures.calls c.counts_have_64_bits.ensures.reads (keeps.calls ∙ told.calls) (keeps.reads ∙ told.reads)
 
 pub loop-init : goal.loop-init
 loop-init g c =
@@ -31,7 +32,7 @@ loop-init g c =
     let names = file_names setting.plan in
     let told = c.in-Ok.ensures.told in
     let are = opened_known known (g.S.Store.files c.args.kit.now.store) opened names c.args.kit.now.files c.requires.kit.told c.requires.kit.opened in
-    let shown = subst (λ (l : List Opened). AreOpened known opened names l) (sym c.as_slice.ensures) are in
+    let shown = subst (λ (l : List Opened). AreOpened known opened names l) (sym c.as_slice-files.ensures) are in
     let left : c.into_iter-iterator.result.left ≤ greatest_count = search rules in
     record {
       table = c.in-Ok.ensures.table;
@@ -39,7 +40,7 @@ loop-init g c =
       free = told.job;
       owes = told.owes ∙ c.requires.owes;
       others = c.in-Ok.ensures.others;
-      readers = c.in-Ok-workbench.ensures known opened (subst (λ (p : Plan). AreOpened known opened (file_names p) c.as_slice.result.now) (sym c.requires.plan) shown);
+      reading = c.in-Ok-new.ensures known opened (subst (λ (p : Plan). AreOpened known opened (file_names p) c.as_slice-files.result.now) (sym c.requires.plan) shown);
       kept = kit_same g.F.Shelf.faults g.F.Shelf.strict g.S.Store.faults g.S.Store.files g.S.Store.opened c.args.kit.now.shelf c.args.kit.now.store;
       files = refl;
       share = share_same c.args.share.now (entry_of c.enroll.new.pass).calls (entry_of c.enroll.new.pass).reads c.counts_have_64_bits.ensures.calls c.counts_have_64_bits.ensures.reads told.calls told.reads;
@@ -59,17 +60,17 @@ returns-in-Some-end-clause-counted g c =
     let less : c.next.new.self.left + 1 ≤ c.loop.iterator'.left = search rules in
     record {
       calls =
-          let few : later.calls ≤ greatest_count = omega (arith, less, i.few_calls, rises_few e.calls later.calls (faults c.loop.kit.shelf) (faults c.round-end.new.shelf) fails.calls) in
-          rises_on (faults c.args.kit.now.shelf) (faults c.loop.kit.shelf) (faults c.round-end.new.shelf) e.calls later.calls i.kept.counts c.round-end.ensures.kept.counts i.counted.calls fails.calls few;
+          let few : later.calls ≤ greatest_count = omega (arith, less, i.few_calls, rises_few e.calls later.calls (faults c.loop.kit.shelf) (faults c.round-end.new.kit.shelf) fails.calls) in
+          rises_on (faults c.args.kit.now.shelf) (faults c.loop.kit.shelf) (faults c.round-end.new.kit.shelf) e.calls later.calls i.kept.counts c.round-end.ensures.kept.counts i.counted.calls fails.calls few;
       reads =
-          let few : later.reads ≤ greatest_count = omega (arith, less, i.few_reads, rises_few e.reads later.reads (read_faults c.loop.kit.store) (read_faults c.round-end.new.store) fails.reads) in
-          rises_on (read_faults c.args.kit.now.store) (read_faults c.loop.kit.store) (read_faults c.round-end.new.store) e.reads later.reads i.kept.reading.counts c.round-end.ensures.kept.reading.counts i.counted.reads
+          let few : later.reads ≤ greatest_count = omega (arith, less, i.few_reads, rises_few e.reads later.reads (read_faults c.loop.kit.store) (read_faults c.round-end.new.kit.store) fails.reads) in
+          rises_on (read_faults c.args.kit.now.store) (read_faults c.loop.kit.store) (read_faults c.round-end.new.kit.store) e.reads later.reads i.kept.reading.counts c.round-end.ensures.kept.reading.counts i.counted.reads
           fails.reads few;
     }
 
 pub returns-in-Some-end-clause-kept : goal.returns-in-Some-end-clause-kept
 returns-in-Some-end-clause-kept g c =
-    kit_onward g.F.Shelf.faults g.F.Shelf.strict g.S.Store.faults g.S.Store.files g.S.Store.opened c.args.kit.now.shelf c.loop.kit.shelf c.round-end.new.shelf c.args.kit.now.store c.loop.kit.store c.round-end.new.store
+    kit_onward g.F.Shelf.faults g.F.Shelf.strict g.S.Store.faults g.S.Store.files g.S.Store.opened c.args.kit.now.shelf c.loop.kit.shelf c.round-end.new.kit.shelf c.args.kit.now.store c.loop.kit.store c.round-end.new.kit.store
     c.loop.invariant.kept c.round-end.ensures.kept
 
 pub loop-preserved : goal.loop-preserved
@@ -81,8 +82,8 @@ loop-preserved g c =
     let e = entry_of c.loop.pass in
     let later = entry_of c.round-end.new.pass in
     let less : c.next.new.self.left + 1 ≤ c.loop.iterator'.left = search rules in
-    let more_calls = rises_few e.calls later.calls (faults c.loop.kit.shelf) (faults c.round-end.new.shelf) fails.calls in
-    let more_reads = rises_few e.reads later.reads (read_faults c.loop.kit.store) (read_faults c.round-end.new.store) fails.reads in
+    let more_calls = rises_few e.calls later.calls (faults c.loop.kit.shelf) (faults c.round-end.new.kit.shelf) fails.calls in
+    let more_reads = rises_few e.reads later.reads (read_faults c.loop.kit.store) (read_faults c.round-end.new.kit.store) fails.reads in
     let few_calls : later.calls + c.next.new.self.left ≤ greatest_count = omega (arith, less, i.few_calls, more_calls) in
     let few_reads : later.reads + c.next.new.self.left ≤ greatest_count = omega (arith, less, i.few_reads, more_reads) in
     record {
@@ -91,15 +92,15 @@ loop-preserved g c =
       free = c.in_default-end.ensures.end.0;
       owes = c.in_default-end.ensures.end.1;
       others = others_onward (note_of_pass c.args.pass.now) (note_of_pass c.loop.pass) (note_of_pass c.round-end.new.pass) i.others c.round-end.ensures.others;
-      readers = c.round-end.ensures.readers;
-      kept = kit_onward g.F.Shelf.faults g.F.Shelf.strict g.S.Store.faults g.S.Store.files g.S.Store.opened c.args.kit.now.shelf c.loop.kit.shelf c.round-end.new.shelf c.args.kit.now.store c.loop.kit.store
-          c.round-end.new.store i.kept c.round-end.ensures.kept;
-      files = i.files;
+      reading = c.round-end.ensures.reading;
+      kept = kit_onward g.F.Shelf.faults g.F.Shelf.strict g.S.Store.faults g.S.Store.files g.S.Store.opened c.args.kit.now.shelf c.loop.kit.shelf c.round-end.new.kit.shelf c.args.kit.now.store c.loop.kit.store
+          c.round-end.new.kit.store i.kept c.round-end.ensures.kept;
+      files = c.round-end.ensures.files ∙ i.files;
       share = c.round-end.ensures.share c.args.share.now i.share;
       counted = record {
-        calls = rises_on (faults c.args.kit.now.shelf) (faults c.loop.kit.shelf) (faults c.round-end.new.shelf) e.calls later.calls i.kept.counts c.round-end.ensures.kept.counts i.counted.calls fails.calls
+        calls = rises_on (faults c.args.kit.now.shelf) (faults c.loop.kit.shelf) (faults c.round-end.new.kit.shelf) e.calls later.calls i.kept.counts c.round-end.ensures.kept.counts i.counted.calls fails.calls
             (omega (arith, few_calls));
-        reads = rises_on (read_faults c.args.kit.now.store) (read_faults c.loop.kit.store) (read_faults c.round-end.new.store) e.reads later.reads i.kept.reading.counts c.round-end.ensures.kept.reading.counts
+        reads = rises_on (read_faults c.args.kit.now.store) (read_faults c.loop.kit.store) (read_faults c.round-end.new.kit.store) e.reads later.reads i.kept.reading.counts c.round-end.ensures.kept.reading.counts
             i.counted.reads fails.reads (omega (arith, few_reads));
       };
       few_calls = few_calls;

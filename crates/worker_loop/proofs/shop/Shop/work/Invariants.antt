@@ -6,7 +6,7 @@ use Rattle.chain_exec.specs.Causes.{observed_shelf}
 use Rattle.worker_table.specs.Passes.{IsOf, entry_of, job_known, note_of_pass, setting_of, slot_of}
 use Rattle.worker_table.specs.Turns.{KeepsOthers}
 use Rattle.worker_loop.specs.Outside.{IsKitKept}
-use Rattle.worker_loop.specs.Reading.{AreReaders}
+use Rattle.worker_loop.specs.Reading.{IsReading}
 use Rattle.worker_loop.specs.Workers.{AreFailsCounted, share_with}
 use Rattle.worker_loop.proofs.shop.Shop.work.Given as goal
 
@@ -17,7 +17,7 @@ invariant-loop g l = record {
   free : job_known l.pass ≡ None;
   owes : (entry_of l.pass).owes_split ≡ false;
   others : KeepsOthers (note_of_pass l.fn.pass) (note_of_pass l.pass);
-  readers : AreReaders (setting_of l.self.table.now).known.told (g.S.Store.opened l.kit.store) l.self.graph.now l.bench.readers.items;
+  reading : IsReading (setting_of l.self.table.now).known.told (g.S.Store.opened l.kit.store) l.self.graph.now l.worker.readers.items l.worker.place l.worker.bench.pager;
   kept : IsKitKept g.F.Shelf.faults g.F.Shelf.strict g.S.Store.faults g.S.Store.files g.S.Store.opened l.fn.kit.shelf l.kit.shelf l.fn.kit.store l.kit.store;
   files : l.kit.files ≡ l.fn.kit.files;
   share : l.share ≡ share_with l.fn.share (entry_of l.pass).calls (entry_of l.pass).reads;

@@ -1,9 +1,5 @@
-use Rattle.std.proofs.Common.{[]}
 use Rattle.worker_table.specs.Notes.{setting_for}
 use Rattle.worker_table.proofs.pass.Table.new.Given as goal
 
 abbrev pub ghost-picked : goal.ghost-picked
 ghost-picked g a = setting_for g.known a._of.now
-
-abbrev pub ghost-owned_by : goal.ghost-owned_by
-ghost-owned_by g a = []
