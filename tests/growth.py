@@ -124,7 +124,7 @@ def early_panes(n):
     return counted({"fixed": 10**9}, early=1)
 
 
-@shape(100)
+@shape(64)
 def many_files(n):
     names = [f"file{at}" for at in range(n)]
     for name in names:
