@@ -530,9 +530,7 @@ impl Pager {
             self.bytes.clear();
         } else {
             let skipped = ((first - self.base) as usize).min(self.bytes.len());
-            let left = self.bytes.len() - skipped;
-            self.bytes.copy_within(skipped.., 0);
-            self.bytes.truncate(left);
+            drop_front(&mut self.bytes, skipped);
         }
         self.base = first;
         give_room_back(&mut self.bytes);
@@ -601,6 +599,18 @@ fn give_room_back(bytes: &mut Vec<u8>)
     let room = bytes.len().saturating_add(2 * BLOCK as usize);
     if bytes.capacity() / 4 > room {
         bytes.shrink_to(room);
+    }
+}
+
+// Gives up the first ones. Where there are none the others, of a long line maybe many, stay where they lie.
+fn drop_front(bytes: &mut Vec<u8>, count: usize)
+    requires { count ≤ length bytes.old.items }
+    ensures { bytes.new.items ≡ drop count bytes.old.items }
+{
+    if count > 0 {
+        let left = bytes.len() - count;
+        bytes.copy_within(count.., 0);
+        bytes.truncate(left);
     }
 }
 
