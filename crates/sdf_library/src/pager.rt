@@ -18,6 +18,9 @@ use std::error::Error;
 use std::fmt;
 use std::marker::Model;
 
+// So many bytes are added to a buffer at once.
+const BLANK: usize = 4096;
+
 /// Why a look at a file gave nothing.
 #[derive(Clone, Copy, Debug, PartialEq, Eq)]
 pub enum PageRefusal {
@@ -621,7 +624,29 @@ fn make_room(bytes: &mut Vec<u8>, count: usize) -> Result<(), NoMemory>
     ensures front { take (length bytes.old.items) bytes.new.items ≡ bytes.old.items }
     ensures err { OnErr result (bytes.new.items ≡ bytes.old.items) }
 {
-    Ok(bytes.resize(bytes.len() + count, 0)?)
+    let before = bytes.len();
+    match add_blank(bytes, before + count) {
+        Ok(()) => Ok(()),
+        Err(refused) => {
+            bytes.truncate(before);
+            Err(refused)
+        }
+    }
+}
+
+// Adds zeros up to so many bytes, many at once: one by one they would cost a tenth of reading a file.
+fn add_blank(bytes: &mut Vec<u8>, most: usize) -> Result<(), NoMemory>
+    requires { length bytes.old.items ≤ most }
+    ensures size { OnOk result (length bytes.new.items ≡ most) }
+    ensures front { take (length bytes.old.items) bytes.new.items ≡ bytes.old.items }
+{
+    bytes.reserve(most - bytes.len())?;
+    let blank = [0; BLANK];
+    while bytes.len() < most {
+        let part = (most - bytes.len()).min(BLANK);
+        bytes.extend_from_slice(blank.as_slice().split_at(part).0)?;
+    }
+    Ok(())
 }
 
 // Fills what stands behind the first `kept` bytes with those of the file from `at` on.
