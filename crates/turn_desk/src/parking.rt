@@ -23,7 +23,7 @@ const START: u64 = 64;
 // So many calm windows of one pass in a row let in another one, at first and at most.
 const LEAST_NEED: u64 = 2;
 
-const MOST_NEED: u64 = 512;
+const MOST_NEED: u64 = 64;
 
 /// What a pass counts of its own turns.
 #[derive(Clone, Copy, Drop)]
