@@ -4,3 +4,4 @@ pub mod Pages
 pub mod Strictness
 pub mod Telling
 pub mod Views
+pub mod WholeLines

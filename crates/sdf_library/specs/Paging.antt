@@ -1,8 +1,9 @@
 -- What is held of a file whose positions are worked, and what it serves for.
 use Rattle.std.specs.Prelude.{◌≡◌, ◌⊎◌, ℕ, ◌+◌, ◌-◌, ◌*◌, ◌<◌, ◌≤◌, Bool, true, false, ◌&&◌, nat_lt, nat_le, List, [], length, take, drop, Option, Some, None, if◌then◌else◌}
+use Rattle.std.specs.List.{list_any}
 use Rattle.beam_ports.specs.Files.{Opening}
 use Rattle.beam_values.specs.Checked.{reads_file}
-use Rattle.beam_values.specs.Lines.{line_len, next_start}
+use Rattle.beam_values.specs.Lines.{is_line_feed, line_len, next_start}
 use Rattle.beam_values.specs.declared.plan.Args.{Args}
 use Rattle.beam_values.specs.declared.plan.SourceKind.{SourceKind}
 use Rattle.beam_values.specs.declared.plan.SourceKind.TheVariants.{Lines}
@@ -61,6 +62,10 @@ ReachesOn more old new = more ≡ true → (length old.bytes < length new.bytes)
 -- what is held can be the answer as it is: it serves, and no more was asked for or no more is there
 abbrev pub IsEnough : Bool → Paged → ℕ → Type 0
 IsEnough more held p = Serves held p × ((more ≡ false) ⊎ ReachesEnd held)
+
+-- the line at each offset that is held before `to` ends within what is held: of `ab LF cd` with base 7 for 10 and for what is less
+abbrev pub AreWhole : ℕ → List ℕ → ℕ → Type 0
+AreWhole base bytes to = (at : ℕ) → base ≤ at → at < to → list_any is_line_feed (drop (at - base) bytes) ≡ true
 
 -- a block, in bytes
 abbrev pub block : ℕ

@@ -1,4 +1,4 @@
-ghost use Rattle.std.specs.Prelude.{◌≡◌, ◌+◌, ◌-◌, ◌≤◌, true, false, length, min, IfNone, IfSome};
+ghost use Rattle.std.specs.Prelude.{◌≡◌, ◌+◌, ◌-◌, ◌<◌, ◌≤◌, ℕ, true, false, drop, length, min, IfNone, IfSome};
 ghost use Rattle.std.specs.Prelude.{OnSome};
 ghost use Rattle.std.specs.List.{list_any};
 ghost use Rattle.beam_values.specs.Lines.{is_line_feed, starts_line, line_len, line_at, next_start};
@@ -6,6 +6,7 @@ ghost use Rattle.beam_values.specs.declared.plan.SourceKind.TheVariants as kinds
 ghost use Rattle.dofn_traits.specs.Calls.{is_cut_short};
 
 use beam_lines::{first_line, starts_line};
+use memchr::memrchr;
 
 /// What a file has from a position on, up to the end of the line there.
 #[derive(Clone, Copy)]
@@ -48,4 +49,15 @@ fn is_ended(rest: &[u8], next: usize) -> bool
     ensures { result ≡ list_any is_line_feed rest.now }
 {
     next > 0 && starts_line(rest, next)
+}
+
+/// How many bytes stand up to the last LF, that one counted: the lines that these begin with have their ends there.
+pub(crate) fn ended(bytes: &[u8]) -> usize
+    ensures within { result ≤ length bytes.now }
+    ensures whole { (k : ℕ) → k < result → list_any is_line_feed (drop k bytes.now) ≡ true }
+{
+    match memrchr(b'\n', bytes) {
+        Some(at) => at + 1,
+        None => 0,
+    }
 }

@@ -9,7 +9,7 @@ ghost use Rattle.beam_ports.specs.Files.{KeepsOpenings, Opening};
 ghost use Rattle.beam_values.specs.Lines.{next_start};
 
 use crate::Quiet;
-use crate::lines::seen_line;
+use crate::lines::{ended, seen_line};
 use crate::reading::{BLOCK, fill};
 use beam_ports::{Failed, NoMemory, Store};
 use dofn_traits::Look;
@@ -67,11 +67,13 @@ pub struct Pager {
     base: u64,
     bytes: Vec<u8>,
     quiet: Quiet,
+    // The line at each offset that is held before this one ends within what is held.
+    whole_to: u64,
 }
 
 impl Model for Pager {
     ghost use Rattle.std.specs.Prelude.{◌+◌, ◌<◌, ◌≤◌, ◌^◌, length};
-    ghost use Rattle.sdf_library.specs.Paging.{Paged};
+    ghost use Rattle.sdf_library.specs.Paging.{AreWhole, Paged};
 
     ghost Value = { Paged };
 
@@ -84,7 +86,8 @@ impl Model for Pager {
     } };
 
     ghost invariant = { λ it. (it.base + length it.bytes.items ≤ it.len)
-        × (it.len < 2 ^ 64) × (it.quiet.to ≤ it.len) };
+        × (it.len < 2 ^ 64) × (it.quiet.to ≤ it.len)
+        × AreWhole it.base it.bytes.items it.whole_to };
 }
 
 impl Pager {
@@ -111,6 +114,7 @@ impl Pager {
             base: 0,
             bytes: Vec::new(alloc),
             quiet: Quiet { from: 0, to: 0 },
+            whole_to: 0,
         }
     }
 
@@ -140,6 +144,7 @@ impl Pager {
         ensures { self.new ≡ record self.old { base = 0; bytes = [] } }
     {
         self.base = 0;
+        self.whole_to = 0;
         free(&mut self.bytes);
     }
 
@@ -234,12 +239,19 @@ impl Pager {
         ensures counts { S.faults store.old ≤ S.faults store.new }
     {
         self.hold_start(store, p)?;
+        if self.is_whole_at(p) {
+            return Ok(());
+        }
         match self.line_end(p) {
             Some(next) => {
                 self.trim(p, next);
                 Ok(())
             }
-            None => self.read_line(store, p),
+            None => {
+                self.read_line(store, p)?;
+                self.note_whole();
+                Ok(())
+            }
         }
     }
 
@@ -266,7 +278,25 @@ impl Pager {
             return Ok(());
         }
         self.give_up_before(p);
-        self.read_on(store, BLOCK - self.held())
+        self.read_on(store, BLOCK - self.held())?;
+        self.note_whole();
+        Ok(())
+    }
+
+    // Notes which lines end within what is held, so that each of them needn't be searched for its end.
+    fn note_whole(&mut self)
+        ensures { self.new ≡ self.old }
+    {
+        self.whole_to = self.base + ended(self.bytes.as_slice()) as u64;
+    }
+
+    // Whether it is noted that the line at the position ends within what is held, which is no more than two blocks.
+    fn is_whole_at(&self, p: u64) -> bool
+        requires { self.now.base ≤ p }
+        ensures whole { IsTrue result → is_line_cut p self.now ≡ false }
+        ensures small { IsTrue result → length self.now.bytes ≤ 2 * block }
+    {
+        p < self.whole_to && self.held() <= 2 * BLOCK
     }
 
     // Gives up what is more than two blocks, where the line after the one at the position starts at `next`.
@@ -531,6 +561,7 @@ impl Pager {
         let first = p.saturating_sub(1);
         if first < self.base {
             self.bytes.clear();
+            self.whole_to = 0;
         } else {
             let skipped = ((first - self.base) as usize).min(self.bytes.len());
             drop_front(&mut self.bytes, skipped);
@@ -544,6 +575,7 @@ impl Pager {
         ensures { self.new ≡ record self.old { bytes = take most self.old.bytes } }
     {
         self.bytes.truncate(most as usize);
+        self.whole_to = 0;
     }
 
     // Reads as many bytes more, or those up to the end of the file where they are fewer.
