@@ -1,6 +1,6 @@
 use Rattle.std.proofs.Common.{◌≡◌, ◌∷◌, List, ℕ, ℤ, get_or, subst}
 use Rattle.beam_values.specs.Bags.{IsSameBag}
-use Rattle.beam_values.proofs.Bags.{bag_cons, bag_trans}
+use Rattle.beam_values.proofs.Bags.{bag_trans}
 use Rattle.watermarks.specs.declared.listed.Held.{Held}
 use Rattle.watermarks.specs.HeldMarks.{marks_of}
 use Rattle.watermarks.proofs.KeptMarks.{held}
@@ -13,16 +13,12 @@ taken old found new m at same is one =
     let d : Held = held m 0 in
     bag_trans (marks_of old) (marks_of found) (m ∷ marks_of new) same (subst (λ (z : ℤ). IsSameBag (marks_of found) (z ∷ marks_of new)) (is d) (one d))
 
-pub returns-in-Some-clause-taken : goal.returns-in-Some-clause-taken
-returns-in-Some-clause-taken c =
-    taken c.args.self.now.items.items c.place_to_take-at.new.self.items.items c.take_at.new.self.items.items c.args.m c.place_to_take-at.result c.place_to_take-at.ensures.same
-    c.place_to_take-at.ensures.place.is c.take_at.ensures.taken
+pub returns-then-at-self-clause-taken : goal.returns-then-at-self-clause-taken
+returns-then-at-self-clause-taken c =
+    taken c.args.self.now.items.items c.place_to_take-at.new.self.items.items c.take_ordered.new.self.items.items c.args.m c.place_to_take-at.result c.place_to_take-at.ensures.same
+    c.place_to_take-at.ensures.place.is c.take_ordered.ensures.taken
 
-pub returns-in-None-clause-taken : goal.returns-in-None-clause-taken
-returns-in-None-clause-taken c =
-    let one =
-    taken c.args.self.now.items.items c.place_to_take-at.new.self.items.items c.take_at.new.self.items.items c.args.m c.place_to_take-at.result c.place_to_take-at.ensures.same
-    c.place_to_take-at.ensures.place.is c.take_at.ensures.taken in
-    let new = c.take_at.new.self.items.items in
-    let last = c.put_in_order.new.self.items.items in
-    bag_trans (marks_of c.args.self.now.items.items) (c.args.m ∷ marks_of new) (c.args.m ∷ marks_of last) one (bag_cons c.args.m (marks_of new) (marks_of last) c.put_in_order.ensures.same)
+pub returns-else-at-self-clause-taken : goal.returns-else-at-self-clause-taken
+returns-else-at-self-clause-taken c =
+    taken c.args.self.now.items.items c.place_to_take-at.new.self.items.items c.take_added.new.self.items.items c.args.m c.place_to_take-at.result c.place_to_take-at.ensures.same
+    c.place_to_take-at.ensures.place.is c.take_added.ensures.taken
