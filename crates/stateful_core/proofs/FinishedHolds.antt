@@ -40,7 +40,7 @@ beside_off before done at cell ne = sym (ap (λ b. cell_holds (cond b (with_done
 
 -- ---- cell by cell
 
-finish_sized : (before : List StageMarks) (done : Option Done) (cells : List KeyCell) → length (finish before done cells) ≡ length cells
+pub finish_sized : (before : List StageMarks) (done : Option Done) (cells : List KeyCell) → length (finish before done cells) ≡ length cells
 finish_sized before None cells = refl
 finish_sized before (Some done) cells = by (slice_get cells done.cell)
   where

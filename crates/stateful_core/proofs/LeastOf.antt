@@ -74,6 +74,10 @@ lowered least node old mark new holds less read is h n inside = by (cases_eq nod
     by (inr ne) =
         at_get (slice_set least node new) n ∙ get_or-set_other least node n new final_mark (λ e. ne (sym e)) ∙ sym (at_get least n) ∙ h n within ∙ sym (other_least node mark holds n ne)
 
+-- a node behind the last
+pub lowered_past : (least : List ℤ) (node : ℕ) (mark : ℤ) (holds : List Hold) → length least ≤ node → AreLeast least holds → AreLeast least (record { node = node; mark = mark } ∷ holds)
+lowered_past least node mark holds past h n inside = h n inside ∙ sym (other_least node mark holds n (λ e. omega (arith, past, inside, e)))
+
 -- ---- orders
 
 pub front : (x : Hold) (xs holds : List Hold) → IsSameBag (x ∷ (xs ++ holds)) ((xs ++ x ∷ []) ++ holds)

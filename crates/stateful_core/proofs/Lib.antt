@@ -4,6 +4,7 @@ pub mod FirstTimer
 pub mod Cellwise
 pub mod SameValues
 pub mod Found
+pub mod Numbers
 pub mod OnceOnly
 pub mod Keeping
 pub mod Came
@@ -26,3 +27,4 @@ pub mod LeftAs
 pub mod LeftOver
 pub mod KeyCommit
 pub mod OneLater
+pub mod Turning

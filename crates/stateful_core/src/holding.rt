@@ -20,15 +20,16 @@ use crate::{KeyDone, Queue, Slot, TimerHolds};
 use beam_values::{Arrival, List, Mark, NoMemory, Plan, StageMarks};
 use std::alloc::Global;
 
-// A node is held back at one more mark.
+// A node is held back at one more mark; nothing is asked of a node behind the last.
 fn lower(least: &mut [Mark], node: u32, mark: Mark)
-    requires { node < length least.old }
     ensures least { (holds : ListOf Hold) → AreLeast least.old holds
         → AreLeast least.new (record { node = node; mark = mark } ∷ holds) }
     ensures sized { length least.new ≡ length least.old }
 {
-    let own = least[node as usize];
-    least[node as usize] = lesser(own, mark);
+    if (node as usize) < least.len() {
+        let own = least[node as usize];
+        least[node as usize] = lesser(own, mark);
+    }
 }
 
 fn lesser(a: Mark, b: Mark) -> Mark
@@ -38,7 +39,6 @@ fn lesser(a: Mark, b: Mark) -> Mark
 }
 
 fn lower_timer(least: &mut [Mark], node: u32, mark: Option<Mark>)
-    requires { node < length least.old }
     ensures least { (holds : ListOf Hold) → AreLeast least.old holds
         → AreLeast least.new (timer_hold node mark ++ holds) }
     ensures sized { length least.new ≡ length least.old }
@@ -49,7 +49,6 @@ fn lower_timer(least: &mut [Mark], node: u32, mark: Option<Mark>)
 }
 
 fn lower_timers(least: &mut [Mark], node: u32, timers: &TimerHolds)
-    requires { node < length least.old }
     ensures least { (holds : ListOf Hold) → AreLeast least.old holds
         → AreLeast least.new (flat_map (timer_hold node) timers.now ++ holds) }
     ensures sized { length least.new ≡ length least.old }
@@ -60,7 +59,6 @@ fn lower_timers(least: &mut [Mark], node: u32, timers: &TimerHolds)
 }
 
 fn lower_waiting(least: &mut [Mark], node: u32, waiting: &Queue, from: usize)
-    requires { node < length least.old }
     ensures least { (holds : ListOf Hold) → AreLeast least.old holds
         → AreLeast least.new (map (element_hold node) (drop from waiting.now.items) ++ holds) }
     ensures sized { length least.new ≡ length least.old }
@@ -71,7 +69,6 @@ fn lower_waiting(least: &mut [Mark], node: u32, waiting: &Queue, from: usize)
 }
 
 fn lower_cell(least: &mut [Mark], node: u32, waiting: &Queue, from: usize, timers: &TimerHolds)
-    requires { node < length least.old }
     ensures least { (holds : ListOf Hold) → AreLeast least.old holds
         → AreLeast least.new (holds_from node from waiting.now.items timers.now ++ holds) }
     ensures sized { length least.new ≡ length least.old }
@@ -87,7 +84,6 @@ fn lower_slot(
     at: usize,
     slot: &Slot,
 )
-    requires { slot.now.node < length least.old }
     ensures least { (holds : ListOf Hold) → AreLeast least.old holds
         → AreLeast least.new (cell_holds (finished before.now
         (option_map done_of (option_copied done.entry)) at (cell_of slot.now)) ++ holds) }
@@ -100,7 +96,6 @@ fn lower_slot(
 }
 
 fn lower_beside(least: &mut [Mark], before: &[StageMarks], done: &KeyDone, at: usize, slot: &Slot)
-    requires { slot.now.node < length least.old }
     ensures least { (holds : ListOf Hold) → AreLeast least.old holds
         → AreLeast least.new (cell_holds (finished before.now (Some (done_of done.now)) at
         (cell_of slot.now)) ++ holds) }
@@ -117,7 +112,6 @@ fn lower_beside(least: &mut [Mark], before: &[StageMarks], done: &KeyDone, at: u
 }
 
 fn lower_slots(least: &mut [Mark], before: &[StageMarks], done: Option<&KeyDone>, slots: &[Slot])
-    requires { All (λ slot. slot.node < length least.old) slots.now }
     ensures least { AreLeast least.old [] → AreLeast least.new (key_holds (finish before.now
         (option_map done_of (option_copied done.entry)) (cells_of slots.now))) }
     ensures sized { length least.new ≡ length least.old }
@@ -128,7 +122,6 @@ fn lower_slots(least: &mut [Mark], before: &[StageMarks], done: Option<&KeyDone>
 }
 
 fn lower_arrivals(plan: &Plan, least: &mut [Mark], before: &[StageMarks], arrivals: &[Arrival])
-    requires { length least.old ≡ length plan.now.nodes }
     ensures least { (holds : ListOf Hold) → AreLeast least.old holds → AreLeast least.new
         (holds ++ arrival_holds plan.now before.now arrivals.now) }
     ensures sized { length least.new ≡ length least.old }
@@ -139,7 +132,6 @@ fn lower_arrivals(plan: &Plan, least: &mut [Mark], before: &[StageMarks], arriva
 }
 
 fn lower_arrival(plan: &Plan, least: &mut [Mark], before: &[StageMarks], arrival: &Arrival)
-    requires { length least.old ≡ length plan.now.nodes }
     ensures least { (holds : ListOf Hold) → AreLeast least.old holds → AreLeast least.new
         (holds ++ (if is_stateful plan.now arrival.now.node
         then arrival_hold before.now arrival.now ∷ [] else [])) }
@@ -159,7 +151,6 @@ pub fn least_holds(
     before: &[StageMarks],
     arrivals: &[Arrival],
 ) -> Result<List<Mark>, NoMemory>
-    requires { All (λ slot. slot.node < length plan.now.nodes) slots.now }
     ensures sized { IfOk result (λ least. length least ≡ length plan.now.nodes) }
     ensures least { IfOk result (λ least. AreLeast least (key_holds (place plan.now before.now
         (option_map done_of (option_copied done.entry)) arrivals.now (cells_of slots.now)))) }
@@ -177,9 +168,7 @@ fn lower_all(
     slots: &[Slot],
     arrivals: &[Arrival],
 )
-    requires sized { length least.old ≡ length plan.now.nodes }
-    requires within { All (λ slot. slot.node < length plan.now.nodes) slots.now }
-    requires least { AreLeast least.old [] }
+    requires { AreLeast least.old [] }
     ensures least { AreLeast least.new (key_holds (place plan.now before.now
         (option_map done_of (option_copied done.entry)) arrivals.now (cells_of slots.now))) }
     ensures sized { length least.new ≡ length least.old }

@@ -1,10 +1,12 @@
-ghost use Rattle.std.specs.Prelude.{◌≡◌, ◌≤◌, ◌<◌, ◌+◌, ◌-◌, [], ◌∷◌, ◌++◌, true, All, IfOk, OnOk, OnErr, length, slice_get, Some};
+ghost use Rattle.std.specs.Prelude.{◌≡◌, ◌≤◌, ◌<◌, ◌+◌, ◌-◌, [], ◌∷◌, ◌++◌, true, not, All, IfOk, OnOk, OnErr, length, slice_get, Some};
+ghost use Rattle.std.specs.List.{filter};
 ghost use Rattle.std.specs.Option.{option_map, option_copied};
-ghost use Rattle.stateful_core.specs.Opening.{CanFinishAny, HasCell, IsPrepared, IsRoomy, IsStanding, cells_in, done_of, fresh_all};
+ghost use Rattle.beam_values.specs.Nodes.{is_stateful};
+ghost use Rattle.stateful_core.specs.Opening.{CanFinishAny, HasCell, IsPrepared, IsRoomy, IsStanding, done_of, fresh_all};
 ghost use Rattle.stateful_core.specs.Opening.{put_all};
 ghost use Rattle.stateful_core.specs.Least.{AreLeast};
 ghost use Rattle.stateful_core.specs.Placing.{finish, place};
-ghost use Rattle.stateful_core.specs.Cells.{KeyCell, key_holds, logs_of};
+ghost use Rattle.stateful_core.specs.Cells.{KeyCell, calls_of, key_holds, logs_of};
 ghost use Rattle.stateful_core.specs.Seen.{cell_of, cells_of};
 ghost use Rattle.stateful_core.specs.Taking.{IsFirstReady, IsTaken, IsTakenOrNone, change, next_place, tried};
 ghost use Rattle.stateful_core.specs.Taking.{with_job};
@@ -13,12 +15,13 @@ ghost use Rattle.beam_values.specs.declared.arrival.Arrival.{Arrival};
 ghost use Rattle.beam_values.specs.declared.plan.Plan.{Plan};
 ghost use Rattle.std.specs.Prelude.{List as ListOf, vec_capacity, vec_len};
 
+use crate::finding::number_of;
 use crate::holding::least_holds;
 use crate::opening::{keep_all, open_all};
 use crate::putting::{finish, put_all};
 use crate::taking::{give_back, next_place, start, turn_of};
 use crate::{KeyDone, KeyTurn, Place, Slot};
-use beam_values::{Arrival, KeyLog, List, Mark, NoMemory, Plan, StageMarks, Value};
+use beam_values::{Arrival, KeyLog, List, LogEntry, Mark, NoMemory, Plan, Span, StageMarks, Value};
 use std::alloc::Global;
 use std::marker::Model;
 use std::mem;
@@ -33,22 +36,29 @@ pub struct Keys {
 }
 
 impl Model for Keys {
-    ghost use Rattle.std.specs.Prelude.{◌-◌};
+    ghost use Rattle.std.specs.Prelude.{◌-◌, ◌<◌, length};
     ghost use Rattle.std.specs.Coded.{codes};
+    ghost use Rattle.beam_values.specs.contracts.value.Value as value;
     ghost use Rattle.stateful_core.specs.Opening.{SeenKeys};
+    ghost use Rattle.stateful_core.specs.Seen.{cells_of};
     ghost use Rattle.stateful_core.specs.contracts.slot.Slot as slot;
 
     ghost Value = { SeenKeys };
 
-    ghost coded = { Prim.hlevel (codes, slot.the_row.coded) };
+    ghost coded = { Prim.hlevel (codes, slot.the_row.coded, value.the_row.coded) };
 
-    ghost view = { λ k. record { slots = k.slots.items; room = k.slots.cap - k.slots.len; fresh = k.fresh.items } };
+    ghost view = { λ k. record {
+      cells = cells_of k.slots.items;
+      kept = record { slots = k.slots.items; room = k.slots.cap - k.slots.len; fresh = k.fresh.items };
+    } };
+
+    ghost invariant = { λ k. length k.slots.items < 4294967296 };
 }
 
 impl Keys {
     /// No cell stands. Takes no memory.
     pub fn new(alloc: Global) -> Keys
-        ensures { cells_in result ≡ [] }
+        ensures { result.cells ≡ [] }
     {
         Keys {
             slots: Vec::new(alloc),
@@ -64,10 +74,9 @@ impl Keys {
         marks: &[StageMarks],
         bundle: u32,
     ) -> Result<Option<KeyTurn>, NoMemory>
-        requires some { 1 ≤ bundle }
-        requires few { length (cells_in self.old) < 4294967296 }
+        requires { 1 ≤ bundle }
         ensures ok { IfOk result (λ turn.
-            IsTakenOrNone marks.now bundle (cells_in self.old) turn (cells_in self.new)) }
+            IsTakenOrNone marks.now bundle self.old.cells turn self.new.cells) }
         ensures err { OnErr result (self.new ≡ self.old) }
     {
         let Some(place) = next_place(self.slots.as_slice(), marks) else {
@@ -80,17 +89,34 @@ impl Keys {
 
     /// The job of a cell failed. Takes no memory.
     pub fn give_back(&mut self, cell: u32)
-        requires stands { cell < length (cells_in self.old) }
-        requires few { (slot : Slot) → slice_get self.old.slots cell ≡ Some slot
-            → slot.attempts < 4294967295 }
-        ensures { cells_in self.new ≡ change tried cell (cells_in self.old) }
+        requires stands { cell < length self.old.cells }
+        requires few { (own : KeyCell) → slice_get self.old.cells cell ≡ Some own
+            → own.attempts < 4294967295 }
+        ensures { self.new.cells ≡ change tried cell self.old.cells }
     {
         give_back(&mut self.slots, cell as usize);
     }
 
+    /// How many cells stand.
+    pub fn len(&self) -> usize
+        ensures is { result ≡ length self.now.cells }
+        ensures few { result < 4294967296 }
+    {
+        self.slots.len()
+    }
+
+    /// The calls so far of the cell of a node, key and window; none where no such cell stands. Takes no
+    /// memory.
+    pub fn log(&self, node: u32, key: &Value, span: Span) -> Option<&[LogEntry]>
+        ensures { option_copied result ≡ calls_of node key.now span self.now.cells }
+    {
+        let at = number_of(node, key, span, self.slots.as_slice())?;
+        Some(self.slots[at].entries.as_slice())
+    }
+
     /// The logs of all key cells, in the order of their numbers.
     pub fn into_logs(self) -> Result<List<KeyLog>, NoMemory>
-        ensures { IfOk result (λ logs. logs ≡ logs_of (cells_in self)) }
+        ensures { IfOk result (λ logs. logs ≡ logs_of self.cells) }
     {
         let Keys { slots, alloc, .. } = self;
         let mut logs = List::new(alloc);
@@ -100,8 +126,8 @@ impl Keys {
         Ok(logs)
     }
 
-    /// Makes all room that placing this commit needs. No cell changes. Answers the least hold of each
-    /// node after that, or FINAL.
+    /// Makes all room that placing this commit needs, in the place of what was prepared before. No cell
+    /// changes. Answers the least hold of each node after that, or FINAL.
     pub fn prepare(
         &mut self,
         plan: &Plan,
@@ -109,16 +135,16 @@ impl Keys {
         arrivals: &List<Arrival>,
         marks: &[StageMarks],
     ) -> Result<List<Mark>, NoMemory>
-        requires within { All (λ slot. slot.node < length plan.now.nodes) self.old.slots }
-        requires stands { IsStanding self.old.slots (option_map done_of (option_copied done)) }
-        ensures cells { cells_in self.new ≡ cells_in self.old }
+        requires { IsStanding self.old.cells (option_map done_of (option_copied done)) }
+        ensures cells { self.new.cells ≡ self.old.cells }
         ensures ok { OnOk result (IsPrepared plan.now
             (option_map done_of (option_copied done.entry)) arrivals.now self.new) }
         ensures sized { IfOk result (λ least. length least ≡ length plan.now.nodes) }
         ensures least { IfOk result (λ least. AreLeast least (key_holds (place plan.now marks.now
-            (option_map done_of (option_copied done.entry)) arrivals.now (cells_in self.old)))) }
+            (option_map done_of (option_copied done.entry)) arrivals.now self.old.cells))) }
     {
         let fresh = open_roomy(self.alloc, plan, self.slots.as_slice(), arrivals.as_slice())?;
+        has_numbers(self.slots.len(), fresh.len())?;
         let least = least_holds(
             self.alloc,
             plan,
@@ -138,33 +164,55 @@ impl Keys {
         Ok(least)
     }
 
-    /// Places a commit that was prepared. Takes no memory.
+    /// Places a commit that was prepared: the job is done, and what arrives at Stateful nodes waits. The
+    /// other arrivals stay in the list. Takes no memory.
     pub fn place(
         &mut self,
         plan: &Plan,
         done: Option<KeyDone>,
-        arrivals: List<Arrival>,
+        arrivals: &mut List<Arrival>,
         marks: &[StageMarks],
     )
-        requires { IsPrepared plan.now (option_map done_of done) arrivals self.old }
-        ensures { cells_in self.new
-            ≡ place plan.now marks.now (option_map done_of done) arrivals (cells_in self.old) }
+        requires { IsPrepared plan.now (option_map done_of done) arrivals.old self.old }
+        ensures cells { self.new.cells
+            ≡ place plan.now marks.now (option_map done_of done) arrivals.old self.old.cells }
+        ensures left { arrivals.new
+            ≡ filter (λ arrival. not (is_stateful plan.now arrival.node)) arrivals.old }
     {
         finish_any(&mut self.slots, marks, done);
         let fresh = mem::replace(&mut self.fresh, Vec::new(self.alloc));
         open(&mut self.slots, fresh);
-        put_each(plan, marks, &mut self.slots, arrivals);
+        put_each(self.alloc, plan, marks, &mut self.slots, arrivals);
     }
 }
 
-fn put_each(plan: &Plan, before: &[StageMarks], slots: &mut Vec<Slot>, arrivals: List<Arrival>)
-    requires cells { All (HasCell plan.now (cells_of slots.old.items)) arrivals }
-    requires roomy { All (IsRoomy plan.now arrivals) slots.old.items }
-    ensures { cells_of slots.new.items
-        ≡ put_all plan.now before.now arrivals (cells_of slots.old.items) }
+/// Whether cells so many more have numbers of 32 bits.
+fn has_numbers(cells: usize, fresh: usize) -> Result<(), NoMemory>
+    ensures { OnOk result (cells + fresh < 4294967296) }
+{
+    if cells.saturating_add(fresh) > u32::MAX as usize {
+        return Err(NoMemory);
+    }
+    Ok(())
+}
+
+fn put_each(
+    alloc: Global,
+    plan: &Plan,
+    before: &[StageMarks],
+    slots: &mut Vec<Slot>,
+    arrivals: &mut List<Arrival>,
+)
+    requires cells { All (HasCell plan.now (cells_of slots.old.items)) arrivals.old }
+    requires roomy { All (IsRoomy plan.now arrivals.old) slots.old.items }
+    ensures cells { cells_of slots.new.items
+        ≡ put_all plan.now before.now arrivals.old (cells_of slots.old.items) }
+    ensures left { arrivals.new
+        ≡ filter (λ arrival. not (is_stateful plan.now arrival.node)) arrivals.old }
 {
     let null = Value::Null;
-    put_all(plan, &null, before, slots.as_mut_slice(), arrivals);
+    let all = mem::replace(arrivals, List::new(alloc));
+    *arrivals = put_all(plan, &null, before, slots.as_mut_slice(), all);
 }
 
 fn finish_any(slots: &mut Vec<Slot>, before: &[StageMarks], done: Option<KeyDone>)
@@ -250,7 +298,7 @@ fn keep_room(
     arrivals: &[Arrival],
     fresh: usize,
 ) -> Result<(), NoMemory>
-    requires { IsStanding slots.old.items (option_map done_of (option_copied done)) }
+    requires { IsStanding (cells_of slots.old.items) (option_map done_of (option_copied done)) }
     ensures cells { cells_of slots.new.items ≡ cells_of slots.old.items }
     ensures places { OnOk result (fresh ≤ vec_capacity slots.new - vec_len slots.new) }
     ensures roomy { OnOk result (All (IsRoomy plan.now arrivals.now) slots.new.items) }
@@ -264,7 +312,7 @@ fn keep_room(
 }
 
 fn keep_entries(slots: &mut [Slot], done: Option<&KeyDone>) -> Result<(), NoMemory>
-    requires { IsStanding slots.old (option_map done_of (option_copied done)) }
+    requires { IsStanding (cells_of slots.old) (option_map done_of (option_copied done)) }
     ensures cells { cells_of slots.new ≡ cells_of slots.old }
     ensures sized { length slots.new ≡ length slots.old }
     ensures roomy { (plan : Plan) (arrivals : ListOf Arrival) → All (IsRoomy plan arrivals) slots.old

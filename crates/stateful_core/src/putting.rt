@@ -1,7 +1,10 @@
 ghost use Rattle.std.specs.Prelude.{◌≡◌, ◌≤◌, ◌<◌, ◌+◌, ◌-◌, [], ◌∷◌, ◌++◌, true, false, All, List as ListOf, count_by, length, drop, slice_get, unwrap_or};
-ghost use Rattle.std.specs.Prelude.{Option, Some, None};
+ghost use Rattle.std.specs.Prelude.{Option, Some, None, not, option_to_list};
+ghost use Rattle.std.specs.List.{filter};
+ghost use Rattle.std.specs.VecDeque.{deque_capacity, deque_len};
 ghost use Rattle.std.specs.Int.{int_max};
 ghost use Rattle.beam_values.specs.Marks.{marks_at};
+ghost use Rattle.beam_values.specs.Nodes.{is_stateful};
 ghost use Rattle.beam_values.specs.declared.arrival.Arrival.{Arrival};
 ghost use Rattle.beam_values.specs.declared.value.Value.TheVariants.{Null};
 ghost use Rattle.stateful_core.specs.Cells.{belongs};
@@ -16,6 +19,7 @@ ghost use Rattle.stateful_core.specs.declared.slot.Slot.{Slot};
 use crate::finding::{find, is_stateful};
 use crate::{KeyDone, Slot, Waiting};
 use beam_values::{Arrival, List, LogEntry, Mark, Plan, RoomyList, StageMarks, Value};
+use std::collections::VecDeque;
 
 /// The mark after a node; FINAL where there is no such node.
 pub fn mark_out(marks: &[StageMarks], node: u32) -> Mark
@@ -44,8 +48,14 @@ pub fn arrival_hold(before: &[StageMarks], arrival: &Arrival) -> Mark
     Mark::at(arrival.element.time).max(mark_out(before, arrival.node))
 }
 
-/// An arrival at a Stateful node waits at its cell, where room is kept.
-pub fn put(plan: &Plan, null: &Value, before: &[StageMarks], slots: &mut [Slot], arrival: Arrival)
+/// An arrival at a Stateful node waits at its cell, where room is kept; another is answered.
+pub fn put(
+    plan: &Plan,
+    null: &Value,
+    before: &[StageMarks],
+    slots: &mut [Slot],
+    arrival: Arrival,
+) -> Option<Arrival>
     requires null { null.now ≡ Null }
     requires cell { HasCell plan.now (cells_of slots.old) arrival }
     requires roomy { All (IsRoomy plan.now (arrival ∷ [])) slots.old }
@@ -53,9 +63,11 @@ pub fn put(plan: &Plan, null: &Value, before: &[StageMarks], slots: &mut [Slot],
     ensures roomy { (rest : ListOf Arrival) → All (IsRoomy plan.now (arrival ∷ rest)) slots.old
         → All (IsRoomy plan.now rest) slots.new }
     ensures sized { length slots.new ≡ length slots.old }
+    ensures left { option_to_list result
+        ≡ filter (λ a. not (is_stateful plan.now a.node)) (arrival ∷ []) }
 {
     if !is_stateful(plan, arrival.node) {
-        return;
+        return Some(arrival);
     }
     let hold = arrival_hold(before, &arrival);
     let Some(at) = find(slots, null, &arrival) else {
@@ -63,6 +75,7 @@ pub fn put(plan: &Plan, null: &Value, before: &[StageMarks], slots: &mut [Slot],
     };
     let Arrival { element, .. } = arrival;
     add_at(slots, at, Waiting { element, hold });
+    None
 }
 
 fn add_at(slots: &mut [Slot], at: usize, waiting: Waiting)
@@ -81,22 +94,41 @@ fn add(slot: &mut Slot, waiting: Waiting)
     slot.waiting.add_kept(waiting);
 }
 
-/// Each arrival in turn.
+/// Each arrival in turn. Those at other nodes are answered in their order, where they lay: the first of the
+/// list is taken out, and goes behind the last if it is left.
 pub fn put_all(
     plan: &Plan,
     null: &Value,
     before: &[StageMarks],
     slots: &mut [Slot],
     arrivals: List<Arrival>,
-)
+) -> List<Arrival>
     requires null { null.now ≡ Null }
     requires cells { All (HasCell plan.now (cells_of slots.old)) arrivals }
     requires roomy { All (IsRoomy plan.now arrivals) slots.old }
     ensures cells { cells_of slots.new ≡ put_all plan.now before.now arrivals (cells_of slots.old) }
     ensures sized { length slots.new ≡ length slots.old }
+    ensures left { result ≡ filter (λ a. not (is_stateful plan.now a.node)) arrivals }
 {
-    for arrival in arrivals.into_vec() {
-        put(plan, null, before, slots, arrival);
+    let mut turning = VecDeque::from_vec(arrivals.into_vec());
+    for _turn in 0..turning.len() {
+        let Some(arrival) = turning.pop_front() else {
+            unreachable!()
+        };
+        let left = put(plan, null, before, slots, arrival);
+        put_behind(&mut turning, left);
+    }
+    List::from_vec(turning.into_vec())
+}
+
+fn put_behind(arrivals: &mut VecDeque<Arrival>, left: Option<Arrival>)
+    requires { deque_len arrivals.old < deque_capacity arrivals.old }
+    ensures items { arrivals.new.items ≡ arrivals.old.items ++ option_to_list left }
+    ensures len { deque_len arrivals.new ≤ deque_len arrivals.old + 1 }
+    ensures capacity { deque_capacity arrivals.new ≡ deque_capacity arrivals.old }
+{
+    if let Some(arrival) = left {
+        arrivals.push_back_reserved(arrival);
     }
 }
 

@@ -1,0 +1,12 @@
+use Rattle.std.proofs.Common.{sym, ap, ◌∙◌}
+use Rattle.std.specs.Prelude.{slice_get}
+use Rattle.std.specs.Option.{option_map}
+use Rattle.std.proofs.lemmas.Option.{slice_get-map}
+use Rattle.stateful_core.specs.Opening.{SeenKeys}
+use Rattle.stateful_core.specs.Seen.{cell_of}
+use Rattle.stateful_core.proofs.keys.Keys.give_back.Goals as goal
+
+pub give_back-requires-clause-few : goal.give_back-requires-clause-few
+give_back-requires-clause-few c = λ slot at.
+    c.requires.few (cell_of slot)
+    (sym (ap (λ (k : SeenKeys). slice_get k.cells c.args.cell) c.self.view_is) ∙ slice_get-map cell_of c.self.inside.slots.items c.args.cell ∙ ap (option_map cell_of) at)
