@@ -4,3 +4,4 @@ pub mod Looks
 pub mod Passings
 pub mod Poisons
 pub mod Stops
+pub mod KeySteps

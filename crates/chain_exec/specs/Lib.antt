@@ -5,3 +5,4 @@ pub mod Passing
 pub mod Unused
 pub mod Positions
 pub mod Sources
+pub mod KeyCalls
