@@ -186,7 +186,7 @@ impl Keys {
     }
 }
 
-/// Whether cells so many more have numbers of 32 bits.
+/// Refuses so many new cells where not all cells would have numbers of 32 bits.
 fn has_numbers(cells: usize, fresh: usize) -> Result<(), NoMemory>
     ensures { OnOk result (cells + fresh < 4294967296) }
 {
