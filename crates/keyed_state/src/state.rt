@@ -1,11 +1,13 @@
-ghost use Rattle.std.specs.Prelude.{◌≡◌, ◌<◌, [], ◌∷◌, ◌++◌, slice_set, replicate, IfOk, OnOk};
-ghost use Rattle.std.specs.Prelude.{OnErr};
+ghost use Rattle.std.specs.Prelude.{◌≡◌, ◌<◌, [], ◌∷◌, ◌++◌, length, slice_set, replicate, IfOk};
+ghost use Rattle.std.specs.Prelude.{OnErr, OnOk};
 ghost use Rattle.std.specs.Option.{option_copied};
 ghost use Rattle.beam_values.specs.declared.state_cell.StateCell.TheVariants.{Unset, Number, Text};
 ghost use Rattle.beam_values.specs.declared.state_cell.StateCell.TheVariants.{Bag};
 ghost use Rattle.beam_values.specs.States.{cell_of, number_in, bytes_in, bag_in, values_in};
+ghost use Rattle.keyed_state.specs.Bags.{holds_value};
 
-use beam_values::{Bytes, Duplicate, List, NoMemory, StateCell, Value};
+use crate::cell::Cell;
+use beam_values::{Bytes, List, NoMemory, Value};
 use std::alloc::Global;
 use std::marker::Model;
 
@@ -15,7 +17,7 @@ pub const CELLS: usize = 8;
 /// The state cells of one key and window.
 #[derive(Debug, Drop)]
 pub struct KeyState {
-    cells: [StateCell; 8],
+    cells: [Cell; 8],
     alloc: Global,
 }
 
@@ -50,10 +52,7 @@ impl KeyState {
         requires { name < 8 }
         ensures { result ≡ number_in (cell_of self.now name) }
     {
-        match &self.cells[name as usize] {
-            StateCell::Number(n) => Some(*n),
-            _ => None,
-        }
+        self.cells[name as usize].number()
     }
 
     /// `None` exactly where the cell isn't a byte string.
@@ -61,21 +60,31 @@ impl KeyState {
         requires { name < 8 }
         ensures { option_copied result ≡ bytes_in (cell_of self.now name) }
     {
-        match &self.cells[name as usize] {
-            StateCell::Text(bytes) => Some(bytes.as_slice()),
-            _ => None,
-        }
+        self.cells[name as usize].bytes()
     }
 
-    /// `None` exactly where the cell isn't a bag.
-    pub fn bag(&self, name: u8) -> Option<&[Value]>
+    /// Copies of the values; `None` exactly where the cell isn't a bag.
+    pub fn bag(&self, name: u8) -> Result<Option<List<Value>>, NoMemory>
         requires { name < 8 }
-        ensures { option_copied result ≡ bag_in (cell_of self.now name) }
+        ensures { IfOk result (λ bag. bag ≡ bag_in (cell_of self.now name)) }
     {
-        match &self.cells[name as usize] {
-            StateCell::Bag(values) => Some(values.as_slice()),
-            _ => None,
-        }
+        self.cells[name as usize].bag(self.alloc)
+    }
+
+    /// How many values a bag has; 0 where the cell isn't a bag. Takes no memory.
+    pub fn bag_len(&self, name: u8) -> usize
+        requires { name < 8 }
+        ensures { result ≡ length (values_in (cell_of self.now name)) }
+    {
+        self.cells[name as usize].bag_len()
+    }
+
+    /// Whether a value that is spelled alike is in a bag. It is found by search, and takes no memory.
+    pub fn holds(&self, name: u8, value: &Value) -> bool
+        requires { name < 8 }
+        ensures { result ≡ holds_value (values_in (cell_of self.now name)) value.now }
+    {
+        self.cells[name as usize].holds(value)
     }
 
     /// Takes no memory.
@@ -83,7 +92,7 @@ impl KeyState {
         requires { name < 8 }
         ensures { self.new ≡ slice_set self.old name (Number n) }
     {
-        self.cells[name as usize] = StateCell::Number(n);
+        self.cells[name as usize] = Cell::of_number(n);
     }
 
     /// The cell may have had another form. Up to 22 bytes take no memory.
@@ -93,7 +102,7 @@ impl KeyState {
         ensures err { OnErr result (self.new ≡ self.old) }
     {
         let bytes = Bytes::from_slice(self.alloc, bytes)?;
-        self.cells[name as usize] = StateCell::Text(bytes);
+        self.cells[name as usize] = Cell::of_bytes(bytes);
         Ok(())
     }
 
@@ -102,7 +111,7 @@ impl KeyState {
         requires { name < 8 }
         ensures { self.new ≡ slice_set self.old name Unset }
     {
-        self.cells[name as usize] = StateCell::Unset;
+        self.cells[name as usize] = Cell::unset();
     }
 
     /// A cell of another form becomes a bag with this one value.
@@ -112,40 +121,33 @@ impl KeyState {
             ≡ slice_set self.old name (Bag (values_in (cell_of self.old name) ++ value ∷ []))) }
         ensures err { OnErr result (self.new ≡ self.old) }
     {
-        let cell = &mut self.cells[name as usize];
-        if let StateCell::Bag(values) = cell {
-            return values.push(value);
-        }
-        let mut values = List::new(self.alloc);
-        values.push(value)?;
-        *cell = StateCell::Bag(values);
-        Ok(())
+        self.cells[name as usize].add(self.alloc, value)
     }
 
-    /// All eight cells, set or not.
+    /// All eight cells, set or not. Their bags and long byte strings share their memory.
     pub fn copy(&self) -> Result<KeyState, NoMemory>
         ensures { IfOk result (λ s. s ≡ self.now) }
     {
         let alloc = self.alloc;
         let mut cells = no_cells();
         for i in 0..CELLS {
-            cells[i] = self.cells[i].duplicate(alloc)?;
+            cells[i] = self.cells[i].copy(alloc)?;
         }
         Ok(KeyState { cells, alloc })
     }
 }
 
-fn no_cells() -> [StateCell; 8]
+fn no_cells() -> [Cell; 8]
     ensures { result ≡ replicate 8 Unset }
 {
     [
-        StateCell::Unset,
-        StateCell::Unset,
-        StateCell::Unset,
-        StateCell::Unset,
-        StateCell::Unset,
-        StateCell::Unset,
-        StateCell::Unset,
-        StateCell::Unset,
+        Cell::unset(),
+        Cell::unset(),
+        Cell::unset(),
+        Cell::unset(),
+        Cell::unset(),
+        Cell::unset(),
+        Cell::unset(),
+        Cell::unset(),
     ]
 }

@@ -1,0 +1,3 @@
+pub mod SameValues
+pub mod Searches
+pub mod Joined
