@@ -1,14 +1,19 @@
-ghost use Rattle.std.specs.Prelude.{◌≡◌, IfOk};
+ghost use Rattle.std.specs.Prelude.{◌≡◌, ◌<◌, IfOk};
+ghost use Rattle.beam_values.specs.States.{cell_of, values_in};
 ghost use Rattle.beam_model.specs.Functions.{ascending};
 
+use crate::kept::values_of;
 use beam_values::{List, NoMemory, Value, cmp_values};
+use keyed_state::KeyState;
 use std::alloc::Global;
 
-/// Copies of values in ascending order.
-pub fn ascending(alloc: Global, values: &[Value]) -> Result<List<Value>, NoMemory>
-    ensures { IfOk result (λ sorted. sorted ≡ ascending values.now) }
+/// Copies of the values of a bag in ascending order; of a cell of another form, none.
+pub fn sorted_bag(alloc: Global, state: &KeyState, name: u8) -> Result<List<Value>, NoMemory>
+    requires { name < 8 }
+    ensures { IfOk result (λ values. values ≡ ascending (values_in (cell_of state.now name))) }
 {
-    sorted(copy_all(alloc, values)?)
+    let values = values_of(alloc, state, name)?;
+    sorted(values.into_vec())
 }
 
 /// The values in ascending order.
@@ -18,14 +23,4 @@ pub fn sorted(values: Vec<Value>) -> Result<List<Value>, NoMemory>
     let mut values = values;
     values.sort_by(|a, b| cmp_values(a, b))?;
     Ok(List::from_vec(values))
-}
-
-fn copy_all(alloc: Global, values: &[Value]) -> Result<Vec<Value>, NoMemory>
-    ensures { IfOk result (λ copies. copies.items ≡ values.now) }
-{
-    let mut copies = Vec::with_capacity(alloc, values.len())?;
-    for value in values {
-        copies.push(value.copy(alloc)?)?;
-    }
-    Ok(copies)
 }

@@ -3,7 +3,7 @@ ghost use Rattle.beam_values.specs.Grouping.{part_of};
 ghost use Rattle.beam_values.specs.Spelling.{spelling};
 ghost use Rattle.beam_values.specs.States.{cell_of, values_in};
 ghost use Rattle.beam_model.specs.Functions.{one};
-ghost use Rattle.beam_model.specs.Steps.{holds_value, timer_output};
+ghost use Rattle.beam_model.specs.Steps.{timer_output};
 ghost use Rattle.beam_model.specs.Values.{pair};
 
 use crate::shapes::push_valued;
@@ -12,22 +12,15 @@ use keyed_state::KeyState;
 use std::alloc::Global;
 use std::cmp::Ordering;
 
-/// The values of a bag; of a cell of another form, none.
-pub fn bag_of(state: &KeyState, name: u8) -> &[Value]
+/// Copies of the values of a bag; of a cell of another form, none.
+pub fn values_of(alloc: Global, state: &KeyState, name: u8) -> Result<List<Value>, NoMemory>
     requires { name < 8 }
-    ensures { result.now ≡ values_in (cell_of state.now name) }
+    ensures { IfOk result (λ values. values ≡ values_in (cell_of state.now name)) }
 {
-    match state.bag(name) {
-        Some(values) => values,
-        None => &[],
+    match state.bag(name)? {
+        Some(values) => Ok(values),
+        None => Ok(List::new(alloc)),
     }
-}
-
-/// Whether values that are spelled alike stand among these.
-pub fn holds_value(values: &[Value], value: &Value) -> bool
-    ensures { result ≡ holds_value values.now value.now }
-{
-    values.iter().any(|held| is_same(held, value))
 }
 
 /// Whether values are spelled alike.

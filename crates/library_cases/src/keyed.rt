@@ -123,11 +123,15 @@ fn say_cell(state: &KeyState, name: u8, case: &mut Case<'_>)
         say_part("number", name, case);
         case.say_number(number);
     }
-    if let Some(values) = state.bag(name) {
-        say_part("bag", name, case);
-        for value in values {
-            case.say_value(value);
+    match state.bag(name) {
+        Ok(Some(values)) => {
+            say_part("bag", name, case);
+            for value in values.as_slice() {
+                case.say_value(value);
+            }
         }
+        Ok(None) => {}
+        Err(refused) => case.no_memory(refused),
     }
     if let Some(bytes) = state.bytes(name) {
         say_part("bytes", name, case);

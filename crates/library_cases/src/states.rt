@@ -1,6 +1,7 @@
 ghost use Rattle.std.specs.Prelude.{◌<◌};
 
 use crate::steps::Called;
+use beam_values::{List, Value};
 use case_files::{Case, read_value};
 use keyed_state::KeyState;
 
@@ -63,10 +64,15 @@ fn say_bytes(state: &KeyState, case: &mut Case<'_>) {
 
 fn say_bag(state: &KeyState, case: &mut Case<'_>) {
     let cell = case.name();
-    let Some(values) = state.bag(cell) else {
-        return case.say("none");
-    };
-    for value in values {
+    match state.bag(cell) {
+        Ok(Some(values)) => say_values(&values, case),
+        Ok(None) => case.say("none"),
+        Err(refused) => case.no_memory(refused),
+    }
+}
+
+fn say_values(values: &List<Value>, case: &mut Case<'_>) {
+    for value in values.as_slice() {
         case.say_value(value);
     }
 }

@@ -2,8 +2,8 @@ ghost use Rattle.beam_values.specs.declared.plan.StateKind.TheVariants as kinds;
 
 use crate::StateWork;
 use crate::arguments::count_of;
-use crate::batches::ascending;
-use crate::kept::{bag_of, push_keyed, timer_output};
+use crate::batches::sorted_bag;
+use crate::kept::{push_keyed, timer_output};
 use beam_values::{
     Args, Boxed, Element, List, NoMemory, Span, StateKind, Time, Value, last_time, part_of,
 };
@@ -34,9 +34,8 @@ impl StateWork for BatchUntil {
     ) -> Result<(), CallRefusal> {
         state.add(0, part_of(e).copy(alloc)?)?;
         timers.set(0, last_time(e.span));
-        let values = bag_of(state, 0);
-        if values.len() == count_of(args) {
-            let batch = Boxed::new(alloc, Value::Seq(ascending(alloc, values)?))?;
+        if state.bag_len(0) == count_of(args) {
+            let batch = Boxed::new(alloc, Value::Seq(sorted_bag(alloc, state, 0)?))?;
             push_keyed(alloc, key, e, batch, out)?;
             state.clear(0);
             timers.clear(0);
@@ -54,11 +53,10 @@ impl StateWork for BatchUntil {
         out: &mut List<Element>,
     ) -> Result<(), NoMemory> {
         timers.clear(0);
-        let values = bag_of(state, 0);
-        if values.is_empty() {
+        if state.bag_len(0) == 0 {
             return Ok(());
         }
-        let batch = Boxed::new(alloc, Value::Seq(ascending(alloc, values)?))?;
+        let batch = Boxed::new(alloc, Value::Seq(sorted_bag(alloc, state, 0)?))?;
         let keyed = Value::Pair(Boxed::new(alloc, key.copy(alloc)?)?, batch);
         out.push(timer_output(span, time, keyed))?;
         state.clear(0);

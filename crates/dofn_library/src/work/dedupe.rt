@@ -1,7 +1,7 @@
 ghost use Rattle.beam_values.specs.declared.plan.StateKind.TheVariants as kinds;
 
 use crate::StateWork;
-use crate::kept::{bag_of, holds_value, push_keyed, shared_part};
+use crate::kept::{push_keyed, shared_part};
 use beam_values::{Args, Element, List, NoMemory, Span, StateKind, Time, Value, part_of};
 use dofn_traits::CallRefusal;
 use keyed_state::KeyState;
@@ -29,7 +29,7 @@ impl StateWork for Dedupe {
         out: &mut List<Element>,
     ) -> Result<(), CallRefusal> {
         let part = part_of(e);
-        if holds_value(bag_of(state, 0), part) {
+        if state.holds(0, part) {
             return Ok(());
         }
         state.add(0, part.copy(alloc)?)?;

@@ -9,7 +9,7 @@ ghost use Rattle.dofn_traits.specs.Calls.{kept_in};
 
 use crate::StateWork;
 use crate::arguments::{later, number_of};
-use crate::kept::{bag_of, timer_output};
+use crate::kept::{timer_output, values_of};
 use beam_values::{Args, Boxed, Element, List, NoMemory, Span, StateKind, Time, Value, part_of};
 use dofn_traits::CallRefusal;
 use keyed_state::KeyState;
@@ -50,7 +50,8 @@ impl StateWork for LatestThenEmit {
         timers: &mut Timers,
         out: &mut List<Element>,
     ) -> Result<(), NoMemory> {
-        push_each(alloc, key, span, time, bag_of(state, 0), out)?;
+        let values = values_of(alloc, state, 0)?;
+        push_each(alloc, key, span, time, values.as_slice(), out)?;
         timers.clear(0);
         state.clear(0);
         state.clear(1);
