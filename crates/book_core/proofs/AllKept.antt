@@ -62,8 +62,8 @@ module _ (strategies : StrategiesOfPlans) (settings : SettingsOfPlans) (windows 
   reached_kept_with told = always_reached told AreKeptWith (kept_always told)
 
   -- what has no job left is through
-  pub reached_through : (told : Option (List FileText)) (b : SeenBook) → Reached told b → next_job b ≡ None → IsIdle b → IsThrough b
-  reached_through told b reached = kept_through settings b (reached_kept_with told b reached)
+  pub reached_through : NoStateful → (told : Option (List FileText)) (b : SeenBook) → Reached told b → next_job b ≡ None → IsIdle b → IsThrough b
+  reached_through no_stateful told b reached = kept_through no_stateful settings b (reached_kept_with told b reached)
 
   -- ---- and where the files are told
 

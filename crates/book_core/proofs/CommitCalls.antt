@@ -2,7 +2,9 @@
 use Rattle.std.proofs.Common.{◌≡◌, ℕ, ◌+◌, ◌≤◌, ◌<◌, ℤ, Bool, true, false, cond, List, [], ◌∷◌, ◌++◌, length, map, refl, sym, ap, subst, ◌∙◌, arith}
 use Rattle.std.specs.Prelude.{Option, Some, None, nat_lt, slice_get, slice_set, not}
 use Rattle.std.specs.List.{All, filter, enumerate_from}
+use Rattle.std.specs.Int.{int_min}
 use Rattle.std.specs.Option.{ForSome}
+use Rattle.std.proofs.lemmas.Int.{ints}
 use Rattle.std.proofs.lemmas.List.Elements.{All-weaker}
 use Rattle.beam_values.specs.Nodes.{is_group}
 use Rattle.beam_values.specs.declared.arrival.Arrival.{Arrival}
@@ -17,11 +19,13 @@ use Rattle.beam_model.specs.Holds.{Hold, least_hold, pane_hold}
 use Rattle.bundle_commit.specs.declared.job.Receipt.{Receipt}
 use Rattle.group_cells.specs.Commits.{AreRounds, HasGap, IsCommitted, RisesFrom, SeenGroups, is_at_group}
 use Rattle.watermarks.specs.Holds.{SeenHolds}
-use Rattle.book_core.specs.Book.{SeenBook, last_marks}
-use Rattle.book_core.specs.Changes.{with_fired, with_slot}
+use Rattle.stateful_core.specs.Cells.{KeyCell, key_holds}
+use Rattle.stateful_core.specs.Placing.{place}
+use Rattle.book_core.specs.Book.{SeenBook, last_marks, waiting_in}
+use Rattle.book_core.specs.Changes.{keys_after, with_fired, with_slot}
 use Rattle.book_core.specs.Committing.{node_of, job_holds, residual_in, residual_holds, HasRoom}
 use Rattle.book_core.specs.Facts.{IsAttemptedWithin}
-use Rattle.book_core.specs.Indexes.{IsIndexed, AreHeldIn, least_in, marks_in, room_in, all_holds}
+use Rattle.book_core.specs.Indexes.{IsIndexed, AreHeldIn, least_in, least_with, marks_in, room_in, own_holds}
 use Rattle.book_core.specs.Jobs.{job_of, attempted_of}
 use Rattle.book_core.specs.Queues.{SeenQueue}
 use Rattle.book_core.specs.Steps.{CanCommit, IsWorking}
@@ -35,6 +39,7 @@ use Rattle.book_core.proofs.CommitHolds.{kept_holds, kept_rise, without_job}
 use Rattle.book_core.proofs.CommitStep.{AreFired, no_longer}
 use Rattle.book_core.proofs.HeldMarks.{held_as, least_held, marks_as}
 use Rattle.book_core.proofs.HeldOnce.{group_within}
+use Rattle.book_core.proofs.LeastHolds.{least_of_both}
 use Rattle.book_core.proofs.Holding.{bag_held}
 use Rattle.book_core.proofs.Limits.{pieces_after}
 use Rattle.book_core.proofs.Slots.{All-slice_get}
@@ -66,6 +71,9 @@ left_room b slot (live.Batch batch) receipt held piece_room batch_room works k =
 left_room b slot (live.Span piece attempted) receipt held piece_room batch_room works k =
     left_there (λ n. 0 < piece_room) (live.Span piece attempted) receipt (omega (arith, k.pieces, pieces_after b.slots slot (Some (live.Span piece attempted)) None works))
 
+turned : (a b : ℤ) → int_min a b ≡ int_min b a
+turned a b = grind (arith, ints)
+
 module _ (b : SeenBook) (slot : ℕ) (job : Live) (receipt : Receipt) (held : List SeenHolds) (piece_room batch_room : ℕ)
     (works : IsWorking b slot job) (k : IsIndexed b held piece_room batch_room) where
   pub job_within : node_of job < length b.plan.nodes
@@ -87,35 +95,38 @@ module _ (b : SeenBook) (slot : ℕ) (job : Live) (receipt : Receipt) (held : Li
   pub marks_sized : length (last_marks b) ≡ length b.plan.nodes
   marks_sized = k.sane.marks.last.sized
 
-  pub job_held : (new : List SeenHolds) → ((n : ℕ) → marks_in new n ≡ marks_in held n) → AreHeldIn new (job_holds b.plan job ++ all_holds (with_slot b slot None))
+  pub job_held : (new : List SeenHolds) → ((n : ℕ) → marks_in new n ≡ marks_in held n) → AreHeldIn new (job_holds b.plan job ++ own_holds (with_slot b slot None))
   job_held new same =
-      bag_held new (all_holds b) (job_holds b.plan job ++ all_holds (with_slot b slot None)) (without_job b slot job works) (held_as held new (all_holds b) same k.holds_back)
+      bag_held new (own_holds b) (job_holds b.plan job ++ own_holds (with_slot b slot None)) (without_job b slot job works) (held_as held new (own_holds b) same k.holds_back)
 
   -- and it may be given back so
-  pub job_back : (new : List SeenHolds) → AreHeldIn new (job_holds b.plan job ++ all_holds (with_slot b slot None)) → AreHeldIn new (all_holds b)
+  pub job_back : (new : List SeenHolds) → AreHeldIn new (job_holds b.plan job ++ own_holds (with_slot b slot None)) → AreHeldIn new (own_holds b)
   job_back new h =
-      bag_held new (job_holds b.plan job ++ all_holds (with_slot b slot None)) (all_holds b)
-      (Rattle.beam_values.proofs.Bags.bag_sym (all_holds b) (job_holds b.plan job ++ all_holds (with_slot b slot None)) (without_job b slot job works)) h
+      bag_held new (job_holds b.plan job ++ own_holds (with_slot b slot None)) (own_holds b)
+      (Rattle.beam_values.proofs.Bags.bag_sym (own_holds b) (job_holds b.plan job ++ own_holds (with_slot b slot None)) (without_job b slot job works)) h
 
   -- while it is taken out, and then what is left of it is put in
   pub freed_there : (plan : Plan) → plan ≡ b.plan → (new freed : List SeenHolds) → ((n : ℕ) → marks_in new n ≡ marks_in held n)
-      → ((holds : List Hold) → AreHeldIn new (job_holds plan job ++ holds) → AreHeldIn freed holds) → AreHeldIn freed (all_holds (with_slot b slot None))
+      → ((holds : List Hold) → AreHeldIn new (job_holds plan job ++ holds) → AreHeldIn freed holds) → AreHeldIn freed (own_holds (with_slot b slot None))
   freed_there plan e new freed same free =
-      free (all_holds (with_slot b slot None)) (subst (λ (p : Plan). AreHeldIn new (job_holds p job ++ all_holds (with_slot b slot None))) (sym e) (job_held new same))
+      free (own_holds (with_slot b slot None)) (subst (λ (p : Plan). AreHeldIn new (job_holds p job ++ own_holds (with_slot b slot None))) (sym e) (job_held new same))
 
   pub kept_there : (plan : Plan) → plan ≡ b.plan → (residual : Option Piece) → residual ≡ residual_in job receipt → (freed after : List SeenHolds)
-      → ((holds : List Hold) → AreHeldIn freed holds → AreHeldIn after (residual_holds plan residual ++ holds)) → AreHeldIn freed (all_holds (with_slot b slot None))
+      → ((holds : List Hold) → AreHeldIn freed holds → AreHeldIn after (residual_holds plan residual ++ holds)) → AreHeldIn freed (own_holds (with_slot b slot None))
       → AreHeldIn after (kept_holds b slot job receipt)
   kept_there plan e residual f freed after add h =
-      subst (λ (p : Plan). AreHeldIn after (residual_holds p (residual_in job receipt) ++ all_holds (with_slot b slot None))) e
-      (subst (λ (r : Option Piece). AreHeldIn after (residual_holds plan r ++ all_holds (with_slot b slot None))) f (add (all_holds (with_slot b slot None)) h))
+      subst (λ (p : Plan). AreHeldIn after (residual_holds p (residual_in job receipt) ++ own_holds (with_slot b slot None))) e
+      (subst (λ (r : Option Piece). AreHeldIn after (residual_holds plan r ++ own_holds (with_slot b slot None))) f (add (own_holds (with_slot b slot None)) h))
 
   pub rises_there : (new : List SeenHolds) → IsGiven None b.plan (job_of b.panes job) (attempted_of job) receipt → AreHeldIn new (kept_holds b slot job receipt)
-      → RisesFrom b.plan (least_in new) (last_marks b)
+      → RisesFrom b.plan (least_with new (key_holds (keys_after b receipt))) (last_marks b)
   rises_there new given h marks are =
       let formed = k.sane.formed in
-      kept_rise None b slot job receipt formed.checked works given k.sane.marks.last marks
-      (marks_as b.plan (least_in new) (least_hold (kept_holds b slot job receipt)) marks (least_held new (kept_holds b slot job receipt) h) are)
+      let came = key_holds (keys_after b receipt) in
+      kept_rise None b slot job receipt formed.checked k.sane.keys works given k.sane.marks.last marks
+      (marks_as b.plan (least_with new came) (least_hold (kept_holds b slot job receipt ++ came)) marks
+      (λ n. turned (least_in new n) (least_hold came n) ∙ ap (int_min (least_hold came n)) (least_held new (kept_holds b slot job receipt) h n)
+      ∙ sym (least_of_both (kept_holds b slot job receipt) came n)) are)
 
 -- ---- a refused commit
 
@@ -137,25 +148,25 @@ set_back (z ∷ xs) (Rattle.std.proofs.Common.suc i) x y e = ap (λ l. z ∷ l) 
 
 -- the job is back in its slot, and the Groups are as before
 pub same_back : (b : SeenBook) (slot : ℕ) (job : Live) (old new : SeenGroups) (slots : List (Option Live)) (queues : List (List WaitingPane)) (panes : List Pane) (done : List Done) (written : List Arrival)
-    (commits : List CommitMarks) → IsWorking b slot job → slots ≡ slice_set b.slots slot None → new ≡ old → old.cells ≡ b.cells → old.dropped ≡ b.dropped
-    → queues ≡ b.queues → panes ≡ b.panes → done ≡ b.done → written ≡ b.written → commits ≡ b.commits
-    → record b { slots = slice_set slots slot (Some job); queues = queues; cells = new.cells; dropped = new.dropped; panes = panes; done = done; written = written; commits = commits } ≡ b
-same_back b slot job old new slots queues panes done written commits works e0 g c d e1 e2 e3 e4 e5 =
-    ap (λ x. record b { slots = x; queues = queues; cells = new.cells; dropped = new.dropped; panes = panes; done = done; written = written; commits = commits })
+    (commits : List CommitMarks) (keys : List KeyCell) → IsWorking b slot job → slots ≡ slice_set b.slots slot None → new ≡ old → old.cells ≡ b.cells → old.dropped ≡ b.dropped
+    → queues ≡ b.queues → panes ≡ b.panes → done ≡ b.done → written ≡ b.written → commits ≡ b.commits → keys ≡ b.keys
+    → record b { slots = slice_set slots slot (Some job); queues = queues; cells = new.cells; dropped = new.dropped; keys = keys; panes = panes; done = done; written = written; commits = commits } ≡ b
+same_back b slot job old new slots queues panes done written commits keys works e0 g c d e1 e2 e3 e4 e5 e6 =
+    ap (λ x. record b { slots = x; queues = queues; cells = new.cells; dropped = new.dropped; keys = keys; panes = panes; done = done; written = written; commits = commits })
     (ap (λ (l : List (Option Live)). slice_set l slot (Some job)) e0 ∙ set_back b.slots slot (Some job) None works)
-    ∙ ap (λ x. record b { queues = queues; cells = x; dropped = new.dropped; panes = panes; done = done; written = written; commits = commits }) (ap (λ (s : SeenGroups). s.cells) g ∙ c)
-    ∙ ap (λ x. record b { queues = queues; dropped = x; panes = panes; done = done; written = written; commits = commits }) (ap (λ (s : SeenGroups). s.dropped) g ∙ d)
+    ∙ ap (λ x. record b { queues = queues; cells = x; dropped = new.dropped; keys = keys; panes = panes; done = done; written = written; commits = commits }) (ap (λ (s : SeenGroups). s.cells) g ∙ c)
+    ∙ ap (λ x. record b { queues = queues; dropped = x; keys = keys; panes = panes; done = done; written = written; commits = commits }) (ap (λ (s : SeenGroups). s.dropped) g ∙ d)
+    ∙ ap (λ x. record b { queues = queues; keys = x; panes = panes; done = done; written = written; commits = commits }) e6
     ∙ same_data b queues panes done written commits e1 e2 e3 e4 e5
 
 -- the indexes of the same book, where as much is held
-pub indexed_as : (b new : SeenBook) (held after : List SeenHolds) (piece_room batch_room : ℕ) → new ≡ b → AreHeldIn after (all_holds b) → length after ≡ length held
+pub indexed_as : (b new : SeenBook) (held after : List SeenHolds) (piece_room batch_room : ℕ) → new ≡ b → AreHeldIn after (own_holds b) → length after ≡ length held
     → IsIndexed b held piece_room batch_room → IsIndexed new after piece_room batch_room
 indexed_as b new held after piece_room batch_room e holding sized k =
     subst (λ (d : SeenBook). IsIndexed d after piece_room batch_room) (sym e) (record {
       sane = k.sane;
       sized = sized ∙ k.sized;
       holds_back = holding;
-      marked = marks_as b.plan (least_in held) (least_in after) (last_marks b) (λ n. least_held held (all_holds b) k.holds_back n ∙ sym (least_held after (all_holds b) holding n)) k.marked;
       pieces = k.pieces;
       batches = k.batches;
     })
@@ -163,25 +174,25 @@ indexed_as b new held after piece_room batch_room e holding sized k =
 pub indexed_room : (b new : SeenBook) (held after : List SeenHolds) (piece_room batch_room : ℕ) → new ≡ b → ((n : ℕ) → marks_in after n ≡ marks_in held n) → length after ≡ length held
     → IsIndexed b held piece_room batch_room → IsIndexed new after piece_room batch_room
 indexed_room b new held after piece_room batch_room e same sized k =
-    indexed_as b new held after piece_room batch_room e (held_as held after (all_holds b) same k.holds_back) sized k
+    indexed_as b new held after piece_room batch_room e (held_as held after (own_holds b) same k.holds_back) sized k
 
 -- ---- what the Groups gave
 
 -- in the words of the book
 pub are_fired : (b : SeenBook) (slot : ℕ) (job : Live) (receipt : Receipt) (old new : SeenGroups) (fired : List Pane) (marks : List StageMarks) (left : List Arrival) (held : List SeenHolds)
     (plan : Plan) (c : ℕ) (before : List StageMarks) → plan ≡ b.plan → c ≡ length b.commits → before ≡ last_marks b → IsWorking b slot job → old.cells ≡ b.cells → old.dropped ≡ b.dropped
-    → IsCommitted plan c before marks (least_in held) receipt.arrivals left old new fired → AreRounds plan c before marks receipt.arrivals old.cells new.cells fired
+    → IsCommitted plan c before marks (least_with held (key_holds (place plan before None receipt.arrivals b.keys))) receipt.arrivals left old new fired → AreRounds plan c before marks receipt.arrivals old.cells new.cells fired
     → length fired ≤ length old.cells + length receipt.arrivals → AreHeldIn held (kept_holds b slot job receipt)
     → length b.commits + 1 < 4294967295 → length b.panes + (length b.cells + length receipt.arrivals) < 4294967295 → length b.dropped + length receipt.arrivals < 4294967295
-    → length new.cells < 4294967295 → AreFired b slot job receipt old new fired marks left held
-are_fired b slot job receipt old new fired marks left held plan c before e f g works cells dropped done rounds few holding commits panes drops all_cells = record {
+    → length new.cells < 4294967295 → length b.keys + length receipt.arrivals < 4294967295 → waiting_in b.keys + length receipt.arrivals < 4294967295 → AreFired b slot job receipt old new fired marks left held
+are_fired b slot job receipt old new fired marks left held plan c before e f g works cells dropped done rounds few holding commits panes drops all_cells all_keys all_waiting_too = record {
   works = works;
   cells = cells;
   dropped = dropped;
   committed =
-      subst (λ (p : Plan). IsCommitted p (length b.commits) (last_marks b) marks (least_in held) receipt.arrivals left old new fired) e
-      (subst (λ (n : ℕ). IsCommitted plan n (last_marks b) marks (least_in held) receipt.arrivals left old new fired) f
-      (subst (λ (l : List StageMarks). IsCommitted plan c l marks (least_in held) receipt.arrivals left old new fired) g done));
+      subst (λ (p : Plan). IsCommitted p (length b.commits) (last_marks b) marks (least_with held (key_holds (place p (last_marks b) None receipt.arrivals b.keys))) receipt.arrivals left old new fired) e
+      (subst (λ (n : ℕ). IsCommitted plan n (last_marks b) marks (least_with held (key_holds (place plan (last_marks b) None receipt.arrivals b.keys))) receipt.arrivals left old new fired) f
+      (subst (λ (l : List StageMarks). IsCommitted plan c l marks (least_with held (key_holds (place plan l None receipt.arrivals b.keys))) receipt.arrivals left old new fired) g done));
   rounds =
       subst (λ (p : Plan). AreRounds p (length b.commits) (last_marks b) marks receipt.arrivals old.cells new.cells fired) e
       (subst (λ (n : ℕ). AreRounds plan n (last_marks b) marks receipt.arrivals old.cells new.cells fired) f
@@ -192,6 +203,8 @@ are_fired b slot job receipt old new fired marks left held plan c before e f g w
   few_panes = panes;
   few_dropped = drops;
   few_cells = all_cells;
+  few_keys = all_keys;
+  few_waiting = all_waiting_too;
 }
 
 -- room for all of them

@@ -24,9 +24,12 @@ use Rattle.group_cells.specs.Commits.{RisesFrom}
 use Rattle.split_core.proofs.Ordered.{bag_with_piece}
 use Rattle.watermarks.proofs.Rising.{mark_of_rises}
 use Rattle.book_core.specs.Book.{SeenBook, last_marks, AreMarksOfBook}
-use Rattle.book_core.specs.Changes.{with_slot, committed, pending_after, with_residual}
+use Rattle.book_core.specs.Changes.{with_slot, committed, keys_after, pending_after, with_residual}
 use Rattle.book_core.specs.Committing.{job_holds, residual_in, residual_holds}
-use Rattle.book_core.specs.Indexes.{all_holds}
+use Rattle.stateful_core.specs.Cells.{key_holds}
+use Rattle.book_core.specs.Indexes.{all_holds, own_holds}
+use Rattle.book_core.proofs.HoldBags.{all_of}
+use Rattle.book_core.proofs.KeysKept.{KeysKept, keys_within}
 use Rattle.book_core.specs.Jobs.{job_of, attempted_of}
 use Rattle.book_core.specs.Steps.{IsWorking}
 use Rattle.book_core.specs.Work.{IsGiven, worked_to, is_known}
@@ -35,7 +38,7 @@ use Rattle.book_core.specs.declared.live.Live.TheVariants as live
 use Rattle.book_core.specs.declared.live.WaitingPane.{WaitingPane}
 use Rattle.book_core.proofs.HeldOnce.{All-of_bag}
 use Rattle.book_core.proofs.Holding.{piece_weight, pane_weight, batch_weight, slot_weight, all_weigh}
-use Rattle.book_core.proofs.MarksKept.{IsUp, is_up, up_from, up_is, further, holds_up, rise_from}
+use Rattle.book_core.proofs.MarksKept.{IsUp, is_up, up_from, up_is, further, holds_up, keys_up, rise_from}
 use Rattle.book_core.proofs.Queues.{held_fired, fired_weigh}
 use Rattle.book_core.proofs.Seen.{receipt_rises}
 use Rattle.book_core.proofs.Slots.{set_weighs}
@@ -56,11 +59,11 @@ job_weighs w plan (live.Batch batch) =
 
 -- of what holds the book back, a part is held by the job of a slot
 pub without_job : (b : SeenBook) (slot : ℕ) (job : Live) → IsWorking b slot job
-    → IsSameBag (all_holds b) (job_holds b.plan job ++ all_holds (with_slot b slot None))
+    → IsSameBag (own_holds b) (job_holds b.plan job ++ own_holds (with_slot b slot None))
 without_job b slot job works = record {
   weighs = λ w. omega (
     arith,
-    sum_by-append w (job_holds b.plan job) (all_holds (with_slot b slot None)),
+    sum_by-append w (job_holds b.plan job) (own_holds (with_slot b slot None)),
     job_weighs w b.plan job,
     all_weigh w b,
     all_weigh w (with_slot b slot None),
@@ -105,17 +108,17 @@ numbered_all many n (p ∷ ps) h =
 module _ (b : SeenBook) (slot : ℕ) (job : Live) (receipt : Receipt) where
   -- all that holds the book back while its cells fire
   abbrev pub kept_holds : List Hold
-  kept_holds = residual_holds b.plan (residual_in job receipt) ++ all_holds (with_slot b slot None)
+  kept_holds = residual_holds b.plan (residual_in job receipt) ++ own_holds (with_slot b slot None)
 
   pub after_commit : (cells : List Cell) (fired : List Pane) (marks : List StageMarks) → All (λ pane. pane.node < length b.queues) fired
-      → IsSameBag (map (pane_hold (last_marks b)) fired ++ kept_holds) (all_holds (committed b slot job receipt cells fired marks))
+      → IsSameBag (map (pane_hold (last_marks b)) fired ++ kept_holds) (own_holds (committed b slot job receipt cells fired marks))
   after_commit cells fired marks at_nodes = record {
     weighs = λ w.
         let new = committed b slot job receipt cells fired marks in
         omega (
           arith,
           sum_by-append w (map (pane_hold (last_marks b)) fired) kept_holds,
-          sum_by-append w (residual_holds b.plan (residual_in job receipt)) (all_holds (with_slot b slot None)),
+          sum_by-append w (residual_holds b.plan (residual_in job receipt)) (own_holds (with_slot b slot None)),
           all_weigh w new,
           all_weigh w (with_slot b slot None),
           ap (sum_by (piece_weight w b.plan)) (pending_is b.pending job receipt),
@@ -124,30 +127,6 @@ module _ (b : SeenBook) (slot : ℕ) (job : Live) (receipt : Receipt) where
           fired_holds_weigh w (last_marks b) (length b.panes) fired,
         );
   }
-
--- ---- the least holds
-
-pushed : (ys : List ℤ) (x a : ℤ) → fold int_min (int_min x a) ys ≡ int_min (fold int_min x ys) a
-pushed [] x a = refl
-pushed (y ∷ ys) x a = ap (λ (m : ℤ). fold int_min m ys) (turned x a y) ∙ pushed ys (int_min x y) a
-  where
-    turned : (x a y : ℤ) → int_min (int_min x a) y ≡ int_min (int_min x y) a
-    turned x a y = grind (arith, ints)
-
-least_joined : (xs ys : List ℤ) → least_mark (xs ++ ys) ≡ int_min (least_mark ys) (least_mark xs)
-least_joined xs ys =
-    fold-append int_min final_mark xs ys
-    ∙ ap (λ (m : ℤ). fold int_min m ys) (sym (lesser final_mark (least_mark xs) (fold-int_min_bounds final_mark xs (least_mark xs) refl).0))
-    ∙ pushed ys final_mark (least_mark xs)
-  where
-    lesser : (a b : ℤ) → b ≤ℤ a → int_min a b ≡ b
-    lesser a b low = grind (arith, ints)
-
-pub least_of_both : (xs ys : List Hold) (n : ℕ) → least_hold (xs ++ ys) n ≡ int_min (least_hold ys n) (least_hold xs n)
-least_of_both xs ys n =
-    ap (λ (l : List Hold). least_mark (map (λ (hold : Hold). hold.mark) l)) (filter-append (λ (hold : Hold). hold.node == n) xs ys)
-    ∙ ap least_mark (map-append (λ (hold : Hold). hold.mark) (filter (λ (hold : Hold). hold.node == n) xs) (filter (λ (hold : Hold). hold.node == n) ys))
-    ∙ least_joined (marks_held xs n) (marks_held ys n)
 
 -- ---- marks rise
 
@@ -182,13 +161,21 @@ module _ (plan : Plan) (before : List StageMarks) where
           (All-nil (IsHoldUp plan before))
       by false = All-nil (IsHoldUp plan before)
 
-pub kept_rise : (told : Option (List FileText)) (b : SeenBook) (slot : ℕ) (job : Live) (receipt : Receipt) → IsChecked b.plan → IsWorking b slot job
-    → IsGiven told b.plan (job_of b.panes job) (attempted_of job) receipt → AreMarksOfBook b (last_marks b) → RisesFrom b.plan (least_hold (kept_holds b slot job receipt)) (last_marks b)
+-- nor does what waits at key cells and comes to them
+pub kept_rise : (told : Option (List FileText)) (b : SeenBook) (slot : ℕ) (job : Live) (receipt : Receipt) → IsChecked b.plan → KeysKept b → IsWorking b slot job
+    → IsGiven told b.plan (job_of b.panes job) (attempted_of job) receipt → AreMarksOfBook b (last_marks b)
+    → RisesFrom b.plan (least_hold (kept_holds b slot job receipt ++ key_holds (keys_after b receipt))) (last_marks b)
 unfolding IsHoldUp
-kept_rise told b slot job receipt checked works given was marks are =
-    let rest = all_holds (with_slot b slot None) in
-    let up = holds_of_bag b.plan (last_marks b) (all_holds b) (job_holds b.plan job ++ rest) (without_job b slot job works) (holds_up b.plan (all_holds b) (last_marks b) was) in
-    rise_from b.plan (all_holds b) (kept_holds b slot job receipt) (last_marks b) marks checked was are
-    (All-append (IsHoldUp b.plan (last_marks b)) (residual_holds b.plan (residual_in job receipt)) rest
-    (left_up b.plan (last_marks b) told b.panes job receipt given (All-append_left (IsHoldUp b.plan (last_marks b)) (job_holds b.plan job) rest up))
-    (All-append_right (IsHoldUp b.plan (last_marks b)) (job_holds b.plan job) rest up))
+kept_rise told b slot job receipt checked keys works given was marks are =
+    let before = last_marks b in
+    let rest = own_holds (with_slot b slot None) in
+    let all_up = holds_of_bag b.plan before (all_holds b) (own_holds b ++ key_holds b.keys) (all_of b) (holds_up b.plan (all_holds b) before was) in
+    let own_up = All-append_left (IsHoldUp b.plan before) (own_holds b) (key_holds b.keys) all_up in
+    let key_up = All-append_right (IsHoldUp b.plan before) (own_holds b) (key_holds b.keys) all_up in
+    let up = holds_of_bag b.plan before (own_holds b) (job_holds b.plan job ++ rest) (without_job b slot job works) own_up in
+    rise_from b.plan (all_holds b) (kept_holds b slot job receipt ++ key_holds (keys_after b receipt)) before marks checked was are
+    (All-append (IsHoldUp b.plan before) (kept_holds b slot job receipt) (key_holds (keys_after b receipt))
+    (All-append (IsHoldUp b.plan before) (residual_holds b.plan (residual_in job receipt)) rest
+    (left_up b.plan before told b.panes job receipt given (All-append_left (IsHoldUp b.plan before) (job_holds b.plan job) rest up))
+    (All-append_right (IsHoldUp b.plan before) (job_holds b.plan job) rest up))
+    (keys_up b.plan before receipt.arrivals b.keys (keys_within b keys) key_up))

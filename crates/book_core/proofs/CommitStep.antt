@@ -4,10 +4,11 @@ use Rattle.std.specs.Prelude.{Option, Some, None, nat_lt, slice_get, slice_set, 
 use Rattle.std.specs.Int.{int_min}
 use Rattle.std.specs.Option.{option_map}
 use Rattle.std.specs.List.{All, filter, enumerate_from}
+use Rattle.std.proofs.lemmas.Int.{ints}
 use Rattle.std.proofs.lemmas.List.{length-map, length-set}
 use Rattle.std.proofs.lemmas.List.Elements.{All-weaker}
 use Rattle.beam_values.specs.Marks.{AreMarks}
-use Rattle.beam_values.specs.Nodes.{is_group, is_write}
+use Rattle.beam_values.specs.Nodes.{is_group, is_stateful, is_write}
 use Rattle.beam_values.specs.declared.arrival.Arrival.{Arrival}
 use Rattle.beam_values.specs.declared.cell.Cell.{Cell}
 use Rattle.beam_values.specs.declared.cell.Dropped.{Dropped}
@@ -22,10 +23,11 @@ use Rattle.bundle_commit.specs.declared.job.Receipt.{Receipt}
 use Rattle.group_cells.specs.Commits.{AreRounds, as_commit, dropped_arrival, hold_with, is_dropped, IsCommitted, SeenGroups}
 use Rattle.split_core.proofs.Ordered.{length-with_piece}
 use Rattle.watermarks.specs.Holds.{SeenHolds}
-use Rattle.book_core.specs.Book.{SeenBook, piece_of, last_marks, AreMarksOfBook}
-use Rattle.book_core.specs.Changes.{committed, done_after, with_fired, with_residual, IsCommit}
+use Rattle.stateful_core.specs.Cells.{KeyCell, key_holds}
+use Rattle.book_core.specs.Book.{SeenBook, piece_of, last_marks, AreMarksOfBook, waiting_in}
+use Rattle.book_core.specs.Changes.{committed, done_after, keys_after, with_fired, with_residual, IsCommit}
 use Rattle.book_core.specs.Committing.{done_in, residual_in, with_done_in}
-use Rattle.book_core.specs.Indexes.{IsIndexed, AreHeldIn, least_in, all_holds}
+use Rattle.book_core.specs.Indexes.{IsIndexed, AreHeldIn, all_holds, least_in, least_with, own_holds}
 use Rattle.book_core.specs.Sane.{IsSane}
 use Rattle.book_core.specs.Steps.{Commit, Committed, CanCommit, IsCommitting, IsWorking, IsWithinLimits}
 use Rattle.book_core.specs.Work.{IsGiven, worked_to}
@@ -33,11 +35,13 @@ use Rattle.book_core.specs.Jobs.{job_of, attempted_of}
 use Rattle.book_core.specs.declared.live.Live.{Live}
 use Rattle.book_core.specs.declared.live.Live.TheVariants as live
 use Rattle.book_core.specs.declared.live.WaitingPane.{WaitingPane}
-use Rattle.book_core.proofs.CommitHolds.{kept_holds, after_commit, least_of_both, pending_is}
+use Rattle.book_core.proofs.CommitHolds.{kept_holds, after_commit, pending_is}
+use Rattle.book_core.proofs.KeysKept.{all_many, all_waiting, few_counted}
+use Rattle.book_core.proofs.LeastHolds.{least_of_both}
 use Rattle.book_core.proofs.CommitParts.{written_same}
 use Rattle.book_core.proofs.HeldMarks.{least_held, marks_as}
 use Rattle.book_core.proofs.HeldOnce.{group_within, get_at_end}
-use Rattle.book_core.proofs.HoldBags.{least_of_bag}
+use Rattle.book_core.proofs.HoldBags.{least_of_all, least_of_bag}
 use Rattle.book_core.proofs.Holding.{bag_held}
 use Rattle.book_core.proofs.Limits.{pieces_after, batches_after}
 use Rattle.book_core.proofs.SaneAlways.{step_sane}
@@ -47,7 +51,7 @@ pub record AreFired (b : SeenBook) (slot : ℕ) (job : Live) (receipt : Receipt)
   pub works : IsWorking b slot job
   pub cells : old.cells ≡ b.cells
   pub dropped : old.dropped ≡ b.dropped
-  pub committed : IsCommitted b.plan (length b.commits) (last_marks b) marks (least_in held) receipt.arrivals left old new fired
+  pub committed : IsCommitted b.plan (length b.commits) (last_marks b) marks (least_with held (key_holds (keys_after b receipt))) receipt.arrivals left old new fired
   pub rounds : AreRounds b.plan (length b.commits) (last_marks b) marks receipt.arrivals old.cells new.cells fired
   pub few : length fired ≤ length b.cells + length receipt.arrivals
   pub holding : AreHeldIn held (kept_holds b slot job receipt)
@@ -56,6 +60,11 @@ pub record AreFired (b : SeenBook) (slot : ℕ) (job : Live) (receipt : Receipt)
   pub few_panes : length b.panes + (length b.cells + length receipt.arrivals) < 4294967295
   pub few_dropped : length b.dropped + length receipt.arrivals < 4294967295
   pub few_cells : length new.cells < 4294967295
+  pub few_keys : length b.keys + length receipt.arrivals < 4294967295
+  pub few_waiting : waiting_in b.keys + length receipt.arrivals < 4294967295
+
+three_least : (a b c : ℤ) → int_min (int_min a b) c ≡ int_min b (int_min a c)
+three_least a b c = grind (arith, ints)
 
 pub no_longer : {X : Type 0} (p : X → Bool) (xs : List X) → length (filter p xs) ≤ length xs
 no_longer p [] = omega arith
@@ -87,14 +96,20 @@ module _ (b : SeenBook) (slot : ℕ) (job : Live) (receipt : Receipt) (old new :
       All-weaker (λ pane. is_group b.plan pane.node ≡ true) (λ pane. pane.node < length b.queues)
       (λ pane e. subst (λ (n : ℕ). pane.node < n) (sym sane.formed.queues) (group_within b.plan pane.node e)) fired h.committed.at_groups
 
-  least_after : (n : ℕ) → hold_with (least_in held) (last_marks b) fired n ≡ least_hold (all_holds after) n
-  least_after n =
+  own_after : (n : ℕ) → int_min (least_in held n) (least_hold (map (pane_hold (last_marks b)) fired) n) ≡ least_hold (own_holds after) n
+  own_after n =
       ap (λ (m : ℤ). int_min m (least_hold (map (pane_hold (last_marks b)) fired) n)) (least_held held (kept_holds b slot job receipt) h.holding n)
       ∙ sym (least_of_both (map (pane_hold (last_marks b)) fired) (kept_holds b slot job receipt) n)
-      ∙ least_of_bag (map (pane_hold (last_marks b)) fired ++ kept_holds b slot job receipt) (all_holds after) (after_commit b slot job receipt new.cells fired marks at_nodes) n
+      ∙ least_of_bag (map (pane_hold (last_marks b)) fired ++ kept_holds b slot job receipt) (own_holds after) (after_commit b slot job receipt new.cells fired marks at_nodes) n
+
+  least_after : (n : ℕ) → hold_with (least_with held (key_holds (keys_after b receipt))) (last_marks b) fired n ≡ least_hold (all_holds after) n
+  least_after n =
+      three_least (least_in held n) (least_hold (key_holds (keys_after b receipt)) n) (least_hold (map (pane_hold (last_marks b)) fired) n)
+      ∙ ap (int_min (least_hold (key_holds (keys_after b receipt)) n)) (own_after n)
+      ∙ sym (least_of_all after n)
 
   marked : AreMarksOfBook after marks
-  marked = marks_as b.plan (hold_with (least_in held) (last_marks b) fired) (least_hold (all_holds after)) marks least_after h.committed.marks
+  marked = marks_as b.plan (hold_with (least_with held (key_holds (keys_after b receipt))) (last_marks b) fired) (least_hold (all_holds after)) marks least_after h.committed.marks
 
   is_commit : IsCommit b slot job receipt after
   is_commit = record {
@@ -120,6 +135,13 @@ module _ (b : SeenBook) (slot : ℕ) (job : Live) (receipt : Receipt) (old new :
           no_longer (is_dropped b.plan (last_marks b)) receipt.arrivals,
         );
         cells = h.few_cells;
+        keys = omega (arith, h.few_keys, all_many b.plan (last_marks b) receipt.arrivals b.keys);
+        waiting = omega (
+          arith,
+          h.few_waiting,
+          all_waiting b.plan (last_marks b) receipt.arrivals b.keys,
+          few_counted (λ (a : Arrival). is_stateful b.plan a.node) receipt.arrivals,
+        );
         slots = omega (arith, was.slots, length-set b.slots slot None);
         pieces = omega (
           arith,
@@ -151,26 +173,22 @@ module _ (b : SeenBook) (slot : ℕ) (job : Live) (receipt : Receipt) (old new :
       → piece_room ≤ fewer + length (option_to_list (residual_in job receipt)) → IsIndexed after after_held fewer batch_room
   indexed_after can before after_held piece_room fewer batch_room k add sized room =
       let bag = after_commit b slot job receipt new.cells fired marks at_nodes in
-      let holding = bag_held after_held (map (pane_hold (last_marks b)) fired ++ kept_holds b slot job receipt) (all_holds after) bag (add (kept_holds b slot job receipt) h.holding) in
-      let last : last_marks after ≡ marks =
-      ap (λ (n : ℕ). unwrap_or (option_map (λ (c : CommitMarks). c.marks) (slice_get after.commits n)) []) (omega (arith, length-append b.commits (as_commit marks ∷ [])))
-      ∙ ap (λ (o : Option CommitMarks). unwrap_or (option_map (λ (c : CommitMarks). c.marks) o) []) (get_at_end b.commits (as_commit marks) []) in
+      let holding = bag_held after_held (map (pane_hold (last_marks b)) fired ++ kept_holds b slot job receipt) (own_holds after) bag (add (kept_holds b slot job receipt) h.holding) in
       record {
         sane = step_sane None b after slot Commit Committed (receipt, (commits_after None can).0, (commits_after None can).1) sane;
         sized = sized ∙ k.sized;
         holds_back = holding;
-        marked = subst (AreMarks b.plan (least_in after_held)) (sym last)
-            (marks_as b.plan (least_hold (all_holds after)) (least_in after_held) marks (λ n. sym (least_held after_held (all_holds after) holding n)) marked);
         pieces = omega (arith, k.pieces, room, residual_many job receipt, pieces_after b.slots slot (Some job) None h.works);
         batches = omega (arith, k.batches, batches_after b.slots slot (Some job) None h.works);
       }
 
   -- ---- as it is written
 
-  pub record AreWritten (slots : List (Option Live)) (pending : List Piece) (queues : List (List WaitingPane)) (panes : List Pane) (done : List Done) (written : List Arrival) (commits : List CommitMarks) : Type 0 where
+  pub record AreWritten (slots : List (Option Live)) (pending : List Piece) (queues : List (List WaitingPane)) (keys : List KeyCell) (panes : List Pane) (done : List Done) (written : List Arrival) (commits : List CommitMarks) : Type 0 where
     pub slots_are : slots ≡ slice_set b.slots slot None
     pub pending_are : pending ≡ with_residual (residual_in job receipt) b.pending
     pub queues_are : queues ≡ map (with_fired (last_marks b) (enumerate_from (length b.panes) fired)) (enumerate_from 0 b.queues)
+    pub keys_are : keys ≡ keys_after b receipt
     pub panes_are : panes ≡ b.panes ++ fired
     pub done_are : done ≡ with_done_in (done_in job) b.done
     pub written_are : written ≡ b.written ++ filter (λ arrival. is_write b.plan arrival.node) left
@@ -180,44 +198,46 @@ module _ (b : SeenBook) (slot : ℕ) (job : Live) (receipt : Receipt) (old new :
   done_is (live.Span piece attempted) done = refl
   done_is (live.Batch batch) done = refl
 
-  abbrev pub as_written : List (Option Live) → List Piece → List (List WaitingPane) → List Pane → List Done → List Arrival → List CommitMarks → SeenBook
-  as_written slots pending queues panes done written commits = record b {
+  abbrev pub as_written : List (Option Live) → List Piece → List (List WaitingPane) → List KeyCell → List Pane → List Done → List Arrival → List CommitMarks → SeenBook
+  as_written slots pending queues keys panes done written commits = record b {
     slots = slots;
     pending = pending;
     queues = queues;
     cells = new.cells;
     dropped = new.dropped;
+    keys = keys;
     panes = panes;
     done = done;
     written = written;
     commits = commits;
   }
 
-  module _ (slots : List (Option Live)) (pending : List Piece) (queues : List (List WaitingPane)) (panes : List Pane) (done : List Done) (written : List Arrival) (commits : List CommitMarks)
-      (e : AreWritten slots pending queues panes done written commits) where
-    written_is : as_written slots pending queues panes done written commits ≡ after
+  module _ (slots : List (Option Live)) (pending : List Piece) (queues : List (List WaitingPane)) (keys : List KeyCell) (panes : List Pane) (done : List Done) (written : List Arrival) (commits : List CommitMarks)
+      (e : AreWritten slots pending queues keys panes done written commits) where
+    written_is : as_written slots pending queues keys panes done written commits ≡ after
     written_is =
         let dropped_are : new.dropped ≡ after.dropped =
         h.committed.dropped ∙ ap (λ (l : List Dropped). l ++ map (dropped_arrival (length b.commits)) (filter (is_dropped b.plan (last_marks b)) receipt.arrivals)) h.dropped in
         let writes : written ≡ after.written =
         e.written_are ∙ ap (λ (l : List Arrival). b.written ++ filter (λ arrival. is_write b.plan arrival.node) l) h.committed.others
         ∙ ap (λ (l : List Arrival). b.written ++ l) (written_same b.plan receipt.arrivals) in
-        ap (λ (x : List (Option Live)). as_written x pending queues panes done written commits) e.slots_are
-        ∙ ap (λ (x : List Piece). as_written after.slots x queues panes done written commits) (e.pending_are ∙ sym (pending_is b.pending job receipt))
-        ∙ ap (λ (x : List (List WaitingPane)). as_written after.slots after.pending x panes done written commits) e.queues_are
-        ∙ ap (λ (x : List Pane). as_written after.slots after.pending after.queues x done written commits) e.panes_are
-        ∙ ap (λ (x : List Done). as_written after.slots after.pending after.queues after.panes x written commits) (e.done_are ∙ done_is job b.done)
-        ∙ ap (λ (x : List Arrival). as_written after.slots after.pending after.queues after.panes after.done x commits) writes
-        ∙ ap (λ (x : List CommitMarks). as_written after.slots after.pending after.queues after.panes after.done after.written x) e.commits_are
+        ap (λ (x : List (Option Live)). as_written x pending queues keys panes done written commits) e.slots_are
+        ∙ ap (λ (x : List Piece). as_written after.slots x queues keys panes done written commits) (e.pending_are ∙ sym (pending_is b.pending job receipt))
+        ∙ ap (λ (x : List (List WaitingPane)). as_written after.slots after.pending x keys panes done written commits) e.queues_are
+        ∙ ap (λ (x : List KeyCell). as_written after.slots after.pending after.queues x panes done written commits) e.keys_are
+        ∙ ap (λ (x : List Pane). as_written after.slots after.pending after.queues after.keys x done written commits) e.panes_are
+        ∙ ap (λ (x : List Done). as_written after.slots after.pending after.queues after.keys after.panes x written commits) (e.done_are ∙ done_is job b.done)
+        ∙ ap (λ (x : List Arrival). as_written after.slots after.pending after.queues after.keys after.panes after.done x commits) writes
+        ∙ ap (λ (x : List CommitMarks). as_written after.slots after.pending after.queues after.keys after.panes after.done after.written x) e.commits_are
         ∙ ap (λ (x : List Dropped). record after { dropped = x }) dropped_are
 
     pub commit_written : (told : Option (List FileText)) → CanCommit told b slot receipt
-        → IsCommitting told b slot receipt (as_written slots pending queues panes done written commits) × IsWithinLimits (as_written slots pending queues panes done written commits)
+        → IsCommitting told b slot receipt (as_written slots pending queues keys panes done written commits) × IsWithinLimits (as_written slots pending queues keys panes done written commits)
     commit_written told can = subst (λ (d : SeenBook). IsCommitting told b slot receipt d × IsWithinLimits d) (sym written_is) (commits_after told can)
 
     pub commit_indexed : CanCommit None b slot receipt → (before after_held : List SeenHolds) (piece_room fewer batch_room : ℕ) → IsIndexed b before piece_room batch_room
         → ((holds : List Hold) → AreHeldIn held holds → AreHeldIn after_held (map (pane_hold (last_marks b)) fired ++ holds)) → length after_held ≡ length before
         → piece_room ≤ fewer + length (option_to_list (residual_in job receipt))
-        → IsIndexed (as_written slots pending queues panes done written commits) after_held fewer batch_room
+        → IsIndexed (as_written slots pending queues keys panes done written commits) after_held fewer batch_room
     commit_indexed can before after_held piece_room fewer batch_room k add sized room =
         subst (λ (d : SeenBook). IsIndexed d after_held fewer batch_room) (sym written_is) (indexed_after can before after_held piece_room fewer batch_room k add sized room)

@@ -20,7 +20,7 @@ use Rattle.watermarks.specs.Holds.{SeenHolds}
 use Rattle.book_core.specs.Book.{SeenBook, piece_of, batch_of}
 use Rattle.book_core.specs.Calls.{Makes, CanFail, failure_of}
 use Rattle.book_core.specs.Changes.{with_slot, given_back, counted, stopped_where, failed, ends_run, note_of, tried_piece, tried_batch, attempts_of}
-use Rattle.book_core.specs.Indexes.{IsIndexed, all_holds, pieces_back, batches_back, is_spent, stopped_after}
+use Rattle.book_core.specs.Indexes.{IsIndexed, own_holds, pieces_back, batches_back, is_spent, stopped_after}
 use Rattle.book_core.specs.Sane.{IsSane}
 use Rattle.book_core.specs.Steps.{Fail, Step, IsFailure}
 use Rattle.book_core.specs.declared.live.Batch.{Batch}
@@ -88,8 +88,8 @@ parts_are b slot at (live.Batch batch) Read true note = refl
 parts_are b slot at (live.Batch batch) Read false note = refl
 
 -- all holds stay
-back_holds : (b : SeenBook) (slot : ℕ) (job : Live) (at : ℕ) (cause : Cause) → slice_get b.slots slot ≡ Some (Some job) → IsSameBag (all_holds b)
-    (all_holds (record b { slots = slice_set b.slots slot None; pending = pieces_back b.pending job at cause; returned = batches_back b.returned job }))
+back_holds : (b : SeenBook) (slot : ℕ) (job : Live) (at : ℕ) (cause : Cause) → slice_get b.slots slot ≡ Some (Some job) → IsSameBag (own_holds b)
+    (own_holds (record b { slots = slice_set b.slots slot None; pending = pieces_back b.pending job at cause; returned = batches_back b.returned job }))
 back_holds b slot (live.Span piece attempted) at cause works = record {
   weighs = λ w. omega (
     arith,
@@ -166,12 +166,11 @@ module _ (b : SeenBook) (slot at : ℕ) (job : Live) (cause : Cause) (spent : Bo
   fail_indexed held piece_room batch_room fewer fewer_batches k some some_batches = record {
     sane = step_sane None b _ slot (Fail at cause) _ (makes_fail None) k.sane;
     sized = k.sized;
-    holds_back = bag_held held (all_holds b) (all_holds (record b { slots = slots; pending = pending; returned = returned }))
-        (subst (λ (x : List (Option Live)). IsSameBag (all_holds b) (all_holds (record b { slots = x; pending = pending; returned = returned }))) (sym h.slots_are)
-        (subst (λ (x : List Piece). IsSameBag (all_holds b) (all_holds (record b { slots = slice_set b.slots slot None; pending = x; returned = returned }))) (sym h.pending_is)
-        (subst (λ (x : List Batch). IsSameBag (all_holds b) (all_holds (record b { slots = slice_set b.slots slot None; pending = pieces_back b.pending job at cause; returned = x }))) (sym h.returned_is)
+    holds_back = bag_held held (own_holds b) (own_holds (record b { slots = slots; pending = pending; returned = returned }))
+        (subst (λ (x : List (Option Live)). IsSameBag (own_holds b) (own_holds (record b { slots = x; pending = pending; returned = returned }))) (sym h.slots_are)
+        (subst (λ (x : List Piece). IsSameBag (own_holds b) (own_holds (record b { slots = slice_set b.slots slot None; pending = x; returned = returned }))) (sym h.pending_is)
+        (subst (λ (x : List Batch). IsSameBag (own_holds b) (own_holds (record b { slots = slice_set b.slots slot None; pending = pieces_back b.pending job at cause; returned = x }))) (sym h.returned_is)
         (back_holds b slot job at cause h.works)))) k.holds_back;
-    marked = k.marked;
     pieces = omega (arith, k.pieces, some, pieces_after b.slots slot (Some job) None h.works, ap (λ (x : List (Option Live)). length (flat_map piece_of x)) h.slots_are);
     batches = omega (arith, k.batches, some_batches, batches_after b.slots slot (Some job) None h.works, ap (λ (x : List (Option Live)). length (flat_map batch_of x)) h.slots_are);
   }

@@ -24,7 +24,7 @@ use Rattle.beam_model.specs.Positions.{items}
 use Rattle.bundle_commit.specs.declared.job.Receipt.{Receipt}
 use Rattle.split_core.specs.Order.{IsAscending, with_pieces, first_pieces}
 use Rattle.split_core.proofs.Ordered.{ascending_with_piece, ascending_with_pieces, length-with_piece}
-use Rattle.book_core.specs.Book.{SeenBook, piece_of, live_pieces}
+use Rattle.book_core.specs.Book.{SeenBook, piece_of, live_pieces, waiting_in}
 use Rattle.book_core.specs.Changes.{with_slot, split_off, committed, or_stopped, with_done, done_cmp, done_of, done_after, residual_of, with_residual, pending_after, given_back, tried_piece, counted, stopped_where, ends_run, note_of}
 use Rattle.book_core.specs.Facts.{IsWellFormed}
 use Rattle.book_core.specs.Jobs.{GivenBack, Oldest, Next, next_job, without_due}
@@ -107,6 +107,8 @@ record AreWithin (old new : SeenBook) : Type 0 where
   panes : length new.panes ≤ length old.panes
   dropped : length new.dropped ≤ length old.dropped
   cells : length new.cells ≤ length old.cells
+  keys : length new.keys ≤ length old.keys
+  waiting : waiting_in new.keys ≤ waiting_in old.keys
   slots : length new.slots ≤ length old.slots
   pieces : length new.pending + length (live_pieces new) ≤ length old.pending + length (live_pieces old)
 
@@ -116,6 +118,8 @@ limits_onward old new a h = record {
   panes = omega (arith, a.panes, h.panes);
   dropped = omega (arith, a.dropped, h.dropped);
   cells = omega (arith, a.cells, h.cells);
+  keys = omega (arith, a.keys, h.keys);
+  waiting = omega (arith, a.waiting, h.waiting);
   slots = omega (arith, a.slots, h.slots);
   pieces = omega (arith, a.pieces, h.pieces);
 }
@@ -200,6 +204,8 @@ back_formed b slot (live.Span piece attempted) at cause h works =
       panes = omega arith;
       dropped = omega arith;
       cells = omega arith;
+      keys = omega arith;
+      waiting = omega arith;
       slots = omega (arith, length-set b.slots slot None);
       pieces = omega (arith, pieces_set b slot (Some (live.Span piece attempted)) None works, length-with_piece (tried_piece piece) b.pending);
     }) h.within)
@@ -211,16 +217,18 @@ back_formed b slot (live.Batch batch) at cause h works =
       panes = omega arith;
       dropped = omega arith;
       cells = omega arith;
+      keys = omega arith;
+      waiting = omega arith;
       slots = omega (arith, length-set b.slots slot None);
       pieces = omega (arith, pieces_set b slot (Some (live.Batch batch)) None works);
     }) h.within)
 
 counted_formed : (b : SeenBook) (cause : Cause) → IsWellFormed b → IsWellFormed (counted b cause)
-counted_formed b Call h = record { checked = h.checked; allowed = h.allowed; lengths = h.lengths; queues = h.queues; ascending = h.ascending; done = h.done; within = limits_onward b (counted b Call) (record { commits = omega arith; panes = omega arith; dropped = omega arith; cells = omega arith; slots = omega arith; pieces = omega arith }) h.within }
-counted_formed b Read h = record { checked = h.checked; allowed = h.allowed; lengths = h.lengths; queues = h.queues; ascending = h.ascending; done = h.done; within = limits_onward b (counted b Read) (record { commits = omega arith; panes = omega arith; dropped = omega arith; cells = omega arith; slots = omega arith; pieces = omega arith }) h.within }
+counted_formed b Call h = record { checked = h.checked; allowed = h.allowed; lengths = h.lengths; queues = h.queues; ascending = h.ascending; done = h.done; within = limits_onward b (counted b Call) (record { commits = omega arith; panes = omega arith; dropped = omega arith; cells = omega arith; keys = omega arith; waiting = omega arith; slots = omega arith; pieces = omega arith }) h.within }
+counted_formed b Read h = record { checked = h.checked; allowed = h.allowed; lengths = h.lengths; queues = h.queues; ascending = h.ascending; done = h.done; within = limits_onward b (counted b Read) (record { commits = omega arith; panes = omega arith; dropped = omega arith; cells = omega arith; keys = omega arith; waiting = omega arith; slots = omega arith; pieces = omega arith }) h.within }
 
 stop_formed : (b : SeenBook) (stopped : Option StopCause) → IsWellFormed b → IsWellFormed (record b { stopped = stopped })
-stop_formed b stopped h = record { checked = h.checked; allowed = h.allowed; lengths = h.lengths; queues = h.queues; ascending = h.ascending; done = h.done; within = limits_onward b (record b { stopped = stopped }) (record { commits = omega arith; panes = omega arith; dropped = omega arith; cells = omega arith; slots = omega arith; pieces = omega arith }) h.within }
+stop_formed b stopped h = record { checked = h.checked; allowed = h.allowed; lengths = h.lengths; queues = h.queues; ascending = h.ascending; done = h.done; within = limits_onward b (record b { stopped = stopped }) (record { commits = omega arith; panes = omega arith; dropped = omega arith; cells = omega arith; keys = omega arith; waiting = omega arith; slots = omega arith; pieces = omega arith }) h.within }
 
 stop_where_formed : (spent : Bool) (b : SeenBook) (note : FaultNote) → IsWellFormed b → IsWellFormed (stopped_where spent b note)
 stop_where_formed true b note h = stop_formed b (or_stopped b.stopped (stop.Spent note)) h
@@ -260,6 +268,8 @@ keeps_formed told = record {
         panes = omega arith;
         dropped = omega arith;
         cells = omega arith;
+        keys = omega arith;
+        waiting = omega arith;
         slots = omega (arith, length-set b.slots slot (Some (live.Span piece (Some p))));
         pieces = omega (arith, pieces_set b slot (Some (live.Span piece attempted)) (Some (live.Span piece (Some p))) works);
       }) h.within);

@@ -18,7 +18,7 @@ use Rattle.beam_model.specs.Holds.{Hold, piece_hold, marks_held, least_hold}
 use Rattle.split_core.specs.Order.{with_piece}
 use Rattle.split_core.proofs.Ordered.{bag_with_piece}
 use Rattle.watermarks.proofs.BagMembers.{bag_least}
-use Rattle.book_core.specs.Book.{SeenBook, piece_of, live_pieces, held, hold_of, holds}
+use Rattle.book_core.specs.Book.{SeenBook, piece_of, live_pieces, held, hold_of}
 use Rattle.book_core.specs.Changes.{with_slot, cut_to, rest_of, split_off, given_back, tried_piece}
 use Rattle.book_core.specs.Facts.{AreHeldOnce}
 use Rattle.book_core.specs.Jobs.{GivenBack, Oldest, Next, next_job, without_due}
@@ -28,7 +28,9 @@ use Rattle.book_core.specs.declared.live.Live.TheVariants as live
 use Rattle.book_core.proofs.HeldMoves.{take_moves, set_moves, enroll_moves, back_moves}
 use Rattle.book_core.proofs.Slotted.{flat_set_weighs, one_weighs}
 use Rattle.book_core.proofs.Taking.{take_cases}
-use Rattle.book_core.specs.Indexes.{all_holds}
+use Rattle.stateful_core.specs.Cells.{key_holds}
+use Rattle.book_core.specs.Indexes.{all_holds, own_holds}
+use Rattle.book_core.proofs.LeastHolds.{least_of_both}
 
 -- ---- the least of a bag
 
@@ -63,11 +65,11 @@ abbrev piece_weight : Plan → (Hold → ℕ) → Piece → ℕ
 piece_weight plan w piece = w (piece_hold plan piece)
 
 pub holds_weigh : (w : Hold → ℕ) (b : SeenBook)
-    → sum_by w (all_holds b) ≡ sum_by (piece_weight b.plan w) b.pending + sum_by (piece_weight b.plan w) (live_pieces b) + sum_by (λ h. w (hold_of h)) (held b)
+    → sum_by w (own_holds b) ≡ sum_by (piece_weight b.plan w) b.pending + sum_by (piece_weight b.plan w) (live_pieces b) + sum_by (λ h. w (hold_of h)) (held b)
 holds_weigh w b =
     omega (
       arith,
-      sum_by-append w (map (piece_hold b.plan) (b.pending ++ live_pieces b)) (holds b),
+      sum_by-append w (map (piece_hold b.plan) (b.pending ++ live_pieces b)) (map hold_of (held b)),
       sum_by-map w (piece_hold b.plan) (b.pending ++ live_pieces b),
       sum_by-append (piece_weight b.plan w) b.pending (live_pieces b),
       sum_by-map w hold_of (held b),
@@ -82,7 +84,7 @@ with_piece_weight w piece pending = (bag_with_piece piece pending).weighs w ∙ 
 
 -- ---- which steps leave the bag
 
-pub enroll_holds : (b : SeenBook) → IsSameBag (all_holds (record b { slots = b.slots ++ None ∷ [] })) (all_holds b)
+pub enroll_holds : (b : SeenBook) → IsSameBag (own_holds (record b { slots = b.slots ++ None ∷ [] })) (own_holds b)
 enroll_holds b = record {
   weighs = λ w. omega (
     arith,
@@ -95,9 +97,9 @@ enroll_holds b = record {
 }
 
 pub take_holds : (b : SeenBook) (slot : ℕ) (next : Next) → AreHeldOnce b → IsFree b slot → next_job b ≡ Some next
-    → IsSameBag (all_holds (with_slot next.rest slot (Some next.job))) (all_holds b)
+    → IsSameBag (own_holds (with_slot next.rest slot (Some next.job))) (own_holds b)
 take_holds b slot next once free is =
-    take_cases b (λ (n : Next). IsSameBag (held (with_slot n.rest slot (Some n.job))) (held b) → IsSameBag (all_holds (with_slot n.rest slot (Some n.job))) (all_holds b))
+    take_cases b (λ (n : Next). IsSameBag (held (with_slot n.rest slot (Some n.job))) (held b) → IsSameBag (own_holds (with_slot n.rest slot (Some n.job))) (own_holds b))
     (λ batch among moves. record {
       weighs = λ w. omega (
         arith,
@@ -131,7 +133,7 @@ take_holds b slot next once free is =
     next is (take_moves b slot free once next is)
 
 pub claim_holds : (b : SeenBook) (slot p : ℕ) (piece : Piece) (attempted : Option ℕ) → IsWorking b slot (live.Span piece attempted)
-    → IsSameBag (all_holds (with_slot b slot (Some (live.Span piece (Some p))))) (all_holds b)
+    → IsSameBag (own_holds (with_slot b slot (Some (live.Span piece (Some p))))) (own_holds b)
 claim_holds b slot p piece attempted works = record {
   weighs = λ w. omega (
     arith,
@@ -142,7 +144,7 @@ claim_holds b slot p piece attempted works = record {
   );
 }
 
-pub back_holds : (b : SeenBook) (slot : ℕ) (job : Live) (at : ℕ) (cause : Cause) → IsWorking b slot job → IsSameBag (all_holds (given_back (with_slot b slot None) job at cause)) (all_holds b)
+pub back_holds : (b : SeenBook) (slot : ℕ) (job : Live) (at : ℕ) (cause : Cause) → IsWorking b slot job → IsSameBag (own_holds (given_back (with_slot b slot None) job at cause)) (own_holds b)
 back_holds b slot (live.Span piece attempted) at cause works = record {
   weighs = λ w. omega (
     arith,
@@ -176,7 +178,7 @@ module _ (b : SeenBook) (slot at : ℕ) (piece : Piece) (attempted : Option ℕ)
   abbrev others : SeenBook
   others = with_slot b slot None
 
-  old_bag : IsSameBag (all_holds b) (piece_hold b.plan piece ∷ all_holds others)
+  old_bag : IsSameBag (own_holds b) (piece_hold b.plan piece ∷ own_holds others)
   old_bag = record {
     weighs = λ w. omega (
       arith,
@@ -185,11 +187,11 @@ module _ (b : SeenBook) (slot at : ℕ) (piece : Piece) (attempted : Option ℕ)
       (set_moves b slot (Some (live.Span piece attempted)) None works refl refl).weighs (λ h. w (hold_of h)),
       piece_set_weighs (piece_weight b.plan w) b slot (Some (live.Span piece attempted)) None works,
       one_weighs (piece_weight b.plan w) piece,
-      sum_by-cons w (piece_hold b.plan piece) (all_holds others),
+      sum_by-cons w (piece_hold b.plan piece) (own_holds others),
     );
   }
 
-  new_bag : IsSameBag (all_holds (split_off b slot piece attempted at)) (piece_hold b.plan piece ∷ piece_hold b.plan piece ∷ all_holds others)
+  new_bag : IsSameBag (own_holds (split_off b slot piece attempted at)) (piece_hold b.plan piece ∷ piece_hold b.plan piece ∷ own_holds others)
   new_bag = record {
     weighs = λ w. omega (
       arith,
@@ -203,13 +205,37 @@ module _ (b : SeenBook) (slot at : ℕ) (piece : Piece) (attempted : Option ℕ)
       with_piece_weight (piece_weight b.plan w) rest b.pending,
       one_weighs (piece_weight b.plan w) piece,
       one_weighs (piece_weight b.plan w) front,
-      sum_by-cons w (piece_hold b.plan piece) (piece_hold b.plan piece ∷ all_holds others),
-      sum_by-cons w (piece_hold b.plan piece) (all_holds others),
+      sum_by-cons w (piece_hold b.plan piece) (piece_hold b.plan piece ∷ own_holds others),
+      sum_by-cons w (piece_hold b.plan piece) (own_holds others),
     );
   }
 
-  pub split_least : (n : ℕ) → least_hold (all_holds (split_off b slot piece attempted at)) n ≡ least_hold (all_holds b) n
+  pub split_least : (n : ℕ) → least_hold (own_holds (split_off b slot piece attempted at)) n ≡ least_hold (own_holds b) n
   split_least n =
-      least_of_bag (all_holds (split_off b slot piece attempted at)) (piece_hold b.plan piece ∷ piece_hold b.plan piece ∷ all_holds others) new_bag n
-      ∙ least_twice (piece_hold b.plan piece) (all_holds others) n
-      ∙ sym (least_of_bag (all_holds b) (piece_hold b.plan piece ∷ all_holds others) old_bag n)
+      least_of_bag (own_holds (split_off b slot piece attempted at)) (piece_hold b.plan piece ∷ piece_hold b.plan piece ∷ own_holds others) new_bag n
+      ∙ least_twice (piece_hold b.plan piece) (own_holds others) n
+      ∙ sym (least_of_bag (own_holds b) (piece_hold b.plan piece ∷ own_holds others) old_bag n)
+
+-- ---- what key cells hold
+
+-- all holds are those of pieces and panes, and those of key cells
+pub all_of : (b : SeenBook) → IsSameBag (all_holds b) (own_holds b ++ key_holds b.keys)
+all_of b = record {
+  weighs = λ w. omega (
+    arith,
+    sum_by-append w (map (piece_hold b.plan) (b.pending ++ live_pieces b)) (map hold_of (held b) ++ key_holds b.keys),
+    sum_by-append w (map hold_of (held b)) (key_holds b.keys),
+    sum_by-append w (own_holds b) (key_holds b.keys),
+    sum_by-append w (map (piece_hold b.plan) (b.pending ++ live_pieces b)) (map hold_of (held b)),
+  );
+}
+
+pub least_of_all : (b : SeenBook) (n : ℕ) → least_hold (all_holds b) n ≡ int_min (least_hold (key_holds b.keys) n) (least_hold (own_holds b) n)
+least_of_all b n = least_of_bag (all_holds b) (own_holds b ++ key_holds b.keys) (all_of b) n ∙ least_of_both (own_holds b) (key_holds b.keys) n
+
+-- where key cells hold as before, each node's least hold stays with that of pieces and panes
+pub least_as : (old new : SeenBook) → key_holds new.keys ≡ key_holds old.keys → ((n : ℕ) → least_hold (own_holds new) n ≡ least_hold (own_holds old) n)
+    → (n : ℕ) → least_hold (all_holds new) n ≡ least_hold (all_holds old) n
+least_as old new keys own n =
+    least_of_all new n ∙ ap (λ (m : ℤ). int_min (least_hold (key_holds new.keys) n) m) (own n)
+    ∙ ap (λ (l : List Hold). int_min (least_hold l n) (least_hold (own_holds old) n)) keys ∙ sym (least_of_all old n)

@@ -10,9 +10,9 @@ use Rattle.beam_model.specs.Holds.{Hold, piece_hold, marks_held}
 use Rattle.split_core.specs.Order.{with_piece}
 use Rattle.split_core.proofs.Ordered.{bag_with_piece}
 use Rattle.watermarks.specs.Holds.{SeenHolds}
-use Rattle.book_core.specs.Book.{SeenBook, HeldPane, piece_of, batch_of, live_pieces, live_batches, held_in, held, queued, hold_of, holds}
+use Rattle.book_core.specs.Book.{SeenBook, HeldPane, piece_of, batch_of, live_pieces, live_batches, held_in, held, queued, hold_of}
 use Rattle.book_core.specs.Changes.{with_slot, split_off, cut_to, rest_of}
-use Rattle.book_core.specs.Indexes.{marks_in, AreHeldIn, all_holds}
+use Rattle.book_core.specs.Indexes.{marks_in, AreHeldIn, own_holds}
 use Rattle.book_core.specs.declared.live.Batch.{Batch}
 use Rattle.book_core.specs.declared.live.Live.{Live}
 use Rattle.book_core.specs.declared.live.Live.TheVariants as live
@@ -54,11 +54,11 @@ slots_weigh w plan slots =
       sum_by-cons (λ x. sum_by (batch_weight w) (batch_of x)) x xs,
     )
 
-pub all_weigh : (w : Hold → ℕ) (b : SeenBook) → sum_by w (all_holds b)
+pub all_weigh : (w : Hold → ℕ) (b : SeenBook) → sum_by w (own_holds b)
     ≡ sum_by (piece_weight w b.plan) b.pending + sum_by (pane_weight w) (queued b) + sum_by (batch_weight w) b.returned + sum_by (slot_weight w b.plan) b.slots
 all_weigh w b = omega (
   arith,
-  sum_by-append w (map (piece_hold b.plan) (b.pending ++ live_pieces b)) (holds b),
+  sum_by-append w (map (piece_hold b.plan) (b.pending ++ live_pieces b)) (map hold_of (held b)),
   sum_by-map w (piece_hold b.plan) (b.pending ++ live_pieces b),
   sum_by-append (piece_weight w b.plan) b.pending (live_pieces b),
   sum_by-map w hold_of (held b),
@@ -71,12 +71,12 @@ all_weigh w b = omega (
 
 -- a slot is set to what holds as much
 pub set_holds : (b : SeenBook) (slot : ℕ) (old new : Option Live) → slice_get b.slots slot ≡ Some old
-    → ((w : Hold → ℕ) → slot_weight w b.plan new ≡ slot_weight w b.plan old) → IsSameBag (all_holds b) (all_holds (with_slot b slot new))
+    → ((w : Hold → ℕ) → slot_weight w b.plan new ≡ slot_weight w b.plan old) → IsSameBag (own_holds b) (own_holds (with_slot b slot new))
 set_holds b slot old new at same = record {
   weighs = λ w. omega (arith, all_weigh w b, all_weigh w (with_slot b slot new), set_weighs (slot_weight w b.plan) b.slots slot old new at, same w);
 }
 
-pub enroll_holds : (b : SeenBook) → IsSameBag (all_holds b) (all_holds (record b { slots = b.slots ++ None ∷ [] }))
+pub enroll_holds : (b : SeenBook) → IsSameBag (own_holds b) (own_holds (record b { slots = b.slots ++ None ∷ [] }))
 enroll_holds b = record {
   weighs = λ w. omega (
     arith,
@@ -93,11 +93,11 @@ with_piece_weight w plan piece pending = (bag_with_piece piece pending).weighs (
 
 -- a split adds the hold of its piece once more
 pub split_holds : (b : SeenBook) (slot : ℕ) (piece : Piece) (attempted : Option ℕ) (at : ℕ) → slice_get b.slots slot ≡ Some (Some (live.Span piece attempted))
-    → IsSameBag (piece_hold b.plan piece ∷ all_holds b) (all_holds (split_off b slot piece attempted at))
+    → IsSameBag (piece_hold b.plan piece ∷ own_holds b) (own_holds (split_off b slot piece attempted at))
 split_holds b slot piece attempted at works = record {
   weighs = λ w. omega (
     arith,
-    sum_by-cons w (piece_hold b.plan piece) (all_holds b),
+    sum_by-cons w (piece_hold b.plan piece) (own_holds b),
     all_weigh w b,
     all_weigh w (split_off b slot piece attempted at),
     with_piece_weight w b.plan (rest_of piece (record { from = at; to = piece.range.to })) b.pending,
@@ -107,11 +107,11 @@ split_holds b slot piece attempted at works = record {
 
 -- of what holds the book back one is the hold of a piece that a slot works
 pub free_holds : (b : SeenBook) (slot : ℕ) (piece : Piece) (attempted : Option ℕ) → slice_get b.slots slot ≡ Some (Some (live.Span piece attempted))
-    → IsSameBag (all_holds b) (piece_hold b.plan piece ∷ all_holds (with_slot b slot None))
+    → IsSameBag (own_holds b) (piece_hold b.plan piece ∷ own_holds (with_slot b slot None))
 free_holds b slot piece attempted works = record {
   weighs = λ w. omega (
     arith,
-    sum_by-cons w (piece_hold b.plan piece) (all_holds (with_slot b slot None)),
+    sum_by-cons w (piece_hold b.plan piece) (own_holds (with_slot b slot None)),
     sum_by-cons (piece_weight w b.plan) piece [],
     all_weigh w b,
     all_weigh w (with_slot b slot None),

@@ -11,10 +11,13 @@ pub mod HeldMoves
 pub mod HeldOnce
 pub mod Attempts
 pub mod AttemptsKept
+pub mod LeastHolds
 pub mod HoldBags
 pub mod Seen
+pub mod KeysKept
 pub mod MarksKept
 pub mod RisingMarks
+pub mod KeysAlways
 pub mod Reaching
 pub mod Limits
 pub mod Holding
@@ -55,6 +58,7 @@ pub mod CommitParts
 pub mod CommitRooms
 pub mod CommitFired
 pub mod CommitHolds
+pub mod ToKeys
 pub mod CommitStep
 pub mod CommitCalls
 pub mod Worked

@@ -5,7 +5,7 @@ use Rattle.std.specs.List.{sum_by, flat_map}
 use Rattle.std.proofs.lemmas.List.Concat.{length-flat_map}
 use Rattle.std.proofs.lemmas.List.{length-set}
 use Rattle.beam_values.specs.declared.piece.Piece.{Piece}
-use Rattle.book_core.specs.Book.{SeenBook, piece_of, batch_of}
+use Rattle.book_core.specs.Book.{SeenBook, piece_of, batch_of, waiting_in}
 use Rattle.book_core.specs.Changes.{with_slot}
 use Rattle.book_core.specs.Jobs.{Next, next_job}
 use Rattle.book_core.specs.Steps.{IsWithinLimits}
@@ -44,14 +44,16 @@ record TakesOne (b : SeenBook) (next : Next) : Type 0 where
   panes : next.rest.panes ≡ b.panes
   dropped : next.rest.dropped ≡ b.dropped
   cells : next.rest.cells ≡ b.cells
+  keys : length next.rest.keys ≡ length b.keys
+  waiting : waiting_in next.rest.keys ≡ waiting_in b.keys
   commits : next.rest.commits ≡ b.commits
 
 takes_one : (b : SeenBook) (next : Next) → next_job b ≡ Some next → TakesOne b next
 takes_one b next is =
     take_cases b (TakesOne b)
-    (λ batch among. record { pieces = omega arith; slots = refl; panes = refl; dropped = refl; cells = refl; commits = refl })
-    (λ batch oldest. record { pieces = omega arith; slots = refl; panes = refl; dropped = refl; cells = refl; commits = refl })
-    (λ piece later e. record { pieces = omega (arith, ap (length {A = Piece}) e); slots = refl; panes = refl; dropped = refl; cells = refl; commits = refl })
+    (λ batch among. record { pieces = omega arith; slots = refl; panes = refl; dropped = refl; cells = refl; keys = refl; waiting = refl; commits = refl })
+    (λ batch oldest. record { pieces = omega arith; slots = refl; panes = refl; dropped = refl; cells = refl; keys = refl; waiting = refl; commits = refl })
+    (λ piece later e. record { pieces = omega (arith, ap (length {A = Piece}) e); slots = refl; panes = refl; dropped = refl; cells = refl; keys = refl; waiting = refl; commits = refl })
     next is
 
 pub take_within : (b : SeenBook) (slot : ℕ) (next : Next) → slice_get b.slots slot ≡ Some None → next_job b ≡ Some next → IsWithinLimits b
@@ -63,6 +65,8 @@ take_within b slot next free is h =
       panes = omega (arith, h.panes, ap (λ l. length l) out.panes);
       dropped = omega (arith, h.dropped, ap (λ l. length l) out.dropped);
       cells = omega (arith, h.cells, ap (λ l. length l) out.cells);
+      keys = omega (arith, h.keys, out.keys);
+      waiting = omega (arith, h.waiting, out.waiting);
       slots = omega (arith, h.slots, length-set next.rest.slots slot (Some next.job), ap (λ (l : List (Option Live)). length l) out.slots);
       pieces = omega (
         arith,

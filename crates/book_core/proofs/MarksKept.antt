@@ -32,6 +32,11 @@ use Rattle.book_core.specs.declared.live.Live.TheVariants as live
 use Rattle.book_core.proofs.Cases.{Commits}
 use Rattle.book_core.proofs.HeldMoves.{fired_held}
 use Rattle.book_core.proofs.HeldOnce.{All-of_bag, commit_bag}
+use Rattle.beam_values.specs.declared.arrival.Arrival.{Arrival}
+use Rattle.stateful_core.specs.Cells.{KeyCell, key_holds}
+use Rattle.stateful_core.specs.Placing.{place}
+use Rattle.stateful_core.proofs.HoldsKept.{place_above}
+use Rattle.book_core.proofs.KeysKept.{KeysKept, holds_within, keys_within}
 use Rattle.book_core.specs.Indexes.{all_holds}
 use Rattle.book_core.proofs.Queues.{held_fired}
 use Rattle.book_core.proofs.Seen.{receipt_rises}
@@ -142,6 +147,15 @@ rise_from plan old new before after checked was is up = marks_rise plan (least_h
         by (inl e) = subst (λ (m : ℤ). (marks_at before n).mark_out ≤ℤ m) (sym e) (below_final n less)
         by (inr there) = All-contains (λ mark. (marks_at before n).mark_out ≤ℤ mark) (marks_held new n) (least_hold new n) (of_node n less) there
 
+-- ---- key cells
+
+-- what waits at key cells, and comes to them, holds no node below the mark after it
+pub keys_up : (plan : Plan) (before : List StageMarks) (arrivals : List Arrival) (cells : List KeyCell) → All (λ cell. cell.log.node < length plan.nodes) cells
+    → All (λ hold. IsUp plan before hold.node hold.mark) (key_holds cells) → All (λ hold. IsUp plan before hold.node hold.mark) (key_holds (place plan before None arrivals cells))
+keys_up plan before arrivals cells within up =
+    All-weaker (λ hold. (marks_at before hold.node).mark_out ≤ℤ hold.mark) (λ hold. IsUp plan before hold.node hold.mark) (λ hold above less. above) (key_holds (place plan before None arrivals cells))
+    (place_above before plan None arrivals cells (λ k d inside. up k d inside (holds_within (length plan.nodes) cells within k d inside)))
+
 -- ---- a commit
 
 -- what a piece is held at
@@ -198,7 +212,7 @@ unmapped P f [] h = All-nil (λ x. P (f x))
 unmapped P f (x ∷ xs) h = All-cons (λ y. P (f y)) x xs (All-head P (f x) (map f xs) h) (unmapped P f xs (All-tail P (f x) (map f xs) h))
 
 module _ (told : Option (List FileText)) (b : SeenBook) (slot : ℕ) (job : Live) (receipt : Receipt) (cells : List Cell) (fired : List Pane) (marks : List StageMarks)
-    (formed : IsWellFormed b) (once : AreHeldOnce b) (made : Commits told b slot job receipt cells fired marks) (was : AreMarksOfBook b (last_marks b)) where
+    (formed : IsWellFormed b) (once : AreHeldOnce b) (keys : KeysKept b) (made : Commits told b slot job receipt cells fired marks) (was : AreMarksOfBook b (last_marks b)) where
   abbrev after : SeenBook
   after = committed b slot job receipt cells fired marks
 
@@ -218,7 +232,14 @@ module _ (told : Option (List FileText)) (b : SeenBook) (slot : ℕ) (job : Live
   unfolding IsPaneUp
   panes_were =
       unmapped (λ hold. IsUp b.plan before hold.node hold.mark) hold_of (held b)
-      (All-append_right (λ hold. IsUp b.plan before hold.node hold.mark) (map (piece_hold b.plan) (b.pending ++ live_pieces b)) (holds b) all_up)
+      (All-append_left (λ hold. IsUp b.plan before hold.node hold.mark) (map hold_of (held b)) (key_holds b.keys)
+      (All-append_right (λ hold. IsUp b.plan before hold.node hold.mark) (map (piece_hold b.plan) (b.pending ++ live_pieces b)) (holds b) all_up))
+
+  keys_are : All (λ hold. IsUp b.plan before hold.node hold.mark) (key_holds after.keys)
+  keys_are =
+      keys_up b.plan before receipt.arrivals b.keys (keys_within b keys)
+      (All-append_right (λ hold. IsUp b.plan before hold.node hold.mark) (map hold_of (held b)) (key_holds b.keys)
+      (All-append_right (λ hold. IsUp b.plan before hold.node hold.mark) (map (piece_hold b.plan) (b.pending ++ live_pieces b)) (holds b) all_up))
 
   pieces_are : All (IsPieceUp b.plan before) (after.pending ++ live_pieces after)
   pieces_are =
@@ -243,4 +264,5 @@ module _ (told : Option (List FileText)) (b : SeenBook) (slot : ℕ) (job : Live
       rise_from b.plan (all_holds b) (all_holds after) before marks formed.checked was made.marked
       (All-append (λ hold. IsUp b.plan before hold.node hold.mark) (map (piece_hold b.plan) (after.pending ++ live_pieces after)) (holds after)
       (All-map (λ hold. IsUp b.plan before hold.node hold.mark) (piece_hold b.plan) (after.pending ++ live_pieces after) pieces_are)
-      (All-map (λ hold. IsUp b.plan before hold.node hold.mark) hold_of (held after) panes_are))
+      (All-append (λ hold. IsUp b.plan before hold.node hold.mark) (map hold_of (held after)) (key_holds after.keys)
+      (All-map (λ hold. IsUp b.plan before hold.node hold.mark) hold_of (held after) panes_are) keys_are))

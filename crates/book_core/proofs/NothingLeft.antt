@@ -25,6 +25,7 @@ use Rattle.book_core.specs.declared.live.WaitingPane.{WaitingPane}
 use Rattle.book_core.proofs.CellsKept.{nonempty_held}
 use Rattle.book_core.proofs.HeldMoves.{IsNonempty}
 use Rattle.book_core.proofs.HeldOnce.{group_within}
+use Rattle.stateful_core.specs.Cells.{key_holds}
 use Rattle.book_core.specs.Indexes.{all_holds}
 use Rattle.book_core.proofs.Queues.{queued_from}
 use Rattle.book_core.proofs.Slotted.{All-append_left, All-append_right, All-of_flat_map}
@@ -170,19 +171,20 @@ module _ (b : SeenBook) (formed : IsWellFormed b) (once : AreHeldOnce b) (groups
         ∙ ap (λ (l : List Batch). flat_map held_in l ++ flat_map held_in (live_batches b)) (none_of_none (length b.plan.nodes) b.returned returned_within (no_returned b no_due))
         ∙ ap (flat_map held_in) (idle_batches b idle)
 
-    no_holds : all_holds b ≡ []
-    no_holds =
-        ap (λ (l : List Piece). map (piece_hold b.plan) (l ++ live_pieces b) ++ map hold_of (held b)) none_pending
-        ∙ ap (λ (l : List Piece). map (piece_hold b.plan) l ++ map hold_of (held b)) (idle_pieces b idle)
-        ∙ ap (map hold_of) none_held
+    no_holds : b.keys ≡ [] → all_holds b ≡ []
+    no_holds no_keys =
+        ap (λ (l : List Piece). map (piece_hold b.plan) (l ++ live_pieces b) ++ (map hold_of (held b) ++ key_holds b.keys)) none_pending
+        ∙ ap (λ (l : List Piece). map (piece_hold b.plan) l ++ (map hold_of (held b) ++ key_holds b.keys)) (idle_pieces b idle)
+        ∙ ap (λ (l : List HeldPane). map hold_of l ++ key_holds b.keys) none_held
+        ∙ ap key_holds no_keys
 
-    pub all_marks_final : AreMarksOfBook b (last_marks b) → (n : ℕ) → marks_at (last_marks b) n ≡ final_stage
-    all_marks_final marked n =
-        all_final b.plan (least_hold []) (last_marks b) formed.checked (subst (λ (l : List Hold). AreMarks b.plan (least_hold l) (last_marks b)) no_holds marked)
+    pub all_marks_final : b.keys ≡ [] → AreMarksOfBook b (last_marks b) → (n : ℕ) → marks_at (last_marks b) n ≡ final_stage
+    all_marks_final no_keys marked n =
+        all_final b.plan (least_hold []) (last_marks b) formed.checked (subst (λ (l : List Hold). AreMarks b.plan (least_hold l) (last_marks b)) (no_holds no_keys) marked)
         (λ k less. refl) n
 
-    pub each_final : AreMarksOfBook b (last_marks b) → All (λ marks. (marks.mark_in ≡ final_mark) × (marks.mark_out ≡ final_mark)) (last_marks b)
-    each_final marked k d within =
+    pub each_final : b.keys ≡ [] → AreMarksOfBook b (last_marks b) → All (λ marks. (marks.mark_in ≡ final_mark) × (marks.mark_out ≡ final_mark)) (last_marks b)
+    each_final no_keys marked k d within =
         let is : get_or (last_marks b) k d ≡ final_stage =
-        get_or_default (last_marks b) k d final_stage within ∙ sym (marks_at-is (last_marks b) k) ∙ all_marks_final marked k in
+        get_or_default (last_marks b) k d final_stage within ∙ sym (marks_at-is (last_marks b) k) ∙ all_marks_final no_keys marked k in
         (ap (λ (s : StageMarks). s.mark_in) is, ap (λ (s : StageMarks). s.mark_out) is)

@@ -25,7 +25,8 @@ use Rattle.split_core.proofs.Ordered.{reverse-cons}
 use Rattle.watermarks.specs.Holds.{SeenHolds, hold_at}
 use Rattle.group_cells.specs.Commits.{as_commit}
 use Rattle.book_core.specs.Book.{SeenBook, HeldPane, held_at}
-use Rattle.book_core.specs.Indexes.{IsIndexed, AreHeldIn, marks_in, least_in, all_holds}
+use Rattle.book_core.specs.Indexes.{IsIndexed, AreHeldIn, marks_in, least_in, all_holds, own_holds}
+use Rattle.book_core.proofs.HoldBags.{all_of, least_of_bag}
 use Rattle.book_core.specs.Runs.{AreOptions, AreLengthsOf, IsOpening, opened, pieces_of}
 use Rattle.book_core.proofs.HeldMarks.{least_held, marks_as, held_as}
 use Rattle.book_core.proofs.Holding.{bag_held, all_weigh, pane_weight}
@@ -89,7 +90,7 @@ queue_weight : (w : HeldPane → ℕ) (n : ℕ) (nodes : List Node) → sum_by w
 queue_weight w n nodes = ap (sum_by w) (no_queue n nodes)
 
 opened_holds : (plan : Plan) (files : List FileLen) (options : Options) (marks : List StageMarks)
-    → IsSameBag (map (piece_hold plan) (pieces_of options.chunk files)) (all_holds (opened plan files options marks))
+    → IsSameBag (map (piece_hold plan) (pieces_of options.chunk files)) (own_holds (opened plan files options marks))
 opened_holds plan files options marks = record {
   weighs = λ w. omega (
     arith,
@@ -119,11 +120,11 @@ listed_below plan files chunk pending listed lengths e f =
     (All-reversed (IsPieceOf (length plan.nodes)) pending (subst (All (IsPieceOf (length plan.nodes))) (sym e) (all_pieces_below plan files chunk lengths)))
 
 listed_held : (plan : Plan) (files : List FileLen) (options : Options) (held : List SeenHolds) (pending listed : List Piece) (marks : List StageMarks) → pending ≡ pieces_of options.chunk files
-    → listed ≡ reverse pending → AreHeldIn held (map (piece_hold plan) listed) → AreHeldIn held (all_holds (opened plan files options marks))
+    → listed ≡ reverse pending → AreHeldIn held (map (piece_hold plan) listed) → AreHeldIn held (own_holds (opened plan files options marks))
 listed_held plan files options held pending listed marks e f h =
     let back : IsSameBag listed (pieces_of options.chunk files) =
     subst (λ (l : List Piece). IsSameBag l (pieces_of options.chunk files)) (sym f) (subst (λ (p : List Piece). IsSameBag (reverse pending) p) e (reverse_bag pending)) in
-    bag_held held (map (piece_hold plan) (pieces_of options.chunk files)) (all_holds (opened plan files options marks)) (opened_holds plan files options marks)
+    bag_held held (map (piece_hold plan) (pieces_of options.chunk files)) (own_holds (opened plan files options marks)) (opened_holds plan files options marks)
     (bag_held held (map (piece_hold plan) listed) (map (piece_hold plan) (pieces_of options.chunk files)) (bag_map (piece_hold plan) listed (pieces_of options.chunk files) back) h)
 
 -- what is found before a book is opened
@@ -140,8 +141,14 @@ pub record IsFound (plan : Plan) (files : List FileLen) (options : Options) (hel
 
 module _ (plan : Plan) (files : List FileLen) (options : Options) (held : List SeenHolds) (pending listed : List Piece) (marks : List StageMarks)
     (h : IsFound plan files options held pending listed marks) where
-  all_held : AreHeldIn held (all_holds (opened plan files options marks))
+  all_held : AreHeldIn held (own_holds (opened plan files options marks))
   all_held = listed_held plan files options held pending listed marks h.pending_is h.listed_is h.holds_back
+
+  -- no key cell stands yet
+  none_keyed_yet : (n : ℕ) → least_hold (all_holds (opened plan files options marks)) n ≡ least_hold (own_holds (opened plan files options marks)) n
+  none_keyed_yet n =
+      least_of_bag (all_holds (opened plan files options marks)) (own_holds (opened plan files options marks) ++ []) (all_of (opened plan files options marks)) n
+      ∙ ap (λ (l : List Hold). least_hold l n) (append-nil (own_holds (opened plan files options marks)))
 
   pub is_opening : IsOpening plan files options (opened plan files options marks)
   is_opening = record {
@@ -150,12 +157,15 @@ module _ (plan : Plan) (files : List FileLen) (options : Options) (held : List S
     allowed = h.allowed;
     marks = marks;
     is = refl;
-    marked = marks_as plan (least_in held) (least_hold (all_holds (opened plan files options marks))) marks (least_held held (all_holds (opened plan files options marks)) all_held) h.marked;
+    marked = marks_as plan (least_in held) (least_hold (all_holds (opened plan files options marks))) marks
+        (λ n. least_held held (own_holds (opened plan files options marks)) all_held n ∙ sym (none_keyed_yet n)) h.marked;
     within = record {
       commits = omega arith;
       panes = omega arith;
       dropped = omega arith;
       cells = omega arith;
+      keys = omega arith;
+      waiting = omega arith;
       slots = omega arith;
       pieces = omega (arith, h.few, ap (length {A = Piece}) h.pending_is);
     };
@@ -166,16 +176,15 @@ module _ (plan : Plan) (files : List FileLen) (options : Options) (held : List S
     sane = opened_sane plan files options (opened plan files options marks) is_opening;
     sized = h.sized;
     holds_back = all_held;
-    marked = h.marked;
     pieces = omega arith;
     batches = omega arith;
   }
 
 -- the book as its fields are made
 pub opened_as : (plan : Plan) (files : List FileLen) (options : Options) (marks : List StageMarks) (b : SeenBook) → b.plan ≡ plan → b.files ≡ files → b.options ≡ options
-    → b.pending ≡ pieces_of options.chunk files → b.slots ≡ [] → b.queues ≡ map (λ (node : Node). []) plan.nodes → b.returned ≡ [] → b.cells ≡ [] → b.dropped ≡ [] → b.panes ≡ []
+    → b.pending ≡ pieces_of options.chunk files → b.slots ≡ [] → b.queues ≡ map (λ (node : Node). []) plan.nodes → b.returned ≡ [] → b.cells ≡ [] → b.dropped ≡ [] → b.keys ≡ [] → b.panes ≡ []
     → b.done ≡ [] → b.written ≡ [] → b.commits ≡ as_commit marks ∷ [] → b.calls ≡ 0 → b.reads ≡ 0 → b.stopped ≡ None → opened plan files options marks ≡ b
-opened_as plan files options marks b e1 e2 e3 e4 e5 e6 e7 e8 e9 e10 e11 e12 e13 e14 e15 e16 = sym (
+opened_as plan files options marks b e1 e2 e3 e4 e5 e6 e7 e8 e9 e_keys e10 e11 e12 e13 e14 e15 e16 = sym (
     ap (λ x. record b { plan = x }) e1
     ∙ ap (λ x. record b { plan = plan; files = x }) e2
     ∙ ap (λ x. record b { plan = plan; files = files; options = x }) e3
@@ -183,8 +192,9 @@ opened_as plan files options marks b e1 e2 e3 e4 e5 e6 e7 e8 e9 e10 e11 e12 e13 
     ∙ ap (λ x. record b { plan = plan; files = files; options = options; pending = pieces_of options.chunk files; slots = x }) e5
     ∙ ap (λ x. record b { plan = plan; files = files; options = options; pending = pieces_of options.chunk files; slots = []; queues = x }) e6
     ∙ ap (λ x. record b { plan = plan; files = files; options = options; pending = pieces_of options.chunk files; slots = []; queues = map (λ (node : Node). []) plan.nodes; returned = x }) e7
-    ∙ ap (λ x. record (opened plan files options marks) { cells = x; dropped = b.dropped; panes = b.panes; done = b.done; written = b.written; commits = b.commits; calls = b.calls; reads = b.reads; stopped = b.stopped }) e8
-    ∙ ap (λ x. record (opened plan files options marks) { dropped = x; panes = b.panes; done = b.done; written = b.written; commits = b.commits; calls = b.calls; reads = b.reads; stopped = b.stopped }) e9
+    ∙ ap (λ x. record (opened plan files options marks) { cells = x; dropped = b.dropped; keys = b.keys; panes = b.panes; done = b.done; written = b.written; commits = b.commits; calls = b.calls; reads = b.reads; stopped = b.stopped }) e8
+    ∙ ap (λ x. record (opened plan files options marks) { dropped = x; keys = b.keys; panes = b.panes; done = b.done; written = b.written; commits = b.commits; calls = b.calls; reads = b.reads; stopped = b.stopped }) e9
+    ∙ ap (λ x. record (opened plan files options marks) { keys = x; panes = b.panes; done = b.done; written = b.written; commits = b.commits; calls = b.calls; reads = b.reads; stopped = b.stopped }) e_keys
     ∙ ap (λ x. record (opened plan files options marks) { panes = x; done = b.done; written = b.written; commits = b.commits; calls = b.calls; reads = b.reads; stopped = b.stopped }) e10
     ∙ ap (λ x. record (opened plan files options marks) { done = x; written = b.written; commits = b.commits; calls = b.calls; reads = b.reads; stopped = b.stopped }) e11
     ∙ ap (λ x. record (opened plan files options marks) { written = x; commits = b.commits; calls = b.calls; reads = b.reads; stopped = b.stopped }) e12

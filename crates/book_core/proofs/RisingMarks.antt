@@ -29,8 +29,10 @@ use Rattle.book_core.specs.Steps.{IsFree}
 use Rattle.book_core.specs.declared.live.Live.{Live}
 use Rattle.book_core.specs.declared.live.Live.TheVariants as live
 use Rattle.book_core.proofs.Cases.{Keeps, Commits, Both, enrolled}
-use Rattle.book_core.proofs.HoldBags.{least_of_bag, marks_of_least, enroll_holds, take_holds, claim_holds, back_holds, split_least}
-use Rattle.book_core.specs.Indexes.{all_holds}
+use Rattle.stateful_core.specs.Cells.{key_holds}
+use Rattle.book_core.proofs.KeysKept.{KeysKept}
+use Rattle.book_core.proofs.HoldBags.{least_as, least_of_bag, marks_of_least, enroll_holds, take_holds, claim_holds, back_holds, split_least}
+use Rattle.book_core.specs.Indexes.{all_holds, own_holds}
 use Rattle.book_core.proofs.MarksKept.{none_falls}
 use Rattle.book_core.proofs.Taking.{take_cases}
 
@@ -80,17 +82,22 @@ marked_onward old new stays h = record {
 
 take_marked : (b : SeenBook) (slot : ℕ) (next : Next) → AreHeldOnce b → IsFree b slot → next_job b ≡ Some next → IsMarked b → IsMarked (with_slot next.rest slot (Some next.job))
 take_marked b slot next once free is h =
-    let same = take_cases b (λ (n : Next). (n.rest.plan ≡ b.plan) × (n.rest.commits ≡ b.commits))
-    (λ batch among. (refl, refl)) (λ batch oldest. (refl, refl)) (λ piece later e. (refl, refl)) next is in
+    let same = take_cases b (λ (n : Next). (n.rest.plan ≡ b.plan) × (n.rest.commits ≡ b.commits) × (key_holds n.rest.keys ≡ key_holds b.keys))
+    (λ batch among. (refl, refl, refl)) (λ batch oldest. (refl, refl, refl)) (λ piece later e. (refl, refl, refl)) next is in
     marked_onward b (with_slot next.rest slot (Some next.job)) (record {
       plan = same.0;
       commits = same.1;
-      least = least_of_bag (all_holds (with_slot next.rest slot (Some next.job))) (all_holds b) (take_holds b slot next once free is);
+      least = least_as b (with_slot next.rest slot (Some next.job)) same.2 (least_of_bag (own_holds (with_slot next.rest slot (Some next.job))) (own_holds b) (take_holds b slot next once free is));
     }) h
 
-back_same : (b : SeenBook) (slot : ℕ) (job : Live) (at : ℕ) (cause : Cause) → ((given_back (with_slot b slot None) job at cause).plan ≡ b.plan) × ((given_back (with_slot b slot None) job at cause).commits ≡ b.commits)
-back_same b slot (live.Span piece attempted) at cause = (refl, refl)
-back_same b slot (live.Batch batch) at cause = (refl, refl)
+record SameBack (b new : SeenBook) : Type 0 where
+  plan : new.plan ≡ b.plan
+  commits : new.commits ≡ b.commits
+  keys : key_holds new.keys ≡ key_holds b.keys
+
+back_same : (b : SeenBook) (slot : ℕ) (job : Live) (at : ℕ) (cause : Cause) → SameBack b (given_back (with_slot b slot None) job at cause)
+back_same b slot (live.Span piece attempted) at cause = record { plan = refl; commits = refl; keys = refl }
+back_same b slot (live.Batch batch) at cause = record { plan = refl; commits = refl; keys = refl }
 
 counted_marked : (b : SeenBook) (cause : Cause) → IsMarked b → IsMarked (counted b cause)
 counted_marked b Call h = record { earlier = h.earlier; before = h.before; commits = h.commits; sized = h.sized; marked = h.marked; never_fall = h.never_fall }
@@ -104,10 +111,10 @@ stop_where_marked true b note h = stop_marked b (or_stopped b.stopped (stop.Spen
 stop_where_marked false b note h = h
 
 commit_marked : (told : Option (List FileText)) (b : SeenBook) (slot : ℕ) (job : Live) (receipt : Receipt) (cells : List Cell) (fired : List Pane) (marks : List StageMarks)
-    → IsWellFormed b → AreHeldOnce b → IsMarked b → Commits told b slot job receipt cells fired marks → IsMarked (committed b slot job receipt cells fired marks)
-commit_marked told b slot job receipt cells fired marks formed once h made =
+    → IsWellFormed b → AreHeldOnce b → KeysKept b → IsMarked b → Commits told b slot job receipt cells fired marks → IsMarked (committed b slot job receipt cells fired marks)
+commit_marked told b slot job receipt cells fired marks formed once keys h made =
     let was : AreMarksOfBook b (last_marks b) = subst (AreMarksOfBook b) (sym (last_is b h)) h.marked in
-    let rise = none_falls told b slot job receipt cells fired marks formed once made was in
+    let rise = none_falls told b slot job receipt cells fired marks formed once keys made was in
     record {
       earlier = b.commits;
       before = marks;
@@ -135,25 +142,25 @@ opening_marked b first opening = subst IsMarked (sym opening.is) (record {
     one_only : (c : ℕ) (only new : CommitMarks) → slice_get (only ∷ []) (suc c) ≡ Some new → ⊥
     one_only c only new e = cc
 
-pub keeps_marked : (told : Option (List FileText)) → Keeps told (Both IsWellFormed AreHeldOnce) IsMarked
+pub keeps_marked : (told : Option (List FileText)) → Keeps told (Both (Both IsWellFormed AreHeldOnce) KeysKept) IsMarked
 keeps_marked told = record {
   opens = opening_marked;
-  enrolls = λ b known h within. marked_onward b (enrolled b) (record { plan = refl; commits = refl; least = least_of_bag (all_holds (enrolled b)) (all_holds b) (enroll_holds b) }) h;
-  takes = λ b slot next known h running free is within. take_marked b slot next known.1 free is h;
+  enrolls = λ b known h within. marked_onward b (enrolled b) (record { plan = refl; commits = refl; least = least_as b (enrolled b) refl (least_of_bag (own_holds (enrolled b)) (own_holds b) (enroll_holds b)) }) h;
+  takes = λ b slot next known h running free is within. take_marked b slot next known.0.1 free is h;
   claims = λ b slot p piece attempted known h works may.
       let new = with_slot b slot (Some (live.Span piece (Some p))) in
-      marked_onward b new (record { plan = refl; commits = refl; least = least_of_bag (all_holds new) (all_holds b) (claim_holds b slot p piece attempted works) }) h;
+      marked_onward b new (record { plan = refl; commits = refl; least = least_as b new refl (least_of_bag (own_holds new) (own_holds b) (claim_holds b slot p piece attempted works)) }) h;
   splits = λ b slot at piece attempted known h works inside behind within.
-      marked_onward b (split_off b slot piece attempted at) (record { plan = refl; commits = refl; least = split_least b slot at piece attempted works }) h;
-  commits = λ b slot job receipt cells fired marks known h made. commit_marked told b slot job receipt cells fired marks known.0 known.1 h made;
+      marked_onward b (split_off b slot piece attempted at) (record { plan = refl; commits = refl; least = least_as b (split_off b slot piece attempted at) refl (split_least b slot at piece attempted works) }) h;
+  commits = λ b slot job receipt cells fired marks known h made. commit_marked told b slot job receipt cells fired marks known.0.0 known.0.1 known.1 h made;
   fails = λ b slot at job cause known h works.
       let back = given_back (with_slot b slot None) job at cause in
       stop_where_marked (ends_run b job cause) (counted back cause) (note_of job at cause)
       (counted_marked back cause
       (marked_onward b back (record {
-        plan = (back_same b slot job at cause).0;
-        commits = (back_same b slot job at cause).1;
-        least = least_of_bag (all_holds back) (all_holds b) (back_holds b slot job at cause works);
+        plan = (back_same b slot job at cause).plan;
+        commits = (back_same b slot job at cause).commits;
+        least = least_as b back (back_same b slot job at cause).keys (least_of_bag (own_holds back) (own_holds b) (back_holds b slot job at cause works));
       }) h));
   stops = λ b known h. stop_marked b (or_stopped b.stopped stop.NoMemory) h;
 }

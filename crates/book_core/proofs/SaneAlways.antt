@@ -21,6 +21,8 @@ use Rattle.book_core.proofs.Cases.{AreAlways, Anything, Both, always_reached, st
 use Rattle.book_core.proofs.Formed.{keeps_formed}
 use Rattle.book_core.proofs.HeldOnce.{keeps_held}
 use Rattle.book_core.proofs.Partitioned.{opening_partitioned, parted_of, partitioned_of, step_partitions}
+use Rattle.book_core.proofs.KeysAlways.{keeps_keys}
+use Rattle.book_core.proofs.KeysKept.{KeysKept}
 use Rattle.book_core.proofs.PiecesListed.{at_most, keeps_listed}
 use Rattle.book_core.proofs.RisingMarks.{IsMarked, kept_marks, keeps_marked, marked_of}
 use Rattle.book_core.proofs.SaneResults.{AreSaneResults, keeps_results}
@@ -94,6 +96,7 @@ opening_sane b first opening =
       cells = results.cells;
       panes = results.panes;
       dropped = results.dropped;
+      keys = (keeps_keys none).opens b first opening;
       writes = results.writes;
     }
 
@@ -108,9 +111,9 @@ step_sane told b new slot action answer step h =
     let marked = marked_of b h.marks in
     let now_counted = step_keeps told IsWellFormed IsCounted (keeps_counted told) b new slot action answer step h.formed counted in
     let now_parted = step_partitions told b new slot action answer step (parted_of b h.partitioned h.attempted) in
-    let now_marked = step_keeps told (Both IsWellFormed AreHeldOnce) IsMarked (keeps_marked told) b new slot action answer step (h.formed, h.held) marked in
+    let now_marked = step_keeps told (Both (Both IsWellFormed AreHeldOnce) KeysKept) IsMarked (keeps_marked told) b new slot action answer step ((h.formed, h.held), h.keys) marked in
     let now_left =
-    step_keeps told (Both (Both IsWellFormed AreHeldOnce) IsMarked) AreSaneResults (keeps_results told) b new slot action answer step ((h.formed, h.held), marked)
+    step_keeps told (Both (Both (Both IsWellFormed AreHeldOnce) KeysKept) IsMarked) AreSaneResults (keeps_results told) b new slot action answer step (((h.formed, h.held), h.keys), marked)
     (record { cells = h.cells; panes = h.panes; dropped = h.dropped; writes = h.writes }) in
     record {
       formed = step_keeps told Anything IsWellFormed (keeps_formed told) b new slot action answer step tt h.formed;
@@ -125,6 +128,7 @@ step_sane told b new slot action answer step h =
       cells = now_left.cells;
       panes = now_left.panes;
       dropped = now_left.dropped;
+      keys = step_keeps told (Both (Both IsWellFormed AreHeldOnce) IsMarked) KeysKept (keeps_keys told) b new slot action answer step ((h.formed, h.held), marked) h.keys;
       writes = now_left.writes;
     }
 

@@ -35,6 +35,7 @@ use Rattle.book_core.specs.declared.live.Live.{Live}
 use Rattle.book_core.specs.declared.live.Live.TheVariants as live
 use Rattle.book_core.proofs.Cases.{Keeps, Commits, Both}
 use Rattle.book_core.proofs.HeldOnce.{get_at_end}
+use Rattle.book_core.proofs.KeysKept.{KeysKept}
 use Rattle.book_core.proofs.MarksKept.{none_falls}
 use Rattle.book_core.proofs.RisingMarks.{IsMarked, last_is}
 use Rattle.book_core.proofs.Taking.{take_cases}
@@ -135,11 +136,11 @@ dropped_there plan before c arrivals =
     (filter_passes (is_dropped plan before) arrivals))
 
 commit_results : (told : Option (List FileText)) (b : SeenBook) (slot : ℕ) (job : Live) (receipt : Receipt) (cells : List Cell) (fired : List Pane) (marks : List StageMarks)
-    → IsWellFormed b → AreHeldOnce b → IsMarked b → AreSaneResults b → Commits told b slot job receipt cells fired marks → AreSaneResults (committed b slot job receipt cells fired marks)
-commit_results told b slot job receipt cells fired marks formed once marked h made =
+    → IsWellFormed b → AreHeldOnce b → KeysKept b → IsMarked b → AreSaneResults b → Commits told b slot job receipt cells fired marks → AreSaneResults (committed b slot job receipt cells fired marks)
+commit_results told b slot job receipt cells fired marks formed once keys marked h made =
     let c = length b.commits in
     let later : length (b.commits ++ as_commit marks ∷ []) ≡ c + 1 = length-append b.commits (as_commit marks ∷ []) in
-    let rise : NoneFalls (last_marks b) marks = none_falls told b slot job receipt cells fired marks formed once made (subst (Rattle.book_core.specs.Book.AreMarksOfBook b) (sym (last_is b marked)) marked.marked) in
+    let rise : NoneFalls (last_marks b) marks = none_falls told b slot job receipt cells fired marks formed once keys made (subst (Rattle.book_core.specs.Book.AreMarksOfBook b) (sym (last_is b marked)) marked.marked) in
     record {
       cells = record {
         cells = subst (λ (l : List StageMarks). AreSaneCells b.plan l cells) (sym (last_after b.commits marks))
@@ -168,7 +169,7 @@ commit_results told b slot job receipt cells fired marks formed once marked h ma
 sorted_none : IsSorted pane_cmp []
 sorted_none k d from within = absurd (omega (arith, within))
 
-pub keeps_results : (told : Option (List FileText)) → Keeps told (Both (Both IsWellFormed AreHeldOnce) IsMarked) AreSaneResults
+pub keeps_results : (told : Option (List FileText)) → Keeps told (Both (Both (Both IsWellFormed AreHeldOnce) KeysKept) IsMarked) AreSaneResults
 keeps_results told = record {
   opens = λ b first opening. subst AreSaneResults (sym opening.is) (record {
     cells = record { cells = none_sane b.plan (opening.marks); indices = All-nil (λ (cell : Cell). cell.next_index ≤ 0) };
@@ -185,7 +186,7 @@ keeps_results told = record {
   claims = λ b slot p piece attempted known h works may. results_onward b _ (record { plan = refl; commits = refl; cells = refl; dropped = refl; panes = refl; written = refl }) h;
   splits = λ b slot at piece attempted known h works inside behind within.
       results_onward b _ (record { plan = refl; commits = refl; cells = refl; dropped = refl; panes = refl; written = refl }) h;
-  commits = λ b slot job receipt cells fired marks known h made. commit_results told b slot job receipt cells fired marks known.0.0 known.0.1 known.1 h made;
+  commits = λ b slot job receipt cells fired marks known h made. commit_results told b slot job receipt cells fired marks known.0.0.0 known.0.0.1 known.0.1 known.1 h made;
   fails = λ b slot at job cause known h works. results_onward b (failed b slot job at cause) (fail_stays b slot at job cause) h;
   stops = λ b known h. results_onward b _ (record { plan = refl; commits = refl; cells = refl; dropped = refl; panes = refl; written = refl }) h;
 }

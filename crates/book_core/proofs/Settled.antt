@@ -16,14 +16,15 @@ use Rattle.beam_values.specs.declared.plan.Node.{Node}
 use Rattle.beam_values.specs.declared.plan.Plan.{Plan}
 use Rattle.beam_model.specs.Holds.{Hold, pane_hold, least_hold}
 use Rattle.bundle_commit.specs.declared.job.Receipt.{Receipt}
-use Rattle.group_cells.proofs.Counting.{filter_right}
 use Rattle.group_cells.proofs.KeptSane.{quiet_kept}
 use Rattle.watermarks.proofs.CheckedNodes.{inputs_lower}
 use Rattle.watermarks.proofs.NodeMarks.{final_stage, marks_at-is, node_marks-alike}
 use Rattle.book_core.specs.Book.{SeenBook, last_marks}
-use Rattle.book_core.specs.Changes.{with_slot, committed}
+use Rattle.book_core.specs.Changes.{with_slot, committed, keys_after}
 use Rattle.book_core.specs.Committing.{job_holds, node_of, pane_holds, residual_holds, residual_in}
-use Rattle.book_core.specs.Indexes.{all_holds}
+use Rattle.std.specs.Int.{int_min}
+use Rattle.stateful_core.specs.Cells.{key_holds}
+use Rattle.book_core.specs.Indexes.{all_holds, own_holds}
 use Rattle.book_core.specs.Sane.{IsSane}
 use Rattle.book_core.specs.Work.{worked_to}
 use Rattle.book_core.specs.declared.live.Live.{Live}
@@ -32,13 +33,12 @@ use Rattle.book_core.specs.declared.live.WaitingPane.{WaitingPane}
 use Rattle.book_core.proofs.Cases.{Commits}
 use Rattle.book_core.proofs.CommitHolds.{after_commit, without_job}
 use Rattle.book_core.proofs.HeldOnce.{group_within}
-use Rattle.book_core.proofs.HoldBags.{least_of_bag}
+use Rattle.book_core.proofs.HoldBags.{least_of_all, least_of_bag}
+use Rattle.book_core.proofs.KeysKept.{keys_elsewhere}
+use Rattle.book_core.proofs.LeastHolds.{least_without}
 use Rattle.book_core.proofs.Onward.{ArriveBehind, given_arrives}
 
 -- ---- holds of other nodes are no matter
-
-least_without : (xs ys : List Hold) (m : ℕ) → All (λ (h : Hold). (h.node == m) ≡ false) xs → least_hold (xs ++ ys) m ≡ least_hold ys m
-least_without xs ys m none = ap (λ (l : List Hold). least_mark (map (λ (h : Hold). h.mark) l)) (filter_right (λ (h : Hold). h.node == m) xs ys none)
 
 other_node : (n m : ℕ) → m < n → (n == m) ≡ false
 other_node n m less = grind (arith, nat_tests)
@@ -120,15 +120,28 @@ module _ (told : Option (List FileText)) (b : SeenBook) (slot : ℕ) (job : Live
       All-weaker (λ (p : Pane). is_group b.plan p.node ≡ true) (λ (p : Pane). p.node < length b.queues)
       (λ p e. subst (λ (k : ℕ). p.node < k) (sym sane.formed.queues) (group_within b.plan p.node e)) fired at_groups
 
-  same_hold : (m : ℕ) → m < n → NoneAt m fired → least_hold (all_holds b) m ≡ least_hold (all_holds (committed b slot job receipt cells fired marks)) m
-  same_hold m less none =
-      let without = all_holds (with_slot b slot None) in
+  all_elsewhere : (m : ℕ) → m < n → All (λ (a : Arrival). a.node ≡ m → ⊥) receipt.arrivals
+  all_elsewhere m less = All-weaker (λ (a : Arrival). n < a.node) (λ (a : Arrival). a.node ≡ m → ⊥) (λ a behind_job is. beyond_it a.node behind_job is) receipt.arrivals behind
+    where
+      beyond_it : (k : ℕ) → n < k → k ≡ m → ⊥
+      beyond_it k above is = omega (arith, above, is, less)
+
+  same_own : (m : ℕ) → m < n → NoneAt m fired → least_hold (own_holds b) m ≡ least_hold (own_holds (committed b slot job receipt cells fired marks)) m
+  same_own m less none =
+      let without = own_holds (with_slot b slot None) in
       let left = residual_holds b.plan (residual_in job receipt) in
-      least_of_bag (all_holds b) (job_holds b.plan job ++ without) (without_job b slot job made.works) m
+      least_of_bag (own_holds b) (job_holds b.plan job ++ without) (without_job b slot job made.works) m
       ∙ least_without (job_holds b.plan job) without m (job_elsewhere b.plan job m less)
       ∙ sym (least_without left without m (residual_elsewhere b.plan job receipt m less))
       ∙ sym (least_without (map (pane_hold before) fired) (left ++ without) m (panes_elsewhere before m fired none))
-      ∙ least_of_bag (map (pane_hold before) fired ++ (left ++ without)) (all_holds (committed b slot job receipt cells fired marks)) (after_commit b slot job receipt cells fired marks at_nodes) m
+      ∙ least_of_bag (map (pane_hold before) fired ++ (left ++ without)) (own_holds (committed b slot job receipt cells fired marks)) (after_commit b slot job receipt cells fired marks at_nodes) m
+
+  same_hold : (m : ℕ) → m < n → NoneAt m fired → least_hold (all_holds b) m ≡ least_hold (all_holds (committed b slot job receipt cells fired marks)) m
+  same_hold m less none =
+      least_of_all b m
+      ∙ ap (λ (k : ℤ). int_min k (least_hold (own_holds b) m)) (sym (keys_elsewhere b.plan before receipt.arrivals b.keys m (all_elsewhere m less)))
+      ∙ ap (λ (k : ℤ). int_min (least_hold (key_holds (keys_after b receipt)) m) k) (same_own m less none)
+      ∙ sym (least_of_all (committed b slot job receipt cells fired marks) m)
 
   past : (m : ℕ) → length b.plan.nodes ≤ m → marks_at before m ≡ marks_at marks m
   past m out =

@@ -15,7 +15,7 @@ use Rattle.watermarks.specs.Holds.{SeenHolds}
 use Rattle.book_core.specs.Book.{SeenBook, piece_of, live_pieces, tracker_of, last_marks}
 use Rattle.book_core.specs.Calls.{Makes}
 use Rattle.book_core.specs.Changes.{with_slot, split_off, cut_to, rest_of}
-use Rattle.book_core.specs.Indexes.{IsIndexed, AreHeldIn, marks_in, least_in, all_holds}
+use Rattle.book_core.specs.Indexes.{IsIndexed, AreHeldIn, marks_in, least_in, own_holds}
 use Rattle.book_core.specs.Sane.{IsSane}
 use Rattle.book_core.specs.Steps.{Split, SplitAt, IsWithinLimits}
 use Rattle.book_core.specs.declared.live.Live.{Live}
@@ -32,8 +32,7 @@ pub indexed_room : (b : SeenBook) (held new : List SeenHolds) (piece_room batch_
 indexed_room b held new piece_room batch_room more same sized enough h = record {
   sane = h.sane;
   sized = sized ∙ h.sized;
-  holds_back = held_as held new (all_holds b) same h.holds_back;
-  marked = marks_as b.plan (least_in held) (least_in new) (last_marks b) (λ n. ap Rattle.beam_values.specs.Marks.least_mark (sym (same n))) h.marked;
+  holds_back = held_as held new (own_holds b) same h.holds_back;
   pieces = omega (arith, h.pieces, enough);
   batches = h.batches;
 }
@@ -48,8 +47,8 @@ indexed_pending b held piece_room batch_room pending e h =
 pub node_within : (b : SeenBook) (held : List SeenHolds) (piece_room batch_room slot : ℕ) (piece : Piece) (attempted : Option ℕ)
     → slice_get b.slots slot ≡ Some (Some (live.Span piece attempted)) → IsIndexed b held piece_room batch_room → piece.node < length held
 node_within b held piece_room batch_room slot piece attempted works h =
-    held_within held (piece_hold b.plan piece) (all_holds (with_slot b slot None))
-    (bag_held held (all_holds b) (piece_hold b.plan piece ∷ all_holds (with_slot b slot None)) (free_holds b slot piece attempted works) h.holds_back)
+    held_within held (piece_hold b.plan piece) (own_holds (with_slot b slot None))
+    (bag_held held (own_holds b) (piece_hold b.plan piece ∷ own_holds (with_slot b slot None)) (free_holds b slot piece attempted works) h.holds_back)
 
 -- where a range is cut, and its two parts
 pub record IsCut (piece : Piece) (point at : ℕ) (rest front : Offsets) : Type 0 where
@@ -89,6 +88,8 @@ split_within b slot piece attempted at works less h =
       panes = h.panes;
       dropped = h.dropped;
       cells = h.cells;
+      keys = h.keys;
+      waiting = h.waiting;
       slots = omega (arith, h.slots, length-set b.slots slot front);
       pieces = omega (
         arith,
@@ -133,15 +134,14 @@ off_indexed : (b : SeenBook) (held kept new : List SeenHolds) (piece_room more b
     → IsIndexed b held piece_room batch_room → IsIndexed (split_off b slot piece attempted at) new more batch_room
 off_indexed b held kept new piece_room more batch_room slot num den at piece attempted works step same add sized enough h =
     let hold = piece_hold b.plan piece in
-    let rest = all_holds (with_slot b slot None) in
-    let old_held = bag_held kept (all_holds b) (hold ∷ rest) (free_holds b slot piece attempted works) (held_as held kept (all_holds b) same h.holds_back) in
+    let rest = own_holds (with_slot b slot None) in
+    let old_held = bag_held kept (own_holds b) (hold ∷ rest) (free_holds b slot piece attempted works) (held_as held kept (own_holds b) same h.holds_back) in
     let new_held = add (hold ∷ rest) old_held in
     record {
       sane = step_sane None b (split_off b slot piece attempted at) slot (Split num den) (SplitAt (Some at)) (step None) h.sane;
       sized = sized ∙ h.sized;
-      holds_back = bag_held new (hold ∷ all_holds b) (all_holds (split_off b slot piece attempted at)) (split_holds b slot piece attempted at works)
-          (add (all_holds b) (held_as held kept (all_holds b) same h.holds_back));
-      marked = marks_as b.plan (least_in held) (least_in new) (last_marks b) (λ n. ap Rattle.beam_values.specs.Marks.least_mark (sym (same n)) ∙ least_held kept (hold ∷ rest) old_held n ∙ sym (least_twice hold rest n) ∙ sym (least_held new (hold ∷ hold ∷ rest) new_held n)) h.marked;
+      holds_back = bag_held new (hold ∷ own_holds b) (own_holds (split_off b slot piece attempted at)) (split_holds b slot piece attempted at works)
+          (add (own_holds b) (held_as held kept (own_holds b) same h.holds_back));
       pieces = omega (arith, h.pieces, enough, pieces_after b.slots slot (Some (live.Span piece attempted)) (Some (live.Span (cut_to piece (record { from = piece.range.from; to = at })) attempted)) works);
       batches = omega (arith, h.batches, batches_after b.slots slot (Some (live.Span piece attempted)) (Some (live.Span (cut_to piece (record { from = piece.range.from; to = at })) attempted)) works);
     }

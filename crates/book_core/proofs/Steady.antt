@@ -14,7 +14,7 @@ use Rattle.book_core.specs.Book.{SeenBook, piece_of, tracker_of}
 use Rattle.book_core.specs.Calls.{CanClaim, Makes}
 use Rattle.book_core.specs.Changes.{with_slot, or_stopped}
 use Rattle.book_core.specs.Facts.{IsAttemptedWithin}
-use Rattle.book_core.specs.Indexes.{IsIndexed, all_holds}
+use Rattle.book_core.specs.Indexes.{IsIndexed, own_holds}
 use Rattle.book_core.specs.Sane.{IsSane}
 use Rattle.book_core.specs.Steps.{Action, Answer, Enroll, Enrolled, Claim, Claimed, Stop, Noted, IsWithinLimits}
 use Rattle.book_core.specs.declared.live.Live.{Live}
@@ -39,6 +39,8 @@ enrolled_within b less h = record {
   panes = h.panes;
   dropped = h.dropped;
   cells = h.cells;
+  keys = h.keys;
+  waiting = h.waiting;
   slots = omega (arith, length-append b.slots (None ∷ []), less);
   pieces = omega (
     arith,
@@ -64,8 +66,7 @@ enrolled_indexed : (b : SeenBook) (held : List SeenHolds) (piece_room batch_room
 enrolled_indexed b held piece_room batch_room less h = record {
   sane = step_sane None b (enrolled b) (length b.slots) Enroll (Enrolled (length b.slots)) (makes_enrolled b less h.sane None) h.sane;
   sized = h.sized;
-  holds_back = bag_held held (all_holds b) (all_holds (enrolled b)) (enroll_holds b) h.holds_back;
-  marked = h.marked;
+  holds_back = bag_held held (own_holds b) (own_holds (enrolled b)) (enroll_holds b) h.holds_back;
   pieces = omega (arith, h.pieces, live_count (b.slots ++ None ∷ []), live_count b.slots, sum_by-append pieces_in b.slots (None ∷ []), sum_by-cons pieces_in None []);
   batches = omega (arith, h.batches, batch_count (b.slots ++ None ∷ []), batch_count b.slots, sum_by-append batches_in b.slots (None ∷ []), sum_by-cons batches_in None []);
 }
@@ -104,8 +105,7 @@ claimed_indexed b held piece_room batch_room slot p piece attempted works may h 
       sane = step_sane None b (with_slot b slot new) slot (Claim p) (Claimed (is_granted (tracker_of piece attempted) p))
           (record { piece = piece; attempted = attempted; works = works; may = may; answer = refl; is = refl }) h.sane;
       sized = h.sized;
-      holds_back = bag_held held (all_holds b) (all_holds (with_slot b slot new)) (set_holds b slot old new works (λ w. refl)) h.holds_back;
-      marked = h.marked;
+      holds_back = bag_held held (own_holds b) (own_holds (with_slot b slot new)) (set_holds b slot old new works (λ w. refl)) h.holds_back;
       pieces = omega (arith, h.pieces, pieces_after b.slots slot old new works);
       batches = omega (arith, h.batches, batches_after b.slots slot old new works);
     }
@@ -125,7 +125,6 @@ stop_indexed b held piece_room batch_room cause e h = record {
   sane = step_sane None b (record b { stopped = cause }) 0 Stop Noted (ap (λ (s : Option StopCause). record b { stopped = s }) e) h.sane;
   sized = h.sized;
   holds_back = h.holds_back;
-  marked = h.marked;
   pieces = h.pieces;
   batches = h.batches;
 }

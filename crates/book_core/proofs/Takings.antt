@@ -25,7 +25,7 @@ use Rattle.book_core.specs.Calls.{Makes, answer_of}
 use Rattle.book_core.specs.Changes.{with_slot}
 use Rattle.book_core.specs.DueAt.{IsBatchAt, IsDueAs}
 use Rattle.book_core.specs.Facts.{AreHeldOnce, is_held_at}
-use Rattle.book_core.specs.Indexes.{IsIndexed, all_holds}
+use Rattle.book_core.specs.Indexes.{IsIndexed, own_holds}
 use Rattle.book_core.specs.Jobs.{Due, GivenBack, Oldest, Next, first_due, due_at, or_due, due_or_piece, without_due, without_first, next_job, first_pane, lower_batch, lowest_of, job_of}
 use Rattle.book_core.specs.Sane.{IsSane}
 use Rattle.book_core.specs.Steps.{Take, TakenJob, IsRunning, IsFree, Step}
@@ -187,10 +187,9 @@ module _ (b : SeenBook) (slot place : ℕ) (running : IsRunning b) (free : IsFre
       record {
         sane = step_sane None b _ slot Take (TakenJob (job_of b.panes (live.Batch batch))) (step None) sane;
         sized = k.sized;
-        holds_back = bag_held held_marks (all_holds b) (all_holds (record b { returned = returned; slots = slots }))
-            (bag_sym (all_holds (record b { returned = returned; slots = slots })) (all_holds b)
-            (subst (λ (d : SeenBook). IsSameBag (all_holds d) (all_holds b)) (given_is ∙ alike) bag)) k.holds_back;
-        marked = k.marked;
+        holds_back = bag_held held_marks (own_holds b) (own_holds (record b { returned = returned; slots = slots }))
+            (bag_sym (own_holds (record b { returned = returned; slots = slots })) (own_holds b)
+            (subst (λ (d : SeenBook). IsSameBag (own_holds d) (own_holds b)) (given_is ∙ alike) bag)) k.holds_back;
         pieces = omega (arith, k.pieces, pieces_after b.slots slot None (Some (live.Batch batch)) free, ap (λ (s : List (Option Live)). length (flat_map piece_of s)) g);
         batches = omega (arith, k.batches, room, batches_after b.slots slot None (Some (live.Batch batch)) free, ap (λ (s : List (Option Live)). length (flat_map batch_of s)) g);
       }
@@ -228,10 +227,9 @@ module _ (b : SeenBook) (slot node : ℕ) (running : IsRunning b) (free : IsFree
       record {
         sane = step_sane None b _ slot Take (TakenJob (job_of b.panes (live.Batch (oldest_batch b node)))) (makes_oldest (job_of b.panes (live.Batch (oldest_batch b node))) queues slots refl f g None) k.sane;
         sized = k.sized;
-        holds_back = bag_held held_marks (all_holds b) (all_holds (record b { queues = queues; slots = slots }))
-            (bag_sym (all_holds (record b { queues = queues; slots = slots })) (all_holds b)
-            (subst (λ (d : SeenBook). IsSameBag (all_holds d) (all_holds b)) (sym (oldest_as queues slots f g)) bag)) k.holds_back;
-        marked = k.marked;
+        holds_back = bag_held held_marks (own_holds b) (own_holds (record b { queues = queues; slots = slots }))
+            (bag_sym (own_holds (record b { queues = queues; slots = slots })) (own_holds b)
+            (subst (λ (d : SeenBook). IsSameBag (own_holds d) (own_holds b)) (sym (oldest_as queues slots f g)) bag)) k.holds_back;
         pieces = omega (arith, k.pieces, pieces_after b.slots slot None (Some (live.Batch (oldest_batch b node))) free, ap (λ (s : List (Option Live)). length (flat_map piece_of s)) g);
         batches = omega (arith, room, batches_after b.slots slot None (Some (live.Batch (oldest_batch b node))) free, ap (λ (s : List (Option Live)). length (flat_map batch_of s)) g);
       }
@@ -260,10 +258,9 @@ module _ (b : SeenBook) (slot : ℕ) (piece : Piece) (pending : List Piece) (slo
       record {
         sane = step_sane None b _ slot Take (TakenJob (job.Span piece)) (makes_piece None) k.sane;
         sized = k.sized;
-        holds_back = bag_held held_marks (all_holds b) (all_holds (record b { pending = pending; slots = slots }))
-            (bag_sym (all_holds (record b { pending = pending; slots = slots })) (all_holds b)
-            (subst (λ (s : List (Option Live)). IsSameBag (all_holds (record b { pending = pending; slots = s })) (all_holds b)) (sym g) bag)) k.holds_back;
-        marked = k.marked;
+        holds_back = bag_held held_marks (own_holds b) (own_holds (record b { pending = pending; slots = slots }))
+            (bag_sym (own_holds (record b { pending = pending; slots = slots })) (own_holds b)
+            (subst (λ (s : List (Option Live)). IsSameBag (own_holds (record b { pending = pending; slots = s })) (own_holds b)) (sym g) bag)) k.holds_back;
         pieces = omega (arith, k.pieces, room, pieces_after b.slots slot None (Some (live.Span piece None)) free, ap (λ (s : List (Option Live)). length (flat_map piece_of s)) g);
         batches = omega (arith, k.batches, batches_after b.slots slot None (Some (live.Span piece None)) free, ap (λ (s : List (Option Live)). length (flat_map batch_of s)) g);
       }
@@ -301,7 +298,7 @@ pub more_batches : (b : SeenBook) (held_marks : List SeenHolds) (piece_room batc
     → IsIndexed b held_marks piece_room batch_room → IsIndexed (record b { returned = returned }) held_marks piece_room more
 more_batches b held_marks piece_room batch_room more returned e room k =
     subst (λ (l : List Batch). IsIndexed (record b { returned = l }) held_marks piece_room more) (sym e)
-    (record { sane = k.sane; sized = k.sized; holds_back = k.holds_back; marked = k.marked; pieces = k.pieces; batches = omega (arith, k.batches, room) })
+    (record { sane = k.sane; sized = k.sized; holds_back = k.holds_back; pieces = k.pieces; batches = omega (arith, k.batches, room) })
 
 pub batch_is : (b : SeenBook) (node : ℕ) (panes queue : List WaitingPane) → panes ≡ take b.options.bundle queue → queue_at b node ≡ queue
     → record { node = node; panes = panes; attempts = 0 } ≡ oldest_batch b node

@@ -1,7 +1,7 @@
 -- The book of a run, as plain data: what is pending, worked and committed (Splittable DoFn; The Dataflow Model). All workers of a run change this one book,
 -- step by step.
 use Rattle.std.specs.Prelude.{ℕ, ◌-◌, List, [], ◌∷◌, ◌++◌, length, map, slice_get, unwrap_or, Option, Some, None}
-use Rattle.std.specs.List.{flat_map, enumerate_from}
+use Rattle.std.specs.List.{flat_map, enumerate_from, sum_by}
 use Rattle.std.specs.Option.{option_map}
 use Rattle.beam_values.specs.Tracking.{Tracked}
 use Rattle.beam_values.specs.declared.arrival.Arrival.{Arrival}
@@ -17,6 +17,7 @@ use Rattle.beam_values.specs.declared.piece.FileLen.{FileLen}
 use Rattle.beam_values.specs.declared.piece.Piece.{Piece}
 use Rattle.beam_values.specs.declared.plan.Plan.{Plan}
 use Rattle.beam_model.specs.Holds.{Hold, AreMarksOf}
+use Rattle.stateful_core.specs.Cells.{KeyCell, key_holds}
 use Rattle.book_core.specs.declared.live.Batch.{Batch}
 use Rattle.book_core.specs.declared.live.Live.{Live}
 use Rattle.book_core.specs.declared.live.Live.TheVariants as live
@@ -37,6 +38,8 @@ pub record SeenBook : Type 0 where
   pub returned : List Batch
   pub cells : List Cell
   pub dropped : List Dropped
+  -- the key cells of the Stateful nodes, numbered by first arrival
+  pub keys : List KeyCell
   -- in the order in which they fired
   pub panes : List Pane
   -- by node, item and range
@@ -111,11 +114,12 @@ panes_of panes waiting = flat_map (pane_at panes) waiting
 abbrev pub hold_of : HeldPane → Hold
 hold_of held = record { node = held.node; mark = held.waiting.hold }
 
--- all holds but those of pieces
+-- all holds but those of pieces: of panes, and of the elements and timers of key cells
 abbrev pub holds : SeenBook → List Hold
-holds b = map hold_of (held b)
+holds b = map hold_of (held b) ++ key_holds b.keys
 
--- the marks that follow from all that isn't committed: pending and live pieces, and panes that aren't through
+-- the marks that follow from all that isn't committed: pending and live pieces, panes that aren't through, elements that wait at key cells or are worked there,
+-- and timers that are set
 abbrev pub AreMarksOfBook : SeenBook → List StageMarks → Type 0
 AreMarksOfBook b marks = AreMarksOf b.plan (b.pending ++ live_pieces b) (holds b) marks
 
@@ -125,3 +129,9 @@ last_commit b = length b.commits - 1
 -- the marks after the last commit
 abbrev pub last_marks : SeenBook → List StageMarks
 last_marks b = unwrap_or (option_map (λ commit. commit.marks) (slice_get b.commits (last_commit b))) []
+
+-- ---- key cells
+
+-- how many elements wait at key cells, those that are worked counted in
+abbrev pub waiting_in : List KeyCell → ℕ
+waiting_in cells = sum_by (λ cell. length cell.waiting) cells

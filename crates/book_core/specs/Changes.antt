@@ -21,6 +21,8 @@ use Rattle.beam_ports.specs.Counts.{raised}
 use Rattle.bundle_commit.specs.declared.job.Receipt.{Receipt}
 use Rattle.group_cells.specs.Commits.{AreRounds, as_commit, dropped_arrival, is_dropped}
 use Rattle.split_core.specs.Order.{with_piece}
+use Rattle.stateful_core.specs.Cells.{KeyCell}
+use Rattle.stateful_core.specs.Placing.{place}
 use Rattle.book_core.specs.Book.{SeenBook, last_marks, AreMarksOfBook}
 use Rattle.book_core.specs.Jobs.{first_pane}
 use Rattle.book_core.specs.Work.{worked_to}
@@ -155,6 +157,10 @@ queues_after b fired = map (with_fired (last_marks b) (enumerate_from (length b.
 abbrev pub written_by : SeenBook → Receipt → List Arrival
 written_by b receipt = filter (λ arrival. is_write b.plan arrival.node) receipt.arrivals
 
+-- arrivals at Stateful nodes wait at their key cells, with holds by the marks before the commit
+abbrev pub keys_after : SeenBook → Receipt → List KeyCell
+keys_after b receipt = place b.plan (last_marks b) None receipt.arrivals b.keys
+
 -- the book after a commit that left these cells, fired these panes and has these marks
 abbrev pub committed : SeenBook → ℕ → Live → Receipt → List Cell → List Pane → List StageMarks → SeenBook
 committed b slot job receipt cells fired marks = record (with_slot b slot None) {
@@ -162,6 +168,7 @@ committed b slot job receipt cells fired marks = record (with_slot b slot None) 
   queues = queues_after b fired;
   cells = cells;
   dropped = b.dropped ++ map (dropped_arrival (length b.commits)) (filter (is_dropped b.plan (last_marks b)) receipt.arrivals);
+  keys = keys_after b receipt;
   panes = b.panes ++ fired;
   done = done_after b.done job;
   written = b.written ++ written_by b receipt;

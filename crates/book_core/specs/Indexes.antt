@@ -1,19 +1,20 @@
 -- How the book's own indexes agree with its data: the marks that hold each node back, and the room that is kept for what is worked.
 use Rattle.std.specs.Prelude.{◌≡◌, Bool, true, false, ℕ, ◌≤◌, ℤ, List, [], ◌∷◌, ◌++◌, length, map, slice_get, unwrap_or, Option, None}
+use Rattle.std.specs.Int.{int_min}
 use Rattle.std.specs.Option.{option_map}
 use Rattle.beam_values.specs.Bags.{IsSameBag}
-use Rattle.beam_values.specs.Marks.{least_mark, AreMarks}
+use Rattle.beam_values.specs.Marks.{least_mark}
 use Rattle.beam_values.specs.declared.fault.Cause.{Cause}
 use Rattle.beam_values.specs.declared.fault.FaultNote.{FaultNote}
 use Rattle.beam_values.specs.declared.outcome.StopCause.{StopCause}
 use Rattle.beam_values.specs.declared.outcome.StopCause.TheVariants as stop
 use Rattle.beam_values.specs.declared.piece.Piece.{Piece}
-use Rattle.beam_model.specs.Holds.{Hold, piece_hold, marks_held}
+use Rattle.beam_model.specs.Holds.{Hold, piece_hold, least_hold, marks_held}
 use Rattle.retry_core.specs.declared.attempt.Next.{Next}
 use Rattle.retry_core.specs.declared.attempt.Next.TheVariants.{Retry, Spent}
 use Rattle.split_core.specs.Order.{with_piece}
 use Rattle.watermarks.specs.Holds.{SeenHolds}
-use Rattle.book_core.specs.Book.{SeenBook, live_pieces, live_batches, holds, last_marks, places_kept}
+use Rattle.book_core.specs.Book.{SeenBook, live_pieces, live_batches, held, hold_of, holds, places_kept}
 use Rattle.book_core.specs.Changes.{tried_piece, tried_batch, or_stopped}
 use Rattle.book_core.specs.Sane.{IsSane}
 use Rattle.book_core.specs.declared.live.Batch.{Batch}
@@ -32,16 +33,23 @@ least_in held node = least_mark (marks_in held node)
 pub record AreHeldIn (held : List SeenHolds) (holds : List Hold) : Type 0 where
   pub each : (node : ℕ) → IsSameBag (marks_in held node) (marks_held holds node)
 
+-- what pieces and panes hold back
+abbrev pub own_holds : SeenBook → List Hold
+own_holds b = map (piece_hold b.plan) (b.pending ++ live_pieces b) ++ map hold_of (held b)
+
 -- all that holds nodes of the book back
 abbrev pub all_holds : SeenBook → List Hold
 all_holds b = map (piece_hold b.plan) (b.pending ++ live_pieces b) ++ holds b
 
--- a sane book, with the marks that hold its nodes back, and a place kept for each piece and each batch that is worked
+-- the lesser of the marks that are held at a node and of these holds
+abbrev pub least_with : List SeenHolds → List Hold → ℕ → ℤ
+least_with held others node = int_min (least_in held node) (least_hold others node)
+
+-- a sane book, with the marks at which its pieces and panes hold nodes back, and a place kept for each piece and each batch that is worked
 pub record IsIndexed (b : SeenBook) (held : List SeenHolds) (piece_room batch_room : ℕ) : Type 0 where
   pub sane : IsSane b
   pub sized : length held ≡ length b.plan.nodes
-  pub holds_back : AreHeldIn held (all_holds b)
-  pub marked : AreMarks b.plan (least_in held) (last_marks b)
+  pub holds_back : AreHeldIn held (own_holds b)
   pub pieces : places_kept b ≤ piece_room
   pub batches : length (live_batches b) ≤ batch_room
 

@@ -1,3 +1,4 @@
+pub mod KeyCells
 pub mod Book
 pub mod Jobs
 pub mod Work

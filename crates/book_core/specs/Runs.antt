@@ -35,6 +35,7 @@ opened plan files options marks = record {
   returned = [];
   cells = [];
   dropped = [];
+  keys = [];
   panes = [];
   done = [];
   written = [];

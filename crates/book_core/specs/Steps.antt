@@ -9,7 +9,7 @@ use Rattle.beam_values.specs.declared.outcome.StopCause.TheVariants as stop
 use Rattle.beam_values.specs.declared.piece.Piece.{Piece}
 use Rattle.bundle_commit.specs.declared.job.Job.{Job}
 use Rattle.bundle_commit.specs.declared.job.Receipt.{Receipt}
-use Rattle.book_core.specs.Book.{SeenBook, places_kept, slot_at, tracker_of}
+use Rattle.book_core.specs.Book.{SeenBook, places_kept, slot_at, tracker_of, waiting_in}
 use Rattle.book_core.specs.Changes.{with_slot, split_off, failed, ends_run, note_of, or_stopped, IsCommit}
 use Rattle.book_core.specs.Jobs.{Next, next_job, job_of, attempted_of}
 use Rattle.book_core.specs.Work.{IsGiven}
@@ -72,6 +72,8 @@ pub record IsWithinLimits (b : SeenBook) : Type 0 where
   pub panes : length b.panes < 4294967295
   pub dropped : length b.dropped < 4294967295
   pub cells : length b.cells < 4294967295
+  pub keys : length b.keys < 4294967295
+  pub waiting : waiting_in b.keys < 4294967295
   pub slots : length b.slots < 4294967295
   pub pieces : length b.pending + places_kept b < 4294967295
 

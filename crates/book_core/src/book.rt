@@ -20,11 +20,12 @@ use crate::committing::{
 use crate::due::{DueAt, batch_job, first_due, piece_job, started};
 use crate::failing::{attempts_of, failure_of, give_back, note_of, stopped_after, take_out};
 use crate::held::{NodeHolds, mark_of_piece};
+use crate::keyed::{have_numbers, place, room_for_keyed};
 use crate::live::{Batch, Failure, Live, Taken, Unplaced};
 use crate::opening::{cut_files, empty_queues, hold_pieces, mark_nodes};
 use crate::outcome::in_order;
 use crate::queue::Queue;
-use crate::results::Results;
+use crate::results::{Results, put_left};
 use crate::working::{
     count_batches, count_pieces, idle_answer, most_left, piece_at, span_at, tracker_of,
 };
@@ -37,6 +38,7 @@ use pipeline_graph::Graph;
 use pipeline_graph::laws::{nodes_take_elements_of_their_strategy, strategies_follow_kinds};
 use retry_core::{FaultShare, next_attempt};
 use split_core::Pieces;
+use stateful_core::Keys;
 use std::alloc::Global;
 use std::marker::Model;
 
@@ -51,6 +53,9 @@ pub struct Book {
     queues: Vec<Queue>,
     returned: RoomyList<Batch>,
     groups: Groups,
+    keys: Keys,
+    // How many elements wait at key cells, those that are worked counted in.
+    waiting: usize,
     results: Results,
     faults: FaultShare,
     stopped: Option<StopCause>,
@@ -107,6 +112,8 @@ impl Book {
             queues,
             returned: RoomyList::new(alloc),
             groups,
+            keys: Keys::new(alloc),
+            waiting: 0,
             results,
             faults: FaultShare::new(),
             stopped: None,
@@ -325,6 +332,9 @@ impl Book {
         if !has_numbers(&self.results, &self.groups, count) {
             return Err(Unplaced { receipt });
         }
+        if !have_numbers(&self.keys, self.waiting, count) {
+            return Err(Unplaced { receipt });
+        }
         let most = self.groups.cells().len() + count;
         let own = own_in(self.slots.as_slice(), slot);
         let plan = self.graph.plan();
@@ -337,6 +347,10 @@ impl Book {
             most,
             count,
         ) else {
+            return Err(Unplaced { receipt });
+        };
+        let arrivals = receipt.arrivals.as_slice();
+        let Ok(mut keyed) = room_for_keyed(self.alloc, plan, arrivals) else {
             return Err(Unplaced { receipt });
         };
         let Some(job) = take_out(&mut self.slots, slot) else {
@@ -357,6 +371,7 @@ impl Book {
             self.alloc,
             plan,
             &mut self.groups,
+            &mut self.keys,
             &mut arrivals,
             &self.held,
             before,
@@ -375,6 +390,8 @@ impl Book {
             });
         };
         let Fired { panes, marks } = fired;
+        put_left(plan, &mut self.results.written, &mut keyed, arrivals);
+        let before = self.results.last_marks();
         wait_all(
             &mut self.queues,
             &mut self.held,
@@ -383,8 +400,9 @@ impl Book {
             panes.as_slice(),
         );
         put_back(&mut self.pieces, residual);
-        self.results
-            .add(plan, done_of(&job), panes, arrivals, marks);
+        self.waiting += keyed.len();
+        place(&mut self.keys, plan, keyed.into_list(), before);
+        self.results.add(done_of(&job), panes, marks);
         Ok(())
     }
 

@@ -1,5 +1,5 @@
 ghost use Rattle.std.specs.Prelude.{◌≡◌, ℕ, true, ◌+◌, ◌<◌, ◌≤◌, ◌==◌, if◌then◌else◌, [], ◌∷◌};
-ghost use Rattle.std.specs.Prelude.{◌++◌, List, length, map, slice_get, Some, IfOk, OnOk, OnErr};
+ghost use Rattle.std.specs.Prelude.{◌++◌, List, length, map, slice_get, Some, None, IfOk, OnOk, OnErr};
 ghost use Rattle.std.specs.List.{All, enumerate_from};
 ghost use Rattle.std.specs.Int.{int_max};
 ghost use Rattle.std.specs.Option.{ForSome, option_to_list};
@@ -7,17 +7,22 @@ ghost use Rattle.beam_model.specs.Holds.{Hold, pane_hold, piece_hold};
 ghost use Rattle.beam_values.specs.Checked.{IsChecked};
 ghost use Rattle.beam_values.specs.Nodes.{is_group, is_group_kind};
 ghost use Rattle.beam_values.specs.declared.plan.Node.{Node};
+ghost use Rattle.stateful_core.specs.Cells.{key_holds};
+ghost use Rattle.stateful_core.specs.Opening.{IsPrepared};
+ghost use Rattle.book_core.specs.KeyCells.{cells_in};
+ghost use Rattle.stateful_core.specs.Placing.{place};
 ghost use Rattle.group_cells.specs.Commits.{AreRounds, HasGap, IsCommitted, RisesFrom};
 ghost use Rattle.book_core.specs.Changes.{as_waiting, done_of, residual_of, with_fired};
 ghost use Rattle.book_core.specs.Changes.{with_residual};
 ghost use Rattle.book_core.specs.Committing.{node_of, count_of, pane_holds, job_holds, residual_in};
 ghost use Rattle.book_core.specs.Committing.{residual_holds, done_in, list_at, HasRoom, HasRoomFor};
 ghost use Rattle.book_core.specs.Facts.{IsAttemptedWithin};
-ghost use Rattle.book_core.specs.Indexes.{room_in, marks_in, least_in, AreHeldIn};
+ghost use Rattle.book_core.specs.Indexes.{room_in, marks_in, least_in, least_with, AreHeldIn};
 ghost use Rattle.book_core.specs.declared.live.Live.{Live};
 ghost use Rattle.book_core.specs.declared.live.Live.TheVariants as live;
 
 use crate::held::{NodeHolds, mark_of_piece};
+use crate::keyed::prepare;
 use crate::live::{Live, WaitingPane};
 use crate::queue::Queue;
 use crate::results::Results;
@@ -28,6 +33,7 @@ use beam_values::{
 use bundle_commit::Receipt;
 use group_cells::Groups;
 use split_core::Pieces;
+use stateful_core::Keys;
 use std::alloc::Global;
 
 /// Lists whose places are numbered with 32 bits are shorter than this.
@@ -358,11 +364,13 @@ pub struct Fired {
     pub marks: List<StageMarks>,
 }
 
-/// The Groups take the arrivals at them, and fire. After a refusal nothing is changed.
+/// The Groups take the arrivals at them, and fire, and those at Stateful nodes can be placed without
+/// memory from then on. After a refusal nothing is changed.
 pub fn fire(
     alloc: Global,
     plan: &Plan,
     groups: &mut Groups,
+    keys: &mut Keys,
     arrivals: &mut List<Arrival>,
     held: &NodeHolds,
     before: &[StageMarks],
@@ -373,19 +381,24 @@ pub fn fire(
     requires held { length held.now ≡ length plan.now.nodes }
     requires marks { length before.now ≡ length plan.now.nodes }
     requires gaps { All (HasGap plan.now) arrivals.old }
-    requires rises { RisesFrom plan.now (least_in held.now) before.now }
+    requires rises { RisesFrom plan.now (least_with held.now (key_holds
+        (place plan.now before.now None arrivals.old (cells_in keys.old)))) before.now }
+    ensures keys { cells_in keys.new ≡ cells_in keys.old }
+    ensures prepared { IfOk result (λ _. IsPrepared plan.now None arrivals.old keys.new) }
     ensures rounds { IfOk result (λ fired. AreRounds plan.now commit before.now fired.marks
         arrivals.old groups.old.cells groups.new.cells fired.panes) }
     ensures committed { IfOk result (λ fired. IsCommitted plan.now commit before.now fired.marks
-        (least_in held.now) arrivals.old arrivals.new
-        groups.old groups.new fired.panes) }
+        (least_with held.now (key_holds
+        (place plan.now before.now None arrivals.old (cells_in keys.old))))
+        arrivals.old arrivals.new groups.old groups.new fired.panes) }
     ensures few { IfOk result
         (λ fired. length fired.panes ≤ length groups.old.cells + length arrivals.old) }
     ensures grown { OnOk result
         (length groups.new.cells ≤ length groups.old.cells + length arrivals.old) }
     ensures err { OnErr result ((groups.new ≡ groups.old) × (arrivals.new ≡ arrivals.old)) }
 {
-    let holds = held.least(alloc)?;
+    let least = prepare(keys, plan, arrivals, before)?;
+    let holds = held.least_with(alloc, least.as_slice())?;
     let mut marks = Vec::from_slice(alloc, before)?;
     let panes = groups.commit(
         plan,

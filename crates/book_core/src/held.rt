@@ -3,7 +3,9 @@ ghost use Rattle.std.specs.Prelude.{Contains, OnOk, IfOk};
 ghost use Rattle.beam_model.specs.Holds.{Hold, piece_hold, estimator_in};
 ghost use Rattle.beam_values.specs.Checked.{IsChecked, is_estimator_allowed};
 ghost use Rattle.beam_values.specs.Marks.{mark_of, least_mark};
-ghost use Rattle.book_core.specs.Indexes.{marks_in, room_in, AreHeldIn};
+ghost use Rattle.std.specs.Int.{int_min};
+ghost use Rattle.watermarks.specs.Holds.{hold_at};
+ghost use Rattle.book_core.specs.Indexes.{marks_in, least_in, room_in, AreHeldIn};
 
 use beam_values::{Mark, NoMemory, NodeKind, Piece, Plan, Time};
 use std::alloc::Global;
@@ -72,6 +74,15 @@ impl NodeHolds {
         Ok(least)
     }
 
+    /// The least mark of each node, where these marks hold the nodes back too.
+    pub fn least_with(&self, alloc: Global, others: &[Mark]) -> Result<Vec<Mark>, NoMemory>
+        ensures sized { IfOk result (λ least. length least.items ≡ length self.now) }
+        ensures each { IfOk result (λ least. (n : ℕ) → n < length self.now
+            → hold_at least.items n ≡ int_min (least_in self.now n) (hold_at others.now n)) }
+    {
+        least_with(alloc, self.nodes.as_slice(), others)
+    }
+
     /// Keeps room for so many more marks at a node.
     pub fn keep_room(&mut self, node: u32, places: usize) -> Result<(), NoMemory>
         requires { node < length self.old }
@@ -107,6 +118,33 @@ impl NodeHolds {
     {
         remove(self.nodes.as_mut_slice(), node, mark);
     }
+}
+
+fn least_with(alloc: Global, nodes: &[Holds], others: &[Mark]) -> Result<Vec<Mark>, NoMemory>
+    ensures sized { IfOk result (λ least. length least.items ≡ length nodes.now) }
+    ensures each { IfOk result (λ least. (n : ℕ) → n < length nodes.now
+        → hold_at least.items n ≡ int_min (least_in nodes.now n) (hold_at others.now n)) }
+{
+    let mut least = Vec::new(alloc);
+    for (n, holds) in nodes.iter().enumerate() {
+        least.push(lesser(holds.least_or_final(), mark_at(others, n)))?;
+    }
+    Ok(least)
+}
+
+fn mark_at(marks: &[Mark], at: usize) -> Mark
+    ensures { result ≡ hold_at marks.now at }
+{
+    match marks.get(at) {
+        Some(mark) => *mark,
+        None => Mark::FINAL,
+    }
+}
+
+fn lesser(a: Mark, b: Mark) -> Mark
+    ensures { result ≡ int_min a b }
+{
+    if b.ms() < a.ms() { b } else { a }
 }
 
 fn keep_room(held: &mut [Holds], node: u32, places: usize) -> Result<(), NoMemory>

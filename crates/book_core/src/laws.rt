@@ -131,6 +131,7 @@ pub fn books_with_no_job_left_are_through()
     ensures { (told : Option (List FileText)) (b : SeenBook)
         → Reached told b → next_job b ≡ None → IsIdle b → IsThrough b }
 {
+    no_node_is_stateful();
     nodes_take_elements_of_their_strategy();
     strategies_follow_kinds();
     nodes_have_inputs_and_settings_of_their_kind();

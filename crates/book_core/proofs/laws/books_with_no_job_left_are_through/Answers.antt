@@ -9,3 +9,4 @@ returns c =
       onward = c.strategies_follow_kinds.ensures.onward plan;
     }) (λ plan n node checked at. c.nodes_have_inputs_and_settings_of_their_kind.ensures.settings plan n node checked at)
     (λ s time allowed. c.windows_hold_their_time.ensures.of_the_kind s time allowed)
+    (λ plan n checked. c.no_node_is_stateful.ensures.none plan n checked)

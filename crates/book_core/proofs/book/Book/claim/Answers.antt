@@ -24,4 +24,5 @@ invariant_of-self c = record {
       claim_indexed (data_of c.self.inside) c.self.inside.held c.self.inside.pieces.room c.self.inside.returned.room c.args.slot c.args.p c.in-Some.piece c.in-Some.attempted _ works
       (subst (λ (d : SeenBook). CanClaim d c.args.slot c.args.p) (sym c.self.view_is) c.requires) refl c.self.invariant.indexed;
   grouped = c.self.invariant.grouped;
+  counted = c.self.invariant.counted;
 }

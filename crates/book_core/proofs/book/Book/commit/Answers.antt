@@ -1,10 +1,10 @@
-use Rattle.std.proofs.Common.{◌≡◌, ◌-◌, ◌<◌, [], ◌∷◌, ◌++◌, List, length, arith, refl, sym, subst, ap, ◌∙◌}
-use Rattle.std.specs.Prelude.{slice_get, unwrap_or, option_to_list, Option, None}
+use Rattle.std.proofs.Common.{◌≡◌, ℕ, ◌+◌, ◌-◌, ◌<◌, ◌≤◌, [], ◌∷◌, ◌++◌, List, length, arith, refl, sym, subst, ap, ◌∙◌}
+use Rattle.std.specs.Prelude.{count_by, slice_get, unwrap_or, option_to_list, Option, None}
 use Rattle.std.specs.List.{All, filter}
 use Rattle.std.specs.List.Sorted.{IsSorted}
 use Rattle.std.specs.Option.{ForSome, option_map}
 use Rattle.std.proofs.lemmas.List.{length-set}
-use Rattle.beam_values.specs.Nodes.{is_write}
+use Rattle.beam_values.specs.Nodes.{is_stateful, is_write}
 use Rattle.beam_values.specs.declared.arrival.Arrival.{Arrival}
 use Rattle.beam_values.specs.declared.cell.Pane.{Pane}
 use Rattle.beam_values.specs.declared.marks.CommitMarks.{CommitMarks}
@@ -13,16 +13,22 @@ use Rattle.beam_values.specs.declared.piece.Done.{Done}
 use Rattle.beam_values.specs.declared.piece.Piece.{Piece}
 use Rattle.beam_values.specs.declared.plan.Plan.{Plan}
 use Rattle.group_cells.specs.Commits.{as_commit, HasGap, RisesFrom, SeenGroups}
-use Rattle.book_core.specs.Book.{SeenBook, last_marks}
-use Rattle.book_core.specs.Changes.{done_cmp, with_residual, with_slot}
+use Rattle.stateful_core.specs.Cells.{KeyCell, key_holds}
+use Rattle.stateful_core.specs.Opening.{IsPrepared}
+use Rattle.stateful_core.specs.Placing.{place}
+use Rattle.book_core.specs.Book.{SeenBook, last_marks, waiting_in}
+use Rattle.book_core.specs.KeyCells.{cells_in}
+use Rattle.book_core.specs.Changes.{done_cmp, keys_after, with_residual, with_slot}
 use Rattle.book_core.specs.Committing.{job_holds, node_of, with_done_in}
-use Rattle.book_core.specs.Indexes.{AreHeldIn, all_holds, least_in, room_in}
+use Rattle.book_core.specs.Indexes.{AreHeldIn, own_holds, least_with, room_in}
 use Rattle.book_core.specs.Inside.{data_of}
 use Rattle.book_core.specs.Steps.{CanCommit, IsCommitting, IsWithinLimits}
 use Rattle.book_core.specs.declared.live.Live.{Live}
 use Rattle.book_core.proofs.CommitCalls.{are_fired, few_left, holds_there, waits_there, freed_there, gaps_there, given_there, indexed_as, job_attempted, job_back, job_held, job_within, kept_there, left_room, left_there, rises_there, same_back}
 use Rattle.book_core.proofs.CommitHolds.{kept_holds}
 use Rattle.book_core.proofs.CommitStep.{AreFired, commit_indexed, commit_written}
+use Rattle.book_core.proofs.KeysKept.{keys_within}
+use Rattle.book_core.proofs.ToKeys.{keyed_counted, keyed_few, keyed_placed, keyed_prepared, keyed_room}
 use Rattle.book_core.proofs.Rooms.{lists_length, lists_of}
 use Rattle.book_core.proofs.Steady.{works_within}
 use Rattle.book_core.proofs.book.Book.commit.Goals as goal
@@ -64,7 +70,7 @@ residual_of-residual-requires c =
 
 pub free_job-requires-clause-holds : goal.free_job-requires-clause-holds
 free_job-requires-clause-holds c =
-    let rest = all_holds (with_slot (data_of c.self.inside) c.args.slot None) in (
+    let rest = own_holds (with_slot (data_of c.self.inside) c.args.slot None) in (
       rest,
       subst (λ (plan : Plan). AreHeldIn c.keep_room.new.held (job_holds plan c.in-Some.job ++ rest)) (sym c.plan-plan.ensures.value)
           (job_held (data_of c.self.inside) c.args.slot c.in-Some.job c.args.receipt c.self.inside.held c.self.inside.pieces.room c.self.inside.returned.room c.in-Some.ensures.job c.self.invariant.indexed c.keep_room.new.held c.in-Ok.ensures.marks),
@@ -99,7 +105,7 @@ fire-fired-requires-clause-rises c =
     let can : CanCommit None (data_of c.self.inside) c.args.slot c.args.receipt =
     subst (λ (b : SeenBook). CanCommit None b c.args.slot c.args.receipt) (sym c.self.view_is) c.requires in
     let given = given_there None (data_of c.self.inside) c.args.slot c.in-Some.job c.args.receipt can c.in-Some.ensures.job in
-    let freed : AreHeldIn c.free_job.new.held (all_holds (with_slot (data_of c.self.inside) c.args.slot None)) =
+    let freed : AreHeldIn c.free_job.new.held (own_holds (with_slot (data_of c.self.inside) c.args.slot None)) =
     freed_there (data_of c.self.inside) c.args.slot c.in-Some.job c.args.receipt c.self.inside.held c.self.inside.pieces.room c.self.inside.returned.room c.in-Some.ensures.job c.self.invariant.indexed c.plan-plan.result.now c.plan-plan.ensures.value
     c.keep_room.new.held c.free_job.new.held c.in-Ok.ensures.marks c.free_job.ensures.freed in
     let kept : AreHeldIn c.hold_residual.new.held (kept_holds (data_of c.self.inside) c.args.slot c.in-Some.job c.args.receipt) =
@@ -107,16 +113,17 @@ fire-fired-requires-clause-rises c =
     c.residual_of-residual.result c.residual_of-residual.ensures c.free_job.new.held c.hold_residual.new.held c.hold_residual.ensures.held freed in
     let before_is : c.last_marks-before.result.now ≡ last_marks (data_of c.self.inside) =
     c.last_marks-before.ensures ∙ ap (λ (l : List CommitMarks). unwrap_or (option_map (λ (m : CommitMarks). m.marks) (slice_get l (length l - 1))) []) c.in-Ok.ensures.commits in
-    subst (λ (plan : Plan). RisesFrom plan (least_in c.hold_residual.new.held) c.last_marks-before.result.now) (sym c.plan-plan.ensures.value)
-    (subst (λ (l : List StageMarks). RisesFrom c.self.inside.graph (least_in c.hold_residual.new.held) l) (sym before_is)
+    let came = λ (plan : Plan) (l : List StageMarks). key_holds (place plan l None c.args.receipt.arrivals (cells_in c.self.inside.keys)) in
+    subst (λ (plan : Plan). RisesFrom plan (least_with c.hold_residual.new.held (came plan c.last_marks-before.result.now)) c.last_marks-before.result.now) (sym c.plan-plan.ensures.value)
+    (subst (λ (l : List StageMarks). RisesFrom c.self.inside.graph (least_with c.hold_residual.new.held (came c.self.inside.graph l)) l) (sym before_is)
     (rises_there (data_of c.self.inside) c.args.slot c.in-Some.job c.args.receipt c.self.inside.held c.self.inside.pieces.room c.self.inside.returned.room c.in-Some.ensures.job c.self.invariant.indexed c.hold_residual.new.held given kept))
 
 pub free_residual-requires-clause-holds : goal.free_residual-requires-clause-holds
 free_residual-requires-clause-holds c =
-    let freed : AreHeldIn c.free_job.new.held (all_holds (with_slot (data_of c.self.inside) c.args.slot None)) =
+    let freed : AreHeldIn c.free_job.new.held (own_holds (with_slot (data_of c.self.inside) c.args.slot None)) =
     freed_there (data_of c.self.inside) c.args.slot c.in-Some.job c.args.receipt c.self.inside.held c.self.inside.pieces.room c.self.inside.returned.room c.in-Some.ensures.job c.self.invariant.indexed c.plan-plan.result.now c.plan-plan.ensures.value
     c.keep_room.new.held c.free_job.new.held c.in-Ok.ensures.marks c.free_job.ensures.freed in
-    (all_holds (with_slot (data_of c.self.inside) c.args.slot None), c.hold_residual.ensures.held (all_holds (with_slot (data_of c.self.inside) c.args.slot None)) freed)
+    (own_holds (with_slot (data_of c.self.inside) c.args.slot None), c.hold_residual.ensures.held (own_holds (with_slot (data_of c.self.inside) c.args.slot None)) freed)
 
 pub hold_job-requires-clause-within : goal.hold_job-requires-clause-within
 hold_job-requires-clause-within c =
@@ -134,30 +141,63 @@ index_mut-requires c =
 
 pub invariant_of-self-in_default-fired : goal.invariant_of-self-in_default-fired
 invariant_of-self-in_default-fired c =
-    let freed : AreHeldIn c.free_job.new.held (all_holds (with_slot (data_of c.self.inside) c.args.slot None)) =
+    let freed : AreHeldIn c.free_job.new.held (own_holds (with_slot (data_of c.self.inside) c.args.slot None)) =
     freed_there (data_of c.self.inside) c.args.slot c.in-Some.job c.args.receipt c.self.inside.held c.self.inside.pieces.room c.self.inside.returned.room c.in-Some.ensures.job c.self.invariant.indexed c.plan-plan.result.now c.plan-plan.ensures.value
     c.keep_room.new.held c.free_job.new.held c.in-Ok.ensures.marks c.free_job.ensures.freed in
-    let rest = all_holds (with_slot (data_of c.self.inside) c.args.slot None) in
-    let back : AreHeldIn c.hold_job.new.held (all_holds (data_of c.self.inside)) =
+    let rest = own_holds (with_slot (data_of c.self.inside) c.args.slot None) in
+    let back : AreHeldIn c.hold_job.new.held (own_holds (data_of c.self.inside)) =
     job_back (data_of c.self.inside) c.args.slot c.in-Some.job c.args.receipt c.self.inside.held c.self.inside.pieces.room c.self.inside.returned.room c.in-Some.ensures.job c.self.invariant.indexed c.hold_job.new.held
     (subst (λ (plan : Plan). AreHeldIn c.hold_job.new.held (job_holds plan c.in-Some.job ++ rest)) c.plan-plan.ensures.value
     (c.hold_job.ensures.held rest (c.free_residual.ensures.freed rest (c.hold_residual.ensures.held rest freed)))) in
     record {
       indexed =
           indexed_as (data_of c.self.inside) _ c.self.inside.held c.hold_job.new.held c.self.inside.pieces.room c.self.inside.returned.room
-          (same_back (data_of c.self.inside) c.args.slot c.in-Some.job c.self.inside.groups c.fire-fired.new.groups c.take_out.new.slots.items _ _ _ _ _ c.in-Some.ensures.job c.in-Some.ensures.free
-          c.in_default-fired.ensures.err.0 refl refl c.in-Ok.ensures.queued c.in-Ok.ensures.panes c.in-Ok.ensures.done c.in-Ok.ensures.written c.in-Ok.ensures.commits)
+          (same_back (data_of c.self.inside) c.args.slot c.in-Some.job c.self.inside.groups c.fire-fired.new.groups c.take_out.new.slots.items _ _ _ _ _ _ c.in-Some.ensures.job c.in-Some.ensures.free
+          c.in_default-fired.ensures.err.0 refl refl c.in-Ok.ensures.queued c.in-Ok.ensures.panes c.in-Ok.ensures.done c.in-Ok.ensures.written c.in-Ok.ensures.commits c.in_default-fired.ensures.keys)
           back (c.hold_job.ensures.sized ∙ c.free_residual.ensures.sized ∙ c.hold_residual.ensures.sized ∙ c.free_job.ensures.sized ∙ c.in-Ok.ensures.sized) c.self.invariant.indexed;
       grouped = ap (λ (g : SeenGroups). g.plan) c.in_default-fired.ensures.err.0 ∙ c.self.invariant.grouped;
+      counted = c.self.invariant.counted ∙ ap waiting_in (sym c.in_default-fired.ensures.keys);
     }
 
 pub returns-in_default-fired-clause-err : goal.returns-in_default-fired-clause-err
 returns-in_default-fired-clause-err c = (
   ap (λ (a : List Arrival). record { arrivals = a; seen = c.args.receipt.seen; logged = c.args.receipt.logged }) c.in_default-fired.ensures.err.1,
-  same_back (data_of c.self.inside) c.args.slot c.in-Some.job c.self.inside.groups c.fire-fired.new.groups c.take_out.new.slots.items _ _ _ _ _ c.in-Some.ensures.job c.in-Some.ensures.free
-      c.in_default-fired.ensures.err.0 refl refl c.in-Ok.ensures.queued c.in-Ok.ensures.panes c.in-Ok.ensures.done c.in-Ok.ensures.written c.in-Ok.ensures.commits
+  same_back (data_of c.self.inside) c.args.slot c.in-Some.job c.self.inside.groups c.fire-fired.new.groups c.take_out.new.slots.items _ _ _ _ _ _ c.in-Some.ensures.job c.in-Some.ensures.free
+      c.in_default-fired.ensures.err.0 refl refl c.in-Ok.ensures.queued c.in-Ok.ensures.panes c.in-Ok.ensures.done c.in-Ok.ensures.written c.in-Ok.ensures.commits c.in_default-fired.ensures.keys
       ∙ c.self.view_is,
 )
+
+pub put_left-requires-clause-written : goal.put_left-requires-clause-written
+put_left-requires-clause-written c =
+    omega (
+      arith,
+      c.in-Ok.ensures.results.written,
+      few_left c.plan-plan.result.now c.args.receipt.arrivals c.fire-fired.new.arrivals c.len-count.result c.in-Ok-fired.ensures.committed.others c.len-count.ensures,
+    )
+
+pub put_left-requires-clause-keyed : goal.put_left-requires-clause-keyed
+put_left-requires-clause-keyed c =
+    keyed_room c.plan-plan.result.now c.args.receipt.arrivals c.fire-fired.new.arrivals c.in-Ok-room_for_keyed.keyed.room c.in-Ok-fired.ensures.committed.others
+    (subst (λ (l : List Arrival). count_by (λ a. is_stateful c.plan-plan.result.now a.node) l ≤ c.in-Ok-room_for_keyed.keyed.room) c.as_slice-arrivals.ensures c.in-Ok-room_for_keyed.ensures.room)
+
+pub overflow_add-self : goal.overflow_add-self
+overflow_add-self c =
+    let left = c.in-Ok-fired.ensures.committed.others in
+    let keyed = c.put_left.ensures.keyed ∙ ap (λ (l : List Arrival). l ++ filter (λ a. is_stateful c.plan-plan.result.now a.node) c.fire-fired.new.arrivals) c.in-Ok-room_for_keyed.ensures.none in
+    omega (
+      arith,
+      c.if-not-have_numbers.ensures.waiting refl,
+      c.len.ensures,
+      c.len-count.ensures,
+      keyed_few c.plan-plan.result.now c.args.receipt.arrivals c.fire-fired.new.arrivals c.put_left.new.keyed.items left keyed,
+    )
+
+pub place-requires : goal.place-requires
+place-requires c =
+    let left = c.in-Ok-fired.ensures.committed.others in
+    let keyed = c.put_left.ensures.keyed ∙ ap (λ (l : List Arrival). l ++ filter (λ a. is_stateful c.plan-plan.result.now a.node) c.fire-fired.new.arrivals) c.in-Ok-room_for_keyed.ensures.none in
+    subst (λ (l : List Arrival). IsPrepared c.plan-plan.result.now None l c.fire-fired.new.keys) (sym c.into_list.ensures)
+    (keyed_prepared c.plan-plan.result.now c.args.receipt.arrivals c.fire-fired.new.arrivals c.put_left.new.keyed.items left keyed c.fire-fired.new.keys c.in-Ok-fired.ensures.prepared)
 
 pub put_back-requires : goal.put_back-requires
 put_back-requires c =
@@ -176,11 +216,7 @@ pub add-requires-clause-room : goal.add-requires-clause-room
 add-requires-clause-room c = record {
   panes = omega (arith, c.in-Ok.ensures.results.panes, c.in-Ok-fired.ensures.few, ap length c.cells.ensures, c.len-count.ensures);
   done = c.in-Ok.ensures.results.done;
-  written = omega (
-    arith,
-    c.in-Ok.ensures.results.written,
-    few_left c.plan-plan.result.now c.args.receipt.arrivals c.fire-fired.new.arrivals c.len-count.result c.in-Ok-fired.ensures.committed.others c.len-count.ensures,
-  );
+  written = omega arith;
   commits = c.in-Ok.ensures.results.commits;
 }
 
@@ -188,7 +224,7 @@ pub invariant_of-self-2 : goal.invariant_of-self-2
 invariant_of-self-2 c =
     let can : CanCommit None (data_of c.self.inside) c.args.slot c.args.receipt =
     subst (λ (b : SeenBook). CanCommit None b c.args.slot c.args.receipt) (sym c.self.view_is) c.requires in
-    let freed : AreHeldIn c.free_job.new.held (all_holds (with_slot (data_of c.self.inside) c.args.slot None)) =
+    let freed : AreHeldIn c.free_job.new.held (own_holds (with_slot (data_of c.self.inside) c.args.slot None)) =
     freed_there (data_of c.self.inside) c.args.slot c.in-Some.job c.args.receipt c.self.inside.held c.self.inside.pieces.room c.self.inside.returned.room c.in-Some.ensures.job c.self.invariant.indexed c.plan-plan.result.now c.plan-plan.ensures.value
     c.keep_room.new.held c.free_job.new.held c.in-Ok.ensures.marks c.free_job.ensures.freed in
     let kept : AreHeldIn c.hold_residual.new.held (kept_holds (data_of c.self.inside) c.args.slot c.in-Some.job c.args.receipt) =
@@ -196,6 +232,14 @@ invariant_of-self-2 c =
     c.residual_of-residual.result c.residual_of-residual.ensures c.free_job.new.held c.hold_residual.new.held c.hold_residual.ensures.held freed in
     let before_is : c.last_marks-before.result.now ≡ last_marks (data_of c.self.inside) =
     c.last_marks-before.ensures ∙ ap (λ (l : List CommitMarks). unwrap_or (option_map (λ (m : CommitMarks). m.marks) (slice_get l (length l - 1))) []) c.in-Ok.ensures.commits in
+    let still_is : c.last_marks-before-2.result.now ≡ last_marks (data_of c.self.inside) =
+    c.last_marks-before-2.ensures ∙ ap (λ (l : List CommitMarks). unwrap_or (option_map (λ (m : CommitMarks). m.marks) (slice_get l (length l - 1))) []) c.in-Ok.ensures.commits in
+    let left = c.in-Ok-fired.ensures.committed.others in
+    let keyed = c.put_left.ensures.keyed ∙ ap (λ (l : List Arrival). l ++ filter (λ a. is_stateful c.plan-plan.result.now a.node) c.fire-fired.new.arrivals) c.in-Ok-room_for_keyed.ensures.none in
+    let keys_are : cells_in c.place.new.keys ≡ keys_after (data_of c.self.inside) c.args.receipt =
+    keyed_placed c.plan-plan.result.now c.args.receipt.arrivals c.fire-fired.new.arrivals c.put_left.new.keyed.items left keyed c.self.inside.graph c.last_marks-before-2.result.now (last_marks (data_of c.self.inside))
+    (cells_in c.self.inside.keys) c.place.new.keys c.fire-fired.new.keys c.plan-plan.ensures.value still_is c.in-Ok-fired.ensures.keys
+    (c.place.ensures ∙ ap (λ (l : List Arrival). place c.plan-plan.result.now c.last_marks-before-2.result.now None l (cells_in c.fire-fired.new.keys)) c.into_list.ensures) in
     let number_is : c.len-number.result ≡ length c.self.inside.results.commits.items = c.len-number.ensures ∙ ap (λ (l : List CommitMarks). length l) c.in-Ok.ensures.commits in
     let fired : AreFired (data_of c.self.inside) c.args.slot c.in-Some.job c.args.receipt c.self.inside.groups c.fire-fired.new.groups c.in-Ok-fired.fired.panes c.in-Ok-fired.fired.marks
     c.fire-fired.new.arrivals c.hold_residual.new.held =
@@ -205,39 +249,47 @@ invariant_of-self-2 c =
     (c.if-not-has_numbers.ensures.commits refl)
     (omega (arith, c.if-not-has_numbers.ensures.panes refl, c.len-count.ensures))
     (omega (arith, c.if-not-has_numbers.ensures.dropped refl, c.len-count.ensures))
-    (omega (arith, c.if-not-has_numbers.ensures.cells refl, c.in-Ok-fired.ensures.grown, c.len-count.ensures)) in
+    (omega (arith, c.if-not-has_numbers.ensures.cells refl, c.in-Ok-fired.ensures.grown, c.len-count.ensures))
+    (omega (arith, c.if-not-have_numbers.ensures.cells refl, c.len-count.ensures))
+    (omega (arith, c.if-not-have_numbers.ensures.waiting refl, c.len-count.ensures, c.self.invariant.counted)) in
     record {
       indexed =
           commit_indexed (data_of c.self.inside) c.args.slot c.in-Some.job c.args.receipt c.self.inside.groups c.fire-fired.new.groups c.in-Ok-fired.fired.panes c.in-Ok-fired.fired.marks
           c.fire-fired.new.arrivals c.hold_residual.new.held fired c.self.invariant.indexed.sane
-          c.take_out.new.slots.items c.put_back.new.pieces.pending (lists_of c.wait_all.new.queues.items) c.add.new.self.panes.items c.add.new.self.done.items c.add.new.self.written.items c.add.new.self.commits.items
+          c.take_out.new.slots.items c.put_back.new.pieces.pending (lists_of c.wait_all.new.queues.items) (cells_in c.place.new.keys) c.add.new.self.panes.items c.add.new.self.done.items c.add.new.self.written.items c.add.new.self.commits.items
           (record {
             slots_are = c.in-Some.ensures.free;
             pending_are = c.put_back.ensures.pending ∙ ap (λ (r : Option Piece). with_residual r c.self.inside.pieces.pending) c.residual_of-residual.ensures;
             queues_are =
-                waits_there c.last_marks-before.result.now (last_marks (data_of c.self.inside)) c.len-first.result (length c.self.inside.results.panes.items) c.as_slice-2.result.now c.in-Ok-fired.fired.panes
-                (lists_of c.keep_room.new.queues.items) (lists_of c.self.inside.queues.items) (lists_of c.wait_all.new.queues.items) before_is
+                waits_there c.last_marks-before-2.result.now (last_marks (data_of c.self.inside)) c.len-first.result (length c.self.inside.results.panes.items) c.as_slice-2.result.now c.in-Ok-fired.fired.panes
+                (lists_of c.keep_room.new.queues.items) (lists_of c.self.inside.queues.items) (lists_of c.wait_all.new.queues.items) still_is
                 (c.len-first.ensures ∙ ap (λ (l : List Pane). length l) c.in-Ok.ensures.panes) c.as_slice-2.ensures c.in-Ok.ensures.queued c.wait_all.ensures.queues;
+            keys_are = keys_are;
             panes_are = c.add.ensures.panes ∙ ap (λ (l : List Pane). l ++ c.in-Ok-fired.fired.panes) c.in-Ok.ensures.panes;
             done_are =
                 c.add.ensures.done ∙ ap (λ (l : List Done). with_done_in c.done_of.result l) c.in-Ok.ensures.done
                 ∙ ap (λ (d : Option Done). with_done_in d c.self.inside.results.done.items) c.done_of.ensures;
             written_are =
-                c.add.ensures.written ∙ ap (λ (l : List Arrival). l ++ filter (λ arrival. is_write c.plan-plan.result.now arrival.node) c.fire-fired.new.arrivals) c.in-Ok.ensures.written
+                c.add.ensures.written ∙ c.put_left.ensures.written ∙ ap (λ (l : List Arrival). l ++ filter (λ arrival. is_write c.plan-plan.result.now arrival.node) c.fire-fired.new.arrivals) c.in-Ok.ensures.written
                 ∙ ap (λ (plan : Plan). c.self.inside.results.written.items ++ filter (λ arrival. is_write plan arrival.node) c.fire-fired.new.arrivals) c.plan-plan.ensures.value;
             commits_are = c.add.ensures.commits ∙ ap (λ (l : List CommitMarks). l ++ as_commit c.in-Ok-fired.fired.marks ∷ []) c.in-Ok.ensures.commits;
           })
           can c.self.inside.held c.wait_all.new.held c.self.inside.pieces.room c.put_back.new.pieces.room c.self.inside.returned.room c.self.invariant.indexed
-          (holds_there c.last_marks-before.result.now (last_marks (data_of c.self.inside)) c.as_slice-2.result.now c.in-Ok-fired.fired.panes c.hold_residual.new.held c.wait_all.new.held
-          before_is c.as_slice-2.ensures c.wait_all.ensures.held)
+          (holds_there c.last_marks-before-2.result.now (last_marks (data_of c.self.inside)) c.as_slice-2.result.now c.in-Ok-fired.fired.panes c.hold_residual.new.held c.wait_all.new.held
+          still_is c.as_slice-2.ensures c.wait_all.ensures.held)
           (c.wait_all.ensures.sized ∙ c.hold_residual.ensures.sized ∙ c.free_job.ensures.sized ∙ c.in-Ok.ensures.sized)
           (omega (arith, c.put_back.ensures.used, ap (λ (r : Option Piece). length (option_to_list r)) c.residual_of-residual.ensures));
       grouped = c.in-Ok-fired.ensures.committed.plan_stays ∙ c.self.invariant.grouped;
+      counted =
+          ap (λ (n : ℕ). c.self.inside.waiting + n) c.len.ensures
+          ∙ keyed_counted c.plan-plan.result.now c.args.receipt.arrivals c.fire-fired.new.arrivals c.put_left.new.keyed.items left keyed c.self.inside.graph (last_marks (data_of c.self.inside))
+          (cells_in c.self.inside.keys) c.self.inside.waiting c.plan-plan.ensures.value c.self.invariant.counted
+          ∙ ap waiting_in (sym keys_are);
     }
 
 pub returns-clause-ok : goal.returns-clause-ok
 returns-clause-ok c = λ told can.
-    let freed : AreHeldIn c.free_job.new.held (all_holds (with_slot (data_of c.self.inside) c.args.slot None)) =
+    let freed : AreHeldIn c.free_job.new.held (own_holds (with_slot (data_of c.self.inside) c.args.slot None)) =
     freed_there (data_of c.self.inside) c.args.slot c.in-Some.job c.args.receipt c.self.inside.held c.self.inside.pieces.room c.self.inside.returned.room c.in-Some.ensures.job c.self.invariant.indexed c.plan-plan.result.now c.plan-plan.ensures.value
     c.keep_room.new.held c.free_job.new.held c.in-Ok.ensures.marks c.free_job.ensures.freed in
     let kept : AreHeldIn c.hold_residual.new.held (kept_holds (data_of c.self.inside) c.args.slot c.in-Some.job c.args.receipt) =
@@ -245,6 +297,14 @@ returns-clause-ok c = λ told can.
     c.residual_of-residual.result c.residual_of-residual.ensures c.free_job.new.held c.hold_residual.new.held c.hold_residual.ensures.held freed in
     let before_is : c.last_marks-before.result.now ≡ last_marks (data_of c.self.inside) =
     c.last_marks-before.ensures ∙ ap (λ (l : List CommitMarks). unwrap_or (option_map (λ (m : CommitMarks). m.marks) (slice_get l (length l - 1))) []) c.in-Ok.ensures.commits in
+    let still_is : c.last_marks-before-2.result.now ≡ last_marks (data_of c.self.inside) =
+    c.last_marks-before-2.ensures ∙ ap (λ (l : List CommitMarks). unwrap_or (option_map (λ (m : CommitMarks). m.marks) (slice_get l (length l - 1))) []) c.in-Ok.ensures.commits in
+    let left = c.in-Ok-fired.ensures.committed.others in
+    let keyed = c.put_left.ensures.keyed ∙ ap (λ (l : List Arrival). l ++ filter (λ a. is_stateful c.plan-plan.result.now a.node) c.fire-fired.new.arrivals) c.in-Ok-room_for_keyed.ensures.none in
+    let keys_are : cells_in c.place.new.keys ≡ keys_after (data_of c.self.inside) c.args.receipt =
+    keyed_placed c.plan-plan.result.now c.args.receipt.arrivals c.fire-fired.new.arrivals c.put_left.new.keyed.items left keyed c.self.inside.graph c.last_marks-before-2.result.now (last_marks (data_of c.self.inside))
+    (cells_in c.self.inside.keys) c.place.new.keys c.fire-fired.new.keys c.plan-plan.ensures.value still_is c.in-Ok-fired.ensures.keys
+    (c.place.ensures ∙ ap (λ (l : List Arrival). place c.plan-plan.result.now c.last_marks-before-2.result.now None l (cells_in c.fire-fired.new.keys)) c.into_list.ensures) in
     let number_is : c.len-number.result ≡ length c.self.inside.results.commits.items = c.len-number.ensures ∙ ap (λ (l : List CommitMarks). length l) c.in-Ok.ensures.commits in
     let fired : AreFired (data_of c.self.inside) c.args.slot c.in-Some.job c.args.receipt c.self.inside.groups c.fire-fired.new.groups c.in-Ok-fired.fired.panes c.in-Ok-fired.fired.marks
     c.fire-fired.new.arrivals c.hold_residual.new.held =
@@ -254,32 +314,37 @@ returns-clause-ok c = λ told can.
     (c.if-not-has_numbers.ensures.commits refl)
     (omega (arith, c.if-not-has_numbers.ensures.panes refl, c.len-count.ensures))
     (omega (arith, c.if-not-has_numbers.ensures.dropped refl, c.len-count.ensures))
-    (omega (arith, c.if-not-has_numbers.ensures.cells refl, c.in-Ok-fired.ensures.grown, c.len-count.ensures)) in
+    (omega (arith, c.if-not-has_numbers.ensures.cells refl, c.in-Ok-fired.ensures.grown, c.len-count.ensures))
+    (omega (arith, c.if-not-have_numbers.ensures.cells refl, c.len-count.ensures))
+    (omega (arith, c.if-not-have_numbers.ensures.waiting refl, c.len-count.ensures, c.self.invariant.counted)) in
     let seen = data_of (record c.self.inside {
       pieces = c.put_back.new.pieces;
       slots = c.take_out.new.slots;
       queues = c.wait_all.new.queues;
       groups = c.fire-fired.new.groups;
+      keys = c.place.new.keys;
+      waiting = c.self.inside.waiting + c.len.result;
       results = c.add.new.self;
       held = c.wait_all.new.held;
     }) in
     subst (λ (b : SeenBook). IsCommitting told b c.args.slot c.args.receipt seen × IsWithinLimits seen) c.self.view_is
     (commit_written (data_of c.self.inside) c.args.slot c.in-Some.job c.args.receipt c.self.inside.groups c.fire-fired.new.groups c.in-Ok-fired.fired.panes c.in-Ok-fired.fired.marks
     c.fire-fired.new.arrivals c.hold_residual.new.held fired c.self.invariant.indexed.sane
-    c.take_out.new.slots.items c.put_back.new.pieces.pending (lists_of c.wait_all.new.queues.items) c.add.new.self.panes.items c.add.new.self.done.items c.add.new.self.written.items c.add.new.self.commits.items
+    c.take_out.new.slots.items c.put_back.new.pieces.pending (lists_of c.wait_all.new.queues.items) (cells_in c.place.new.keys) c.add.new.self.panes.items c.add.new.self.done.items c.add.new.self.written.items c.add.new.self.commits.items
     (record {
       slots_are = c.in-Some.ensures.free;
       pending_are = c.put_back.ensures.pending ∙ ap (λ (r : Option Piece). with_residual r c.self.inside.pieces.pending) c.residual_of-residual.ensures;
       queues_are =
-          waits_there c.last_marks-before.result.now (last_marks (data_of c.self.inside)) c.len-first.result (length c.self.inside.results.panes.items) c.as_slice-2.result.now c.in-Ok-fired.fired.panes
-          (lists_of c.keep_room.new.queues.items) (lists_of c.self.inside.queues.items) (lists_of c.wait_all.new.queues.items) before_is
+          waits_there c.last_marks-before-2.result.now (last_marks (data_of c.self.inside)) c.len-first.result (length c.self.inside.results.panes.items) c.as_slice-2.result.now c.in-Ok-fired.fired.panes
+          (lists_of c.keep_room.new.queues.items) (lists_of c.self.inside.queues.items) (lists_of c.wait_all.new.queues.items) still_is
           (c.len-first.ensures ∙ ap (λ (l : List Pane). length l) c.in-Ok.ensures.panes) c.as_slice-2.ensures c.in-Ok.ensures.queued c.wait_all.ensures.queues;
+      keys_are = keys_are;
       panes_are = c.add.ensures.panes ∙ ap (λ (l : List Pane). l ++ c.in-Ok-fired.fired.panes) c.in-Ok.ensures.panes;
       done_are =
           c.add.ensures.done ∙ ap (λ (l : List Done). with_done_in c.done_of.result l) c.in-Ok.ensures.done
           ∙ ap (λ (d : Option Done). with_done_in d c.self.inside.results.done.items) c.done_of.ensures;
       written_are =
-          c.add.ensures.written ∙ ap (λ (l : List Arrival). l ++ filter (λ arrival. is_write c.plan-plan.result.now arrival.node) c.fire-fired.new.arrivals) c.in-Ok.ensures.written
+          c.add.ensures.written ∙ c.put_left.ensures.written ∙ ap (λ (l : List Arrival). l ++ filter (λ arrival. is_write c.plan-plan.result.now arrival.node) c.fire-fired.new.arrivals) c.in-Ok.ensures.written
           ∙ ap (λ (plan : Plan). c.self.inside.results.written.items ++ filter (λ arrival. is_write plan arrival.node) c.fire-fired.new.arrivals) c.plan-plan.ensures.value;
       commits_are = c.add.ensures.commits ∙ ap (λ (l : List CommitMarks). l ++ as_commit c.in-Ok-fired.fired.marks ∷ []) c.in-Ok.ensures.commits;
     })

@@ -10,6 +10,7 @@ invariant_of-self-2 c = record {
       let less : length c.self.inside.slots.items + 1 < 4294967295 = omega (arith, c.if-number.false, c.len-number.ensures, c.self.inside.slots.ok) in
       enroll_indexed (data_of c.self.inside) c.self.inside.held c.self.inside.pieces.room c.self.inside.returned.room _ less c.in_ok-push.ensures.items c.self.invariant.indexed;
   grouped = c.self.invariant.grouped;
+  counted = c.self.invariant.counted;
 }
 
 pub returns-clause-ok : goal.returns-clause-ok

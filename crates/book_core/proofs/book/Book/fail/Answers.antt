@@ -37,4 +37,5 @@ invariant_of-self c = record {
       })
       c.self.inside.held c.self.inside.pieces.room c.self.inside.returned.room _ _ c.self.invariant.indexed c.give_back.ensures.pieces_room c.give_back.ensures.batches_room;
   grouped = c.self.invariant.grouped;
+  counted = c.self.invariant.counted;
 }

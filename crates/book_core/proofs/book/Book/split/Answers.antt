@@ -35,6 +35,7 @@ invariant_of-self c = record {
       indexed_room (data_of c.self.inside) c.self.inside.held c.keep_room.new.self c.self.inside.pieces.room c.self.inside.returned.room c.self.inside.pieces.room
       c.in_err-keep_room.ensures.marks c.in_err-keep_room.ensures.sized (omega arith) c.self.invariant.indexed;
   grouped = c.self.invariant.grouped;
+  counted = c.self.invariant.counted;
 }
 
 pub invariant_of-self-in_err-add_residual : goal.invariant_of-self-in_err-add_residual
@@ -45,6 +46,7 @@ invariant_of-self-in_err-add_residual c = record {
       (indexed_room (data_of c.self.inside) c.self.inside.held c.keep_room.new.self c.self.inside.pieces.room c.self.inside.returned.room c.add_residual.new.self.room
       c.in_ok-keep_room.ensures.marks c.in_ok-keep_room.ensures.sized c.in_err-add_residual.ensures.kept c.self.invariant.indexed);
   grouped = c.self.invariant.grouped;
+  counted = c.self.invariant.counted;
 }
 
 pub add_kept-requires-clause-within : goal.add_kept-requires-clause-within
@@ -81,6 +83,7 @@ invariant_of-self-2 c = record {
       c.in_ok-add_residual.ensures.ok refl less c.in_ok-keep_room.ensures.marks
       add (c.add_kept.ensures.sized ∙ c.in_ok-keep_room.ensures.sized) c.in_ok-add_residual.ensures.kept c.self.invariant.indexed;
   grouped = c.self.invariant.grouped;
+  counted = c.self.invariant.counted;
 }
 
 pub returns-clause-ok : goal.returns-clause-ok

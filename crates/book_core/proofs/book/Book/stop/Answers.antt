@@ -11,4 +11,5 @@ invariant_of-self c = record {
       let is : c.or-self-inside.result ≡ or_stopped c.self.inside.stopped cause.NoMemory = c.or-self-inside.ensures ∙ or_is c.self.inside.stopped cause.NoMemory in
       stop_indexed (data_of c.self.inside) c.self.inside.held c.self.inside.pieces.room c.self.inside.returned.room c.or-self-inside.result is c.self.invariant.indexed;
   grouped = c.self.invariant.grouped;
+  counted = c.self.invariant.counted;
 }

@@ -57,6 +57,7 @@ invariant_of-self-2 c = record {
       (oldest_indexed (data_of c.self.inside) c.args.slot c.args.node running free due c.self.invariant.indexed.sane c.self.inside.held c.self.inside.pieces.room c.self.inside.returned.room c.reserve.new.self.room
       _ _ queues slots room c.self.invariant.indexed);
   grouped = c.self.invariant.grouped;
+  counted = c.self.invariant.counted;
 }
 
 pub returns-clause-ok : goal.returns-clause-ok

@@ -22,6 +22,7 @@ invariant_of-self c = record {
       (ap (λ j. slice_set c.self.inside.slots.items c.args.slot (Some j)) c.started.ensures) c.self.invariant.indexed.sane
       c.self.inside.held c.self.inside.pieces.room c.self.inside.returned.room c.take.new.self.room c.in-Some.ensures.kept c.self.invariant.indexed;
   grouped = c.self.invariant.grouped;
+  counted = c.self.invariant.counted;
 }
 
 pub returns-in-Some : goal.returns-in-Some

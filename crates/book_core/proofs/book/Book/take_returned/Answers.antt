@@ -23,6 +23,7 @@ invariant_of-self c = record {
       c.self.inside.held c.self.inside.pieces.room c.self.inside.returned.room c.remove-batch.new.self.room c.remove-batch.result c.remove-batch.new.self.items _
       c.remove-batch.ensures.item c.remove-batch.ensures.rest refl c.remove-batch.ensures.kept c.self.invariant.indexed;
   grouped = c.self.invariant.grouped;
+  counted = c.self.invariant.counted;
 }
 
 pub returns-clause-ok : goal.returns-clause-ok
