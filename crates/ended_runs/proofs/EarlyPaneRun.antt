@@ -182,7 +182,7 @@ opened_so = record {
   marks = reading_marks;
   is = refl;
   marked = are_marks estimator.None early_trigger _ reading_marks refl refl refl refl refl refl;
-  within = record { commits = omega arith; panes = omega arith; dropped = omega arith; cells = omega arith; slots = omega arith; pieces = omega arith };
+  within = record { commits = omega arith; panes = omega arith; dropped = omega arith; cells = omega arith; keys = omega arith; waiting = omega arith; slots = omega arith; pieces = omega arith };
 }
 
 reached_opening : Reached (Some (told file)) opening
@@ -191,7 +191,7 @@ reached_opening = record { first = opening; opening = opened_so; steps = []; run
 reached_enrolled : Reached (Some (told file)) enrolled
 reached_enrolled =
     reached_more (Some (told file)) opening enrolled 0 Enroll (Enrolled 0)
-    (refl, refl, refl, record { commits = omega arith; panes = omega arith; dropped = omega arith; cells = omega arith; slots = omega arith; pieces = omega arith }) reached_opening
+    (refl, refl, refl, record { commits = omega arith; panes = omega arith; dropped = omega arith; cells = omega arith; keys = omega arith; waiting = omega arith; slots = omega arith; pieces = omega arith }) reached_opening
 
 reached_at_first : Reached (Some (told file)) (at_first None)
 unfolding offsets
@@ -204,7 +204,7 @@ reached_at_first =
       is_next = refl;
       handed = refl;
       is = refl;
-      within = record { commits = omega arith; panes = omega arith; dropped = omega arith; cells = omega arith; slots = omega arith; pieces = omega arith };
+      within = record { commits = omega arith; panes = omega arith; dropped = omega arith; cells = omega arith; keys = omega arith; waiting = omega arith; slots = omega arith; pieces = omega arith };
     }) reached_enrolled
 
 reached_claimed_first : Reached (Some (told file)) (at_first (Some 0))
@@ -251,7 +251,7 @@ reached_after_first =
       given = first_given;
       marked = are_marks estimator.None early_trigger _ reading_marks refl refl refl refl refl refl;
       rounds = first_rounds;
-      within = record { commits = omega arith; panes = omega arith; dropped = omega arith; cells = omega arith; slots = omega arith; pieces = omega arith };
+      within = record { commits = omega arith; panes = omega arith; dropped = omega arith; cells = omega arith; keys = omega arith; waiting = omega arith; slots = omega arith; pieces = omega arith };
     })
 
 -- panes go on before more is read
@@ -266,7 +266,7 @@ reached_at_early =
       is_next = refl;
       handed = refl;
       is = refl;
-      within = record { commits = omega arith; panes = omega arith; dropped = omega arith; cells = omega arith; slots = omega arith; pieces = omega arith };
+      within = record { commits = omega arith; panes = omega arith; dropped = omega arith; cells = omega arith; keys = omega arith; waiting = omega arith; slots = omega arith; pieces = omega arith };
     }) reached_after_first
 
 abbrev early_receipt : Receipt
@@ -289,7 +289,7 @@ reached_after_early =
       given = early_given;
       marked = are_marks estimator.None early_trigger _ reading_marks refl refl refl refl refl refl;
       rounds = early_rounds;
-      within = record { commits = omega arith; panes = omega arith; dropped = omega arith; cells = omega arith; slots = omega arith; pieces = omega arith };
+      within = record { commits = omega arith; panes = omega arith; dropped = omega arith; cells = omega arith; keys = omega arith; waiting = omega arith; slots = omega arith; pieces = omega arith };
     })
 
 -- ---- the second line
@@ -305,7 +305,7 @@ reached_at_second =
       is_next = refl;
       handed = refl;
       is = refl;
-      within = record { commits = omega arith; panes = omega arith; dropped = omega arith; cells = omega arith; slots = omega arith; pieces = omega arith };
+      within = record { commits = omega arith; panes = omega arith; dropped = omega arith; cells = omega arith; keys = omega arith; waiting = omega arith; slots = omega arith; pieces = omega arith };
     }) reached_after_early
 
 reached_claimed_second : Reached (Some (told file)) (at_second (Some 9))
@@ -359,7 +359,7 @@ reached_after_second =
       given = second_given;
       marked = are_marks estimator.None early_trigger _ read_marks refl refl refl refl refl refl;
       rounds = second_rounds;
-      within = record { commits = omega arith; panes = omega arith; dropped = omega arith; cells = omega arith; slots = omega arith; pieces = omega arith };
+      within = record { commits = omega arith; panes = omega arith; dropped = omega arith; cells = omega arith; keys = omega arith; waiting = omega arith; slots = omega arith; pieces = omega arith };
     })
 
 -- ---- the second pane goes on to the Write
@@ -375,7 +375,7 @@ reached_at_on_time =
       is_next = refl;
       handed = refl;
       is = refl;
-      within = record { commits = omega arith; panes = omega arith; dropped = omega arith; cells = omega arith; slots = omega arith; pieces = omega arith };
+      within = record { commits = omega arith; panes = omega arith; dropped = omega arith; cells = omega arith; keys = omega arith; waiting = omega arith; slots = omega arith; pieces = omega arith };
     }) reached_after_second
 
 abbrev last_receipt : Receipt
@@ -398,7 +398,7 @@ reached_final =
       given = last_given;
       marked = are_marks estimator.None early_trigger _ last_marks refl refl refl refl refl refl;
       rounds = last_rounds;
-      within = record { commits = omega arith; panes = omega arith; dropped = omega arith; cells = omega arith; slots = omega arith; pieces = omega arith };
+      within = record { commits = omega arith; panes = omega arith; dropped = omega arith; cells = omega arith; keys = omega arith; waiting = omega arith; slots = omega arith; pieces = omega arith };
     })
 
 -- ---- its outcome

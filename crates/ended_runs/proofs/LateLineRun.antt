@@ -171,7 +171,7 @@ opened_so = record {
   marks = opening_marks;
   is = refl;
   marked = are_marks (estimator.Lag (pos 5000)) default_trigger _ opening_marks refl refl refl refl refl refl;
-  within = record { commits = omega arith; panes = omega arith; dropped = omega arith; cells = omega arith; slots = omega arith; pieces = omega arith };
+  within = record { commits = omega arith; panes = omega arith; dropped = omega arith; cells = omega arith; keys = omega arith; waiting = omega arith; slots = omega arith; pieces = omega arith };
 }
 
 reached_opening : Reached (Some (told file)) opening
@@ -180,7 +180,7 @@ reached_opening = record { first = opening; opening = opened_so; steps = []; run
 reached_enrolled : Reached (Some (told file)) enrolled
 reached_enrolled =
     reached_more (Some (told file)) opening enrolled 0 Enroll (Enrolled 0)
-    (refl, refl, refl, record { commits = omega arith; panes = omega arith; dropped = omega arith; cells = omega arith; slots = omega arith; pieces = omega arith }) reached_opening
+    (refl, refl, refl, record { commits = omega arith; panes = omega arith; dropped = omega arith; cells = omega arith; keys = omega arith; waiting = omega arith; slots = omega arith; pieces = omega arith }) reached_opening
 
 reached_at_first : Reached (Some (told file)) (at_first None)
 unfolding offsets
@@ -193,7 +193,7 @@ reached_at_first =
       is_next = refl;
       handed = refl;
       is = refl;
-      within = record { commits = omega arith; panes = omega arith; dropped = omega arith; cells = omega arith; slots = omega arith; pieces = omega arith };
+      within = record { commits = omega arith; panes = omega arith; dropped = omega arith; cells = omega arith; keys = omega arith; waiting = omega arith; slots = omega arith; pieces = omega arith };
     }) reached_enrolled
 
 reached_claimed_first : Reached (Some (told file)) (at_first (Some 0))
@@ -236,7 +236,7 @@ reached_after_first =
       given = first_given;
       marked = are_marks (estimator.Lag (pos 5000)) default_trigger _ first_marks refl refl refl refl refl refl;
       rounds = first_rounds;
-      within = record { commits = omega arith; panes = omega arith; dropped = omega arith; cells = omega arith; slots = omega arith; pieces = omega arith };
+      within = record { commits = omega arith; panes = omega arith; dropped = omega arith; cells = omega arith; keys = omega arith; waiting = omega arith; slots = omega arith; pieces = omega arith };
     })
 
 -- ---- the second line
@@ -252,7 +252,7 @@ reached_at_second =
       is_next = refl;
       handed = refl;
       is = refl;
-      within = record { commits = omega arith; panes = omega arith; dropped = omega arith; cells = omega arith; slots = omega arith; pieces = omega arith };
+      within = record { commits = omega arith; panes = omega arith; dropped = omega arith; cells = omega arith; keys = omega arith; waiting = omega arith; slots = omega arith; pieces = omega arith };
     }) reached_after_first
 
 reached_claimed_second : Reached (Some (told file)) (at_second (Some 10))
@@ -306,7 +306,7 @@ reached_after_second =
       given = second_given;
       marked = are_marks (estimator.Lag (pos 5000)) default_trigger _ second_marks refl refl refl refl refl refl;
       rounds = second_rounds;
-      within = record { commits = omega arith; panes = omega arith; dropped = omega arith; cells = omega arith; slots = omega arith; pieces = omega arith };
+      within = record { commits = omega arith; panes = omega arith; dropped = omega arith; cells = omega arith; keys = omega arith; waiting = omega arith; slots = omega arith; pieces = omega arith };
     })
 
 -- ---- the pane goes on to the Write
@@ -322,7 +322,7 @@ reached_at_batch =
       is_next = refl;
       handed = refl;
       is = refl;
-      within = record { commits = omega arith; panes = omega arith; dropped = omega arith; cells = omega arith; slots = omega arith; pieces = omega arith };
+      within = record { commits = omega arith; panes = omega arith; dropped = omega arith; cells = omega arith; keys = omega arith; waiting = omega arith; slots = omega arith; pieces = omega arith };
     }) reached_after_second
 
 abbrev last_receipt : Receipt
@@ -345,7 +345,7 @@ reached_final =
       given = last_given;
       marked = are_marks (estimator.Lag (pos 5000)) default_trigger _ last_marks refl refl refl refl refl refl;
       rounds = last_rounds;
-      within = record { commits = omega arith; panes = omega arith; dropped = omega arith; cells = omega arith; slots = omega arith; pieces = omega arith };
+      within = record { commits = omega arith; panes = omega arith; dropped = omega arith; cells = omega arith; keys = omega arith; waiting = omega arith; slots = omega arith; pieces = omega arith };
     })
 
 -- ---- its outcome

@@ -92,6 +92,7 @@ book_of plan len so_far pending slots waiting = record {
   returned = [];
   cells = so_far.cells;
   dropped = so_far.dropped;
+  keys = [];
   panes = so_far.panes;
   done = so_far.done;
   written = so_far.written;

@@ -28,7 +28,7 @@ use Rattle.beam_values.specs.declared.plan.Plan.{Plan}
 use Rattle.beam_values.specs.declared.plan.Trigger.{Trigger}
 use Rattle.beam_values.proofs.Bags.{bag_from_same, bag_sym, bag_trans}
 use Rattle.beam_model.specs.Estimators.{AreSoundAbove}
-use Rattle.beam_model.specs.Holds.{estimator_of, least_hold, piece_hold}
+use Rattle.beam_model.specs.Holds.{Hold, estimator_of, least_hold, piece_hold}
 use Rattle.beam_model.specs.Panes.{mark_after, taken_by, trigger_of}
 use Rattle.beam_model.specs.Plain.{HasDefaultTriggersAbove}
 use Rattle.beam_model.specs.Plans.{default_trigger}
@@ -48,7 +48,9 @@ use Rattle.book_core.proofs.AllKept.{reached_kept_with, reached_seen}
 use Rattle.book_core.proofs.CellsAlways.{commit_entries}
 use Rattle.book_core.proofs.HeldMoves.{back_moves, enroll_moves, fired_held, set_moves, take_moves}
 use Rattle.book_core.proofs.HeldOnce.{commit_bag, none_held}
+use Rattle.stateful_core.specs.Cells.{KeyCell, key_holds}
 use Rattle.book_core.specs.Indexes.{all_holds}
+use Rattle.book_core.proofs.KeysKept.{none_keyed}
 use Rattle.book_core.proofs.Reaching.{reached_more}
 use Rattle.book_core.proofs.SaneAlways.{reached_sane}
 use Rattle.book_core.proofs.SaneResults.{StaysCelled, fail_stays, take_stays}
@@ -221,7 +223,9 @@ module _ (laws : KnownLaws) (told : List FileText) (to : ℕ) where
     -- all marks are marks
     all_marks : (n : ℕ) → IsMark (marks_at before n).mark_in × IsMark (marks_at before n).mark_out
     all_marks n =
-        let checked = (reached_sane (Some told) b reached).formed.checked in
+        let sane = reached_sane (Some told) b reached in
+        let checked = sane.formed.checked in
+        let no_keys : b.keys ≡ [] = none_keyed b.plan b.commits b.keys (λ m. laws.stateless b.plan m checked) sane.keys in
         let settings = λ (m : ℕ) (node : Node) (here : slice_get b.plan.nodes m ≡ Some node). laws.settings b.plan m node checked here in
         marks_are_marks b.plan (least_hold (all_holds b)) before checked (reached_sane (Some told) b reached).marks.last
         (λ m inside. least_is_mark (all_holds b)
@@ -230,7 +234,9 @@ module _ (laws : KnownLaws) (told : List FileText) (to : ℕ) where
         (λ k d here.
         let piece = get_or (b.pending ++ live_pieces b) k d in
         of_time (mark_time (estimator_of b.plan piece.node) piece.seen (lag_of b.plan settings piece.node) (reached_seen_times laws told b reached k d here))))
-        (All-map (λ h. IsMark h.mark) hold_of (held b) (λ k d here. (was.held k d here).mark))) m) n
+        (All-append (λ h. IsMark h.mark) (map hold_of (held b)) (key_holds b.keys)
+        (All-map (λ h. IsMark h.mark) hold_of (held b) (λ k d here. (was.held k d here).mark))
+        (subst (λ (l : List KeyCell). All (λ h. IsMark h.mark) (key_holds l)) (sym no_keys) (All-nil (λ (h : Hold). IsMark h.mark))))) m) n
       where
         of_time : {z : ℤ} → IsTime z → IsMark z
         of_time is = let high = is.1 in (is.0, λ above. absurd (omega (arith, ints, high, above)))

@@ -52,6 +52,7 @@ use Rattle.book_core.specs.declared.live.Live.TheVariants as live
 use Rattle.book_core.specs.declared.live.WaitingPane.{WaitingPane}
 use Rattle.book_core.proofs.CellsKept.{IsOfSource, batch_at_group, found_has, items_of_sources}
 use Rattle.book_core.proofs.EarlyEnds.{items_set}
+use Rattle.stateful_core.specs.Cells.{key_holds}
 use Rattle.book_core.specs.Indexes.{all_holds}
 use Rattle.book_core.proofs.Slots.{All-slice_get}
 use Rattle.book_core.proofs.Slotted.{All-append_left, All-append_right, All-flat_at, All-of_flat_map}
@@ -251,7 +252,9 @@ module _ (laws : KnownLaws) (told : List FileText) (to : ℕ) (b : SeenBook) (ch
   pieces_low = All-unmap IsLow (piece_hold b.plan) (b.pending ++ live_pieces b) (All-append_left IsLow (map (piece_hold b.plan) (b.pending ++ live_pieces b)) (holds b) all_low)
 
   held_low : All IsLowHeld (held b)
-  held_low = All-unmap IsLow hold_of (held b) (All-append_right IsLow (map (piece_hold b.plan) (b.pending ++ live_pieces b)) (holds b) all_low)
+  held_low =
+      All-unmap IsLow hold_of (held b)
+      (All-append_left IsLow (map hold_of (held b)) (key_holds b.keys) (All-append_right IsLow (map (piece_hold b.plan) (b.pending ++ live_pieces b)) (holds b) all_low))
 
   -- what holds of all pieces holds of one that is worked, and the same of panes
   pub worked_has : (P : Piece → Type 0) → All P (b.pending ++ live_pieces b) → (slot : ℕ) (piece : Piece) (attempted : Option ℕ) → IsWorking b slot (live.Span piece attempted) → P piece

@@ -98,6 +98,7 @@ pub fn sound_groups_drop_nothing()
         → HasDefaultTriggersAbove o.plan node → AreSoundAbove o.plan (items told b.plan) node
         → NothingIsDroppedAbove o.plan node o.dropped }
 {
+    no_node_is_stateful();
     nodes_have_inputs_and_settings_of_their_kind();
     nodes_take_elements_of_their_strategy();
     strategies_follow_kinds();

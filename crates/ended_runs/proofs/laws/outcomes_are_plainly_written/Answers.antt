@@ -11,5 +11,6 @@ returns c told b o reached lengths through of storable =
         own = c.strategies_follow_kinds.ensures.own plan;
         onward = c.strategies_follow_kinds.ensures.onward plan;
       };
+      stateless = λ plan n checked. c.no_node_is_stateful.ensures.none plan n checked;
       forward = c.allowed_functions_go_forward.ensures;
     }) (λ plan n checked. c.no_node_is_stateful.ensures.none plan n checked) told b o reached lengths through of storable
