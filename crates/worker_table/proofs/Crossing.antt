@@ -6,7 +6,7 @@ use Rattle.std.proofs.Crossing.{crosses}
 use Rattle.turn_desk.proofs.desk.Desk.TheSendSync as desk
 use Rattle.turn_desk.proofs.desk.Pass.TheSendSync as pass
 use Rattle.std.proofs.MapsCrossing.{crosses as maps}
-use Rattle.beam_values.proofs.Crossing.{Arrival-send, Cell-send, CommitMarks-send, Dropped-send, Entry-send, List-send, List-sync, Pane-send, Plan-send, Plan-sync, Trigger-send, Value-send}
+use Rattle.beam_values.proofs.Crossing.{Arrival-send, Boxed-send, Bytes-send, Cell-send, CommitMarks-send, Dropped-send, Element-send, Entry-send, List-send, List-sync, LogEntry-send, Pane-send, Plan-send, Plan-sync, Trigger-send, Value-send, Value-sync}
 use Rattle.beam_containers.specs.contracts.roomy.RoomyList as RoomyList
 use Rattle.beam_values.specs.contracts.piece.Done as Done
 use Rattle.windowing.specs.contracts.facts.NodeFacts as NodeFacts
@@ -29,6 +29,23 @@ use Rattle.cell_index.specs.contracts.index_key.IndexKey.TheInside as IndexKeyIn
 use Rattle.group_cells.specs.contracts.groups.keyed.GroupKey as GroupKey
 use Rattle.group_cells.specs.contracts.groups.room.Room as Room
 use Rattle.group_cells.specs.contracts.rules.Rules as Rules
+use Rattle.keyed_state.specs.contracts.bag.Bag as Bag
+use Rattle.keyed_state.specs.contracts.bag.Bag.TheInside as BagInside
+use Rattle.keyed_state.specs.contracts.cell.Cell as FormCell
+use Rattle.keyed_state.specs.contracts.cell.Cell.TheInside as FormCellInside
+use Rattle.keyed_state.specs.contracts.cell.Form as Form
+use Rattle.keyed_state.specs.contracts.run.Run as BagRun
+use Rattle.keyed_state.specs.contracts.run.Run.TheInside as BagRunInside
+use Rattle.keyed_state.specs.contracts.state.KeyState as KeyState
+use Rattle.keyed_state.specs.contracts.state.KeyState.TheInside as KeyStateInside
+use Rattle.timer_core.specs.contracts.timers.Timers as Timers
+use Rattle.stateful_core.specs.contracts.keys.Keys as Keys
+use Rattle.stateful_core.specs.contracts.keys.Keys.TheInside as KeysInside
+use Rattle.stateful_core.specs.contracts.queue.Queue as KeyQueue
+use Rattle.stateful_core.specs.contracts.queue.Queue.TheInside as KeyQueueInside
+use Rattle.stateful_core.specs.contracts.slot.Slot as KeySlot
+use Rattle.stateful_core.specs.contracts.timer_holds.TimerHolds as TimerHolds
+use Rattle.stateful_core.specs.contracts.waiting.Waiting as Waiting
 use Rattle.book_core.specs.contracts.book.Book as Book
 use Rattle.book_core.specs.contracts.book.Book.TheInside as BookInside
 use Rattle.book_core.specs.contracts.held.NodeHolds as NodeHolds
@@ -95,10 +112,49 @@ GroupPlan-send = view_send _ _ _ _ _ (declared_send GroupPlanInside.the_type (se
 Groups-send : IsSend Groups.the_row
 Groups-send = view_send _ _ _ _ _ (declared_send GroupsInside.the_type (search (GroupPlan-send, Draft-send, GroupKey-send, List-send, as_row_send, sendable, crosses, maps) depth 40))
 
--- ---- the book
+-- ---- the key cells
 
 RoomyList-send : (T : RattleType) → IsSend T → IsSend (RoomyList.the_row T)
 RoomyList-send T s = search (sendable, crosses) depth 40
+
+BagRun-send : IsSend BagRun.the_row
+BagRun-send = view_send _ _ _ _ _ (declared_send BagRunInside.the_type (search (Value-send, List-send, as_row_send, sendable) depth 40))
+
+BagRun-sync : IsSync BagRun.the_row
+BagRun-sync = view_sync _ _ _ _ _ (declared_sync BagRunInside.the_type (search (Value-sync, List-sync, as_row_sync, sendable) depth 40))
+
+Bag-send : IsSend Bag.the_row
+Bag-send = view_send _ _ _ _ _ (declared_send BagInside.the_type (search (BagRun-send, BagRun-sync, Boxed-send, List-send, Value-send, as_row_send, sendable) depth 40))
+
+Form-send : IsSend Form.the_row
+Form-send = variants_send Form.enum (search (Bytes-send, List-send, Value-send, Bag-send, as_row_send, sendable, crosses) depth 40)
+
+FormCell-send : IsSend FormCell.the_row
+FormCell-send = view_send _ _ _ _ _ (declared_send FormCellInside.the_type (search (Form-send, as_row_send, sendable) depth 40))
+
+KeyState-send : IsSend KeyState.the_row
+KeyState-send = view_send _ _ _ _ _ (declared_send KeyStateInside.the_type (search (FormCell-send, as_row_send, sendable, crosses) depth 40))
+
+Timers-send : IsSend Timers.the_row
+Timers-send = search (sendable, crosses) depth 40
+
+TimerHolds-send : IsSend TimerHolds.the_row
+TimerHolds-send = search (sendable, crosses) depth 40
+
+Waiting-send : IsSend Waiting.the_row
+Waiting-send = declared_send Waiting.the_type (search (Element-send, as_row_send, sendable) depth 40)
+
+KeyQueue-send : IsSend KeyQueue.the_row
+KeyQueue-send = view_send _ _ _ _ _ (declared_send KeyQueueInside.the_type (search (Waiting-send, as_row_send, sendable, crosses) depth 40))
+
+KeySlot-send : IsSend KeySlot.the_row
+KeySlot-send =
+    declared_send KeySlot.the_type (search (Value-send, LogEntry-send, RoomyList-send, KeyState-send, Timers-send, TimerHolds-send, KeyQueue-send, as_row_send, sendable, crosses) depth 40)
+
+Keys-send : IsSend Keys.the_row
+Keys-send = view_send _ _ _ _ _ (declared_send KeysInside.the_type (search (KeySlot-send, as_row_send, sendable, crosses) depth 40))
+
+-- ---- the book
 
 Pieces-send : IsSend Pieces.the_row
 Pieces-send = search (sendable, crosses) depth 40
@@ -123,7 +179,7 @@ Results-send = declared_send Results.the_type (search (RoomyList-send, Pane-send
 
 pub Book-send : IsSend Book.the_row
 Book-send =
-    view_send _ _ _ _ _ (declared_send BookInside.the_type (search (Graph-send, as_row_send, sendable, crosses) depth 40, (search (List-send, as_row_send, sendable, crosses) depth 40, (search (as_row_send, sendable, crosses) depth 40, (search (Pieces-send, as_row_send, sendable, crosses) depth 40, (search (Live-send, as_row_send, sendable, crosses) depth 40, (search (Queue-send, as_row_send, sendable, crosses) depth 40, (search (RoomyList-send, Batch-send, as_row_send, sendable, crosses) depth 40, (search (Groups-send, as_row_send, sendable, crosses) depth 40, (search (Results-send, as_row_send, sendable, crosses) depth 40, (search (as_row_send, sendable, crosses) depth 40, (search (as_row_send, sendable, crosses) depth 40, (search (NodeHolds-send, as_row_send, sendable, crosses) depth 40, (search (as_row_send, sendable, crosses) depth 40, tt))))))))))))))
+    view_send _ _ _ _ _ (declared_send BookInside.the_type (search (Graph-send, as_row_send, sendable, crosses) depth 40, (search (List-send, as_row_send, sendable, crosses) depth 40, (search (as_row_send, sendable, crosses) depth 40, (search (Pieces-send, as_row_send, sendable, crosses) depth 40, (search (Live-send, as_row_send, sendable, crosses) depth 40, (search (Queue-send, as_row_send, sendable, crosses) depth 40, (search (RoomyList-send, Batch-send, as_row_send, sendable, crosses) depth 40, (search (Groups-send, as_row_send, sendable, crosses) depth 40, (search (Keys-send, as_row_send, sendable, crosses) depth 40, (search (as_row_send, sendable, crosses) depth 40, (search (Results-send, as_row_send, sendable, crosses) depth 40, (search (as_row_send, sendable, crosses) depth 40, (search (as_row_send, sendable, crosses) depth 40, (search (NodeHolds-send, as_row_send, sendable, crosses) depth 40, (search (as_row_send, sendable, crosses) depth 40, tt))))))))))))))))
 
 -- ---- the table
 
