@@ -1,10 +1,7 @@
 -- One cell hands its entries over to a session, or doesn't.
-use Rattle.std.proofs.Common.{◌≡◌, ℕ, ◌+◌, ◌<◌, ◌≤◌, ℤ, Bool, true, false, cond, List, [], ◌∷◌, ◌++◌, length, get_or, take, drop, Option, Some, None, refl, sym, ap, ◌∙◌}
+use Rattle.std.proofs.Common.{◌≡◌, ℕ, ◌+◌, ◌<◌, ◌≤◌, ℤ, Bool, true, false, cond, List, [], ◌∷◌, ◌++◌, length, get_or, Some, None, refl, sym, ap, ◌∙◌}
 use Rattle.std.specs.Prelude.{slice_get, slice_set, unwrap_or}
-use Rattle.std.specs.List.{find}
-use Rattle.std.specs.Option.{option_map, option_or}
-use Rattle.std.proofs.lemmas.List.{drop_more, take-append-drop, take_more}
-use Rattle.std.proofs.lemmas.List.Folds.{find-append}
+use Rattle.std.specs.Option.{option_map}
 use Rattle.std.proofs.lemmas.Option.{slice_get_past, slice_get_read}
 use Rattle.beam_values.specs.Intervals.{Interval}
 use Rattle.beam_values.specs.declared.cell.Cell.{Cell}
@@ -51,21 +48,6 @@ module _ (rules : GroupRules) (before : ℤ) (w : Interval) (cells : List Cell) 
           ∙ sym (changed ∙ ap (λ b. slice_set cells place (cond b (record cell { entries = []; merged_into = Some w }) cell)) goes),
       sym (given ∙ ap (λ b. cond b cell.entries []) goes),
     )
-
--- ---- the first that passes
-
-pub none_more : {X : Type 0} (p : X → Bool) (xs : List X) (i : ℕ) (d : X) → i < length xs → p (get_or xs i d) ≡ false → find p (take i xs) ≡ None → find p (take (i + 1) xs) ≡ None
-none_more {X} p xs i d within off none =
-    ap (find p) (take_more xs i d within) ∙ find-append p (take i xs) (get_or xs i d ∷ [])
-    ∙ (λ j. option_or (none j) (cond {A = Option X} (off j) (Some (get_or xs i d)) None))
-
-pub found_now : {X : Type 0} (p : X → Bool) (xs : List X) (i : ℕ) (d : X) → i < length xs → p (get_or xs i d) ≡ true → find p (take i xs) ≡ None → find p xs ≡ Some (get_or xs i d)
-found_now {X} p xs i d within on none =
-    ap (find p) (sym (take-append-drop i xs) ∙ ap (λ l. take i xs ++ l) (drop_more xs i d within))
-    ∙ find-append p (take i xs) (get_or xs i d ∷ drop (i + 1) xs)
-    ∙ (λ j. option_or (none j) (cond {A = Option X} (on j) (Some (get_or xs i d)) (find p (drop (i + 1) xs))))
-
--- ---- an entry is put where its cell stands
 
 pub put_there : (rules : GroupRules) (node : ℕ) (key : Value) (entry : Entry) (cells new : List Cell) (place : ℕ) → place < length cells
     → put_at rules node key entry cells ≡ changed_at (with_entry entry) cells place

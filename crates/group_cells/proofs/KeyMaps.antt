@@ -11,7 +11,6 @@ use Rattle.std.specs.Ordering.{is_eq, nat_cmp}
 use Rattle.std.specs.Str.{bytes_eq}
 use Rattle.std.proofs.lemmas.Bool.{and_parts, eqb-true, false≢true}
 use Rattle.std.proofs.lemmas.Cmp.{nat_cmp_total, nat_list_cmp_total, on_total, then_total}
-use Rattle.std.proofs.lemmas.Int.{ints}
 use Rattle.std.proofs.lemmas.List.{map-append}
 use Rattle.std.proofs.lemmas.List.Elements.{filter-append}
 use Rattle.std.proofs.lemmas.List.Sums.{sum_by-cons}
@@ -19,27 +18,17 @@ use Rattle.std.proofs.lemmas.Map.Entries.{sum_by-remove_entry, sum_by-insert_ent
 use Rattle.std.proofs.lemmas.Map.Text.{is_eq-slice_cmp}
 use Rattle.std.proofs.lemmas.Slice.Eq.{bytes_eq-Decides}
 use Rattle.beam_values.specs.Grouping.{key_of}
-use Rattle.beam_values.specs.Intervals.{Interval}
-use Rattle.beam_values.specs.Nodes.{is_group}
 use Rattle.beam_values.specs.Orders.{value_cmp}
-use Rattle.beam_values.specs.Sessions.{IsNonEmpty}
 use Rattle.beam_values.specs.Spelling.{spelling}
 use Rattle.beam_values.specs.declared.arrival.Arrival.{Arrival}
-use Rattle.beam_values.specs.declared.cell.Cell.{Cell}
 use Rattle.beam_values.specs.declared.element.Element.{Element}
-use Rattle.beam_values.specs.declared.plan.Plan.{Plan}
 use Rattle.beam_model.specs.Panes.{is_cell_at_key, rules_of}
 use Rattle.cell_index.proofs.Indexing.{nat_tied}
 use Rattle.group_cells.specs.Commits.{cell_place, elements_keyed}
-use Rattle.group_cells.specs.KeyLists.{all_listed, group_key_cmp, listed, places_of, stands, stands_here, standing_places, AreReached, AreStanding, IsOverBy}
-use Rattle.group_cells.specs.Placing.{is_standing}
+use Rattle.group_cells.specs.KeyLists.{all_listed, group_key_cmp, listed}
 use Rattle.group_cells.specs.Plain.{is_arrival_at}
 use Rattle.group_cells.specs.declared.groups.keyed.GroupKey.{GroupKey}
-use Rattle.group_cells.specs.declared.groups.standing.Standing.{Standing}
 use Rattle.group_cells.proofs.PlacedKeys.{at_itself, is_at as is_here}
-use Rattle.group_cells.proofs.NearPlaces.{reached_on}
-use Rattle.group_cells.proofs.PlacedCells.{GoesOn}
-use Rattle.group_cells.proofs.StandingPlaces.{got, places_push}
 
 -- keys compare as equal exactly where they are one
 pub same_key : (a q : GroupKey) → is_eq (group_key_cmp a q) ≡ is_here q.node q.key a.node a.key
@@ -120,88 +109,6 @@ arrived_more old before a key q were keyed = by (is_here q.node q.key key.node k
     by false off =
         ap (λ b. cond b (listed old key ++ a.element ∷ []) (listed old q)) (same_key key q ∙ off)
         ∙ were q ∙ sym (keyed_more q before a false (sym here ∙ off) ∙ append-nil (elements_keyed q.node q.key before))
-
-module _ (plan : Plan) (old : BTreeMap GroupKey (List Standing)) (cells : List Cell) (cell : Cell) (h : AreStanding plan old cells) where
-  unlisted : (q : GroupKey) → is_group plan q.node ≡ true → (rules_of plan q.node).merges ≡ true → stands_here q.node q.key cell ≡ false
-      → places_of (listed old q) ≡ standing_places q.node q.key (cells ++ cell ∷ [])
-  unlisted q at merges off =
-      h.each q at merges
-      ∙ sym (places_push (stands_here q.node q.key) cell cells 0 (length cells) (omega arith)
-      ∙ ap (λ b. standing_places q.node q.key cells ++ cond b (length cells ∷ []) []) off ∙ append-nil (standing_places q.node q.key cells))
-
-  longer : GoesOn cells (cells ++ cell ∷ [])
-  longer = (cell_place cell ∷ [], map-append cell_place cells (cell ∷ []))
-
-  reached_still : (listed : List Standing) → AreReached cells listed → AreReached (cells ++ cell ∷ []) listed
-  reached_still listed reached = reached_on cells (cells ++ cell ∷ []) listed longer reached
-
-  pub standing_unmerged : (is_group plan cell.node && (rules_of plan cell.node).merges) ≡ false → AreStanding plan old (cells ++ cell ∷ [])
-  standing_unmerged apart = record {
-    each = λ q at merges. unlisted q at merges (by q at merges (cell.node == q.node) refl);
-    reached = λ q at merges. reached_still (listed old q) (h.reached q at merges);
-  }
-    where
-      by : (q : GroupKey) → is_group plan q.node ≡ true → (rules_of plan q.node).merges ≡ true → (b : Bool) → (cell.node == q.node) ≡ b → stands_here q.node q.key cell ≡ false
-      by q at merges true e = absurd (false≢true (sym apart ∙ ap (λ n. is_group plan n && (rules_of plan n).merges) (eqb-true cell.node q.node e) ∙ (λ i. at i && merges i)))
-      by q at merges false e = ap (λ b. (b && bytes_eq (spelling cell.key) (spelling q.key)) && stands cell) e
-
-  pub standing_merged : stands cell ≡ false → AreStanding plan old (cells ++ cell ∷ [])
-  standing_merged off = record {
-    each = λ q at merges. unlisted q at merges (ap (λ b. is_cell_at_key q.node q.key cell && b) off ∙ none (is_cell_at_key q.node q.key cell));
-    reached = λ q at merges. reached_still (listed old q) (h.reached q at merges);
-  }
-    where
-      none : (a : Bool) → (a && false) ≡ false
-      none true = refl
-      none false = refl
-
-  -- its place is listed last, with what the list reaches then
-  pub standing_more : (new : BTreeMap GroupKey (List Standing)) (key : GroupKey) (place : ℕ) (after : List Standing) → key ≡ record { node = cell.node; key = cell.key } → place ≡ length cells
-      → stands cell ≡ true → (rules_of plan cell.node).merges ≡ true → IsNonEmpty cell.span → places_of after ≡ places_of (listed old key) ++ place ∷ []
-      → ((cs : List Cell) → AreReached cs (listed old key) → IsOverBy cell.span.end cs place → AreReached cs after)
-      → ((q : GroupKey) → listed new q ≡ cond (is_eq (group_key_cmp key q)) after (listed old q)) → AreStanding plan new (cells ++ cell ∷ [])
-  standing_more new key place after keyed behind on mine some pushed reaches are = record {
-    each = λ q at merges. by q at merges (is_here q.node q.key key.node key.key) refl;
-    reached = λ q at merges. reach q at merges (is_here q.node q.key key.node key.key) refl;
-  }
-    where
-      here : (q : GroupKey) → is_here q.node q.key key.node key.key ≡ is_cell_at_key q.node q.key cell
-      here q = ap (λ (x : GroupKey). is_here q.node q.key x.node x.key) keyed
-
-      listed_is : (q : GroupKey) (b : Bool) → is_here q.node q.key key.node key.key ≡ b → listed new q ≡ cond b after (listed old q)
-      listed_is q b e = are q ∙ ap (λ t. cond t after (listed old q)) (same_key key q ∙ e)
-
-      by : (q : GroupKey) → is_group plan q.node ≡ true → (rules_of plan q.node).merges ≡ true → (b : Bool) → is_here q.node q.key key.node key.key ≡ b
-          → places_of (listed new q) ≡ standing_places q.node q.key (cells ++ cell ∷ [])
-      by q at merges true e =
-          ap places_of (listed_is q true e) ∙ pushed
-          ∙ ap (λ l. l ++ place ∷ []) (ap places_of (listed_alike old key q e) ∙ h.each q at merges)
-          ∙ sym (places_push (stands_here q.node q.key) cell cells 0 place (omega (arith, behind))
-          ∙ ap (λ b. standing_places q.node q.key cells ++ cond b (place ∷ []) []) (λ i. (sym (here q) ∙ e) i && on i))
-      by q at merges false e = ap places_of (listed_is q false e) ∙ unlisted q at merges (ap (λ b. b && stands cell) (sym (here q) ∙ e))
-
-      last_over : IsOverBy cell.span.end (cells ++ cell ∷ []) place
-      last_over = record {
-        cell = cell;
-        there = ap (slice_get (cells ++ cell ∷ [])) behind ∙ got cells cell [] (length cells) refl;
-        some = some;
-        over = omega (arith, ints);
-      }
-
-      reach : (q : GroupKey) → is_group plan q.node ≡ true → (rules_of plan q.node).merges ≡ true → (b : Bool) → is_here q.node q.key key.node key.key ≡ b
-          → AreReached (cells ++ cell ∷ []) (listed new q)
-      reach q at merges true e =
-          subst (AreReached (cells ++ cell ∷ [])) (sym (listed_is q true e))
-          (reaches (cells ++ cell ∷ []) (reached_still (listed old key) (subst (AreReached cells) (sym (listed_alike old key q e)) (h.reached q at merges))) last_over)
-      reach q at merges false e = subst (AreReached (cells ++ cell ∷ [])) (sym (listed_is q false e)) (reached_still (listed old q) (h.reached q at merges))
-
-pub not_standing : (o : Option Interval) → is_some o ≡ true → is_standing o ≡ false
-not_standing None e = absurd (false≢true e)
-not_standing (Some into) e = refl
-
-pub yet_standing : (o : Option Interval) → is_some o ≡ false → is_standing o ≡ true
-yet_standing None e = refl
-yet_standing (Some into) e = absurd (false≢true (sym e))
 
 -- ---- one list after another is taken out
 

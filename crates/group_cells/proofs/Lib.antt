@@ -51,9 +51,13 @@ mod FireSteps
 mod FiredPlaces
 mod Advancing
 mod StandingPlaces
-mod OpenedPlaces
-mod NearPlaces
-mod OpenedNear
+mod ListedWindows
+mod MetPlaces
+mod KnownCells
+mod KnownKeys
+mod NearSessions
+mod OpenedSessions
+mod TakenEntries
 mod KeyMaps
 mod Handing
 mod GivenWay

@@ -1,4 +1,4 @@
--- The arrivals at Groups of sessions are placed, one Group and key after another, and what is known of where cells stand follows.
+-- The arrivals at Groups of sessions are placed, one Group and key after another.
 use Rattle.std.proofs.Common.{◌≡◌, ◌⊎◌, inl, inr, ℕ, ◌+◌, ◌==◌, ◌≤◌, ℤ, Bool, true, false, cond, List, [], ◌∷◌, map, length, refl, sym, ap, subst, ◌∙◌, arith, append-nil}
 use Rattle.std.specs.Prelude.{◌&&◌, Option, Some, None}
 use Rattle.std.specs.BTreeMap as tree
@@ -23,23 +23,17 @@ use Rattle.beam_values.specs.declared.value.Value.{Value}
 use Rattle.beam_model.specs.Panes.{GroupRules, is_cell_at_key, rules_of}
 use Rattle.beam_model.specs.Sessions.{is_keyed}
 use Rattle.group_cells.specs.Arrivals.{merging, with_arrivals}
-use Rattle.group_cells.specs.Cells.{after_firing, firing_of, once_fired}
 use Rattle.group_cells.specs.Commits.{cell_place, cells_keyed, elements_keyed, is_taken}
-use Rattle.group_cells.specs.KeyLists.{group_key_cmp, listed, places_from, places_of, stands, standing_places, AreReached, AreStanding}
+use Rattle.group_cells.specs.KeyLists.{group_key_cmp, listed}
 use Rattle.group_cells.specs.Placing.{is_same_key}
 use Rattle.group_cells.specs.Plain.{AreAllPlaced, AreNodesFired, ArePlaced, ArePlacedAt, is_arrival_at, opened_all_at, opening_of, put_all_at}
 use Rattle.group_cells.specs.Rounds.{AreSessionsOver, AreWindowsFor, entry_of, open_windows}
 use Rattle.group_cells.specs.declared.groups.keyed.GroupKey.{GroupKey}
-use Rattle.group_cells.specs.declared.groups.standing.Standing.{Standing}
-use Rattle.group_cells.proofs.AllArrived.{all_behind}
 use Rattle.group_cells.proofs.FiredFew.{all_opened_few, all_put_few}
 use Rattle.group_cells.proofs.KeyMaps.{listed_after, listed_alike, same_key}
-use Rattle.group_cells.proofs.NearPlaces.{reached_on}
 use Rattle.group_cells.proofs.PlacedCells.{GoesOn, GoesOnAt, goes_further, goes_nowhere, placed_on, placed_on_at, stays_at}
 use Rattle.group_cells.proofs.PlacedInTurn.{placed_none}
 use Rattle.group_cells.proofs.PlacedKeys.{at_alike, filter_same, is_at, placed_other, placed_same}
-use Rattle.group_cells.proofs.Projecting.{project_merging}
-use Rattle.group_cells.proofs.StandingPlaces.{standing_alike}
 
 -- ---- what arrives
 
@@ -200,77 +194,6 @@ placed_few rules before node key c own cells opened placed windows few opened_ar
       all_opened_few rules before node (map (opening_of key) windows) cells,
       length-map windows (opening_of key),
     )
-
--- ---- where cells stand
-
--- of the key that is placed it is told, and of others nothing changes
-pub standing_placed : (plan : Plan) (before : ℤ) (c : ℕ) (key : GroupKey) (own : List Element) (cells placed : List Cell) (old taken put : BTreeMap GroupKey (List Standing)) (far again : List Standing)
-    → is_group plan key.node ≡ true → ArePlacedAt (rules_of plan key.node) before key.node key.key c own cells placed → AreStanding plan old cells
-    → ((q : GroupKey) → listed taken q ≡ cond (is_eq (group_key_cmp key q)) [] (listed old q))
-    → ((q : GroupKey) → listed put q ≡ cond (is_eq (group_key_cmp key q)) again (listed taken q))
-    → AreReached cells far → (AreReached placed far → AreReached placed again)
-    → places_of again ≡ standing_places key.node key.key placed → AreStanding plan put placed
-standing_placed plan before c key own cells placed old taken put far again group placed_are standing taken_are put_are first reaches are = record {
-  each = λ q at merges. by q at merges (is_at q.node q.key key.node key.key) refl;
-  reached = λ q at merges. reach q at merges (is_at q.node q.key key.node key.key) refl;
-}
-  where
-    goes : GoesOn cells placed
-    goes = placed_on plan (rules_of plan key.node) key.node key.key group before c own cells placed placed_are
-
-    here : (q : GroupKey) → is_at q.node q.key key.node key.key ≡ true → listed put q ≡ again
-    here q on = put_are q ∙ ap (λ b. cond b again (listed taken q)) (same_key key q ∙ on)
-
-    there : (q : GroupKey) → is_at q.node q.key key.node key.key ≡ false → listed put q ≡ listed old q
-    there q off =
-        put_are q ∙ ap (λ b. cond b again (listed taken q)) (same_key key q ∙ off)
-        ∙ taken_are q ∙ ap (λ b. cond b [] (listed old q)) (same_key key q ∙ off)
-
-    by : (q : GroupKey) → is_group plan q.node ≡ true → (rules_of plan q.node).merges ≡ true → (b : Bool) → is_at q.node q.key key.node key.key ≡ b
-        → places_of (listed put q) ≡ standing_places q.node q.key placed
-    by q at merges true on =
-        ap places_of (here q on) ∙ are
-        ∙ ap (λ (p : Cell → Bool). places_from p 0 placed) (λ i cell. at_alike q.node q.key key.node key.key on cell.node cell.key i && stands cell)
-    by q at merges false off =
-        ap places_of (there q off)
-        ∙ standing.each q at merges
-        ∙ sym (standing_alike q.node q.key cells placed goes.0 goes.1
-        (ap (map (λ (cell : Cell). cell.merged_into)) (placed_other q.node q.key (rules_of plan key.node) before key.node key.key c own cells placed off placed_are)))
-
-    reach : (q : GroupKey) → is_group plan q.node ≡ true → (rules_of plan q.node).merges ≡ true → (b : Bool) → is_at q.node q.key key.node key.key ≡ b → AreReached placed (listed put q)
-    reach q at merges true on = subst (AreReached placed) (sym (here q on)) (reaches (reached_on cells placed far goes first))
-    reach q at merges false off = subst (AreReached placed) (sym (there q off)) (reached_on cells placed (listed old q) goes (standing.reached q at merges))
-
--- arrivals where windows don't merge leave it
-pub standing_arrived : (plan : Plan) (before : List StageMarks) (c : ℕ) (arrivals : List Arrival) (cells : List Cell) (standing : BTreeMap GroupKey (List Standing))
-    → AreStanding plan standing cells → AreStanding plan standing (with_arrivals plan before c cells arrivals)
-standing_arrived plan before c arrivals cells standing h = record {
-  each = λ q at merges.
-      let goes = all_behind plan before c arrivals cells in
-      h.each q at merges
-      ∙ sym (standing_alike q.node q.key cells (with_arrivals plan before c cells arrivals) goes.0 goes.1
-      (ap (map (λ (cell : Cell). cell.merged_into)) (project_merging plan before c q.node q.key at merges arrivals cells)));
-  reached = λ q at merges. reached_on cells (with_arrivals plan before c cells arrivals) (listed standing q) (all_behind plan before c arrivals cells) (h.reached q at merges);
-}
-
--- and so does firing
-pub standing_fired : (plan : Plan) (before : List StageMarks) (hold : ℕ → ℤ) (c : ℕ) (cells new : List Cell) (marks : List StageMarks) (fired : List Pane) (standing : BTreeMap GroupKey (List Standing))
-    → AreNodesFired plan before hold c cells new marks fired → AreStanding plan standing cells → AreStanding plan standing new
-standing_fired plan before hold c cells new marks fired standing fires h = record {
-  each = λ q at merges.
-      h.each q at merges
-      ∙ sym (standing_alike q.node q.key cells new [] (fires.places ∙ sym (append-nil (map cell_place cells)))
-      (ap (map (λ (cell : Cell). cell.merged_into)) (fires.each q.node q.key at).0 ∙ same (rules_of plan q.node) (marks_at marks q.node).mark_in (cells_keyed q.node q.key cells)));
-  reached = λ q at merges. reached_on cells new (listed standing q) (goes_nowhere cells new fires.places) (h.reached q at merges);
-}
-  where
-    same : (rules : GroupRules) (mark : ℤ) (xs : List Cell) → map (λ (cell : Cell). cell.merged_into) (map (after_firing rules mark) xs) ≡ map (λ (cell : Cell). cell.merged_into) xs
-    same rules mark [] = refl
-    same rules mark (x ∷ xs) = λ i. one (firing_of rules mark x) i ∷ same rules mark xs i
-      where
-        one : (t : Option Timing) → (once_fired t x).merged_into ≡ x.merged_into
-        one None = refl
-        one (Some timing) = refl
 
 -- ---- what comes later
 

@@ -1,19 +1,24 @@
 -- What is read, changed and found at the places of the items that pass a test is what is read, changed and found among all that pass it.
-use Rattle.std.proofs.Common.{◌≡◌, ℕ, suc, zero, ◌+◌, ◌<◌, Bool, true, false, cond, List, [], ◌∷◌, ◌++◌, map, length, drop, get_or, Option, Some, None, refl, sym, ap, subst, ◌∙◌, arith, append_assoc, length-append}
-use Rattle.std.specs.Prelude.{◌&&◌, ◌||◌, ◌==◌, fold, slice_get, slice_set, unwrap_or, bytes_eq, MatchOption}
+use Rattle.std.proofs.Common.{◌≡◌, inl, inr, ℕ, suc, zero, ◌+◌, ◌<◌, ◌≤◌, Bool, true, false, cond, List, [], ◌∷◌, ◌++◌, map, length, drop, get_or, Option, Some, None, refl, sym, ap, subst, ◌∙◌, arith, append_assoc, length-append}
+use Rattle.std.specs.Prelude.{◌&&◌, ◌==◌, fold, slice_get, slice_set, unwrap_or, bytes_eq, Contains}
 use Rattle.std.specs.Option.{option_map}
-use Rattle.std.specs.List.{filter, find, flat_map, list_any}
+use Rattle.std.specs.List.{All, filter, flat_map}
+use Rattle.std.specs.List.Sorted.{IsStrictlySortedBy}
+use Rattle.std.specs.Ordering.{nat_cmp}
+use Rattle.std.specs.declared.cmp.Ordering.TheVariants.{Less, Equal, Greater}
+use Rattle.std.proofs.lemmas.Bool.{false≢true}
+use Rattle.std.proofs.lemmas.Cmp.{by_ranked, ranked}
+use Rattle.std.proofs.lemmas.List.Elements.{All-nil, All-cons, All-contains, All-weaker, Contains-append_cases, Contains-append_right, Contains-get_or}
+use Rattle.std.proofs.lemmas.Map.Keys.{sorted_tail}
+use Rattle.std.proofs.lemmas.Map.Views.{All-after_first}
 use Rattle.beam_values.specs.Intervals.{Interval}
 use Rattle.beam_values.specs.Spelling.{spelling}
 use Rattle.beam_values.specs.declared.cell.Cell.{Cell}
-use Rattle.beam_values.specs.declared.cell.Entry.{Entry}
 use Rattle.beam_values.specs.declared.value.Value.{Value}
-use Rattle.beam_model.specs.Panes.{GroupRules, is_cell_at_key}
+use Rattle.beam_model.specs.Panes.{is_cell_at_key}
 use Rattle.group_cells.specs.AtPlaces.{at_place, changed_at, given_all}
 use Rattle.group_cells.specs.Commits.{CellPlace, cell_place}
-use Rattle.group_cells.specs.KeyLists.{places_from, stands, stands_here, standing_places}
-use Rattle.group_cells.specs.Placing.{is_standing, takes, with_entry}
-use Rattle.group_cells.specs.Plain.{put_at, takes_at}
+use Rattle.group_cells.specs.KeyLists.{places_from}
 
 -- ---- the item behind a front
 
@@ -70,49 +75,6 @@ module _ {X : Type 0} (p : X → Bool) where
           (λ i. read_here g [] pre x xs k e i ++ given_all f g (places_from p (suc k) xs) ((changed_here f pre x xs k e ∙ moved pre (f x) xs) i)) ∙ ap (λ l. g x ++ l) (ih (f x))
       by false ih = ap (given_all f g (places_from p (suc k) xs)) (moved pre x xs) ∙ ih x
 
-  pub read_from : {Y : Type 0} (g : X → List Y) (xs pre : List X) (k : ℕ) → k ≡ length pre
-      → flat_map (at_place g [] (pre ++ xs)) (places_from p k xs) ≡ flat_map (λ x. cond (p x) (g x) []) xs
-  read_from g [] pre k e = refl
-  read_from g (x ∷ xs) pre k e = by (p x) (read_from g xs (pre ++ x ∷ []) (suc k) (longer pre x k e))
-    where
-      by : (b : Bool) → flat_map (at_place g [] ((pre ++ x ∷ []) ++ xs)) (places_from p (suc k) xs) ≡ flat_map (λ z. cond (p z) (g z) []) xs
-          → flat_map (at_place g [] (pre ++ x ∷ xs)) (cond b (k ∷ places_from p (suc k) xs) (places_from p (suc k) xs)) ≡ cond b (g x) [] ++ flat_map (λ z. cond (p z) (g z) []) xs
-      by true ih = λ i. read_here g [] pre x xs k e i ++ (ap (λ l. flat_map (at_place g [] l) (places_from p (suc k) xs)) (moved pre x xs) ∙ ih) i
-      by false ih = ap (λ l. flat_map (at_place g [] l) (places_from p (suc k) xs)) (moved pre x xs) ∙ ih
-
-  pub any_from : (q : X → Bool) (xs pre : List X) (k : ℕ) → k ≡ length pre
-      → list_any (at_place q false (pre ++ xs)) (places_from p k xs) ≡ list_any (λ x. p x && q x) xs
-  any_from q [] pre k e = refl
-  any_from q (x ∷ xs) pre k e = by (p x) (any_from q xs (pre ++ x ∷ []) (suc k) (longer pre x k e))
-    where
-      by : (b : Bool) → list_any (at_place q false ((pre ++ x ∷ []) ++ xs)) (places_from p (suc k) xs) ≡ list_any (λ z. p z && q z) xs
-          → list_any (at_place q false (pre ++ x ∷ xs)) (cond b (k ∷ places_from p (suc k) xs) (places_from p (suc k) xs)) ≡ (b && q x || list_any (λ z. p z && q z) xs)
-      by true ih = λ i. read_here q false pre x xs k e i || (ap (λ l. list_any (at_place q false l) (places_from p (suc k) xs)) (moved pre x xs) ∙ ih) i
-      by false ih = ap (λ l. list_any (at_place q false l) (places_from p (suc k) xs)) (moved pre x xs) ∙ ih
-
-  -- of the places of items that became others, those whose items still pass
-  pub kept_from : (g : X → X) (r : X → Bool) → ((x : X) → p (g x) ≡ (p x && r (g x))) → (rest xs pre : List X) (k : ℕ) → k ≡ length pre
-      → filter (at_place r false (pre ++ (map g xs ++ rest))) (places_from p k xs) ≡ places_from p k (map g xs)
-  kept_from g r still rest [] pre k e = refl
-  kept_from g r still rest (x ∷ xs) pre k e = by (p x) refl (kept_from g r still rest xs (pre ++ g x ∷ []) (suc k) (longer pre (g x) k e))
-    where
-      all : List X
-      all = pre ++ g x ∷ (map g xs ++ rest)
-
-      shift : (pre ++ g x ∷ []) ++ (map g xs ++ rest) ≡ pre ++ g x ∷ (map g xs ++ rest)
-      shift = sym (moved pre (g x) (map g xs ++ rest))
-
-      by : (b : Bool) → p x ≡ b → filter (at_place r false ((pre ++ g x ∷ []) ++ (map g xs ++ rest))) (places_from p (suc k) xs) ≡ places_from p (suc k) (map g xs)
-          → filter (at_place r false (pre ++ g x ∷ (map g xs ++ rest))) (cond b (k ∷ places_from p (suc k) xs) (places_from p (suc k) xs))
-          ≡ cond (p (g x)) (k ∷ places_from p (suc k) (map g xs)) (places_from p (suc k) (map g xs))
-      by true on ih =
-          let rests = ap (λ l. filter (at_place r false l) (places_from p (suc k) xs)) (sym shift) ∙ ih in
-          (λ i. cond (read_here r false pre (g x) (map g xs ++ rest) k e i) (k ∷ rests i) (rests i))
-          ∙ sym (ap (λ b. cond b (k ∷ places_from p (suc k) (map g xs)) (places_from p (suc k) (map g xs))) (still x ∙ ap (λ b. b && r (g x)) on))
-      by false off ih =
-          ap (λ l. filter (at_place r false l) (places_from p (suc k) xs)) (sym shift) ∙ ih
-          ∙ sym (ap (λ b. cond b (k ∷ places_from p (suc k) (map g xs)) (places_from p (suc k) (map g xs))) (still x ∙ ap (λ b. b && r (g x)) off))
-
   pub places_push : (x : X) (xs : List X) (k n : ℕ) → n ≡ k + length xs → places_from p k (xs ++ x ∷ []) ≡ places_from p k xs ++ cond (p x) (n ∷ []) []
   places_push x [] k n e = by (p x)
     where
@@ -130,121 +92,174 @@ module _ {X : Type 0} (p : X → Bool) where
       by true ih = ap (λ l. k ∷ l) ih
       by false ih = ih
 
-  none_places : (q : X → Bool) → ((x : X) → q x ≡ false → p x ≡ false) → (xs : List X) (k : ℕ) → filter q xs ≡ [] → places_from p k xs ≡ []
-  none_places q off [] k none = refl
-  none_places q off (x ∷ xs) k none = by (q x) refl none (none_places q off xs (suc k))
+-- ---- places at which something is read
+
+pub read_there : {X A : Type 0} (f : X → A) (none : A) (xs : List X) (p : ℕ) (x : X) → slice_get xs p ≡ Some x → at_place f none xs p ≡ f x
+read_there f none xs p x there = ap (λ o. unwrap_or (option_map f o) none) there
+
+pub read_nothing : {X A : Type 0} (f : X → A) (none : A) (xs : List X) (p : ℕ) → slice_get xs p ≡ None → at_place f none xs p ≡ none
+read_nothing f none xs p nothing = ap (λ o. unwrap_or (option_map f o) none) nothing
+
+-- where a test passes there is an item
+pub passes_there : {X : Type 0} (q : X → Bool) (xs : List X) (p : ℕ) → at_place q false xs p ≡ true → (x : X) × (slice_get xs p ≡ Some x) × (q x ≡ true)
+passes_there {X} q xs p on = by (slice_get xs p) refl
+  where
+    by : (o : Option X) → slice_get xs p ≡ o → (x : X) × (slice_get xs p ≡ Some x) × (q x ≡ true)
+    by None e = absurd (false≢true (sym (read_nothing q false xs p e) ∙ on))
+    by (Some x) e = (x, e, sym (read_there q false xs p x e) ∙ on)
+
+pub at_number : (xs : List ℕ) (m n : ℕ) → m ≡ n → Contains xs m → Contains xs n
+at_number xs m n e c = subst (Contains xs) e c
+
+module _ {X : Type 0} (q : X → Bool) where
+  -- the places of the items that pass
+  pub in_places : (xs : List X) (k p : ℕ) → at_place q false xs p ≡ true → Contains (places_from q k xs) (k + p)
+  in_places [] k p on = absurd (false≢true on)
+  in_places (x ∷ xs) k zero on =
+      at_number (places_from q k (x ∷ xs)) k (k + zero) (omega arith)
+      (subst (λ b. Contains (cond b (k ∷ places_from q (suc k) xs) (places_from q (suc k) xs)) k) (sym on) (0, omega arith, refl))
+  in_places (x ∷ xs) k (suc p) on =
+      at_number (places_from q k (x ∷ xs)) (suc k + p) (k + suc p) (omega arith) (by (q x) (in_places xs (suc k) p on))
     where
-      by : (b : Bool) → q x ≡ b → cond b (x ∷ filter q xs) (filter q xs) ≡ [] → (filter q xs ≡ [] → places_from p (suc k) xs ≡ [])
-          → cond (p x) (k ∷ places_from p (suc k) xs) (places_from p (suc k) xs) ≡ []
-      by true e f ih = absurd (cc)
-      by false e f ih = ap (λ b. cond b (k ∷ places_from p (suc k) xs) (places_from p (suc k) xs)) (off x e) ∙ ih f
+      by : (b : Bool) → Contains (places_from q (suc k) xs) (suc k + p) → Contains (cond b (k ∷ places_from q (suc k) xs) (places_from q (suc k) xs)) (suc k + p)
+      by true c = Contains-append_right (k ∷ []) (places_from q (suc k) xs) (suc k + p) c
+      by false c = c
 
--- ---- an entry is put
-
-module _ (rules : GroupRules) (node : ℕ) (key : Value) (entry : Entry) where
-  abbrev p : Cell → Bool
-  p = stands_here node key
-
-  abbrev t : Cell → Bool
-  t = takes rules entry
-
-  taken_so : (cell : Cell) (b : Bool) → t cell ≡ b → p cell ≡ true → takes_at rules node key entry cell ≡ b
-  taken_so cell b e on = ap (λ a. a && takes rules entry cell) (first (is_cell_at_key node key cell) (stands cell) on) ∙ e
+  pub of_places : (xs : List X) (k n : ℕ) → Contains (places_from q k xs) n → (p : ℕ) × (n ≡ k + p) × (at_place q false xs p ≡ true)
+  of_places [] k n c = absurd (let less = c.1 in omega arith)
+  of_places (x ∷ xs) k n c = by (q x) refl c (of_places xs (suc k) n)
     where
-      first : (a s : Bool) → (a && s) ≡ true → a ≡ true
-      first true s h = refl
-      first false s h = h
+      deeper : (p : ℕ) × (n ≡ suc k + p) × (at_place q false xs p ≡ true) → (p : ℕ) × (n ≡ k + p) × (at_place q false (x ∷ xs) p ≡ true)
+      deeper found = (suc found.0, (let at = found.1 in omega arith), found.2)
 
-  not_taken : (cell : Cell) → p cell ≡ false → takes_at rules node key entry cell ≡ false
-  not_taken cell off = by (is_cell_at_key node key cell) (stands cell) _ off
-    where
-      by : (a s f : Bool) → (a && s) ≡ false → (a && (s && f)) ≡ false
-      by true true f h = absurd (cc)
-      by true false f h = refl
-      by false s f h = refl
-
-  -- the first place whose cell takes it, if there is one
-  abbrev PutSo : List Cell → List Cell → Option ℕ → Type 0
-  PutSo pre xs o = MatchOption o (put_at rules node key entry xs ≡ xs)
-      (λ place. (place < length (pre ++ xs)) × (pre ++ put_at rules node key entry xs ≡ changed_at (with_entry entry) (pre ++ xs) place))
-
-  put_from : (xs pre : List Cell) (k : ℕ) → k ≡ length pre → PutSo pre xs (find (at_place (takes rules entry) false (pre ++ xs)) (places_from (stands_here node key) k xs))
-  put_from [] pre k e = refl
-  put_from (x ∷ xs) pre k e = by (p x) refl (t x) refl (put_from xs (pre ++ x ∷ []) (suc k) (longer pre x k e))
-    where
-      rests : List ℕ
-      rests = places_from (stands_here node key) (suc k) xs
-
-      passed : takes_at rules node key entry x ≡ false
-          → PutSo (pre ++ x ∷ []) xs (find (at_place (takes rules entry) false ((pre ++ x ∷ []) ++ xs)) (places_from (stands_here node key) (suc k) xs))
-          → PutSo pre (x ∷ xs) (find (at_place (takes rules entry) false (pre ++ x ∷ xs)) (places_from (stands_here node key) (suc k) xs))
-      passed off ih =
-          on_found (find (at_place (takes rules entry) false (pre ++ x ∷ xs)) (places_from (stands_here node key) (suc k) xs))
-          (subst (λ l. PutSo (pre ++ x ∷ []) xs (find (at_place (takes rules entry) false l) (places_from (stands_here node key) (suc k) xs))) (sym (moved pre x xs)) ih)
+      by : (b : Bool) → q x ≡ b → Contains (cond b (k ∷ places_from q (suc k) xs) (places_from q (suc k) xs)) n
+          → (Contains (places_from q (suc k) xs) n → (p : ℕ) × (n ≡ suc k + p) × (at_place q false xs p ≡ true))
+          → (p : ℕ) × (n ≡ k + p) × (at_place q false (x ∷ xs) p ≡ true)
+      by true on c ih = elim (Contains-append_cases (k ∷ []) (places_from q (suc k) xs) n c) [
+        | inl here ↦ first here.0 here.1 here.2
+        | inr later ↦ deeper (ih later)
+      ]
         where
-          skip : put_at rules node key entry (x ∷ xs) ≡ x ∷ put_at rules node key entry xs
-          skip = ap (λ b. cond b (with_entry entry x ∷ xs) (x ∷ put_at rules node key entry xs)) off
+          first : (i : ℕ) → i < 1 → get_or (k ∷ []) i n ≡ n → (p : ℕ) × (n ≡ k + p) × (at_place q false (x ∷ xs) p ≡ true)
+          first zero less is = (zero, (let e = is in omega arith), on)
+          first (suc i) less is = absurd (omega arith)
+      by false off c ih = deeper (ih c)
 
-          on_found : (o : Option ℕ) → PutSo (pre ++ x ∷ []) xs o → PutSo pre (x ∷ xs) o
-          on_found None h = skip ∙ ap (λ l. x ∷ l) h
-          on_found (Some place) h = (
-            subst (λ l. place < length l) (sym (moved pre x xs)) h.0,
-            ap (λ l. pre ++ l) skip ∙ moved pre x (put_at rules node key entry xs) ∙ h.1 ∙ ap (λ l. changed_at (with_entry entry) l place) (sym (moved pre x xs)),
-          )
-
-      by : (a : Bool) → p x ≡ a → (b : Bool) → t x ≡ b
-          → PutSo (pre ++ x ∷ []) xs (find (at_place (takes rules entry) false ((pre ++ x ∷ []) ++ xs)) (places_from (stands_here node key) (suc k) xs))
-          → PutSo pre (x ∷ xs) (find (at_place (takes rules entry) false (pre ++ x ∷ xs))
-          (cond a (k ∷ places_from (stands_here node key) (suc k) xs) (places_from (stands_here node key) (suc k) xs)))
-      by true on true e2 ih =
-          let here : at_place (takes rules entry) false (pre ++ x ∷ xs) k ≡ true = read_here (takes rules entry) false pre x xs k e ∙ e2 in
-          subst (PutSo pre (x ∷ xs))
-          (sym (ap (λ b. cond b (Some k) (find (at_place (takes rules entry) false (pre ++ x ∷ xs)) (places_from (stands_here node key) (suc k) xs))) here)) (
-            omega (arith, e, length-append pre (x ∷ xs)),
-            ap (λ b. pre ++ cond b (with_entry entry x ∷ xs) (x ∷ put_at rules node key entry xs)) (taken_so x true e2 on) ∙ sym (changed_here (with_entry entry) pre x xs k e),
-          )
-      by true on false e2 ih =
-          let here : at_place (takes rules entry) false (pre ++ x ∷ xs) k ≡ false = read_here (takes rules entry) false pre x xs k e ∙ e2 in
-          subst (PutSo pre (x ∷ xs))
-          (sym (ap (λ b. cond b (Some k) (find (at_place (takes rules entry) false (pre ++ x ∷ xs)) (places_from (stands_here node key) (suc k) xs))) here)) (passed (taken_so x false e2 on) ih)
-      by false off b e2 ih = passed (not_taken x off) ih
-
-  pub put_by : (cells : List Cell) (places : List ℕ) (o : Option ℕ) → places ≡ standing_places node key cells → o ≡ find (at_place (takes rules entry) false cells) places
-      → MatchOption o (put_at rules node key entry cells ≡ cells) (λ place. (place < length cells) × (put_at rules node key entry cells ≡ changed_at (with_entry entry) cells place))
-  put_by cells places o are is =
-      subst (λ (x : Option ℕ). PutSo [] cells x) (sym (is ∙ ap (find (at_place (takes rules entry) false cells)) are)) (put_from cells [] 0 refl)
-
-  -- and each cell that stands still does
-  pub places_put : (cells : List Cell) (k : ℕ) → places_from (stands_here node key) k (put_at rules node key entry cells) ≡ places_from (stands_here node key) k cells
-  places_put [] k = refl
-  places_put (x ∷ xs) k = by (takes_at rules node key entry x) (places_put xs (suc k))
+  places_above : (xs : List X) (k : ℕ) → All (λ n. k ≤ n) (places_from q k xs)
+  places_above [] k = All-nil (λ n. k ≤ n)
+  places_above (x ∷ xs) k = by (q x) (All-weaker (λ n. suc k ≤ n) (λ n. k ≤ n) (λ n h. omega arith) (places_from q (suc k) xs) (places_above xs (suc k)))
     where
-      by : (b : Bool) → places_from (stands_here node key) (suc k) (put_at rules node key entry xs) ≡ places_from (stands_here node key) (suc k) xs
-          → places_from (stands_here node key) k (cond b (with_entry entry x ∷ xs) (x ∷ put_at rules node key entry xs)) ≡ places_from (stands_here node key) k (x ∷ xs)
-      by true ih = refl
-      by false ih = ap (λ l. cond (p x) (k ∷ l) l) ih
+      by : (b : Bool) → All (λ n. k ≤ n) (places_from q (suc k) xs) → All (λ n. k ≤ n) (cond b (k ∷ places_from q (suc k) xs) (places_from q (suc k) xs))
+      by true h = All-cons (λ n. k ≤ n) k (places_from q (suc k) xs) (omega arith) h
+      by false h = h
 
--- ---- cells of another key
+below_cmp : (a b : ℕ) → a < b → nat_cmp a b ≡ Less
+below_cmp a b less = by_ranked (a < b) (a ≡ b) (b < a) (nat_cmp a b) (ranked a b (nat_cmp a b) refl) (λ e _. e) (λ _ same. absurd (omega arith)) (λ _ more. absurd (omega arith))
 
-module _ (node : ℕ) (key : Value) where
+cmp_below : (a b : ℕ) → nat_cmp a b ≡ Less → a < b
+cmp_below a b e =
+    by_ranked (a < b) (a ≡ b) (b < a) (nat_cmp a b) (ranked a b (nat_cmp a b) refl) (λ _ less. less) (λ f _. let no_ : Less ≡ Equal = sym e ∙ f in absurd (cc))
+    (λ f _. let no_ : Less ≡ Greater = sym e ∙ f in absurd (cc))
+
+-- numbers that ascend, and are the places of the items that pass, are listed as these
+pub places_same : {X : Type 0} (q : X → Bool) (xs : List X) (k : ℕ) (places : List ℕ) → IsStrictlySortedBy nat_cmp places
+    → ((n : ℕ) → Contains places n → (p : ℕ) × (n ≡ k + p) × (at_place q false xs p ≡ true)) → ((p : ℕ) → at_place q false xs p ≡ true → Contains places (k + p)) → places ≡ places_from q k xs
+places_same q [] k [] ascend each whole = refl
+places_same q [] k (n ∷ places) ascend each whole = let found = each n (0, omega arith, refl) in absurd (false≢true found.2)
+places_same {X} q (x ∷ xs) k places ascend each whole = by (q x) refl places ascend each whole (places_same q xs (suc k))
+  where
+    -- the first item is at the first place, or at none
+    later : (ps : List ℕ) → All (λ n. k < n) ps → ((n : ℕ) → Contains ps n → (p : ℕ) × (n ≡ k + p) × (at_place q false (x ∷ xs) p ≡ true)) → (n : ℕ) → Contains ps n
+        → (p : ℕ) × (n ≡ suc k + p) × (at_place q false xs p ≡ true)
+    later ps above each n c = let found = each n c in shift found.0 found.1 found.2 (All-contains (λ n. k < n) ps n above c)
+      where
+        shift : (p : ℕ) → n ≡ k + p → at_place q false (x ∷ xs) p ≡ true → k < n → (p : ℕ) × (n ≡ suc k + p) × (at_place q false xs p ≡ true)
+        shift zero at on more = absurd (omega arith)
+        shift (suc p) at on more = (p, omega arith, on)
+
+    by : (b : Bool) → q x ≡ b → (ps : List ℕ) → IsStrictlySortedBy nat_cmp ps → ((n : ℕ) → Contains ps n → (p : ℕ) × (n ≡ k + p) × (at_place q false (x ∷ xs) p ≡ true))
+        → ((p : ℕ) → at_place q false (x ∷ xs) p ≡ true → Contains ps (k + p))
+        → ((ps : List ℕ) → IsStrictlySortedBy nat_cmp ps
+        → ((n : ℕ) → Contains ps n → (p : ℕ) × (n ≡ suc k + p) × (at_place q false xs p ≡ true)) → ((p : ℕ) → at_place q false xs p ≡ true → Contains ps (suc k + p)) → ps ≡ places_from q (suc k) xs)
+        → ps ≡ cond b (k ∷ places_from q (suc k) xs) (places_from q (suc k) xs)
+    by false off ps ascend each whole ih =
+        ih ps ascend (later ps above each) (λ p on. at_number ps (k + suc p) (suc k + p) (omega arith) (whole (suc p) on))
+      where
+        above : All (λ n. k < n) ps
+        above i d less = let found = each (get_or ps i d) (Contains-get_or ps i d less) in more found.0 found.1 found.2
+          where
+            more : (p : ℕ) → get_or ps i d ≡ k + p → at_place q false (x ∷ xs) p ≡ true → k < get_or ps i d
+            more zero at on = absurd (false≢true (sym off ∙ on))
+            more (suc p) at on = omega arith
+    by true on [] ascend each whole ih = absurd (let c = whole zero on in let less = c.1 in omega arith)
+    by true on (n ∷ ps) ascend each whole ih =
+        (λ i. first i ∷ ih ps (sorted_tail nat_cmp n ps ascend) (later ps above (λ m c. each m (Contains-append_right (n ∷ []) ps m c))) rest i)
+      where
+        behind : All (λ m. nat_cmp n m ≡ Less) ps
+        behind = All-after_first nat_cmp n ps ascend
+
+        lowest : (c : ℕ) → Contains (n ∷ ps) c → n ≤ c
+        lowest c there = elim (Contains-append_cases (n ∷ []) ps c there) [
+          | inl here ↦ one here.0 here.1 here.2
+          | inr later_ ↦ (let less = cmp_below n c (All-contains (λ m. nat_cmp n m ≡ Less) ps c behind later_) in omega arith)
+        ]
+          where
+            one : (i : ℕ) → i < 1 → get_or (n ∷ []) i c ≡ c → n ≤ c
+            one zero less is = omega arith
+            one (suc i) less is = absurd (omega arith)
+
+        first : n ≡ k
+        first =
+            let low = lowest (k + zero) (whole zero on) in
+            let found = each n (0, omega arith, refl) in
+            let at = found.1 in
+            omega arith
+
+        above : All (λ m. k < m) ps
+        above = All-weaker (λ m. nat_cmp n m ≡ Less) (λ m. k < m) (λ m e. (let less = cmp_below n m e in let f = first in omega arith)) ps behind
+
+        rest : (p : ℕ) → at_place q false xs p ≡ true → Contains ps (suc k + p)
+        rest p there = elim (Contains-append_cases (n ∷ []) ps (k + suc p) (whole (suc p) there)) [
+          | inl here ↦ absurd (one here.0 here.1 here.2)
+          | inr later_ ↦ at_number ps (k + suc p) (suc k + p) (omega arith) later_
+        ]
+          where
+            one : (i : ℕ) → i < 1 → get_or (n ∷ []) i (k + suc p) ≡ k + suc p → ⊥
+            one zero less is = let f = first in omega arith
+            one (suc i) less is = omega arith
+
+-- ---- cells of one Group and key
+
+module _ (node : ℕ) (key : Value) (u : CellPlace → Option Interval → Bool) where
   abbrev at : Cell → Bool
   at = is_cell_at_key node key
 
   abbrev merged : Cell → Option Interval
   merged cell = cell.merged_into
 
-  at_by : CellPlace → Bool
-  at_by place = place.node == node && bytes_eq (spelling place.key) (spelling key)
+  abbrev tested : Cell → Bool
+  tested cell = is_cell_at_key node key cell && u (cell_place cell) cell.merged_into
 
-  alike_from : (old new : List Cell) (behind : List CellPlace) (k : ℕ) → map cell_place new ≡ map cell_place old ++ behind
-      → map merged (filter at new) ≡ map merged (filter at old) → places_from (stands_here node key) k new ≡ places_from (stands_here node key) k old
-  alike_from [] new behind k places same = none_places (stands_here node key) at (λ x off. ap (λ b. b && stands x) off) new k (empty (filter at new) same)
+  off_there : (xs : List Cell) → filter (is_cell_at_key node key) xs ≡ [] → (p : ℕ) → at_place tested false xs p ≡ false
+  off_there [] none p = refl
+  off_there (x ∷ xs) none p = by (at x) refl none p (off_there xs)
+    where
+      by : (b : Bool) → at x ≡ b → cond b (x ∷ filter at xs) (filter at xs) ≡ [] → (p : ℕ) → (filter at xs ≡ [] → (p : ℕ) → at_place tested false xs p ≡ false) → at_place tested false (x ∷ xs) p ≡ false
+      by true on e p ih = absurd (cc)
+      by false off e zero ih = ap (λ b. b && u (cell_place x) x.merged_into) off
+      by false off e (suc p) ih = ih e p
+
+  -- a test of a cell's place and of where it was merged depends on the cells of its Group and key alone
+  pub read_alike : (old new : List Cell) (behind : List CellPlace) → map cell_place new ≡ map cell_place old ++ behind
+      → map (λ (cell : Cell). cell.merged_into) (filter (is_cell_at_key node key) new) ≡ map (λ (cell : Cell). cell.merged_into) (filter (is_cell_at_key node key) old)
+      → (p : ℕ) → at_place tested false new p ≡ at_place tested false old p
+  read_alike [] new behind places same p = off_there new (empty (filter at new) same) p
     where
       empty : (l : List Cell) → map merged l ≡ [] → l ≡ []
       empty [] e = refl
       empty (x ∷ l) e = absurd (cc)
-  alike_from (x ∷ old) [] behind k places same = absurd (cc)
-  alike_from (x ∷ old) (y ∷ new) behind k places same = by (at x) refl (alike_from old new behind (suc k) (ap (drop (suc zero)) places))
+  read_alike (x ∷ old) [] behind places same p = absurd (cc)
+  read_alike (x ∷ old) (y ∷ new) behind places same p = by (at x) refl p (read_alike old new behind (ap (drop (suc zero)) places))
     where
       place_is : cell_place y ≡ cell_place x
       place_is = ap (λ l. get_or l zero (cell_place x)) places
@@ -252,21 +267,20 @@ module _ (node : ℕ) (key : Value) where
       at_is : at y ≡ at x
       at_is = ap (λ (place : CellPlace). place.node == node && bytes_eq (spelling place.key) (spelling key)) place_is
 
-      by : (b : Bool) → at x ≡ b → (map merged (filter at new) ≡ map merged (filter at old) → places_from (stands_here node key) (suc k) new ≡ places_from (stands_here node key) (suc k) old)
-          → places_from (stands_here node key) k (y ∷ new) ≡ places_from (stands_here node key) k (x ∷ old)
-      by true on ih =
+      by : (b : Bool) → at x ≡ b → (p : ℕ) → (map merged (filter at new) ≡ map merged (filter at old) → (p : ℕ) → at_place tested false new p ≡ at_place tested false old p)
+          → at_place tested false (y ∷ new) p ≡ at_place tested false (x ∷ old) p
+      by true on p ih =
           let both : merged y ∷ map merged (filter at new) ≡ merged x ∷ map merged (filter at old) =
           sym (ap (λ b. map merged (cond b (y ∷ filter at new) (filter at new))) (at_is ∙ on)) ∙ same ∙ ap (λ b. map merged (cond b (x ∷ filter at old) (filter at old))) on in
-          let tested : stands_here node key y ≡ stands_here node key x = λ i. at_is i && is_standing (ap (λ l. get_or l zero (merged x)) both i) in
-          (λ i. cond (tested i) (k ∷ ih (ap (drop (suc zero)) both) i) (ih (ap (drop (suc zero)) both) i))
-      by false off ih =
-          let rests : map merged (filter at new) ≡ map merged (filter at old) =
-          sym (ap (λ b. map merged (cond b (y ∷ filter at new) (filter at new))) (at_is ∙ off)) ∙ same ∙ ap (λ b. map merged (cond b (x ∷ filter at old) (filter at old))) off in
-          let tested : stands_here node key y ≡ stands_here node key x = (λ i. (at_is ∙ off) i && stands y) ∙ sym (λ i. off i && stands x) in
-          (λ i. cond (tested i) (k ∷ ih rests i) (ih rests i))
-
-  -- where a cell stands depends on the cells of its Group and key alone
-  pub standing_alike : (old new : List Cell) (behind : List CellPlace) → map cell_place new ≡ map cell_place old ++ behind
-      → map (λ (cell : Cell). cell.merged_into) (filter (is_cell_at_key node key) new) ≡ map (λ (cell : Cell). cell.merged_into) (filter (is_cell_at_key node key) old)
-      → standing_places node key new ≡ standing_places node key old
-  standing_alike old new behind places same = alike_from old new behind 0 places same
+          here (ap (λ l. get_or l zero (merged x)) both) (ap (drop (suc zero)) both) p
+        where
+          here : merged y ≡ merged x → map merged (filter at new) ≡ map merged (filter at old) → (p : ℕ) → at_place tested false (y ∷ new) p ≡ at_place tested false (x ∷ old) p
+          here one rest zero = λ i. at_is i && u (place_is i) (one i)
+          here one rest (suc p) = ih rest p
+      by false off p ih =
+          there
+          (sym (ap (λ b. map merged (cond b (y ∷ filter at new) (filter at new))) (at_is ∙ off)) ∙ same ∙ ap (λ b. map merged (cond b (x ∷ filter at old) (filter at old))) off) p
+        where
+          there : map merged (filter at new) ≡ map merged (filter at old) → (p : ℕ) → at_place tested false (y ∷ new) p ≡ at_place tested false (x ∷ old) p
+          there rest zero = ap (λ b. b && u (cell_place y) y.merged_into) (at_is ∙ off) ∙ sym (ap (λ b. b && u (cell_place x) x.merged_into) off)
+          there rest (suc p) = ih rest p

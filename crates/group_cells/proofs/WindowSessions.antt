@@ -2,6 +2,7 @@
 use Rattle.std.proofs.Common.{◌≡◌, ◌⊎◌, inl, inr, ℕ, ◌+◌, ◌<◌, ◌≤◌, ◌≤ℤ◌, ◌<ℤ◌, Bool, true, false, List, [], ◌∷◌, ◌++◌, length, get_or, take, refl, sym, ap, subst, ◌∙◌, arith, append_assoc, append-nil, length-append, Result}
 use Rattle.std.specs.Prelude.{Contains, ◌==◌, MatchOption, Option, Some, None, Ok, Err, IfOk, ⊤, option_to_list}
 use Rattle.std.specs.List.{All, AllWithin, Any}
+use Rattle.std.specs.List.Sorted.{IsPermutation}
 use Rattle.std.specs.Ordering.{ordering_index}
 use Rattle.std.specs.declared.cmp.Ordering.{Ordering}
 use Rattle.std.specs.declared.cmp.Ordering.TheVariants.{Less, Equal, Greater}
@@ -11,11 +12,12 @@ use Rattle.std.proofs.lemmas.List.Quantifiers.{Any-push}
 use Rattle.std.proofs.lemmas.Bool.{cases_lt}
 use Rattle.std.proofs.lemmas.Int.{ints}
 use Rattle.std.proofs.lemmas.List.Elements.{All-nil, All-cons, All-append, All-push, All-weaker, Contains-get_or, Contains-append_right}
+use Rattle.std.proofs.lemmas.List.Sorted.{Contains-permutation, IsPermutation-sym}
 use Rattle.std.proofs.lemmas.Slice.Eq.{bytes_eq-Decides}
 use Rattle.beam_values.proofs.Lexicographic.{same_where_tied}
 use Rattle.beam_values.specs.Intervals.{Interval}
 use Rattle.beam_values.specs.Orders.{value_cmp, bytes_cmp}
-use Rattle.beam_values.specs.Sessions.{IsNonEmpty, LiesIn}
+use Rattle.beam_values.specs.Sessions.{IsNonEmpty, LiesIn, IsSessionOf}
 use Rattle.beam_values.specs.Spelling.{spelling}
 use Rattle.beam_values.specs.declared.value.Value.{Value}
 use Rattle.session_merge.specs.Merging.{AreApart, AreSessionsOf}
@@ -121,6 +123,28 @@ holder_more listed own windows after i x (Some w) within is pushed are covers al
       (λ h. subst (λ v. Any (LiesIn v) after) is (subst (Any (LiesIn x)) (sym pushed) (Any-push (LiesIn x) windows w (covers (subst (λ v. Any (LiesIn v) listed) (sym is) h)))))),
   omega (arith, few, ap length pushed, length-append windows (w ∷ [])),
 )
+
+-- sessions are no matter of the order of the windows
+session_alike : (S T : Interval → Type 0) → ((w : Interval) → S w → T w) → ((w : Interval) → T w → S w) → (w : Interval) → IsSessionOf S w → IsSessionOf T w
+session_alike S T to from w h = record {
+  ordered = h.ordered;
+  begins = (h.begins.0, to h.begins.0 h.begins.1, h.begins.2);
+  ends = (h.ends.0, to h.ends.0 h.ends.1, h.ends.2);
+  joined = λ x inside. let one = h.joined x inside in (one.0, to one.0 one.1, one.2);
+  apart = λ s there. h.apart s (from s there);
+}
+
+pub sessions_alike : (xs ys listed : List Interval) → IsPermutation ys xs → AreSessionsOf (Contains xs) listed → AreSessionsOf (Contains ys) listed
+sessions_alike xs ys listed moved h = record {
+  exact = λ w. ((λ c. session_alike (Contains xs) (Contains ys) to from w ((h.exact w).0 c)), (λ s. (h.exact w).1 (session_alike (Contains ys) (Contains xs) from to w s)));
+  cover = λ span there. h.cover span (from span there);
+}
+  where
+    to : (w : Interval) → Contains xs w → Contains ys w
+    to w c = Contains-permutation xs ys w (IsPermutation-sym ys xs moved) c
+
+    from : (w : Interval) → Contains ys w → Contains xs w
+    from w c = Contains-permutation ys xs w moved c
 
 pub ok_both : {X Y : Type 0} (r : Result X Y) (P Q R : X → Type 0) → ((x : X) → P x → Q x → R x) → IfOk r P → IfOk r Q → IfOk r R
 ok_both (Ok x) P Q R f p q = f x p q

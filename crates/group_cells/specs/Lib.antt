@@ -12,6 +12,7 @@ pub mod AtPlaces
 pub mod Handing
 pub mod Undoing
 pub mod KeyLists
+pub mod KnownWindows
 pub mod Plain
 pub mod FiredUpTo
 pub mod Drafts

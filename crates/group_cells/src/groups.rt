@@ -1,7 +1,8 @@
 //! The cells of all Groups in the order in which they were made, found by index.
 //!
-//! An arrival finds its cell by an index of the crate `cell_index`; at a Group of sessions it looks at cells
-//! of its key that stand. Firing finds the cells that are due in an ordered set. So a commit costs its
+//! An arrival finds its cell by an index of the crate `cell_index`; at a Group of sessions it looks at those
+//! cells of its key that stand, aren't expired and overlap its window (`groups/standing.rt`), which are
+//! found by their ends. Firing finds the cells that are due in an ordered set. So a commit costs its
 //! arrivals, what these look at and the cells that fire, each times a logarithm; it fires at most a pane for
 //! each cell and makes at most a cell for each arrival. A commit that finds no memory undoes what it did,
 //! and gives the indexes' memory back, in which the next one makes them anew.
@@ -29,10 +30,10 @@ mod group_plan;
 mod handing;
 mod keyed;
 mod looking;
+mod merging;
 mod placing;
 mod ranks;
 mod room;
-mod sessions;
 mod standing;
 
 use crate::groups::advance::Next;
@@ -41,7 +42,7 @@ use crate::groups::due::DueCells;
 use crate::groups::group_plan::GroupPlan;
 use crate::groups::keyed::GroupKey;
 use crate::groups::looking::{next_due, place_among, shared_key};
-use crate::groups::standing::Standing;
+use crate::groups::standing::Known;
 use beam_values::{
     Arrival, Cell, Dropped, List, Mark, NoMemory, Pane, Plan, Span, StageMarks, Value,
 };
@@ -55,8 +56,8 @@ use std::marker::Model;
 pub struct Groups {
     plan: GroupPlan,
     draft: Draft,
-    /// Where the cells stand that are at Groups of sessions.
-    standing: BTreeMap<GroupKey, List<Standing>>,
+    /// What is known of the windows that stand at Groups of sessions.
+    standing: BTreeMap<GroupKey, Known>,
     /// Whether the indexes are whole: a commit that is refused leaves them for the next one to make anew.
     indexed: bool,
     alloc: Global,

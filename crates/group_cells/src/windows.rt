@@ -1,14 +1,21 @@
 //! For which windows there are to be cells, and which of them take an entry or give way to a session.
 
-ghost use Rattle.std.specs.Prelude.{◌≡◌, ◌≤◌, ◌≤ℤ◌, ◌<ℤ◌, ◌∷◌, [], ◌++◌, ⊤, length, map};
-ghost use Rattle.std.specs.Prelude.{option_to_list, if◌then◌else◌};
+ghost use Rattle.std.specs.Prelude.{◌≡◌, ◌<◌, ◌≤◌, ◌≤ℤ◌, ◌<ℤ◌, ◌∷◌, [], ◌++◌, ⊤, length, map};
+ghost use Rattle.std.specs.Prelude.{false, option_to_list, slice_index_or, slice_set};
+ghost use Rattle.std.specs.Prelude.{if◌then◌else◌};
 ghost use Rattle.std.specs.Prelude.{All, Any, Contains, List as ListOf, IfOk, OnOk, MatchOption};
-ghost use Rattle.std.specs.List.{AllWithin, filter};
+ghost use Rattle.std.specs.List.{list_any, AllWithin, filter};
+ghost use Rattle.std.specs.List.Sorted.{IsPermutation};
 ghost use Rattle.beam_values.specs.Intervals.{Interval};
 ghost use Rattle.beam_values.specs.Sessions.{IsNonEmpty, LiesIn};
 ghost use Rattle.beam_values.specs.Spans.{lies_in, same_span};
+ghost use Rattle.beam_values.specs.declared.cell.Cell.{Cell as CellOf};
 ghost use Rattle.beam_model.specs.Panes.{is_cell_at_key};
+ghost use Rattle.group_cells.specs.AtPlaces.{at_place};
+ghost use Rattle.group_cells.specs.KeyLists.{stands};
 ghost use Rattle.group_cells.specs.Placing.{gives_way, is_absorbed, is_same_key, takes};
+ghost use Rattle.group_cells.specs.Placing.{with_entry};
+ghost use Rattle.group_cells.specs.Plain.{put_at, stands_at, takes_at};
 ghost use Rattle.group_cells.specs.Rounds.{is_open, open_windows, AreSessionsOver, AreWindowsFor};
 ghost use Rattle.session_merge.specs.Merging.{AreApart, AreSessionsOf};
 
@@ -63,7 +70,8 @@ pub fn windows_for(
     }
 }
 
-fn open_windows(
+/// The windows of a Group and key that stand and aren't expired, in the order of their cells.
+pub fn open_windows(
     alloc: Global,
     rules: &Rules,
     before: Mark,
@@ -83,20 +91,28 @@ fn open_windows(
     Ok(open)
 }
 
-/// Of the own window of each entry that comes, the session over some open windows and all own ones in
+/// Of the own window of each entry that comes, the session over some windows that stand and all own ones in
 /// which it lies.
-pub fn sessions_over(alloc: Global, own: &[Span], open: &[Span]) -> Result<List<Span>, NoMemory>
-    ensures windows { IfOk result (AreSessionsOver own.now open.now) }
+pub fn sessions_over(alloc: Global, own: &[Span], standing: &[Span]) -> Result<List<Span>, NoMemory>
+    ensures windows { IfOk result (AreSessionsOver own.now standing.now) }
     ensures few { IfOk result (λ windows. length windows ≤ length own.now) }
 {
+    let all = by_start(alloc, standing, own)?;
     let mut sessions = SessionSet::new(alloc);
-    for span in open {
-        merge(&mut sessions, *span)?;
-    }
-    for span in own {
+    for span in &all {
         merge(&mut sessions, *span)?;
     }
     sessions_of(alloc, sessions.spans(), own)
+}
+
+/// All windows by their starts: one that is merged next moves no session that is listed.
+fn by_start(alloc: Global, standing: &[Span], own: &[Span]) -> Result<Vec<Span>, NoMemory>
+    ensures { IfOk result (λ all. IsPermutation (standing.now ++ own.now) all.items) }
+{
+    let mut all = Vec::from_slice(alloc, standing)?;
+    all.extend_from_slice(own)?;
+    all.sort_unstable_by_key(|span| span.start());
+    Ok(all)
 }
 
 /// Of each window, the listed one in which it lies.
@@ -217,8 +233,65 @@ pub fn is_same_span(a: Span, b: Span) -> bool
     a.start() == b.start() && a.end() == b.end()
 }
 
-fn lies_in(inner: Span, outer: Span) -> bool
+/// Whether a window lies in another.
+pub fn lies_in(inner: Span, outer: Span) -> bool
     ensures { result ≡ lies_in inner outer }
 {
     outer.start() <= inner.start() && inner.end() <= outer.end()
+}
+
+/// Whether a cell of the node and key has this window and wasn't merged into another.
+pub fn has_standing(node: u32, key: &Value, span: Span, cells: &[Cell]) -> bool
+    ensures { result ≡ list_any (stands_at node key.now span) cells.now }
+{
+    cells.iter().any(|cell| stands_at(node, key, span, cell))
+}
+
+fn stands_at(node: u32, key: &Value, span: Span, cell: &Cell) -> bool
+    ensures { result ≡ stands_at node key.now span cell.now }
+{
+    is_cell_at_key(node, key, cell) && cell.merged_into.is_none() && is_same_span(cell.span, span)
+}
+
+/// Where the first cell stands that takes an entry.
+pub fn first_taker(
+    rules: &Rules,
+    node: u32,
+    key: &Value,
+    entry: &Entry,
+    cells: &[Cell],
+) -> Option<usize>
+    ensures { MatchOption result (put_at rules.now node key.now entry.now cells.now ≡ cells.now)
+        (λ at. (at < length cells.now)
+        × ((d : CellOf) → put_at rules.now node key.now entry.now cells.now
+        ≡ slice_set cells.now at (with_entry entry.now (slice_index_or cells.now at d)))) }
+{
+    for (at, cell) in cells.iter().enumerate() {
+        if takes_at(rules, node, key, entry, cell) {
+            return Some(at);
+        }
+    }
+    None
+}
+
+fn takes_at(rules: &Rules, node: u32, key: &Value, entry: &Entry, cell: &Cell) -> bool
+    ensures { result ≡ takes_at rules.now node key.now entry.now cell.now }
+{
+    is_cell_at_key(node, key, cell) && takes(rules, entry, cell)
+}
+
+/// Whether one of the cells at these places stands.
+pub fn any_stands(cells: &[Cell], places: &[u32]) -> bool
+    ensures { result ≡ list_any (at_place stands false cells.now) places.now }
+{
+    places.iter().any(|place| stands_in(cells, *place))
+}
+
+fn stands_in(cells: &[Cell], place: u32) -> bool
+    ensures { result ≡ at_place stands false cells.now place }
+{
+    match cells.get(place as usize) {
+        None => false,
+        Some(cell) => cell.merged_into.is_none(),
+    }
 }

@@ -22,6 +22,9 @@ use Rattle.group_cells.specs.contracts.groups.fired.Unfired as Unfired
 use Rattle.group_cells.specs.contracts.groups.group_plan.GroupPlan as GroupPlan
 use Rattle.group_cells.specs.contracts.groups.group_plan.GroupPlan.TheInside as GroupPlanInside
 use Rattle.group_cells.specs.contracts.groups.handing.Given as Given
+use Rattle.group_cells.specs.contracts.groups.standing.Known as Known
+use Rattle.group_cells.specs.contracts.groups.standing.Listed as Listed
+use Rattle.group_cells.specs.contracts.groups.standing.Standing as Standing
 use Rattle.cell_index.specs.contracts.index.CellIndex as CellIndex
 use Rattle.cell_index.specs.contracts.index_key.CellKey as CellKey
 use Rattle.cell_index.specs.contracts.index_key.IndexKey as IndexKey
@@ -109,8 +112,17 @@ Rules-send = search (sendable, crosses) depth 40
 GroupPlan-send : IsSend GroupPlan.the_row
 GroupPlan-send = view_send _ _ _ _ _ (declared_send GroupPlanInside.the_type (search (Plan-send, Rules-send, Trigger-send, as_row_send, sendable, crosses) depth 40))
 
+Standing-send : IsSend Standing.the_row
+Standing-send = search (sendable, crosses) depth 40
+
+Listed-send : IsSend Listed.the_row
+Listed-send = declared_send Listed.the_type (search (Standing-send, as_row_send, sendable, crosses, maps) depth 40)
+
+Known-send : IsSend Known.the_row
+Known-send = variants_send Known.enum (search (Listed-send, as_row_send, sendable) depth 40)
+
 Groups-send : IsSend Groups.the_row
-Groups-send = view_send _ _ _ _ _ (declared_send GroupsInside.the_type (search (GroupPlan-send, Draft-send, GroupKey-send, List-send, as_row_send, sendable, crosses, maps) depth 40))
+Groups-send = view_send _ _ _ _ _ (declared_send GroupsInside.the_type (search (GroupPlan-send, Draft-send, GroupKey-send, Known-send, List-send, as_row_send, sendable, crosses, maps) depth 40))
 
 -- ---- the key cells
 

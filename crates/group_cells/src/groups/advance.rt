@@ -9,7 +9,7 @@ ghost use Rattle.cell_index.specs.Indexes.{IsIndexOf};
 ghost use Rattle.group_cells.specs.Arrivals.{merging, UnmergedStand};
 ghost use Rattle.group_cells.specs.Commits.{dropped_arrival, is_at_group, is_dropped};
 ghost use Rattle.group_cells.specs.Due.{IsDueOf};
-ghost use Rattle.group_cells.specs.KeyLists.{AreStanding};
+ghost use Rattle.group_cells.specs.KnownWindows.{AreStanding};
 ghost use Rattle.group_cells.specs.Plain.{AreCellsNext};
 ghost use Rattle.group_cells.specs.Undoing.{undone_all};
 ghost use Rattle.watermarks.specs.Holds.{hold_at};
@@ -20,7 +20,7 @@ use crate::groups::due::DueCells;
 use crate::groups::group_plan::GroupPlan;
 use crate::groups::keyed::{GroupKey, standing_of};
 use crate::groups::placing::Commit;
-use crate::groups::standing::Standing;
+use crate::groups::standing::Known;
 use crate::rules::Rules;
 use beam_values::{Arrival, Duplicate, List, Mark, NoMemory, Pane, StageMarks};
 use cell_index::CellIndex;
@@ -48,7 +48,7 @@ impl Draft {
         before: &[StageMarks],
         commit: u32,
         indexed: bool,
-        standing: &mut BTreeMap<GroupKey, List<Standing>>,
+        standing: &mut BTreeMap<GroupKey, Known>,
     ) -> Result<Next, NoMemory>
         requires checked { IsChecked plan.now }
         requires holds { length holds.now ≡ length plan.now.nodes }
@@ -102,7 +102,7 @@ impl Draft {
         before: &[StageMarks],
         commit: u32,
         indexed: bool,
-        standing: &mut BTreeMap<GroupKey, List<Standing>>,
+        standing: &mut BTreeMap<GroupKey, Known>,
     ) -> Result<Next, NoMemory>
         requires checked { IsChecked plan.now }
         requires holds { length holds.now ≡ length plan.now.nodes }
@@ -130,7 +130,7 @@ impl Draft {
         ensures undo { undone_all self.new.changes.items self.new.cells.items
             ≡ undone_all self.old.changes.items self.old.cells.items }
     {
-        self.prepare(alloc, plan, indexed, standing)?;
+        self.prepare(alloc, plan, before, indexed, standing)?;
         let others = others_of(alloc, plan.plan(), arrivals)?;
         let later = merging_of(alloc, plan, before, arrivals)?;
         let mut marks = Vec::from_slice(alloc, before)?;
@@ -168,8 +168,9 @@ impl Draft {
         &mut self,
         alloc: Global,
         plan: &GroupPlan,
+        before: &[StageMarks],
         indexed: bool,
-        standing: &mut BTreeMap<GroupKey, List<Standing>>,
+        standing: &mut BTreeMap<GroupKey, Known>,
     ) -> Result<(), NoMemory>
         requires indexed { indexed ≡ true → IsIndexOf self.old.index self.old.cells.items }
         requires due { indexed ≡ true → IsDueOf plan.now self.old.due self.old.cells.items }
@@ -184,7 +185,7 @@ impl Draft {
         if !indexed {
             self.index = CellIndex::of(alloc, self.cells.as_slice())?;
             self.due = DueCells::of(alloc, plan, self.cells.as_slice())?;
-            *standing = standing_of(alloc, plan, self.cells.as_slice())?;
+            *standing = standing_of(alloc, plan, before, self.cells.as_slice())?;
         }
         Ok(())
     }

@@ -1,4 +1,4 @@
-//! Lists by Group and key: the arrivals of a commit, and the places of the cells that stand at Groups of
+//! By Group and key: the arrivals of a commit, and what is known of the windows that stand at Groups of
 //! sessions.
 
 ghost use Rattle.std.specs.Prelude.{◌≡◌, ◌+◌, ◌&&◌, ◌∷◌, ◌++◌, [], length, List as ListOf};
@@ -12,12 +12,17 @@ ghost use Rattle.beam_values.specs.declared.arrival.Arrival.{Arrival as ArrivalO
 ghost use Rattle.beam_values.specs.declared.cell.Cell.{Cell as CellOf};
 ghost use Rattle.beam_model.specs.Panes.{rules_of};
 ghost use Rattle.group_cells.specs.Commits.{elements_keyed};
-ghost use Rattle.group_cells.specs.KeyLists.{all_listed, group_key_cmp, listed, AreStanding};
+ghost use Rattle.group_cells.specs.KeyLists.{all_listed, group_key_cmp, listed};
+ghost use Rattle.group_cells.specs.KnownWindows.{known_of, opens, AreKnown, AreStanding, IsKnownOf};
 ghost use Rattle.group_cells.specs.declared.groups.keyed.GroupKey.{GroupKey as GroupKeyOf};
 
+use crate::arrivals::mark_into;
 use crate::groups::group_plan::GroupPlan;
-use crate::groups::standing::{Standing, push_standing};
-use beam_values::{Arrival, Cell, Element, List, NoMemory, Value, cmp_values, copy_key};
+use crate::groups::standing::Known;
+use crate::rules::Rules;
+use beam_values::{
+    Arrival, Cell, Element, List, Mark, NoMemory, StageMarks, Value, cmp_values, copy_key,
+};
 use std::alloc::Global;
 use std::cmp::Ordering;
 use std::collections::BTreeMap;
@@ -154,17 +159,38 @@ fn push_arrival(
     push(alloc, lists, key, arrival.element)
 }
 
-/// Where the cells stand that are at Groups of sessions.
+/// What is known of a Group and key at a mark, taken out. Takes no memory.
+pub fn take_known(
+    alloc: Global,
+    standing: &mut BTreeMap<GroupKey, Known>,
+    key: &GroupKey,
+    rules: &Rules,
+    mark: Mark,
+) -> Known
+    ensures known { (cells : ListOf CellOf)
+        → IsKnownOf rules.now key.now.node key.now.key cells (known_of standing.old key.now)
+        → AreKnown mark (opens rules.now mark key.now.node key.now.key cells) result }
+    ensures others { (q : GroupKeyOf) → known_of standing.new q
+        ≡ (if is_eq (group_key_cmp key.now q) then None else known_of standing.old q) }
+{
+    match standing.remove(key) {
+        None => Known::none(alloc, mark),
+        Some(known) => known.at(rules, mark),
+    }
+}
+
+/// What is known of the windows of all cells at Groups of sessions, at these marks.
 pub fn standing_of(
     alloc: Global,
     plan: &GroupPlan,
+    before: &[StageMarks],
     cells: &[Cell],
-) -> Result<BTreeMap<GroupKey, List<Standing>>, NoMemory>
+) -> Result<BTreeMap<GroupKey, Known>, NoMemory>
     ensures { IfOk result (λ standing. AreStanding plan.now standing cells.now) }
 {
     let mut standing = BTreeMap::new(alloc);
     for (place, cell) in cells.iter().enumerate() {
-        push_cell(alloc, plan, cell, place, &mut standing)?;
+        push_cell(alloc, plan, before, cell, place, &mut standing)?;
     }
     Ok(standing)
 }
@@ -172,35 +198,27 @@ pub fn standing_of(
 fn push_cell(
     alloc: Global,
     plan: &GroupPlan,
+    before: &[StageMarks],
     cell: &Cell,
     place: usize,
-    standing: &mut BTreeMap<GroupKey, List<Standing>>,
+    standing: &mut BTreeMap<GroupKey, Known>,
 ) -> Result<(), NoMemory>
     ensures { OnOk result
         ((cells : ListOf CellOf) → place ≡ length cells → AreStanding plan.now standing.old cells
         → AreStanding plan.now standing.new (cells ++ cell.now ∷ [])) }
 {
-    if !merges_at(plan, cell.node) {
+    let Some(rules) = plan.rules(cell.node) else {
         return Ok(());
-    }
-    if cell.merged_into.is_some() {
+    };
+    if !rules.merges || cell.merged_into.is_some() {
         return Ok(());
     }
     let place = u32::try_from(place).map_err(|_| NoMemory)?;
     let key = key_of_cell(alloc, cell)?;
-    let mut listed = take(alloc, standing, &key);
-    push_standing(&mut listed, place, cell.span)?;
-    put(standing, key, listed)
-}
-
-/// Whether a node is a Group whose windows merge.
-fn merges_at(plan: &GroupPlan, node: u32) -> bool
-    ensures { result ≡ (is_group plan.now node && (rules_of plan.now node).merges) }
-{
-    match plan.rules(node) {
-        None => false,
-        Some(rules) => rules.merges,
-    }
+    let known = take_known(alloc, standing, &key, rules, mark_into(before, cell.node));
+    let known = known.with_cell(rules, cell.span, place)?;
+    standing.insert(key, known)?;
+    Ok(())
 }
 
 fn key_of_cell(alloc: Global, cell: &Cell) -> Result<GroupKey, NoMemory>

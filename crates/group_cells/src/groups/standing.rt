@@ -1,186 +1,450 @@
-//! Where the cells of a key stand at a Group of sessions, and which of them a commit has to look at: a window
-//! that ended before all others begin has no part in what becomes of them.
+//! Which windows of a key stand at a Group of sessions and still take entries. They are found by their ends, so
+//! that a window costs a look-up, and one more for each window that it overlaps. Those that expired leave when
+//! the key is looked at next.
 
-ghost use Rattle.std.specs.Prelude.{◌≡◌, ◌+◌, ◌<◌, ◌≤◌, ◌≤ℤ◌, ◌∷◌, ◌++◌, [], ℕ, false, true, length};
-ghost use Rattle.std.specs.Prelude.{slice_index_or, All, IfOk, List as ListOf, OnOk};
+ghost use Rattle.std.specs.Prelude.{◌≡◌, ◌≤◌, ◌<◌, ◌&&◌, ◌||◌, ◌==◌, ◌↔◌, ◌++◌, ℕ, ℤ, true, false};
+ghost use Rattle.std.specs.Prelude.{filter, not, length, map, All, Bool, Contains, IfOk, List as ListOf, OnOk};
+ghost use Rattle.std.specs.List.{list_any};
+ghost use Rattle.std.specs.List.Sorted.{IsStrictlySortedBy};
+ghost use Rattle.std.specs.Ordering.{nat_cmp};
+ghost use Rattle.beam_values.specs.Firing.{is_expired};
+ghost use Rattle.beam_values.specs.Intervals.{Interval};
 ghost use Rattle.beam_values.specs.Sessions.{IsNonEmpty};
+ghost use Rattle.beam_values.specs.Spans.{same_span};
 ghost use Rattle.beam_values.specs.declared.cell.Cell.{Cell as CellOf};
 ghost use Rattle.beam_values.specs.declared.value.Value.{Value as ValueOf};
-ghost use Rattle.group_cells.specs.KeyLists.{places_of, standing_places, ArePlaces, AreReached};
-ghost use Rattle.group_cells.specs.KeyLists.{IsFrom, IsOverBy, StartsFrom};
+ghost use Rattle.beam_model.specs.Panes.{is_cell_at_key, GroupRules};
+ghost use Rattle.group_cells.specs.KnownWindows.{meeting_places, meets, opens, overlaps, places_of};
+ghost use Rattle.group_cells.specs.KnownWindows.{window_at, AreKnown, AreListed, AreListedApart};
+ghost use Rattle.group_cells.specs.KnownWindows.{AreFilled, AreMet, AreNear, ArePlacesMet, HasNone, HasOpened};
+ghost use Rattle.group_cells.specs.KnownWindows.{IsFirstAfter, IsFirstExpired, IsHolder, IsKnown, IsNextAfter, IsTaker};
+ghost use Rattle.group_cells.specs.KnownWindows.{IsWithout};
+ghost use Rattle.group_cells.specs.Plain.{stands_at};
+ghost use Rattle.group_cells.specs.Rounds.{open_windows};
 ghost use Rattle.group_cells.specs.declared.groups.standing.Standing.{Standing as StandingOf};
 
-use beam_values::{Cell, Element, List, NoMemory, Span};
+use crate::rules::Rules;
+use crate::windows::{
+    any_stands, first_taker, has_standing, is_cell_at_key, is_open, is_same_span, lies_in,
+    open_windows,
+};
+use beam_values::{Cell, Entry, List, Mark, NoMemory, Span, Value};
+use pane_triggers::is_dropped;
 use std::alloc::Global;
+use std::collections::{BTreeMap, BTreeSet};
+use std::ops::Bound;
 
-/// A cell that stands, as one of a list of them.
+/// A window that stands, and where its cell does.
 #[derive(Clone, Copy, Debug)]
 pub struct Standing {
+    pub span: Span,
     pub place: u32,
-    /// By then this window has ended, and those of the cells that are listed before it.
-    pub reach: i64,
 }
 
-/// Where the cells of a key stand, in their order.
+/// The windows of a Group and key that stand and aren't expired at a mark, by their ends.
 #[derive(Debug, Drop)]
-pub struct Places {
-    /// The first ones, whose windows have ended by `low`.
-    pub far: List<Standing>,
-    /// No window of an element that comes begins earlier.
-    pub low: i64,
-    /// The others, which alone take such elements or give way to their sessions.
-    pub near: List<u32>,
+pub struct Listed {
+    pub mark: Mark,
+    pub by_end: BTreeMap<i64, Standing>,
 }
 
-/// How many listed cells are far, and by when they have ended.
-#[derive(Clone, Copy, Debug)]
-struct Cut {
-    far: usize,
-    low: i64,
+/// What is known of the windows of a Group and key that stand.
+#[derive(Debug, Drop)]
+pub enum Known {
+    /// No two overlap.
+    Apart(Listed),
+    /// Some may overlap, or a mark fell, which no run brings about: all cells are looked at.
+    Nothing,
 }
 
-/// Parts the listed cells where those that are far end before any window of the elements, or of the cells
-/// that are near, begins.
-pub fn places_for(
+impl Known {
+    /// Where no cell stands. Takes no memory.
+    pub fn none(alloc: Global, mark: Mark) -> Known
+        ensures { (rules : GroupRules) (node : ℕ) (key : ValueOf) (cells : ListOf CellOf)
+            → HasNone node key cells → AreKnown mark (opens rules mark node key cells) result }
+    {
+        Known::Apart(Listed {
+            mark,
+            by_end: BTreeMap::new(alloc),
+        })
+    }
+
+    /// What is known at a later mark.
+    pub fn at(self, rules: &Rules, mark: Mark) -> Known
+        ensures { (node : ℕ) (key : ValueOf) (cells : ListOf CellOf)
+            → IsKnown rules.now node key cells self
+            → AreKnown mark (opens rules.now mark node key cells) result }
+    {
+        let Known::Apart(listed) = self else {
+            return Known::Nothing;
+        };
+        if mark.ms() < listed.mark.ms() {
+            return Known::Nothing;
+        }
+        Known::Apart(listed.risen(rules, mark))
+    }
+
+    /// Whether a cell of the key stands that has this window, which isn't expired.
+    pub fn stands(&self, node: u32, key: &Value, cells: &[Cell], span: Span) -> bool
+        ensures { (rules : GroupRules) (mark : ℤ)
+            → AreKnown mark (opens rules mark node key.now cells.now) self.now
+            → is_expired rules.trigger span.end mark ≡ false
+            → result ≡ list_any (stands_at node key.now span) cells.now }
+    {
+        match self {
+            Known::Apart(listed) => listed.has(span),
+            Known::Nothing => has_standing(node, key, span, cells),
+        }
+    }
+
+    /// The place of the first cell that takes an entry, whose own window isn't expired.
+    pub fn taker(
+        &self,
+        rules: &Rules,
+        node: u32,
+        key: &Value,
+        cells: &[Cell],
+        entry: &Entry,
+    ) -> Option<usize>
+        ensures { (mark : ℤ) → rules.now.merges ≡ true
+            → AreKnown mark (opens rules.now mark node key.now cells.now) self.now
+            → is_expired rules.now.trigger entry.now.element.span.end mark ≡ false
+            → IsTaker rules.now node key.now entry.now cells.now result }
+    {
+        match self {
+            Known::Apart(listed) => listed.holder(entry.element.span),
+            Known::Nothing => first_taker(rules, node, key, entry, cells),
+        }
+    }
+
+    /// The places, ascending, of the cells of the key that stand, aren't expired and overlap a window.
+    pub fn meeting(
+        &self,
+        alloc: Global,
+        rules: &Rules,
+        mark: Mark,
+        node: u32,
+        key: &Value,
+        cells: &[Cell],
+        span: Span,
+    ) -> Result<List<u32>, NoMemory>
+        ensures places { IfOk result
+            (λ places. AreKnown mark (opens rules.now mark node key.now cells.now) self.now
+            → places ≡ meeting_places rules.now mark node key.now span cells.now) }
+        ensures filled { OnOk result
+            (AreKnown mark (opens rules.now mark node key.now cells.now) self.now
+            → AreFilled rules.now mark node key.now cells.now) }
+    {
+        match self {
+            Known::Apart(listed) => listed.places_met(alloc, span),
+            Known::Nothing => all_meeting(alloc, rules, mark, node, key, cells, span),
+        }
+    }
+
+    /// Of the windows that stand and aren't expired those that some own windows merge with.
+    pub fn near(
+        &self,
+        alloc: Global,
+        rules: &Rules,
+        mark: Mark,
+        node: u32,
+        key: &Value,
+        cells: &[Cell],
+        own: &[Span],
+    ) -> Result<List<Span>, NoMemory>
+        ensures { IfOk result
+            (λ near. AreKnown mark (opens rules.now mark node key.now cells.now) self.now
+            → AreNear own.now (open_windows rules.now mark
+            (filter (is_cell_at_key node key.now) cells.now)) near) }
+    {
+        match self {
+            Known::Apart(listed) => listed.near(alloc, own),
+            Known::Nothing => open_windows(alloc, rules, mark, node, key, cells),
+        }
+    }
+
+    /// What is known once the cell of a session was opened at a place, to which those at `met` gave way.
+    pub fn opened(
+        self,
+        alloc: Global,
+        cells: &[Cell],
+        met: &[u32],
+        span: Span,
+        place: u32,
+    ) -> Result<Known, NoMemory>
+        ensures { IfOk result (λ known. (rules : GroupRules) (mark : ℤ) (node : ℕ) (key : ValueOf)
+            (old : ListOf CellOf) → AreKnown mark (opens rules mark node key old) self
+            → met.now ≡ meeting_places rules mark node key span old
+            → HasOpened rules mark node key span place old cells.now
+            → AreKnown mark (opens rules mark node key cells.now) known) }
+    {
+        let Known::Apart(listed) = self else {
+            return Ok(Known::Nothing);
+        };
+        if any_stands(cells, met) {
+            return Ok(Known::Nothing);
+        }
+        let mut listed = listed;
+        listed.leave(alloc, span)?;
+        listed.with(span, place)
+    }
+
+    /// One more cell of the key, which stands.
+    pub fn with_cell(self, rules: &Rules, span: Span, place: u32) -> Result<Known, NoMemory>
+        ensures { IfOk result (λ known. (mark : ℤ) (test : ℕ → Interval → Bool)
+            → AreKnown mark test self
+            → AreKnown mark (λ other s. test other s || (other == place
+            && (not (is_expired rules.now.trigger s.end mark) && same_span span s))) known) }
+    {
+        let Known::Apart(listed) = self else {
+            return Ok(Known::Nothing);
+        };
+        if is_dropped(&rules.trigger, span.end(), listed.mark) {
+            return Ok(Known::Apart(listed));
+        }
+        listed.with(span, place)
+    }
+}
+
+impl Listed {
+    /// At a later mark, where those that expired leave.
+    fn risen(self, rules: &Rules, mark: Mark) -> Listed
+        ensures mark { result.mark ≡ mark }
+        ensures left { AreListedApart self.by_end
+            → IsWithout (λ s. is_expired rules.now.trigger s.end mark) self.by_end result.by_end }
+    {
+        let Listed { mark: _, by_end } = self;
+        let mut by_end = by_end;
+        drop_expired(rules, mark, &mut by_end);
+        Listed { mark, by_end }
+    }
+
+    /// The first window that ends after a time, and its end.
+    fn next_after(&self, time: i64) -> Option<(i64, Standing)>
+        ensures { IsNextAfter time self.now.by_end result }
+    {
+        match self.first_after(time) {
+            Some((end, window)) => Some((time_in(end), *window)),
+            None => None,
+        }
+    }
+
+    fn first_after(&self, time: i64) -> Option<(&i64, &Standing)>
+        ensures { IsFirstAfter time self.now.by_end result }
+    {
+        let after = (Bound::Excluded(time), Bound::Unbounded);
+        match self.by_end.range(after).next() {
+            Some((end, window)) => Some((end, window)),
+            None => None,
+        }
+    }
+
+    fn has(&self, span: Span) -> bool
+        ensures found { (place : ℕ) → window_at self.now.by_end span.end
+            ≡ Some (record { span = span; place = place }) → result ≡ true }
+        ensures there { result ≡ true → (place : ℕ) × (window_at self.now.by_end span.end
+            ≡ Some (record { span = span; place = place })) }
+    {
+        match self.by_end.get(&span.end()) {
+            None => false,
+            Some(window) => is_same_span(window.span, span),
+        }
+    }
+
+    /// Where the cell stands in whose window another one lies.
+    fn holder(&self, span: Span) -> Option<usize>
+        ensures { AreListedApart self.now.by_end → IsHolder span self.now.by_end result }
+    {
+        let (_, window) = self.next_after(span.start())?;
+        if lies_in(span, window.span) {
+            Some(window.place as usize)
+        } else {
+            None
+        }
+    }
+
+    /// The windows that overlap one.
+    fn met(&self, alloc: Global, span: Span) -> Result<List<Standing>, NoMemory>
+        ensures met { IfOk result
+            (λ met. AreListedApart self.now.by_end → AreMet span self.now.by_end met) }
+        ensures some { IsNonEmpty span }
+    {
+        let mut met = List::new(alloc);
+        let mut after = span.start();
+        'walk: while let Some((end, window)) = self.next_after(after) {
+            if span.end() <= window.span.start() {
+                return Ok(met);
+            }
+            met.push(window)?;
+            after = end;
+        }
+        Ok(met)
+    }
+
+    fn places_met(&self, alloc: Global, span: Span) -> Result<List<u32>, NoMemory>
+        ensures { IfOk result (λ places. (test : ℕ → Interval → Bool)
+            → AreListed test self.now.by_end → ArePlacesMet test span places) }
+    {
+        let met = self.met(alloc, span)?;
+        in_order(alloc, met.as_slice())
+    }
+
+    /// The windows that overlap some others, each as often as it does.
+    fn near(&self, alloc: Global, own: &[Span]) -> Result<List<Span>, NoMemory>
+        ensures listed { IfOk result (λ near. AreListedApart self.now.by_end
+            → All (λ span. (t : StandingOf) × (window_at self.now.by_end span.end ≡ Some t)
+            × (t.span ≡ span)) near) }
+        ensures some { OnOk result (All IsNonEmpty own.now) }
+        ensures whole { IfOk result (λ near. AreListedApart self.now.by_end
+            → All (λ span. (e : ℤ) (t : StandingOf) → window_at self.now.by_end e ≡ Some t
+            → overlaps span t.span ≡ true → Contains near t.span) own.now) }
+    {
+        let mut near = List::new(alloc);
+        for span in own {
+            let met = self.met(alloc, *span)?;
+            push_spans(met.as_slice(), &mut near)?;
+        }
+        Ok(near)
+    }
+
+    /// Whether a window overlaps a listed one.
+    fn is_met(&self, span: Span) -> bool
+        ensures some { IsNonEmpty span }
+        ensures none { AreListedApart self.now.by_end → result ≡ false → (e : ℤ) (t : StandingOf)
+            → window_at self.now.by_end e ≡ Some t → overlaps span t.span ≡ false }
+    {
+        let end = span.end();
+        match self.next_after(span.start()) {
+            None => false,
+            Some((_, window)) => window.span.start() < end,
+        }
+    }
+
+    /// The windows that overlap one leave.
+    fn leave(&mut self, alloc: Global, span: Span) -> Result<(), NoMemory>
+        ensures left { OnOk result (AreListedApart self.old.by_end
+            → IsWithout (overlaps span) self.old.by_end self.new.by_end) }
+        ensures mark { self.new.mark ≡ self.old.mark }
+    {
+        let met = self.met(alloc, span)?;
+        for window in met.as_slice() {
+            self.by_end.remove(&window.span.end());
+        }
+        Ok(())
+    }
+
+    /// One more window. Where it overlaps another, nothing is known.
+    fn with(self, span: Span, place: u32) -> Result<Known, NoMemory>
+        ensures { IfOk result (λ known. (test : ℕ → Interval → Bool) → AreListed test self.by_end
+            → AreKnown self.mark (λ other s. test other s || (other == place && same_span span s))
+            known) }
+    {
+        if self.is_met(span) {
+            return Ok(Known::Nothing);
+        }
+        let mut listed = self;
+        listed.by_end.insert(span.end(), Standing { span, place })?;
+        Ok(Known::Apart(listed))
+    }
+}
+
+/// Those that have expired at a mark leave.
+fn drop_expired(rules: &Rules, mark: Mark, by_end: &mut BTreeMap<i64, Standing>)
+    ensures { AreListedApart by_end.old
+        → IsWithout (λ s. is_expired rules.now.trigger s.end mark) by_end.old by_end.new }
+{
+    'expired: while let Some(end) = first_expired(rules, mark, by_end) {
+        by_end.remove(&end);
+    }
+}
+
+/// The least end, if it has expired.
+fn first_expired(rules: &Rules, mark: Mark, by_end: &BTreeMap<i64, Standing>) -> Option<i64>
+    ensures { IsFirstExpired rules.now.trigger mark by_end.now result }
+{
+    let (first, _) = by_end.first_key_value()?;
+    let end = time_in(first);
+    if is_dropped(&rules.trigger, end, mark) {
+        Some(end)
+    } else {
+        None
+    }
+}
+
+fn time_in(time: &i64) -> i64
+    ensures { result ≡ time.now }
+{
+    *time
+}
+
+/// Their places, ascending.
+fn in_order(alloc: Global, met: &[Standing]) -> Result<List<u32>, NoMemory>
+    ensures ascend { IfOk result (IsStrictlySortedBy nat_cmp) }
+    ensures same { IfOk result
+        (λ places. (p : ℕ) → Contains places p ↔ Contains (places_of met.now) p) }
+{
+    let mut places = BTreeSet::new(alloc);
+    for window in met {
+        places.insert(window.place)?;
+    }
+    list_of(alloc, &places)
+}
+
+fn list_of(alloc: Global, places: &BTreeSet<u32>) -> Result<List<u32>, NoMemory>
+    ensures list { IfOk result (λ list. list ≡ places.now.keys) }
+    ensures ascend { IsStrictlySortedBy nat_cmp places.now.keys }
+{
+    let mut list = List::new(alloc);
+    for place in places {
+        list.push(*place)?;
+    }
+    Ok(list)
+}
+
+fn push_spans(met: &[Standing], near: &mut List<Span>) -> Result<(), NoMemory>
+    ensures { OnOk result (near.new ≡ near.old ++ map (λ window. window.span) met.now) }
+{
+    for window in met {
+        near.push(window.span)?;
+    }
+    Ok(())
+}
+
+/// The same as of `Known::meeting`, where all cells are looked at.
+fn all_meeting(
     alloc: Global,
+    rules: &Rules,
+    mark: Mark,
+    node: u32,
+    key: &Value,
     cells: &[Cell],
-    own: &[Element],
-    listed: List<Standing>,
-) -> Result<Places, NoMemory>
-    ensures places { IfOk result (λ places. (node : ℕ) (key : ValueOf)
-        → places_of listed ≡ standing_places node key cells.now → AreReached cells.now listed
-        → ArePlaces node key cells.now places) }
-    ensures reached { IfOk result
-        (λ places. AreReached cells.now listed → AreReached cells.now places.far) }
-    ensures own { IfOk result (λ places. All (λ e. IsFrom places.low e.span) own.now) }
-    ensures near { IfOk result (λ places. All (StartsFrom places.low cells.now) places.near) }
-{
-    let cut = cut_at(cells, listed.as_slice(), least_start(own));
-    let near = places_of(alloc, listed.as_slice().split_at(cut.far).1)?;
-    let mut far = listed;
-    far.truncate(cut.far);
-    Ok(Places {
-        far,
-        low: cut.low,
-        near,
-    })
-}
-
-/// A time before which no window of the elements begins.
-fn least_start(own: &[Element]) -> i64
-    ensures { All (λ e. IsFrom result e.span) own.now }
-{
-    let mut least = i64::MAX;
-    for element in own {
-        least = lesser(least, element.span.start());
-    }
-    least
-}
-
-fn lesser(a: i64, b: i64) -> i64
-    ensures { (result ≤ℤ a) × (result ≤ℤ b) }
-{
-    if b < a { b } else { a }
-}
-
-/// Walks back from the last listed cell: one that reaches beyond the time so far is near, and lowers it to the
-/// start of its window.
-fn cut_at(cells: &[Cell], listed: &[Standing], least: i64) -> Cut
-    ensures within { result.far ≤ length listed.now }
-    ensures low { result.low ≤ℤ least }
-    ensures far { (k : ℕ) (d : StandingOf) → k + 1 ≡ result.far
-        → (slice_index_or listed.now k d).reach ≤ℤ result.low }
-    ensures near { (k : ℕ) (d : StandingOf) → result.far ≤ k → k < length listed.now
-        → StartsFrom result.low cells.now (slice_index_or listed.now k d).place }
-{
-    let mut far = listed.len();
-    let mut low = least;
-    'back: while is_last_near(listed, far, low) {
-        far -= 1;
-        low = start_at(cells, listed[far].place, low);
-    }
-    Cut { far, low }
-}
-
-/// Whether the last of so many first listed cells, or one before it, reaches beyond a time.
-fn is_last_near(listed: &[Standing], count: usize, low: i64) -> bool
-    requires { count ≤ length listed.now }
-    ensures some { result ≡ true → 0 < count }
-    ensures over { result ≡ false → (k : ℕ) (d : StandingOf) → k + 1 ≡ count
-        → (slice_index_or listed.now k d).reach ≤ℤ low }
-{
-    if count == 0 {
-        return false;
-    }
-    low < listed[count - 1].reach
-}
-
-/// The lesser of a time and the start of the window of the cell at a place.
-fn start_at(cells: &[Cell], place: u32, low: i64) -> i64
-    ensures low { result ≤ℤ low }
-    ensures start { StartsFrom result cells.now place }
-{
-    match cells.get(place as usize) {
-        None => low,
-        Some(cell) => lesser(low, cell.span.start()),
-    }
-}
-
-fn places_of(alloc: Global, listed: &[Standing]) -> Result<List<u32>, NoMemory>
-    ensures { IfOk result (λ places. places ≡ places_of listed.now) }
+    span: Span,
+) -> Result<List<u32>, NoMemory>
+    ensures places { IfOk result
+        (λ places. places ≡ meeting_places rules.now mark node key.now span cells.now) }
+    ensures filled { OnOk result (All (λ cell. IsNonEmpty cell.span) cells.now) }
 {
     let mut places = List::new(alloc);
-    for standing in listed {
-        places.push(standing.place)?;
+    for (place, cell) in cells.iter().enumerate() {
+        if meets(rules, mark, node, key, cell, span) {
+            places.push(u32::try_from(place).map_err(|_| NoMemory)?)?;
+        }
     }
     Ok(places)
 }
 
-/// Lists the cells that are near behind those that are far.
-pub fn listed_again(cells: &[Cell], places: Places) -> Result<List<Standing>, NoMemory>
-    requires { All (λ place. place < length cells.now) places.near }
-    ensures places { IfOk result
-        (λ listed. places_of listed ≡ places_of places.far ++ places.near) }
-    ensures reached { IfOk result
-        (λ listed. AreReached cells.now places.far → AreReached cells.now listed) }
+fn meets(rules: &Rules, mark: Mark, node: u32, key: &Value, cell: &Cell, span: Span) -> bool
+    ensures meets { result ≡ meets rules.now mark node key.now span cell.now }
+    ensures some { IsNonEmpty cell.now.span }
 {
-    let Places { far, low: _, near } = places;
-    let mut listed = far;
-    for place in near.as_slice() {
-        push_at(cells, *place, &mut listed)?;
-    }
-    Ok(listed)
+    let overlaps = overlaps(span, cell.span);
+    is_cell_at_key(node, key, cell) && is_open(rules, mark, cell) && overlaps
 }
 
-fn push_at(cells: &[Cell], place: u32, listed: &mut List<Standing>) -> Result<(), NoMemory>
-    requires { place < length cells.now }
-    ensures places { OnOk result (places_of listed.new ≡ places_of listed.old ++ place ∷ []) }
-    ensures reached { OnOk result
-        (AreReached cells.now listed.old → AreReached cells.now listed.new) }
+fn overlaps(a: Span, b: Span) -> bool
+    ensures overlaps { result ≡ overlaps a b }
+    ensures some { IsNonEmpty b }
 {
-    push_standing(listed, place, cells[place as usize].span)
-}
-
-/// Lists one more cell, of this window, behind the others.
-pub fn push_standing(listed: &mut List<Standing>, place: u32, span: Span) -> Result<(), NoMemory>
-    ensures some { IsNonEmpty span }
-    ensures places { OnOk result (places_of listed.new ≡ places_of listed.old ++ place ∷ []) }
-    ensures reached { OnOk result ((cells : ListOf CellOf) → AreReached cells listed.old
-        → IsOverBy span.end cells place → AreReached cells listed.new) }
-{
-    let reach = reach_with(listed.as_slice(), span.end());
-    listed.push(Standing { place, reach })
-}
-
-/// The greater of a time and what the last listed cell reaches.
-fn reach_with(listed: &[Standing], end: i64) -> i64
-    ensures end { end ≤ℤ result }
-    ensures listed { (k : ℕ) (d : StandingOf) → k + 1 ≡ length listed.now
-        → (slice_index_or listed.now k d).reach ≤ℤ result }
-{
-    if listed.is_empty() {
-        return end;
-    }
-    let last = listed[listed.len() - 1].reach;
-    if last < end { end } else { last }
+    let end = b.end();
+    a.start() < end && b.start() < a.end()
 }

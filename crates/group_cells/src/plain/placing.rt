@@ -1,17 +1,15 @@
 //! Where the entries of one Group and key go.
 
-ghost use Rattle.std.specs.Prelude.{◌≡◌, ◌+◌, ◌++◌, ◌<◌, ◌≤◌, length, map};
-ghost use Rattle.std.specs.Prelude.{slice_index_or, slice_set, IfOk, OnOk, MatchOption};
-ghost use Rattle.std.specs.List.{flat_map, list_any};
-ghost use Rattle.beam_values.specs.declared.cell.Cell.{Cell as CellOf};
-ghost use Rattle.group_cells.specs.Placing.{with_entry};
+ghost use Rattle.std.specs.Prelude.{◌≡◌, ◌+◌, ◌++◌, ◌≤◌, length, map, IfOk, OnOk};
+ghost use Rattle.std.specs.List.{flat_map};
 ghost use Rattle.group_cells.specs.Plain.{ArePlacedAt, handed_over_at, once_opened_at};
 ghost use Rattle.group_cells.specs.Plain.{opened_all_at, opened_at, opening_of, put_all_at, put_at};
-ghost use Rattle.group_cells.specs.Plain.{stands_at, takes_at};
 ghost use Rattle.group_cells.specs.Rounds.{entry_of};
 
 use crate::rules::Rules;
-use crate::windows::{gives_way, is_cell_at_key, is_same_span, own_spans, takes, windows_for};
+use crate::windows::{
+    first_taker, gives_way, has_standing, is_cell_at_key, own_spans, windows_for,
+};
 use beam_values::{Cell, Element, Entry, List, Mark, NoMemory, Span, Value};
 use std::alloc::Global;
 use std::mem;
@@ -90,19 +88,6 @@ fn open(
         merged_into: None,
     })?;
     Ok(())
-}
-
-/// Whether a cell of the node and key has this window and wasn't merged into another.
-pub fn has_standing(node: u32, key: &Value, span: Span, cells: &[Cell]) -> bool
-    ensures { result ≡ list_any (stands_at node key.now span) cells.now }
-{
-    cells.iter().any(|cell| stands_at(node, key, span, cell))
-}
-
-fn stands_at(node: u32, key: &Value, span: Span, cell: &Cell) -> bool
-    ensures { result ≡ stands_at node key.now span cell.now }
-{
-    is_cell_at_key(node, key, cell) && cell.merged_into.is_none() && is_same_span(cell.span, span)
 }
 
 fn hand_all_over(
@@ -184,32 +169,11 @@ fn put(
 ) -> Result<(), NoMemory>
     ensures { OnOk result (cells.new.items ≡ put_at rules.now node key.now entry cells.old.items) }
 {
-    match taker(rules, node, key, &entry, cells.as_slice()) {
+    match first_taker(rules, node, key, &entry, cells.as_slice()) {
         None => Ok(()),
         Some(at) => {
             let cell = &mut cells[at];
             cell.entries.push(entry)
         }
     }
-}
-
-/// Where the first cell stands that takes an entry.
-pub fn taker(rules: &Rules, node: u32, key: &Value, entry: &Entry, cells: &[Cell]) -> Option<usize>
-    ensures { MatchOption result (put_at rules.now node key.now entry.now cells.now ≡ cells.now)
-        (λ at. (at < length cells.now)
-        × ((d : CellOf) → put_at rules.now node key.now entry.now cells.now
-        ≡ slice_set cells.now at (with_entry entry.now (slice_index_or cells.now at d)))) }
-{
-    for (at, cell) in cells.iter().enumerate() {
-        if takes_at(rules, node, key, entry, cell) {
-            return Some(at);
-        }
-    }
-    None
-}
-
-fn takes_at(rules: &Rules, node: u32, key: &Value, entry: &Entry, cell: &Cell) -> bool
-    ensures { result ≡ takes_at rules.now node key.now entry.now cell.now }
-{
-    is_cell_at_key(node, key, cell) && takes(rules, entry, cell)
 }

@@ -1,4 +1,4 @@
-use Rattle.std.proofs.Common.{List, ap, arith, length, subst, sym, true, ◌≡◌}
+use Rattle.std.proofs.Common.{List, None, ap, arith, length, refl, subst, sym, true, ◌≡◌}
 use Rattle.std.proofs.lemmas.List.Elements.{All-nil}
 use Rattle.beam_values.specs.Nodes.{is_group}
 use Rattle.beam_values.specs.declared.cell.Cell.{Cell}
@@ -6,20 +6,22 @@ use Rattle.cell_index.specs.Indexes.{IsIndexOf}
 use Rattle.group_cells.specs.Arrivals.{UnmergedStand}
 use Rattle.group_cells.specs.Due.{IsDueOf}
 use Rattle.group_cells.specs.Plain.{AreCells}
-use Rattle.group_cells.specs.KeyLists.{group_key_cmp, listed, places_of, AreReached, AreStanding}
+use Rattle.group_cells.specs.KeyLists.{group_key_cmp}
+use Rattle.group_cells.specs.KnownWindows.{known_of, AreStanding, IsKnownOf}
 use Rattle.group_cells.specs.declared.groups.keyed.GroupKey.{GroupKey}
-use Rattle.group_cells.specs.declared.groups.standing.Standing.{Standing}
+use Rattle.group_cells.specs.declared.groups.standing.Known.{Known}
 use Rattle.std.specs.Map.{lookup}
 use Rattle.std.specs.Ordering.{is_eq}
-use Rattle.std.specs.Prelude.{[], unwrap_or}
+use Rattle.std.specs.Prelude.{[]}
+use Rattle.beam_model.specs.Panes.{rules_of}
 use Rattle.group_cells.proofs.groups.Groups.new.Goals as goal
 
 pub invariant_of-result : goal.invariant_of-result
 invariant_of-result c =
     let plan = c.in_ok-new.field-0 in
     let none = sym c.new-2.ensures.items in
-    let unlisted : (q : GroupKey) → listed c.new-7.result q ≡ [] =
-    λ q. ap (λ (es : List (GroupKey × List Standing)). unwrap_or (lookup (λ k. is_eq (group_key_cmp q k)) es) []) c.new-7.ensures.empty in
+    let unknown : (q : GroupKey) → known_of c.new-7.result q ≡ None =
+    λ q. ap (λ (es : List (GroupKey × Known)). lookup (λ k. is_eq (group_key_cmp q k)) es) c.new-7.ensures.empty in
     record {
       cells = subst (λ (l : List Cell). AreCells plan l) none (record {
         groups = All-nil (λ (cell : Cell). is_group plan cell.node ≡ true);
@@ -29,8 +31,7 @@ invariant_of-result c =
       index = λ _. subst (λ (l : List Cell). IsIndexOf c.new-4.result l) none c.new-4.ensures;
       due = λ _. subst (λ (l : List Cell). IsDueOf plan c.new-5.result l) none (c.new-5.ensures plan);
       standing_are = λ _. subst (λ (l : List Cell). AreStanding plan c.new-7.result l) none (record {
-        each = λ q at merges. ap places_of (unlisted q);
-        reached = λ q at merges. subst (AreReached []) (sym (unlisted q)) (λ i k d upto within. absurd (omega arith));
+        each = λ q at merges. subst (IsKnownOf (rules_of plan q.node) q.node q.key []) (sym (unknown q)) (λ place. refl);
       });
       small = omega (arith, ap length c.new-2.ensures.items);
       changes = c.new-6.ensures.items;

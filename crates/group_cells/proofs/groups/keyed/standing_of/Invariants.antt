@@ -1,5 +1,5 @@
 use Rattle.std.proofs.Common.{take}
-use Rattle.group_cells.specs.KeyLists.{AreStanding}
+use Rattle.group_cells.specs.KnownWindows.{AreStanding}
 use Rattle.group_cells.proofs.groups.keyed.standing_of.Given as goal
 
 abbrev pub invariant-loop-place : goal.invariant-loop-place

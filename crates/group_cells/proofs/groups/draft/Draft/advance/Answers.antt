@@ -7,12 +7,14 @@ use Rattle.beam_values.specs.declared.marks.StageMarks.{StageMarks}
 use Rattle.beam_model.specs.Panes.{rules_of}
 use Rattle.watermarks.specs.Holds.{hold_at}
 use Rattle.group_cells.specs.Arrivals.{with_arrivals}
-use Rattle.group_cells.specs.KeyLists.{AreStanding}
+use Rattle.group_cells.specs.Commits.{arrives_in_time}
+use Rattle.group_cells.specs.KnownWindows.{AreStanding}
 use Rattle.group_cells.specs.Plain.{AreCellsNext}
 use Rattle.group_cells.proofs.AllArrived.{all_placed, all_stand, joined}
 use Rattle.group_cells.proofs.FiredFew.{arrivals_few, same_length}
 use Rattle.group_cells.proofs.Advancing.{index_moved, later_at_groups, stand_fired}
-use Rattle.group_cells.proofs.SessionsInTurn.{later_merges, standing_arrived, standing_fired}
+use Rattle.group_cells.proofs.KnownKeys.{later_in_time, standing_arrived, standing_fired}
+use Rattle.group_cells.proofs.SessionsInTurn.{later_merges}
 use Rattle.group_cells.proofs.groups.draft.Draft.advance.Goals as goal
 
 pub place_later-requires-clause-groups : goal.place_later-requires-clause-groups
@@ -24,6 +26,11 @@ pub place_later-requires-clause-merging : goal.place_later-requires-clause-mergi
 place_later-requires-clause-merging c =
     subst (λ (l : List Arrival). All (λ arrival. (rules_of c.args.plan.now arrival.node).merges ≡ true) l) (sym c.in_ok-later.ensures)
     (later_merges c.args.plan.now c.args.before.now c.args.arrivals.now)
+
+pub place_later-requires-clause-unexpired : goal.place_later-requires-clause-unexpired
+place_later-requires-clause-unexpired c =
+    subst (λ (l : List Arrival). All (λ arrival. arrives_in_time c.args.plan.now c.args.before.now arrival ≡ true) l) (sym c.in_ok-later.ensures)
+    (later_in_time c.args.plan.now c.args.before.now c.args.arrivals.now)
 
 pub place_later-requires-clause-standing : goal.place_later-requires-clause-standing
 place_later-requires-clause-standing c =

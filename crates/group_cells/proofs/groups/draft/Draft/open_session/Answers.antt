@@ -1,34 +1,63 @@
-use Rattle.std.proofs.Common.{◌≡◌, ◌∙◌, [], ◌∷◌, ◌++◌, ap, false, length, rules, sym}
-use Rattle.std.specs.List.{filter, fold, list_any}
-use Rattle.group_cells.specs.AtPlaces.{at_place, changed_at, given_all}
-use Rattle.group_cells.specs.KeyLists.{stands}
-use Rattle.group_cells.specs.Placing.{fresh_cell, handed_over, once_opened, stands_as}
-use Rattle.group_cells.proofs.OpenedNear.{nothing_opened, opened_so, places_so}
+use Rattle.std.proofs.Common.{◌≡◌, ◌∙◌, ℕ, [], ◌∷◌, ◌++◌, List, ap, false, length, rules, subst, sym, true}
+use Rattle.std.specs.List.{fold, list_any}
+use Rattle.beam_values.specs.declared.cell.Cell.{Cell}
+use Rattle.group_cells.specs.AtPlaces.{changed_at, given_all}
+use Rattle.group_cells.specs.KnownWindows.{meeting_places, opens, AreFilled, AreKnown, HasOpened}
+use Rattle.group_cells.specs.Placing.{fresh_cell, handed_over, once_opened}
+use Rattle.group_cells.specs.Plain.{stands_at}
+use Rattle.group_cells.proofs.OpenedSessions.{opened_has, opened_nothing, opened_so}
 use Rattle.group_cells.proofs.groups.draft.Draft.open_session.Goals as goal
 
-pub returns-then-any_stands_as-clause-ok : goal.returns-then-any_stands_as-clause-ok
-returns-then-any_stands_as-clause-ok c =
-    nothing_opened c.args.rules.now c.args.before c.args.key.now.node c.args.key.now.key c.args.span c.args.self.now.cells.items c.args.places c.requires.places c.requires.from
-    (sym (c.any_stands_as.ensures ∙ (λ i. list_any (at_place (stands_as c.args.span) false (c.as_slice.ensures.value i)) (c.as_slice-2.ensures i))) ∙ c.if-any_stands_as.true)
+pub returns-then-stands-clause-ok : goal.returns-then-stands-clause-ok
+returns-then-stands-clause-ok c =
+    let rs = c.args.rules.now in
+    let key = c.args.key.now in
+    let seen = c.as_slice-cells.result.now in
+    let known : AreKnown c.args.before (opens rs c.args.before key.node key.key seen) c.args.known =
+    subst (λ (l : List Cell). AreKnown c.args.before (opens rs c.args.before key.node key.key l) c.args.known) (sym c.as_slice-cells.ensures.value) c.requires.known in
+    opened_nothing rs c.args.before key.node key.key c.args.span c.args.self.now.cells.items
+    (ap (list_any (stands_at key.node key.key c.args.span)) (sym c.as_slice-cells.ensures.value) ∙ sym (c.stands.ensures rs c.args.before known c.requires.unexpired) ∙ c.if-stands.true)
 
 pub returns-clause-ok : goal.returns-clause-ok
 returns-clause-ok c =
-    let once = once_opened c.args.rules.now c.args.before c.args.span in
-    let over = handed_over c.args.rules.now c.args.before c.args.span in
+    let rs = c.args.rules.now in
+    let before = c.args.before in
+    let key = c.args.key.now in
+    let span = c.args.span in
     let old = c.args.self.now.cells.items in
-    opened_so c.args.rules.now c.args.before c.args.key.now.node c.args.key.now.key c.args.span old c.args.places c.requires.places c.requires.from c.open_over.new.self.cells.items
+    let seen = c.as_slice-cells.result.now in
+    let met = c.in_ok-met.met in
+    let is = c.as_slice-cells.ensures.value in
+    let known : AreKnown before (opens rs before key.node key.key seen) c.args.known =
+    subst (λ (l : List Cell). AreKnown before (opens rs before key.node key.key l) c.args.known) (sym is) c.requires.known in
+    let absent = ap (list_any (stands_at key.node key.key span)) (sym is) ∙ sym (c.stands.ensures rs before known c.requires.unexpired) ∙ c.if-stands.false in
+    let are = c.in_ok-met.ensures.places known ∙ ap (meeting_places rs before key.node key.key span) is in
+    let filled : AreFilled rs before key.node key.key old = subst (AreFilled rs before key.node key.key) is (c.in_ok-met.ensures.filled known) in
+    opened_so rs before key.node key.key span old filled met c.open_over.new.self.cells.items are
     (c.in_ok-open_over.ensures.ok
-    ∙ ap (λ l. fold (changed_at once) old l ++ fresh_cell c.args.key.now.node c.args.key.now.key c.args.span (given_all once over l old) ∷ []) c.as_slice-3.ensures)
-    (sym (c.any_stands_as.ensures ∙ (λ i. list_any (at_place (stands_as c.args.span) false (c.as_slice.ensures.value i)) (c.as_slice-2.ensures i))) ∙ c.if-any_stands_as.false)
+    ∙ ap (λ (l : List ℕ). fold (changed_at (once_opened rs before span)) old l ++ fresh_cell key.node key.key span (given_all (once_opened rs before span) (handed_over rs before span) l old) ∷ []) c.as_slice.ensures)
+    absent
 
-pub returns-clause-places : goal.returns-clause-places
-returns-clause-places c =
-    let once = once_opened c.args.rules.now c.args.before c.args.span in
-    let over = handed_over c.args.rules.now c.args.before c.args.span in
+pub returns-clause-known : goal.returns-clause-known
+returns-clause-known c =
+    let rs = c.args.rules.now in
+    let before = c.args.before in
+    let key = c.args.key.now in
+    let span = c.args.span in
     let old = c.args.self.now.cells.items in
-    let behind : c.in_ok-place.place ≡ length c.args.self.now.cells.items = search rules in
-    places_so c.args.rules.now c.args.before c.args.key.now.node c.args.key.now.key c.args.span old c.args.places c.requires.places c.requires.from c.open_over.new.self.cells.items
+    let new = c.open_over.new.self.cells.items in
+    let seen = c.as_slice-cells.result.now in
+    let met = c.in_ok-met.met in
+    let is = c.as_slice-cells.ensures.value in
+    let behind : c.in_ok-place.place ≡ length seen = search rules in
+    let known : AreKnown before (opens rs before key.node key.key seen) c.args.known =
+    subst (λ (l : List Cell). AreKnown before (opens rs before key.node key.key l) c.args.known) (sym is) c.requires.known in
+    let are = c.in_ok-met.ensures.places known ∙ ap (meeting_places rs before key.node key.key span) is in
+    let filled : AreFilled rs before key.node key.key old = subst (AreFilled rs before key.node key.key) is (c.in_ok-met.ensures.filled known) in
+    let has = opened_has rs before key.node key.key span old filled met new are
     (c.in_ok-open_over.ensures.ok
-    ∙ ap (λ l. fold (changed_at once) old l ++ fresh_cell c.args.key.now.node c.args.key.now.key c.args.span (given_all once over l old) ∷ []) c.as_slice-3.ensures)
-    c.in_ok-place.place c.in_ok-places.field-0 behind
-    (c.in_ok-places.ensures ∙ (λ i. filter (at_place stands false (c.as_slice-4.ensures.value i)) ((c.as_slice-5.ensures ∙ c.in_ok-push.ensures.ok) i)))
+    ∙ ap (λ (l : List ℕ). fold (changed_at (once_opened rs before span)) old l ++ fresh_cell key.node key.key span (given_all (once_opened rs before span) (handed_over rs before span) l old) ∷ []) c.as_slice.ensures)
+    c.in_ok-place.place (behind ∙ ap length is) c.requires.unexpired in
+    let whole : HasOpened rs before key.node key.key span c.in_ok-place.place old c.as_slice-2.result.now = subst (HasOpened rs before key.node key.key span c.in_ok-place.place old) (sym c.as_slice-2.ensures.value) has in
+    subst (λ (l : List Cell). AreKnown before (opens rs before key.node key.key l) c.in_ok-known.known) c.as_slice-2.ensures.value
+    (c.in_ok-known.ensures rs before key.node key.key old c.requires.known (c.as_slice-3.ensures ∙ are) whole)

@@ -1,10 +1,15 @@
-use Rattle.std.proofs.Common.{◌≡◌, ◌∙◌, [], ap, arith, refl, sym, true}
+use Rattle.std.proofs.Common.{◌≡◌, ◌∙◌, [], List, ap, arith, false, refl, subst, sym, true}
 use Rattle.std.specs.Prelude.{unwrap_or}
+use Rattle.std.specs.List.{All}
 use Rattle.std.proofs.lemmas.Bool.{false≢true}
+use Rattle.beam_values.specs.Firing.{is_expired}
+use Rattle.beam_values.specs.Marks.{marks_at}
 use Rattle.beam_values.specs.Nodes.{is_group}
+use Rattle.beam_values.specs.declared.element.Element.{Element}
 use Rattle.beam_model.specs.Panes.{rules_of}
 use Rattle.group_cells.specs.KeyLists.{listed}
 use Rattle.group_cells.proofs.KeyMaps.{none_listed, popped_count, some_there}
+use Rattle.group_cells.proofs.KnownKeys.{own_open}
 use Rattle.group_cells.proofs.SessionsInTurn.{all_yet, none_more, none_yet, own_whole, placed_more, some_arrived}
 use Rattle.group_cells.proofs.groups.draft.Draft.place_later.Goals as goal
 
@@ -40,6 +45,19 @@ place_key-requires-clause-merges c =
     let whole = own_whole plan c.args.commit.before.now c.args.commit.number c.args.taken c.args.self.now.cells.items c.keys.left c.pop_first.new.self c.keys.self.cells.items c.keys.self.cells.items key own own_is
     c.in-Some.ensures.updates c.keys.invariant.yet some.0 some.1 some.2 in
     some_arrived (λ n. (rules_of plan n).merges ≡ true) c.args.taken key.node key.key some.0 some.1 c.requires.merging (sym whole.0 ∙ some.2)
+
+pub place_key-requires-clause-unexpired : goal.place_key-requires-clause-unexpired
+place_key-requires-clause-unexpired c =
+    let plan = c.args.commit.plan.now in
+    let before = c.args.commit.before.now in
+    let key = c.in-Some.key in
+    let own = c.in-Some.own in
+    let own_is : listed c.keys.left key ≡ own = ap (λ o. unwrap_or o []) c.in-Some.ensures.value in
+    let some = some_there own (λ none. false≢true (sym c.if-is_empty.false ∙ c.is_empty.ensures.1 none)) in
+    let whole = own_whole plan before c.args.commit.number c.args.taken c.args.self.now.cells.items c.keys.left c.pop_first.new.self c.keys.self.cells.items c.keys.self.cells.items key own own_is
+    c.in-Some.ensures.updates c.keys.invariant.yet some.0 some.1 some.2 in
+    subst (λ (l : List Element). All (λ (e : Element). is_expired (rules_of plan key.node).trigger e.span.end (marks_at before key.node).mark_in ≡ false) l) (sym whole.0)
+    (own_open plan before key.node key.key c.args.taken c.requires.unexpired)
 
 pub keys-preserved : goal.keys-preserved
 keys-preserved c =

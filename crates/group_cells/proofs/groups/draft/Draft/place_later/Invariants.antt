@@ -2,7 +2,8 @@ use Rattle.std.proofs.Common.{◌≡◌, ◌+◌, ◌≤◌, length}
 use Rattle.std.specs.BTreeMap.{btree_map_len}
 use Rattle.cell_index.specs.Indexes.{IsIndexOf}
 use Rattle.group_cells.specs.Due.{IsDueOf}
-use Rattle.group_cells.specs.KeyLists.{all_listed, AreStanding}
+use Rattle.group_cells.specs.KeyLists.{all_listed}
+use Rattle.group_cells.specs.KnownWindows.{AreStanding}
 use Rattle.group_cells.specs.Undoing.{undone_all}
 use Rattle.group_cells.proofs.SessionsInTurn.{ArePlacedYet}
 use Rattle.group_cells.proofs.groups.draft.Draft.place_later.Given as goal

@@ -1,44 +1,75 @@
-use Rattle.std.proofs.Common.{◌∙◌, None, Some, false, sym}
-use Rattle.std.specs.List.{find}
+use Rattle.std.proofs.Common.{◌≡◌, ◌∙◌, List, None, Some, ℕ, ap, rules, subst, sym}
 use Rattle.std.proofs.lemmas.Result.{on_ok_weaker}
-use Rattle.group_cells.specs.AtPlaces.{at_place}
-use Rattle.group_cells.specs.Placing.{takes}
+use Rattle.beam_values.specs.declared.cell.Cell.{Cell}
+use Rattle.group_cells.specs.KnownWindows.{opens, AreKnown, IsTaker}
+use Rattle.group_cells.specs.Plain.{put_at}
 use Rattle.group_cells.proofs.Handing.{put_there}
-use Rattle.group_cells.proofs.OpenedNear.{places_after, put_near}
+use Rattle.group_cells.proofs.KnownCells.{known_as, put_opens}
+use Rattle.group_cells.proofs.TakenEntries.{taker_of}
 use Rattle.group_cells.proofs.Taking.{index_stays}
 use Rattle.group_cells.proofs.groups.draft.Draft.put_first.Goals as goal
 
 pub returns-in-None-clause-ok : goal.returns-in-None-clause-ok
 returns-in-None-clause-ok c =
-    sym (put_near c.args.rules.now c.args.key.now.node c.args.key.now.key c.args.entry c.args.self.now.cells.items c.args.places.now c.requires.places c.requires.from None
-    (c.in-None.ensures ∙ (λ i. find (at_place (takes c.args.rules.now c.args.entry) false (c.as_slice.ensures.value i)) (c.as_slice-2.ensures i))))
+    let rs = c.args.rules.now in
+    let key = c.args.key.now in
+    let entry = c.args.entry in
+    let old = c.args.self.now.cells.items in
+    sym (taker_of rs c.args.before key.node key.key entry old c.as_slice.result.now c.args.known.now None c.as_slice.ensures.value c.requires.merges c.requires.known c.requires.unexpired c.in-None.ensures)
 
 pub put_unseen-requires-clause-within : goal.put_unseen-requires-clause-within
 put_unseen-requires-clause-within c =
-    (put_near c.args.rules.now c.args.key.now.node c.args.key.now.key c.args.entry c.args.self.now.cells.items c.args.places.now c.requires.places c.requires.from (Some c.in-Some.place)
-    (c.in-Some.ensures ∙ (λ i. find (at_place (takes c.args.rules.now c.args.entry) false (c.as_slice.ensures.value i)) (c.as_slice-2.ensures i)))).0
+    let rs = c.args.rules.now in
+    let key = c.args.key.now in
+    let entry = c.args.entry in
+    let old = c.args.self.now.cells.items in
+    let at : c.in_ok-place-in-Some.place ≡ c.in-Some.at = search rules in
+    let put : IsTaker rs key.node key.key entry old (Some c.in_ok-place-in-Some.place) =
+    subst (λ (p : ℕ). IsTaker rs key.node key.key entry old (Some p)) (sym at)
+    (taker_of rs c.args.before key.node key.key entry old c.as_slice.result.now c.args.known.now (Some c.in-Some.at) c.as_slice.ensures.value c.requires.merges c.requires.known c.requires.unexpired c.in-Some.ensures) in
+    put.0
 
-pub returns-in-Some-clause-ok : goal.returns-in-Some-clause-ok
-returns-in-Some-clause-ok c =
-    let put = put_near c.args.rules.now c.args.key.now.node c.args.key.now.key c.args.entry c.args.self.now.cells.items c.args.places.now c.requires.places c.requires.from (Some c.in-Some.place)
-    (c.in-Some.ensures ∙ (λ i. find (at_place (takes c.args.rules.now c.args.entry) false (c.as_slice.ensures.value i)) (c.as_slice-2.ensures i))) in
+pub returns-in_ok-place-in-Some-clause-ok : goal.returns-in_ok-place-in-Some-clause-ok
+returns-in_ok-place-in-Some-clause-ok c =
+    let rs = c.args.rules.now in
+    let key = c.args.key.now in
+    let entry = c.args.entry in
+    let old = c.args.self.now.cells.items in
+    let at : c.in_ok-place-in-Some.place ≡ c.in-Some.at = search rules in
+    let put : IsTaker rs key.node key.key entry old (Some c.in_ok-place-in-Some.place) =
+    subst (λ (p : ℕ). IsTaker rs key.node key.key entry old (Some p)) (sym at)
+    (taker_of rs c.args.before key.node key.key entry old c.as_slice.result.now c.args.known.now (Some c.in-Some.at) c.as_slice.ensures.value c.requires.merges c.requires.known c.requires.unexpired c.in-Some.ensures) in
+    on_ok_weaker c.put_unseen.result (put_there rs key.node key.key entry old c.put_unseen.new.self.cells.items c.in_ok-place-in-Some.place put.0 put.1) c.put_unseen.ensures.ok
+
+pub returns-in_ok-place-in-Some-clause-known : goal.returns-in_ok-place-in-Some-clause-known
+returns-in_ok-place-in-Some-clause-known c =
+    let rs = c.args.rules.now in
+    let key = c.args.key.now in
+    let entry = c.args.entry in
+    let old = c.args.self.now.cells.items in
+    let at : c.in_ok-place-in-Some.place ≡ c.in-Some.at = search rules in
+    let put : IsTaker rs key.node key.key entry old (Some c.in_ok-place-in-Some.place) =
+    subst (λ (p : ℕ). IsTaker rs key.node key.key entry old (Some p)) (sym at)
+    (taker_of rs c.args.before key.node key.key entry old c.as_slice.result.now c.args.known.now (Some c.in-Some.at) c.as_slice.ensures.value c.requires.merges c.requires.known c.requires.unexpired c.in-Some.ensures) in
+    let new = c.put_unseen.new.self.cells.items in
     on_ok_weaker c.put_unseen.result
-    (put_there c.args.rules.now c.args.key.now.node c.args.key.now.key c.args.entry c.args.self.now.cells.items c.put_unseen.new.self.cells.items c.in-Some.place put.0 put.1)
+    (λ is.
+    subst (λ (l : List Cell). AreKnown c.args.before (opens rs c.args.before key.node key.key l) c.args.known.now)
+    (sym (put_there rs key.node key.key entry old new c.in_ok-place-in-Some.place put.0 put.1 is))
+    (known_as c.args.before (opens rs c.args.before key.node key.key old) (opens rs c.args.before key.node key.key (put_at rs key.node key.key entry old)) c.args.known.now
+    (put_opens rs c.args.before key.node key.key entry old) c.requires.known))
     c.put_unseen.ensures.ok
 
-pub returns-in-Some-clause-places : goal.returns-in-Some-clause-places
-returns-in-Some-clause-places c =
-    let put = put_near c.args.rules.now c.args.key.now.node c.args.key.now.key c.args.entry c.args.self.now.cells.items c.args.places.now c.requires.places c.requires.from (Some c.in-Some.place)
-    (c.in-Some.ensures ∙ (λ i. find (at_place (takes c.args.rules.now c.args.entry) false (c.as_slice.ensures.value i)) (c.as_slice-2.ensures i))) in
+pub returns-in_ok-place-in-Some-clause-indexed : goal.returns-in_ok-place-in-Some-clause-indexed
+returns-in_ok-place-in-Some-clause-indexed c =
+    let rs = c.args.rules.now in
+    let key = c.args.key.now in
+    let entry = c.args.entry in
+    let old = c.args.self.now.cells.items in
+    let at : c.in_ok-place-in-Some.place ≡ c.in-Some.at = search rules in
+    let put : IsTaker rs key.node key.key entry old (Some c.in_ok-place-in-Some.place) =
+    subst (λ (p : ℕ). IsTaker rs key.node key.key entry old (Some p)) (sym at)
+    (taker_of rs c.args.before key.node key.key entry old c.as_slice.result.now c.args.known.now (Some c.in-Some.at) c.as_slice.ensures.value c.requires.merges c.requires.known c.requires.unexpired c.in-Some.ensures) in
     on_ok_weaker c.put_unseen.result
-    (λ is. places_after c.args.rules.now c.args.key.now.node c.args.key.now.key c.args.entry c.args.self.now.cells.items c.args.places.now c.requires.places c.requires.from c.put_unseen.new.self.cells.items
-    (put_there c.args.rules.now c.args.key.now.node c.args.key.now.key c.args.entry c.args.self.now.cells.items c.put_unseen.new.self.cells.items c.in-Some.place put.0 put.1 is))
-    c.put_unseen.ensures.ok
-
-pub returns-in-Some-clause-indexed : goal.returns-in-Some-clause-indexed
-returns-in-Some-clause-indexed c =
-    let put = put_near c.args.rules.now c.args.key.now.node c.args.key.now.key c.args.entry c.args.self.now.cells.items c.args.places.now c.requires.places c.requires.from (Some c.in-Some.place)
-    (c.in-Some.ensures ∙ (λ i. find (at_place (takes c.args.rules.now c.args.entry) false (c.as_slice.ensures.value i)) (c.as_slice-2.ensures i))) in
-    on_ok_weaker c.put_unseen.result
-    (index_stays c.args.self.now.index c.put_unseen.new.self.index c.args.self.now.cells.items c.put_unseen.new.self.cells.items c.in-Some.place c.args.entry c.put_unseen.ensures.others.0 put.0 c.requires.indexed)
+    (index_stays c.args.self.now.index c.put_unseen.new.self.index old c.put_unseen.new.self.cells.items c.in_ok-place-in-Some.place entry c.put_unseen.ensures.others.0 put.0 c.requires.indexed)
     c.put_unseen.ensures.ok
