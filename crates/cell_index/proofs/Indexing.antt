@@ -1,16 +1,17 @@
 -- How the index follows the cells.
-use Rattle.std.proofs.Common.{◌≡◌, ℕ, suc, not, ◌==◌, ◌&&◌, ℤ, Bool, true, false, cond, List, [], ◌∷◌, ◌++◌, length, Option, Some, None, refl, sym, ap, subst, ◌∙◌, ◌<◌, arith, length-append, replicate, take}
+use Rattle.std.proofs.Common.{◌≡◌, ℕ, suc, not, ◌==◌, ◌&&◌, ℤ, Bool, true, false, cond, List, [], ◌∷◌, ◌++◌, length, Option, Some, None, Result, Ok, Err, OnErr, refl, sym, ap, subst, ◌∙◌, ◌<◌, arith, length-append, replicate, take}
 use Rattle.std.specs.List.{All, Contains, position, position_or_len, slice_get}
 use Rattle.std.specs.Option.{option_or, option_map}
 use Rattle.std.specs.Ordering.{is_eq, nat_cmp, int_cmp, int_eq, ordering_then}
 use Rattle.std.specs.Str.{bytes_eq}
 use Rattle.std.specs.BTreeMap as tree
 use Rattle.std.specs.BTreeMap.{BTreeMap}
+use Rattle.std.specs.Map.{lookup}
 use Rattle.std.specs.Cmp.{tied_then}
 use Rattle.std.proofs.lemmas.Bool.{false≢true}
 use Rattle.std.proofs.lemmas.Bool.Decides.{Decides-int_eq, nat_tests, Decides-eqb}
 use Rattle.std.proofs.lemmas.Grind.{common_steps}
-use Rattle.std.proofs.lemmas.List.Elements.{All-append, All-contains, All-replicate, All-take, All-weaker}
+use Rattle.std.proofs.lemmas.List.Elements.{All-append, All-contains, All-nil, All-replicate, All-take, All-weaker}
 use Rattle.std.proofs.lemmas.List.Folds.{position_or_len_push}
 use Rattle.std.proofs.lemmas.List.Quantifiers.{position-Some}
 use Rattle.std.proofs.lemmas.List.Sums.{prefix_len-le-length}
@@ -94,6 +95,12 @@ same_place a q =
     ∙ ap (λ b. is_eq (nat_cmp (lead_of a.key a.span) (lead_of q.key q.span)) && b) (place_tied a q)
     ∙ led_alike a q ((a.node == q.node && bytes_eq (spelling a.key) (spelling q.key)) && same_span a.span q.span) refl
 
+-- a key is of its own place
+all_same : (q : CellKey) → ((q.node == q.node && bytes_eq (spelling q.key) (spelling q.key)) && same_span q.span q.span) ≡ true
+all_same q =
+    (λ i. (((Decides-eqb q.node q.node).1 refl) i && ((bytes_eq-Decides (spelling q.key) (spelling q.key)).1 refl) i)
+    && (((Decides-int_eq q.span.start q.span.start).1 refl) i && ((Decides-int_eq q.span.end q.span.end).1 refl) i))
+
 -- the place of the cell of a node, a spelling and the ends of a window
 abbrev place_by : ℕ → List ℕ → ℤ → ℤ → List Cell → Option ℕ
 place_by node spelled start end cells =
@@ -113,6 +120,14 @@ found_alike a q cells e =
 or_none : {X : Type 0} (o : Option X) → o ≡ option_or o None
 or_none None = refl
 or_none (Some x) = refl
+
+-- a cell is found by the keys that compare as equal to its own
+named_alike : (cell : Cell) (key q : CellKey) → cell.node ≡ key.node → cell.key ≡ key.key → cell.span ≡ key.span → is_cell_of q.node q.key q.span cell ≡ is_eq (cell_key_cmp key q)
+named_alike cell key q nodes keys spans =
+    ap (λ n. (n == q.node && bytes_eq (spelling cell.key) (spelling q.key)) && same_span cell.span q.span) nodes
+    ∙ ap (λ k. (key.node == q.node && bytes_eq (spelling k) (spelling q.key)) && same_span cell.span q.span) keys
+    ∙ ap (λ s. (key.node == q.node && bytes_eq (spelling key.key) (spelling q.key)) && same_span s q.span) spans
+    ∙ sym (same_place key q)
 
 -- notes of places of a map keep to it
 abbrev pub KeepsTo : Guesses → Guesses → Guess → Type 0
@@ -137,11 +152,7 @@ index_more old new key hash place updates keeps cells cell index at nodes keys s
     still q p found false e = updates.0 q ∙ ap (λ b. cond {A = Option ℕ} b (Some place) (tree.get cell_key_cmp old.places q)) e ∙ found
 
     is_it : (q : CellKey) → is_cell_of q.node q.key q.span cell ≡ is_eq (cell_key_cmp key q)
-    is_it q =
-        ap (λ n. (n == q.node && bytes_eq (spelling cell.key) (spelling q.key)) && same_span cell.span q.span) nodes
-        ∙ ap (λ k. (key.node == q.node && bytes_eq (spelling k) (spelling q.key)) && same_span cell.span q.span) keys
-        ∙ ap (λ s. (key.node == q.node && bytes_eq (spelling key.key) (spelling q.key)) && same_span s q.span) spans
-        ∙ sym (same_place key q)
+    is_it q = named_alike cell key q nodes keys spans
 
     by_test : (q : CellKey) (t : Bool) → is_eq (cell_key_cmp key q) ≡ t
         → cond (is_eq (cell_key_cmp key q)) (Some place) (tree.get cell_key_cmp old.places q)
@@ -167,28 +178,100 @@ pub position_no : {X : Type 0} (p : X → Bool) (x : X) (xs : List X) → p x �
 position_no p x xs e = grind (arith, common_steps, nat_tests)
 
 -- a cell of a window that has one already changes nothing
-pub index_again : (index : CellIndex) (cells : List Cell) (cell : Cell) (key : CellKey) (place : ℕ) → key ≡ record { node = cell.node; span = cell.span; key = cell.key }
+pub index_again : (index : CellIndex) (cells : List Cell) (cell : Cell) (key : CellKey) (place : ℕ) → cell.node ≡ key.node → cell.key ≡ key.key → cell.span ≡ key.span
     → Some place ≡ place_of key.node key.key key.span cells → IsIndexOf index cells → IsIndexOf index (cells ++ cell ∷ [])
-index_again index cells cell key place keyed there h = record {
-  finds = λ q. h.finds q ∙ by_test q (is_eq (cell_key_cmp own q)) refl ∙ sym (place_pushed (is_cell_of q.node q.key q.span) cells cell);
+index_again index cells cell key place nodes keys spans there h = record {
+  finds = λ q. h.finds q ∙ by_test q (is_eq (cell_key_cmp key q)) refl ∙ sym (place_pushed (is_cell_of q.node q.key q.span) cells cell);
   guesses = h.guesses;
 }
   where
-    own : CellKey
-    own = record { node = cell.node; span = cell.span; key = cell.key }
+    is_it : (q : CellKey) → is_cell_of q.node q.key q.span cell ≡ is_eq (cell_key_cmp key q)
+    is_it q = named_alike cell key q nodes keys spans
 
-    by_test : (q : CellKey) (t : Bool) → is_eq (cell_key_cmp (record { node = cell.node; span = cell.span; key = cell.key }) q) ≡ t
+    by_test : (q : CellKey) (t : Bool) → is_eq (cell_key_cmp key q) ≡ t
         → place_of q.node q.key q.span cells ≡ option_or (place_of q.node q.key q.span cells) (cond (is_cell_of q.node q.key q.span cell) (Some (length cells)) None)
     by_test q true e =
-        let mine : CellKey = record { node = cell.node; span = cell.span; key = cell.key } in
-        let at : place_of q.node q.key q.span cells ≡ Some place =
-        sym (found_alike mine q cells e) ∙ sym (ap (λ (k : CellKey). place_of k.node k.key k.span cells) keyed) ∙ sym there in
+        let at : place_of q.node q.key q.span cells ≡ Some place = sym (found_alike key q cells e) ∙ sym there in
         at ∙ sym (ap (λ o. option_or o (cond (is_cell_of q.node q.key q.span cell) (Some (length cells)) None)) at)
     by_test q false e =
-        let mine : CellKey = record { node = cell.node; span = cell.span; key = cell.key } in
-        let away : is_cell_of q.node q.key q.span cell ≡ false = sym (same_place mine q) ∙ e in
         or_none (place_of q.node q.key q.span cells)
-        ∙ sym (ap (λ b. option_or (place_of q.node q.key q.span cells) (cond {A = Option ℕ} b (Some (length cells)) None)) away)
+        ∙ sym (ap (λ b. option_or (place_of q.node q.key q.span cells) (cond {A = Option ℕ} b (Some (length cells)) None)) (is_it q ∙ e))
+
+-- what holds after either answer holds after a refusal
+pub on_err : {T E P : Type 0} (r : Result T E) → P → OnErr r P
+on_err (Ok x) p = tt
+on_err (Err e) p = p
+
+-- a map that stayed has the same places
+pub index_same : (old new : CellIndex) → tree.IsUnchanged old.places new.places → new.guesses ≡ old.guesses → (cells : List Cell) → IsIndexOf old cells → IsIndexOf new cells
+index_same old new unchanged same cells h = record {
+  finds = λ q. still q ∙ h.finds q;
+  guesses =
+      subst (λ (g : Guesses). All (IsOfKey new.places) g.slots.items) (sym same)
+      (All-weaker (IsOfKey old.places) (IsOfKey new.places) (λ guess found hashed. let f = found hashed in (f.0, still f.0 ∙ f.1)) old.guesses.slots.items h.guesses);
+}
+  where
+    still : (q : CellKey) → tree.get cell_key_cmp new.places q ≡ tree.get cell_key_cmp old.places q
+    still q = ap (λ (es : List (CellKey × ℕ)). lookup (tree.is_at (cell_key_cmp q)) es) unchanged
+
+-- ---- the last cell leaves
+
+module _ (old new : CellIndex) (key : CellKey) (cells : List Cell) (cell : Cell) (h : IsIndexOf old (cells ++ cell ∷ []))
+    (nodes : cell.node ≡ key.node) (keys : cell.key ≡ key.key) (spans : cell.span ≡ key.span) (forgotten : new.guesses.slots.items ≡ []) where
+  no_guesses : All (IsOfKey new.places) new.guesses.slots.items
+  no_guesses = subst (All (IsOfKey new.places)) (sym forgotten) (All-nil (IsOfKey new.places))
+
+  last_is : (q : CellKey) → is_cell_of q.node q.key q.span cell ≡ is_eq (cell_key_cmp key q)
+  last_is q = named_alike cell key q nodes keys spans
+
+  found_before : (q : CellKey) → tree.get cell_key_cmp old.places q ≡ option_or (place_of q.node q.key q.span cells) (cond (is_eq (cell_key_cmp key q)) (Some (length cells)) None)
+  found_before q =
+      h.finds q ∙ place_pushed (is_cell_of q.node q.key q.span) cells cell
+      ∙ ap (λ b. option_or (place_of q.node q.key q.span cells) (cond {A = Option ℕ} b (Some (length cells)) None)) (last_is q)
+
+  elsewhere : (q : CellKey) → is_eq (cell_key_cmp key q) ≡ false → tree.get cell_key_cmp old.places q ≡ place_of q.node q.key q.span cells
+  elsewhere q e =
+      found_before q ∙ ap (λ b. option_or (place_of q.node q.key q.span cells) (cond {A = Option ℕ} b (Some (length cells)) None)) e
+      ∙ sym (or_none (place_of q.node q.key q.span cells))
+
+  -- where it was found itself, no other one is found in its place
+  pub index_less : tree.get cell_key_cmp old.places key ≡ Some (length cells) → tree.Updates cell_key_cmp old.places new.places key None → IsIndexOf new cells
+  index_less there updates = record { finds = λ q. updates.0 q ∙ by_test q (is_eq (cell_key_cmp key q)) refl; guesses = no_guesses }
+    where
+      none_before : (o : Option ℕ) → place_of key.node key.key key.span cells ≡ o → option_or o (cond {A = Option ℕ} (is_eq (cell_key_cmp key key)) (Some (length cells)) None) ≡ Some (length cells) → o ≡ None
+      none_before None e is = refl
+      none_before (Some p) e is =
+          let within : p < length cells = (position-Some (is_cell_of key.node key.key key.span) cells p cell e).0 in
+          let same : p ≡ length cells = cc in absurd (omega (arith, within, same))
+
+      by_test : (q : CellKey) (t : Bool) → is_eq (cell_key_cmp key q) ≡ t
+          → cond (is_eq (cell_key_cmp key q)) None (tree.get cell_key_cmp old.places q) ≡ place_of q.node q.key q.span cells
+      by_test q true e =
+          ap (λ b. cond {A = Option ℕ} b None (tree.get cell_key_cmp old.places q)) e
+          ∙ sym (none_before (place_of key.node key.key key.span cells) refl (sym (found_before key) ∙ there))
+          ∙ found_alike key q cells e
+      by_test q false e = ap (λ b. cond {A = Option ℕ} b None (tree.get cell_key_cmp old.places q)) e ∙ elsewhere q e
+
+  -- where another one is found in its place, that one stays
+  pub index_before : (tree.get cell_key_cmp old.places key ≡ Some (length cells) → ⊥) → new.places ≡ old.places → IsIndexOf new cells
+  index_before other same = record {
+    finds = λ q. ap (λ (m : BTreeMap CellKey ℕ). tree.get cell_key_cmp m q) same ∙ by_test q (is_eq (cell_key_cmp key q)) refl;
+    guesses = no_guesses;
+  }
+    where
+      itself : is_eq (cell_key_cmp key key) ≡ true
+      itself = same_place key key ∙ all_same key
+
+      found : (q : CellKey) (o : Option ℕ) → is_eq (cell_key_cmp key q) ≡ true → place_of q.node q.key q.span cells ≡ o → tree.get cell_key_cmp old.places q ≡ o
+      found q (Some p) e at =
+          found_before q ∙ ap (λ x. option_or x (cond {A = Option ℕ} (is_eq (cell_key_cmp key q)) (Some (length cells)) None)) at
+      found q None e at =
+          absurd (other (found_before key ∙ ap (λ x. option_or x (cond {A = Option ℕ} (is_eq (cell_key_cmp key key)) (Some (length cells)) None)) (found_alike key q cells e ∙ at)
+          ∙ ap (λ b. cond {A = Option ℕ} b (Some (length cells)) None) itself))
+
+      by_test : (q : CellKey) (t : Bool) → is_eq (cell_key_cmp key q) ≡ t → tree.get cell_key_cmp old.places q ≡ place_of q.node q.key q.span cells
+      by_test q true e = found q (place_of q.node q.key q.span cells) e refl
+      by_test q false e = elsewhere q e
 
 -- ---- guesses
 

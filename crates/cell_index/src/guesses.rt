@@ -149,6 +149,14 @@ impl Guesses {
         }
     }
 
+    /// None is left. The memory of the slots stays.
+    pub fn forget(&mut self)
+        ensures { self.new.slots.items ≡ [] }
+    {
+        self.slots.clear();
+        self.missed = 0;
+    }
+
     /// The guess of a slot, which is empty then.
     fn take_out(&mut self, slot: usize) -> Option<Guess>
         ensures taken { (places : TreeMap CellKeyOf ℕ) → All (IsOfKey places) self.old.slots.items

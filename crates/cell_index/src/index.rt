@@ -1,5 +1,5 @@
 ghost use Rattle.std.specs.Prelude.{◌≡◌, List as ListOf, [], ◌∷◌, ◌++◌, length, None, Some, IfOk, IfSome};
-ghost use Rattle.std.specs.Prelude.{IsNone, IsSome, OnOk};
+ghost use Rattle.std.specs.Prelude.{true, IsNone, IsSome, OnErr, OnOk};
 ghost use Rattle.std.specs.BTreeMap as tree;
 ghost use Rattle.std.specs.Ordering.{as_partial_cmp, eq_by_cmp, on, then_cmp};
 ghost use Rattle.std.specs.Cmp.{partial_order_from_own_ties};
@@ -52,13 +52,8 @@ impl CellIndex {
             → place ≡ length cells → IsIndexOf self.new (cells ++ cell.now ∷ [])) }
     {
         let key = key_of_cell(alloc, cell)?;
-        match self.find(&key) {
-            Some(_) => Ok(()),
-            None => {
-                let place = u32::try_from(place).map_err(|_| NoMemory)?;
-                self.add(key, place)
-            }
-        }
+        let place = u32::try_from(place).map_err(|_| NoMemory)?;
+        self.add(key, place)
     }
 
     /// The place of the cell among all cells, counted from 0, if there is one.
@@ -70,8 +65,8 @@ impl CellIndex {
     }
 
     /// The same, with a guess for the next time. Where there is no such cell, its place is `next` now,
-    /// behind the others: a new cell costs one walk down the map and not two. After a refusal nothing is
-    /// promised of the index.
+    /// behind the others: a new cell costs one walk down the map and not two. After a refusal no place is
+    /// added.
     pub fn find_or_add(
         &mut self,
         alloc: Global,
@@ -86,6 +81,8 @@ impl CellIndex {
             → IsIndexOf self.old cells → next ≡ length cells
             → cell.node ≡ key.now.node → cell.key ≡ key.now.key → cell.span ≡ key.now.span
             → IsIndexOf self.new (cells ++ cell ∷ [])) }
+        ensures err { OnErr result
+            ((cells : ListOf CellOf) → IsIndexOf self.old cells → IsIndexOf self.new cells) }
     {
         let hash = key.hash();
         let own = key.copy(alloc)?;
@@ -113,19 +110,62 @@ impl CellIndex {
         self.guesses.place(hash_with(node, lead_of(key, span)))
     }
 
-    /// The place of one more cell, behind the others.
+    /// The place of one more cell, behind the others. Where another cell of its node, key and window is
+    /// found, that one stays. After a refusal no place is added.
     pub fn add(&mut self, key: IndexKey, place: u32) -> Result<(), NoMemory>
-        ensures { OnOk result ((cells : ListOf CellOf) (cell : CellOf)
+        ensures ok { OnOk result ((cells : ListOf CellOf) (cell : CellOf)
+            → IsIndexOf self.old cells → place ≡ length cells
+            → cell.node ≡ key.node → cell.key ≡ key.key → cell.span ≡ key.span
+            → IsIndexOf self.new (cells ++ cell ∷ [])) }
+        ensures err { OnErr result
+            ((cells : ListOf CellOf) → IsIndexOf self.old cells → IsIndexOf self.new cells) }
+    {
+        match self.find(&key) {
+            Some(_) => Ok(()),
+            None => self.add_new(key, place),
+        }
+    }
+
+    /// The same, where there is no such cell.
+    fn add_new(&mut self, key: IndexKey, place: u32) -> Result<(), NoMemory>
+        ensures ok { OnOk result ((cells : ListOf CellOf) (cell : CellOf)
             → IsIndexOf self.old cells → place ≡ length cells
             → cell.node ≡ key.node → cell.key ≡ key.key → cell.span ≡ key.span
             → place_of key.node key.key key.span cells ≡ None
             → IsIndexOf self.new (cells ++ cell ∷ [])) }
+        ensures err { OnErr result
+            ((cells : ListOf CellOf) → IsIndexOf self.old cells → IsIndexOf self.new cells) }
     {
         let hash = key.hash();
         self.places.insert(key, place)?;
         self.guesses.make_room(self.places.len());
         self.guesses.note(Guess { hash, place });
         Ok(())
+    }
+
+    /// The cell at a place, which is the last one, leaves. Another cell of its node, key and window may be
+    /// found before it, and stays. All guesses are lost, since some may be of this place. Takes no memory.
+    pub fn remove_last(&mut self, key: &IndexKey, place: usize)
+        ensures { (cells : ListOf CellOf) (cell : CellOf) → IsIndexOf self.old (cells ++ cell ∷ [])
+            → place ≡ length cells
+            → cell.node ≡ key.now.node → cell.key ≡ key.now.key → cell.span ≡ key.now.span
+            → IsIndexOf self.new cells }
+    {
+        self.guesses.forget();
+        if is_at(&self.places, key, place) {
+            self.places.remove(key);
+        }
+    }
+}
+
+/// Whether a key has this place.
+fn is_at(places: &BTreeMap<IndexKey, u32>, key: &IndexKey, place: usize) -> bool
+    ensures there { result ≡ true → tree.get cell_key_cmp places.now key.now ≡ Some place }
+    ensures whole { tree.get cell_key_cmp places.now key.now ≡ Some place → result ≡ true }
+{
+    match places.get(key) {
+        None => false,
+        Some(found) => *found as usize == place,
     }
 }
 

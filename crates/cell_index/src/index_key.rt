@@ -65,6 +65,12 @@ impl IndexKey {
         cell
     }
 
+    pub fn node(&self) -> u32
+        ensures { result ≡ self.now.node }
+    {
+        self.cell.node
+    }
+
     /// A hash of the node, the key and the start of the window. It is never 0, which says of a slot that
     /// it has no guess.
     pub fn hash(&self) -> u32

@@ -1,7 +1,11 @@
-use Rattle.cell_index.proofs.Indexing.{index_more}
+use Rattle.std.proofs.lemmas.Result.{on_ok_weaker}
+use Rattle.std.proofs.Common.{sym}
+use Rattle.cell_index.proofs.Indexing.{index_again}
 use Rattle.cell_index.proofs.index.CellIndex.add.Goals as goal
 
-pub returns : goal.returns
-returns c = λ cells cell.
-    index_more c.args.self.now (record { places = c.insert.new.self; guesses = c.note.new.self }) c.args.key c.hash-hash.result c.args.place c.in_ok-insert.ensures.updates
-    (λ places kept own. c.note.ensures places (c.make_room.ensures places kept) own) cells cell
+pub returns-in-Some-clause-ok : goal.returns-in-Some-clause-ok
+returns-in-Some-clause-ok c = λ cells cell h at nodes keys spans. index_again c.args.self.now cells cell c.args.key c.in-Some.field-0 nodes keys spans (c.in-Some.ensures cells h) h
+
+pub returns-in-None-clause-ok : goal.returns-in-None-clause-ok
+returns-in-None-clause-ok c =
+    on_ok_weaker c.add_new.result (λ more cells cell h at nodes keys spans. more cells cell h at nodes keys spans (sym (c.in-None.ensures cells h))) c.add_new.ensures.ok

@@ -3,7 +3,7 @@ use Rattle.std.specs.BTreeMap as tree
 use Rattle.std.specs.Prelude.{IsSome}
 use Rattle.cell_index.specs.Indexes.{cell_key_cmp}
 use Rattle.cell_index.specs.declared.index_key.CellKey.{CellKey}
-use Rattle.cell_index.proofs.Indexing.{index_more, index_put_back}
+use Rattle.cell_index.proofs.Indexing.{index_more, index_put_back, index_same, on_err}
 use Rattle.cell_index.proofs.index.CellIndex.find_or_add.Goals as goal
 
 pub returns-in-Some-clause-found : goal.returns-in-Some-clause-found
@@ -36,3 +36,7 @@ returns-in-None-clause-added c =
     λ none cells cell h at nodes keys spans.
     index_more c.args.self.now (record { places = over; guesses = c.note.new.self }) key c.hash-hash.result c.args.next written
     (λ places kept own. c.note.ensures places (c.make_room.ensures places kept) own) cells cell h at nodes keys spans (sym (known ∙ h.finds key))
+
+pub returns-in_err-known-clause-err : goal.returns-in_err-known-clause-err
+returns-in_err-known-clause-err c =
+    on_err c.from_residual-in_err-known.result (index_same c.args.self.now (record { places = c.insert.new.self; guesses = c.args.self.now.guesses }) c.in_err-known.ensures.err refl)

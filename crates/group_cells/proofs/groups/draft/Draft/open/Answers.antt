@@ -11,5 +11,5 @@ returns-clause-indexed c =
     (λ put h none.
     subst (λ (index : CellIndex). IsIndexOf index c.push.new.self.cells.items) (sym c.push.ensures.others.0)
     (subst (IsIndexOf c.add.new.self) (sym put)
-    (c.in_ok-add.ensures c.args.self.now.cells.items c.args.cell h same c.requires.0 c.requires.1 c.requires.2 none)))
+    (c.in_ok-add.ensures.ok c.args.self.now.cells.items c.args.cell h same c.requires.0 c.requires.1 c.requires.2)))
     c.push.ensures.ok

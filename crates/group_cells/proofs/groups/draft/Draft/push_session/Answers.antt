@@ -1,4 +1,4 @@
-use Rattle.std.proofs.Common.{◌≡◌, ◌∙◌, sym, subst}
+use Rattle.std.proofs.Common.{◌≡◌, ◌∙◌, ap, sym, subst}
 use Rattle.std.proofs.lemmas.Result.{on_ok_weaker}
 use Rattle.beam_values.specs.declared.cell.Cell.{Cell}
 use Rattle.cell_index.specs.Indexes.{IsIndexOf}
@@ -16,5 +16,5 @@ returns-in-Some-clause-indexed c =
     on_ok_weaker c.push.result
     (λ e. subst (λ (index : CellIndex). IsIndexOf index c.push.new.self.cells.items) (sym c.push.ensures.others.0)
     (subst (IsIndexOf c.args.self.now.index) (sym e)
-    (index_again c.args.self.now.index c.args.self.now.cells.items cell own c.in-Some.field-0 keyed (c.in-Some.ensures c.args.self.now.cells.items c.requires.indexed) c.requires.indexed)))
+    (index_again c.args.self.now.index c.args.self.now.cells.items cell own c.in-Some.field-0 (ap (λ (k : CellKey). k.node) (sym keyed)) (ap (λ (k : CellKey). k.key) (sym keyed)) (ap (λ (k : CellKey). k.span) (sym keyed)) (c.in-Some.ensures c.args.self.now.cells.items c.requires.indexed) c.requires.indexed)))
     c.push.ensures.ok
