@@ -28,3 +28,6 @@ pub mod LeftOver
 pub mod KeyCommit
 pub mod OneLater
 pub mod Turning
+pub mod ByIndex
+pub mod Roomy
+pub mod Named

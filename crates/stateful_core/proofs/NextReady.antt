@@ -19,11 +19,11 @@ got_before [] x y i e = absurd (cc)
 got_before (z ∷ xs) x y zero e = e
 got_before (z ∷ xs) x y (suc i) e = got_before xs x y i e
 
-got_last : {X : Type 0} (xs : List X) (x : X) → slice_get (xs ++ x ∷ []) (length xs) ≡ Some x
+pub got_last : {X : Type 0} (xs : List X) (x : X) → slice_get (xs ++ x ∷ []) (length xs) ≡ Some x
 got_last [] x = refl
 got_last (z ∷ xs) x = got_last xs x
 
-got_cases : {X : Type 0} (xs : List X) (x y : X) (i : ℕ) → slice_get (xs ++ x ∷ []) i ≡ Some y → (slice_get xs i ≡ Some y) ⊎ ((i ≡ length xs) × (x ≡ y))
+pub got_cases : {X : Type 0} (xs : List X) (x y : X) (i : ℕ) → slice_get (xs ++ x ∷ []) i ≡ Some y → (slice_get xs i ≡ Some y) ⊎ ((i ≡ length xs) × (x ≡ y))
 got_cases [] x y zero e = inr (refl, cc)
 got_cases [] x y (suc i) e = absurd (cc)
 got_cases (z ∷ xs) x y zero e = inl e

@@ -3,7 +3,6 @@ use Rattle.std.proofs.Common.{◌≡◌, ℕ, zero, suc, ◌+◌, ◌<◌, ◌�
 use Rattle.std.specs.Prelude.{slice_get, slice_set, fold, ◌&&◌, ◌||◌, not}
 use Rattle.std.specs.List.{All, list_any}
 use Rattle.std.proofs.lemmas.List.{append-nil}
-use Rattle.std.proofs.lemmas.List.Elements.{All-nil, All-cons, All-tail, All-weaker}
 use Rattle.std.proofs.lemmas.Option.{same_Some}
 use Rattle.beam_values.specs.Nodes.{is_stateful}
 use Rattle.beam_values.specs.declared.arrival.Arrival.{Arrival}
@@ -14,7 +13,7 @@ use Rattle.stateful_core.specs.Opening.{is_any, fresh_one, fresh_all, put_in, pu
 use Rattle.stateful_core.specs.Placing.{Done, fresh_cell, waits, with_waiting, place_in, place_one, place_all, set_done, with_done, finish, place}
 use Rattle.stateful_core.proofs.OnceOnly.{own_fresh}
 
-any_append : {X : Type 0} (p : X → Bool) (xs ys : List X) → list_any p (xs ++ ys) ≡ (list_any p xs || list_any p ys)
+pub any_append : {X : Type 0} (p : X → Bool) (xs ys : List X) → list_any p (xs ++ ys) ≡ (list_any p xs || list_any p ys)
 any_append p [] ys = refl
 any_append p (x ∷ xs) ys = ap (λ b. p x || b) (any_append p xs ys) ∙ assoc (p x) (list_any p xs) (list_any p ys)
   where
@@ -201,31 +200,3 @@ place_is_put plan before done arrivals cells =
     place_opened plan before arrivals (finish before done cells)
     ∙ ap (λ l. put_all plan before arrivals (finish before done cells ++ l))
     (opened_same plan arrivals (finish before done cells) cells (finish_any before done cells) ∙ sym (fresh_opened plan arrivals cells))
-
--- each arrival has a cell then
-all_have : (plan : Plan) (arrivals : List Arrival) (cells : List KeyCell) → All (HasCell plan (cells ++ opened_by plan arrivals cells)) arrivals
-all_have plan [] cells = All-nil (HasCell plan (cells ++ []))
-all_have plan (arrival ∷ arrivals) cells =
-    let new = new_for plan cells arrival in
-    let stands = cells ++ new in
-    let rest = opened_by plan arrivals stands in
-    let moved : stands ++ rest ≡ cells ++ (new ++ rest) = append_assoc cells new rest in
-    subst (λ (l : List KeyCell). All (HasCell plan l) (arrival ∷ arrivals)) moved
-    (All-cons (HasCell plan (stands ++ rest)) arrival arrivals
-    (λ on. any_append (belongs arrival) stands rest ∙ ap (λ b. b || is_any arrival rest) (has_new [] arrival plan cells on))
-    (all_have plan arrivals stands))
-
-pub arrivals_have : (plan : Plan) (before : List StageMarks) (done : Option Done) (arrivals : List Arrival) (cells : List KeyCell)
-    → All (HasCell plan (finish before done cells ++ fresh_all plan cells arrivals)) arrivals
-arrivals_have plan before done arrivals cells =
-    subst (λ (l : List KeyCell). All (HasCell plan (finish before done cells ++ l)) arrivals)
-    (opened_same plan arrivals (finish before done cells) cells (finish_any before done cells) ∙ sym (fresh_opened plan arrivals cells))
-    (all_have plan arrivals (finish before done cells))
-
--- a step of the loop over the arrivals
-pub have_rest : (plan : Plan) (before : List StageMarks) (arrival : Arrival) (rest all : List Arrival) (cells after : List KeyCell) → all ≡ arrival ∷ rest
-    → after ≡ put_one plan before cells arrival → All (HasCell plan cells) all → All (HasCell plan after) rest
-have_rest plan before arrival rest all cells after e is h =
-    All-weaker (HasCell plan cells) (HasCell plan after)
-    (λ other k on. ap (is_any other) is ∙ any_put before arrival other plan cells ∙ k on) rest
-    (All-tail (HasCell plan cells) arrival rest (subst (All (HasCell plan cells)) e h))

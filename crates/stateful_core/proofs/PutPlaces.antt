@@ -13,7 +13,7 @@ use Rattle.beam_values.specs.declared.arrival.Arrival.{Arrival}
 use Rattle.beam_values.specs.declared.marks.StageMarks.{StageMarks}
 use Rattle.beam_values.specs.declared.plan.Plan.{Plan}
 use Rattle.stateful_core.specs.Cells.{KeyCell, belongs}
-use Rattle.stateful_core.specs.Opening.{is_any, fresh_one, fresh_all, put_in, put_one, put_all, comes_to, IsRoomy, HasCell, IsCellAt, IsMore, IsAdded}
+use Rattle.stateful_core.specs.Opening.{put_in, put_one, put_all, IsCellAt, IsAdded}
 use Rattle.stateful_core.specs.Placing.{Done, fresh_cell, waits, with_waiting, place_in, place_one, place_all, set_done, with_done, finish, place}
 use Rattle.stateful_core.specs.Seen.{cell_of, cells_of}
 use Rattle.stateful_core.specs.declared.slot.Slot.{Slot}
@@ -54,50 +54,6 @@ put_is plan before arrival slots after at waiting on is h added = by (slice_get 
         ∙ sym (put_at before arrival (cells_of slots) at h)
         ∙ sym (ap (λ b. cond b (put_in before arrival (cells_of slots)) (cells_of slots)) on)
 
--- ---- room
-
-counted : {X : Type 0} (p : X → Bool) (x : X) (xs : List X) → count_by p (x ∷ xs) ≡ cond (p x) 1 0 + count_by p xs
-counted p x xs = sum_by-cons (λ y. cond (p y) 1 0) x xs
-
-pub roomy_rest : (plan : Plan) (arrival : Arrival) (rest : List Arrival) (slot : Slot) → IsRoomy plan (arrival ∷ rest) slot → IsRoomy plan rest slot
-roomy_rest plan arrival rest slot h = omega (arith, h, counted (comes_to plan (cell_of slot)) arrival rest)
-
-pub roomy_one : (plan : Plan) (arrival : Arrival) (rest : List Arrival) (slot : Slot) → IsRoomy plan (arrival ∷ rest) slot → IsRoomy plan (arrival ∷ []) slot
-roomy_one plan arrival rest slot h = omega (arith, h, counted (comes_to plan (cell_of slot)) arrival rest, counted (comes_to plan (cell_of slot)) arrival [])
-
-roomy_more : (plan : Plan) (arrival : Arrival) (rest : List Arrival) (slot new : Slot) (w : Waiting) → is_stateful plan arrival.node ≡ true → belongs arrival (cell_of slot) ≡ true
-    → IsMore slot w new → IsRoomy plan (arrival ∷ rest) slot → IsRoomy plan rest new
-roomy_more plan arrival rest slot new w on own more h =
-    let yes : comes_to plan (cell_of slot) arrival ≡ true = (λ i. on i && own i) in
-    let one = ap (λ b. cond b 1 0 + count_by (comes_to plan (cell_of slot)) rest) yes in
-    let same : count_by (comes_to plan (cell_of new)) rest ≡ count_by (comes_to plan (cell_of slot)) rest =
-    ap (λ (c : KeyCell). count_by (comes_to plan c) rest) more.cell in
-    omega (arith, h, more.room, counted (comes_to plan (cell_of slot)) arrival rest, one, same)
-
-slot_at : (P : Slot → Type 0) (slots : List Slot) (at : ℕ) (slot : Slot) → slice_get slots at ≡ Some slot → All P slots → P slot
-slot_at P [] at slot e h = absurd (cc)
-slot_at P (s ∷ slots) zero slot e h = subst P (same_Some s slot e) (All-head P s slots h)
-slot_at P (s ∷ slots) (suc at) slot e h = slot_at P slots at slot e (All-tail P s slots h)
-
-pub put_roomy : (plan : Plan) (arrival : Arrival) (slots after : List Slot) (at : ℕ) (waiting : Waiting)
-    → is_stateful plan arrival.node ≡ true → IsCellAt arrival (cells_of slots) at
-    → ((slot : Slot) → slice_get slots at ≡ Some slot → IsAdded slots at slot waiting after)
-    → (rest : List Arrival) → All (IsRoomy plan (arrival ∷ rest)) slots → All (IsRoomy plan rest) after
-put_roomy plan arrival slots after at waiting on h added rest roomy = by (slice_get slots at) refl
-  where
-    by : (found : Option Slot) → slice_get slots at ≡ found → All (IsRoomy plan rest) after
-    by None e = absurd (none (sym (slice_get-map cell_of slots at ∙ ap (option_map cell_of) e) ∙ h.is_at))
-      where
-        none : None ≡ Some h.cell → ⊥
-        none f = cc
-    by (Some slot) e =
-        let more = added slot e in
-        let same : cell_of slot ≡ h.cell = same_Some (cell_of slot) h.cell (sym (slice_get-map cell_of slots at ∙ ap (option_map cell_of) e) ∙ h.is_at) in
-        subst (All (IsRoomy plan rest)) (sym more.set)
-        (All-set (IsRoomy plan rest) slots at more.new
-        (roomy_more plan arrival rest slot more.new waiting on (ap (belongs arrival) same ∙ h.own) more.more (slot_at (IsRoomy plan (arrival ∷ rest)) slots at slot e roomy))
-        (All-weaker (IsRoomy plan (arrival ∷ rest)) (IsRoomy plan rest) (λ s k. roomy_rest plan arrival rest s k) slots roomy))
-
 -- ---- a job that is done
 
 pub finish_is : (before : List StageMarks) (done : Done) (slots : List Slot) (old new : Slot) → slice_get slots done.cell ≡ Some old
@@ -106,11 +62,6 @@ finish_is before done slots old new at is =
     let there : slice_get (cells_of slots) done.cell ≡ Some (cell_of old) = slice_get-map cell_of slots done.cell ∙ ap (option_map cell_of) at in
     map-set cell_of slots done.cell new ∙ ap (slice_set (cells_of slots) done.cell) is
     ∙ sym (ap (λ (found : Option KeyCell). set_done before done found (cells_of slots)) there)
-
-pub ones_roomy : (plan : Plan) (arrival : Arrival) (rest all : List Arrival) (slots : List Slot) → all ≡ arrival ∷ rest → All (IsRoomy plan all) slots → All (IsRoomy plan (arrival ∷ [])) slots
-ones_roomy plan arrival rest all slots e h =
-    All-weaker (IsRoomy plan (arrival ∷ rest)) (IsRoomy plan (arrival ∷ [])) (λ s k. roomy_one plan arrival rest s k) slots
-    (subst (λ (l : List Arrival). All (IsRoomy plan l) slots) e h)
 
 pub put_more : (plan : Plan) (before : List StageMarks) (yielded : List Arrival) (arrival : Arrival) (cells : List KeyCell)
     → put_all plan before (yielded ++ arrival ∷ []) cells ≡ put_one plan before (put_all plan before yielded cells) arrival

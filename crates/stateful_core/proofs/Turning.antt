@@ -16,6 +16,13 @@ same_first x y xs ys e = cc
 same_rest : {X : Type 0} (x y : X) (xs ys : List X) → x ∷ xs ≡ y ∷ ys → xs ≡ ys
 same_rest x y xs ys e = cc
 
+pub turn_first : {X : Type 0} (p : X → Bool) (xs : List X) (i : ℕ) (queue popped : List X) (x : X) → i < length xs
+    → queue ≡ drop i xs ++ filter p (take i xs) → queue ≡ x ∷ popped → drop i xs ≡ x ∷ drop (i + 1) xs
+turn_first p xs i queue popped x less before pops =
+    let whole : get_or xs i x ∷ (drop (i + 1) xs ++ filter p (take i xs)) ≡ x ∷ popped =
+    ap (λ l. l ++ filter p (take i xs)) (sym (drop_more xs i x less)) ∙ sym before ∙ pops in
+    drop_more xs i x less ∙ ap (λ y. y ∷ drop (i + 1) xs) (same_first (get_or xs i x) x (drop (i + 1) xs ++ filter p (take i xs)) popped whole)
+
 pub turn_once : {X : Type 0} (p : X → Bool) (xs : List X) (i : ℕ) (queue popped new : List X) (x : X) (left : Option X) → i < length xs
     → queue ≡ drop i xs ++ filter p (take i xs) → queue ≡ x ∷ popped → option_to_list left ≡ filter p (x ∷ []) → new ≡ popped ++ option_to_list left
     → IsTurned p xs i x new

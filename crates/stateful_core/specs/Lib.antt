@@ -7,7 +7,9 @@ pub mod Facts
 pub mod KeyWork
 pub mod Lasting
 pub mod Seen
+pub mod Names
 pub mod Opening
+pub mod Routes
 pub mod Least
 pub mod Staying
 pub mod Leaving

@@ -1,8 +1,9 @@
-ghost use Rattle.std.specs.Prelude.{◌≡◌, ◌≤◌, ◌<◌, ◌+◌, ◌-◌, [], ◌∷◌, ◌++◌, true, not, All, IfOk, OnOk, OnErr, length, slice_get, Some};
+ghost use Rattle.std.specs.Prelude.{◌≡◌, ℕ, ◌≤◌, ◌<◌, ◌+◌, ◌-◌, [], ◌∷◌, ◌++◌, true, not, IfOk, OnOk, OnErr, length, slice_get, Some};
 ghost use Rattle.std.specs.List.{filter};
 ghost use Rattle.std.specs.Option.{option_map, option_copied};
 ghost use Rattle.beam_values.specs.Nodes.{is_stateful};
-ghost use Rattle.stateful_core.specs.Opening.{CanFinishAny, HasCell, IsPrepared, IsRoomy, IsStanding, done_of, fresh_all};
+ghost use Rattle.stateful_core.specs.Names.{AreRoomy, AreRoutes, names_of};
+ghost use Rattle.stateful_core.specs.Opening.{CanFinishAny, IsPrepared, IsStanding, done_of};
 ghost use Rattle.stateful_core.specs.Opening.{put_all};
 ghost use Rattle.stateful_core.specs.Least.{AreLeast};
 ghost use Rattle.stateful_core.specs.Placing.{finish, place};
@@ -11,18 +12,18 @@ ghost use Rattle.stateful_core.specs.Seen.{cell_of, cells_of};
 ghost use Rattle.stateful_core.specs.Taking.{IsFirstReady, IsTaken, IsTakenOrNone, change, next_place, tried};
 ghost use Rattle.stateful_core.specs.Taking.{with_job};
 ghost use Rattle.stateful_core.specs.declared.slot.Slot.{Slot};
-ghost use Rattle.beam_values.specs.declared.arrival.Arrival.{Arrival};
-ghost use Rattle.beam_values.specs.declared.plan.Plan.{Plan};
 ghost use Rattle.std.specs.Prelude.{List as ListOf, vec_capacity, vec_len};
 
 use crate::finding::number_of;
 use crate::holding::least_holds;
-use crate::opening::{keep_all, open_all};
+use crate::opening::{keep_all, let_all_go};
 use crate::putting::{finish, put_all};
+use crate::routing::route_all;
 use crate::taking::{give_back, next_place, start, turn_of};
-use crate::{KeyDone, KeyTurn, Place, Slot};
+use crate::{KeyDone, KeyIndex, KeyTurn, Place, Routed, Slot};
 use beam_values::{Arrival, KeyLog, List, LogEntry, Mark, NoMemory, Plan, Span, StageMarks, Value};
 use std::alloc::Global;
+use std::collections::VecDeque;
 use std::marker::Model;
 use std::mem;
 
@@ -30,15 +31,20 @@ use std::mem;
 #[derive(Debug, Drop)]
 pub struct Keys {
     slots: Vec<Slot>,
+    // Leads to each of the cells and the new ones.
+    index: KeyIndex,
     // New cells of the commit that is prepared.
     fresh: Vec<Slot>,
+    // For each of its arrivals at a Stateful node, in their order, the number of the cell.
+    routes: VecDeque<u32>,
     alloc: Global,
 }
 
 impl Model for Keys {
-    ghost use Rattle.std.specs.Prelude.{◌-◌, ◌<◌, length};
+    ghost use Rattle.std.specs.Prelude.{◌-◌};
     ghost use Rattle.std.specs.Coded.{codes};
     ghost use Rattle.beam_values.specs.contracts.value.Value as value;
+    ghost use Rattle.stateful_core.specs.Names.{AreStored};
     ghost use Rattle.stateful_core.specs.Opening.{SeenKeys};
     ghost use Rattle.stateful_core.specs.Seen.{cells_of};
     ghost use Rattle.stateful_core.specs.contracts.slot.Slot as slot;
@@ -49,10 +55,15 @@ impl Model for Keys {
 
     ghost view = { λ k. record {
       cells = cells_of k.slots.items;
-      kept = record { slots = k.slots.items; room = k.slots.cap - k.slots.len; fresh = k.fresh.items };
+      kept = record {
+        slots = k.slots.items;
+        room = k.slots.cap - k.slots.len;
+        fresh = k.fresh.items;
+        routes = k.routes.items;
+      };
     } };
 
-    ghost invariant = { λ k. length k.slots.items < 4294967296 };
+    ghost invariant = { λ k. AreStored k.index.numbers.places k.slots.items k.fresh.items };
 }
 
 impl Keys {
@@ -62,7 +73,9 @@ impl Keys {
     {
         Keys {
             slots: Vec::new(alloc),
+            index: KeyIndex::new(alloc),
             fresh: Vec::new(alloc),
+            routes: VecDeque::new(alloc),
             alloc,
         }
     }
@@ -143,7 +156,15 @@ impl Keys {
         ensures least { IfOk result (λ least. AreLeast least (key_holds (place plan.now marks.now
             (option_map done_of (option_copied done.entry)) arrivals.now self.old.cells))) }
     {
-        let fresh = open_roomy(self.alloc, plan, self.slots.as_slice(), arrivals.as_slice())?;
+        let_all_go(&mut self.slots, &self.routes);
+        self.fresh = Vec::new(self.alloc);
+        let Routed { fresh, routes } = route_all(
+            self.alloc,
+            plan,
+            &mut self.index,
+            self.slots.as_slice(),
+            arrivals.as_slice(),
+        )?;
         has_numbers(self.slots.len(), fresh.len())?;
         let least = least_holds(
             self.alloc,
@@ -153,14 +174,9 @@ impl Keys {
             marks,
             arrivals.as_slice(),
         )?;
-        keep_room(
-            &mut self.slots,
-            plan,
-            done,
-            arrivals.as_slice(),
-            fresh.len(),
-        )?;
         self.fresh = fresh;
+        self.routes = routes;
+        keep_room(&mut self.slots, &mut self.fresh, &self.routes, done)?;
         Ok(least)
     }
 
@@ -181,8 +197,9 @@ impl Keys {
     {
         finish_any(&mut self.slots, marks, done);
         let fresh = mem::replace(&mut self.fresh, Vec::new(self.alloc));
+        let routes = mem::replace(&mut self.routes, VecDeque::new(self.alloc));
         open(&mut self.slots, fresh);
-        put_each(self.alloc, plan, marks, &mut self.slots, arrivals);
+        put_each(self.alloc, plan, marks, &mut self.slots, routes, arrivals);
     }
 }
 
@@ -201,26 +218,27 @@ fn put_each(
     plan: &Plan,
     before: &[StageMarks],
     slots: &mut Vec<Slot>,
+    routes: VecDeque<u32>,
     arrivals: &mut List<Arrival>,
 )
-    requires cells { All (HasCell plan.now (cells_of slots.old.items)) arrivals.old }
-    requires roomy { All (IsRoomy plan.now arrivals.old) slots.old.items }
+    requires routed { AreRoutes plan.now (names_of (cells_of slots.old.items)) arrivals.old
+        routes.items }
+    requires roomy { AreRoomy 0 routes.items slots.old.items }
     ensures cells { cells_of slots.new.items
         ≡ put_all plan.now before.now arrivals.old (cells_of slots.old.items) }
     ensures left { arrivals.new
         ≡ filter (λ arrival. not (is_stateful plan.now arrival.node)) arrivals.old }
 {
-    let null = Value::Null;
     let all = mem::replace(arrivals, List::new(alloc));
-    *arrivals = put_all(plan, &null, before, slots.as_mut_slice(), all);
+    *arrivals = put_all(plan, before, slots.as_mut_slice(), routes, all);
 }
 
 fn finish_any(slots: &mut Vec<Slot>, before: &[StageMarks], done: Option<KeyDone>)
     requires { CanFinishAny slots.old.items (option_map done_of done) }
     ensures cells { cells_of slots.new.items
         ≡ finish before.now (option_map done_of done) (cells_of slots.old.items) }
-    ensures roomy { (plan : Plan) (arrivals : ListOf Arrival)
-        → All (IsRoomy plan arrivals) slots.old.items → All (IsRoomy plan arrivals) slots.new.items }
+    ensures roomy { (routes : ListOf ℕ) → AreRoomy 0 routes slots.old.items
+        → AreRoomy 0 routes slots.new.items }
     ensures len { vec_len slots.new ≡ vec_len slots.old }
     ensures capacity { vec_capacity slots.new ≡ vec_capacity slots.old }
 {
@@ -276,38 +294,27 @@ fn turn_at(
     turn_of(alloc, marks, &slots[place.at], place.at as u32, bundle)
 }
 
-fn open_roomy(
-    alloc: Global,
-    plan: &Plan,
-    slots: &[Slot],
-    arrivals: &[Arrival],
-) -> Result<Vec<Slot>, NoMemory>
-    ensures cells { IfOk result (λ fresh. cells_of fresh.items
-        ≡ fresh_all plan.now (cells_of slots.now) arrivals.now) }
-    ensures roomy { IfOk result (λ fresh. All (IsRoomy plan.now arrivals.now) fresh.items) }
-{
-    let mut fresh = open_all(alloc, plan, slots, arrivals)?;
-    keep_all(plan, fresh.as_mut_slice(), arrivals)?;
-    Ok(fresh)
-}
-
 fn keep_room(
     slots: &mut Vec<Slot>,
-    plan: &Plan,
+    fresh: &mut Vec<Slot>,
+    routes: &VecDeque<u32>,
     done: Option<&KeyDone>,
-    arrivals: &[Arrival],
-    fresh: usize,
 ) -> Result<(), NoMemory>
     requires { IsStanding (cells_of slots.old.items) (option_map done_of (option_copied done)) }
     ensures cells { cells_of slots.new.items ≡ cells_of slots.old.items }
-    ensures places { OnOk result (fresh ≤ vec_capacity slots.new - vec_len slots.new) }
-    ensures roomy { OnOk result (All (IsRoomy plan.now arrivals.now) slots.new.items) }
+    ensures fresh { cells_of fresh.new.items ≡ cells_of fresh.old.items }
+    ensures places { OnOk result
+        (vec_len fresh.new ≤ vec_capacity slots.new - vec_len slots.new) }
+    ensures standing { OnOk result (AreRoomy 0 routes.now.items slots.new.items) }
+    ensures opened { OnOk result
+        (AreRoomy (vec_len slots.old) routes.now.items fresh.new.items) }
     ensures finishes { OnOk result (CanFinishAny slots.new.items
         (option_map done_of (option_copied done.entry))) }
 {
-    keep_all(plan, slots.as_mut_slice(), arrivals)?;
+    keep_all(fresh, slots.len(), routes)?;
+    keep_all(slots, 0, routes)?;
     keep_entries(slots.as_mut_slice(), done)?;
-    slots.reserve(fresh)?;
+    slots.reserve(fresh.len())?;
     Ok(())
 }
 
@@ -315,8 +322,7 @@ fn keep_entries(slots: &mut [Slot], done: Option<&KeyDone>) -> Result<(), NoMemo
     requires { IsStanding (cells_of slots.old) (option_map done_of (option_copied done)) }
     ensures cells { cells_of slots.new ≡ cells_of slots.old }
     ensures sized { length slots.new ≡ length slots.old }
-    ensures roomy { (plan : Plan) (arrivals : ListOf Arrival) → All (IsRoomy plan arrivals) slots.old
-        → All (IsRoomy plan arrivals) slots.new }
+    ensures roomy { (routes : ListOf ℕ) → AreRoomy 0 routes slots.old → AreRoomy 0 routes slots.new }
     ensures finishes { OnOk result (CanFinishAny slots.new
         (option_map done_of (option_copied done.entry))) }
 {
@@ -330,8 +336,7 @@ fn keep_entries_at(slots: &mut [Slot], at: usize, count: usize) -> Result<(), No
     requires { at < length slots.old }
     ensures cells { cells_of slots.new ≡ cells_of slots.old }
     ensures sized { length slots.new ≡ length slots.old }
-    ensures roomy { (plan : Plan) (arrivals : ListOf Arrival) → All (IsRoomy plan arrivals) slots.old
-        → All (IsRoomy plan arrivals) slots.new }
+    ensures roomy { (routes : ListOf ℕ) → AreRoomy 0 routes slots.old → AreRoomy 0 routes slots.new }
     ensures room { OnOk result ((slot : Slot) × (slice_get slots.new at ≡ Some slot)
         × (count ≤ slot.entries.room)) }
 {

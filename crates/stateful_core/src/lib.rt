@@ -7,6 +7,9 @@
 //! first elements that wait, or else the first timer that is due, [`Keys::give_back`] undoes that after a
 //! failure, and a commit is prepared, which takes all memory, and then placed, which takes none.
 //!
+//! No arrival looks through the cells: an index leads from its node, window and key to its cell
+//! (`specs/Names.antt`). Preparing a commit notes the numbers that it finds, and placing it goes by them.
+//!
 //! What each step does stands in `specs/Taking.antt` and `specs/Placing.antt`. [`laws`] has what every list of
 //! steps keeps: the logs are those of calls in one legal order, and what came stands in a log or waits, once
 //! and in order. Read `keys.rt` first.
@@ -14,6 +17,7 @@
 
 mod finding;
 mod holding;
+mod key_index;
 mod key_job;
 mod keys;
 pub mod laws;
@@ -21,15 +25,18 @@ mod opening;
 mod place;
 mod putting;
 mod queue;
+mod routing;
 mod slot;
 mod taking;
 mod timer_holds;
 mod waiting;
 
+pub use key_index::KeyIndex;
 pub use key_job::{KeyDone, KeyTurn};
 pub use keys::Keys;
 pub use place::Place;
 pub use queue::Queue;
+pub use routing::Routed;
 pub use slot::Slot;
 pub use timer_holds::TimerHolds;
 pub use waiting::Waiting;

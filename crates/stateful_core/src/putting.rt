@@ -1,4 +1,4 @@
-ghost use Rattle.std.specs.Prelude.{◌≡◌, ◌≤◌, ◌<◌, ◌+◌, ◌-◌, [], ◌∷◌, ◌++◌, true, false, All, List as ListOf, count_by, length, drop, slice_get, unwrap_or};
+ghost use Rattle.std.specs.Prelude.{◌≡◌, ℕ, ◌≤◌, ◌<◌, ◌+◌, ◌-◌, [], ◌∷◌, ◌++◌, true, List as ListOf, length, drop, slice_get, unwrap_or};
 ghost use Rattle.std.specs.Prelude.{Option, Some, None, not, option_to_list};
 ghost use Rattle.std.specs.List.{filter};
 ghost use Rattle.std.specs.VecDeque.{deque_capacity, deque_len};
@@ -6,19 +6,17 @@ ghost use Rattle.std.specs.Int.{int_max};
 ghost use Rattle.beam_values.specs.Marks.{marks_at};
 ghost use Rattle.beam_values.specs.Nodes.{is_stateful};
 ghost use Rattle.beam_values.specs.declared.arrival.Arrival.{Arrival};
-ghost use Rattle.beam_values.specs.declared.value.Value.TheVariants.{Null};
-ghost use Rattle.stateful_core.specs.Cells.{belongs};
-ghost use Rattle.stateful_core.specs.Opening.{CanFinish, HasCell, IsCellAt, IsAdded, IsMore, IsRoomy, done_of, put_all, put_one};
+ghost use Rattle.stateful_core.specs.Names.{AreRoomy, AreRoutes, names_of};
+ghost use Rattle.stateful_core.specs.Opening.{CanFinish, IsAdded, IsMore, done_of, put_all, put_one};
 ghost use Rattle.beam_model.specs.Holds.{arrival_hold};
 ghost use Rattle.stateful_core.specs.Placing.{finish, waits, with_done, with_waiting};
-ghost use Rattle.beam_values.specs.declared.plan.Plan.{Plan};
 ghost use Rattle.beam_values.specs.declared.marks.StageMarks.{StageMarks};
 ghost use Rattle.stateful_core.specs.Seen.{cell_of, cells_of};
 ghost use Rattle.stateful_core.specs.declared.slot.Slot.{Slot};
 
-use crate::finding::{find, is_stateful};
+use crate::finding::is_stateful;
 use crate::{KeyDone, Slot, Waiting};
-use beam_values::{Arrival, List, LogEntry, Mark, Plan, RoomyList, StageMarks, Value};
+use beam_values::{Arrival, List, LogEntry, Mark, Plan, RoomyList, StageMarks};
 use std::collections::VecDeque;
 
 /// The mark after a node; FINAL where there is no such node.
@@ -48,20 +46,23 @@ pub fn arrival_hold(before: &[StageMarks], arrival: &Arrival) -> Mark
     Mark::at(arrival.element.time).max(mark_out(before, arrival.node))
 }
 
-/// An arrival at a Stateful node waits at its cell, where room is kept; another is answered.
+/// An arrival at a Stateful node waits at its cell, which has the first of these numbers, where room is kept;
+/// another is answered.
 pub fn put(
     plan: &Plan,
-    null: &Value,
     before: &[StageMarks],
     slots: &mut [Slot],
+    routes: &mut VecDeque<u32>,
     arrival: Arrival,
 ) -> Option<Arrival>
-    requires null { null.now ≡ Null }
-    requires cell { HasCell plan.now (cells_of slots.old) arrival }
-    requires roomy { All (IsRoomy plan.now (arrival ∷ [])) slots.old }
+    requires routed { (rest : ListOf Arrival) × AreRoutes plan.now (names_of (cells_of slots.old))
+        (arrival ∷ rest) routes.old.items }
+    requires roomy { AreRoomy 0 routes.old.items slots.old }
     ensures cells { cells_of slots.new ≡ put_one plan.now before.now (cells_of slots.old) arrival }
-    ensures roomy { (rest : ListOf Arrival) → All (IsRoomy plan.now (arrival ∷ rest)) slots.old
-        → All (IsRoomy plan.now rest) slots.new }
+    ensures routed { (rest : ListOf Arrival) → AreRoutes plan.now (names_of (cells_of slots.old))
+        (arrival ∷ rest) routes.old.items
+        → AreRoutes plan.now (names_of (cells_of slots.new)) rest routes.new.items }
+    ensures roomy { AreRoomy 0 routes.new.items slots.new }
     ensures sized { length slots.new ≡ length slots.old }
     ensures left { option_to_list result
         ≡ filter (λ a. not (is_stateful plan.now a.node)) (arrival ∷ []) }
@@ -70,11 +71,11 @@ pub fn put(
         return Some(arrival);
     }
     let hold = arrival_hold(before, &arrival);
-    let Some(at) = find(slots, null, &arrival) else {
+    let Some(at) = routes.pop_front() else {
         unreachable!()
     };
     let Arrival { element, .. } = arrival;
-    add_at(slots, at, Waiting { element, hold });
+    add_at(slots, at as usize, Waiting { element, hold });
     None
 }
 
@@ -98,14 +99,13 @@ fn add(slot: &mut Slot, waiting: Waiting)
 /// list is taken out, and goes behind the last if it is left.
 pub fn put_all(
     plan: &Plan,
-    null: &Value,
     before: &[StageMarks],
     slots: &mut [Slot],
+    mut routes: VecDeque<u32>,
     arrivals: List<Arrival>,
 ) -> List<Arrival>
-    requires null { null.now ≡ Null }
-    requires cells { All (HasCell plan.now (cells_of slots.old)) arrivals }
-    requires roomy { All (IsRoomy plan.now arrivals) slots.old }
+    requires routed { AreRoutes plan.now (names_of (cells_of slots.old)) arrivals routes.items }
+    requires roomy { AreRoomy 0 routes.items slots.old }
     ensures cells { cells_of slots.new ≡ put_all plan.now before.now arrivals (cells_of slots.old) }
     ensures sized { length slots.new ≡ length slots.old }
     ensures left { result ≡ filter (λ a. not (is_stateful plan.now a.node)) arrivals }
@@ -115,7 +115,7 @@ pub fn put_all(
         let Some(arrival) = turning.pop_front() else {
             unreachable!()
         };
-        let left = put(plan, null, before, slots, arrival);
+        let left = put(plan, before, slots, &mut routes, arrival);
         put_behind(&mut turning, left);
     }
     List::from_vec(turning.into_vec())
@@ -136,8 +136,7 @@ fn put_behind(arrivals: &mut VecDeque<Arrival>, left: Option<Arrival>)
 pub fn finish(slots: &mut [Slot], before: &[StageMarks], done: KeyDone)
     requires { CanFinish slots.old (done_of done) }
     ensures cells { cells_of slots.new ≡ finish before.now (Some (done_of done)) (cells_of slots.old) }
-    ensures roomy { (plan : Plan) (arrivals : ListOf Arrival) → All (IsRoomy plan arrivals) slots.old
-        → All (IsRoomy plan arrivals) slots.new }
+    ensures roomy { (routes : ListOf ℕ) → AreRoomy 0 routes slots.old → AreRoomy 0 routes slots.new }
     ensures sized { length slots.new ≡ length slots.old }
 {
     let slot = &mut slots[done.cell as usize];

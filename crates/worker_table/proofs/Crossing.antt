@@ -42,6 +42,7 @@ use Rattle.keyed_state.specs.contracts.run.Run.TheInside as BagRunInside
 use Rattle.keyed_state.specs.contracts.state.KeyState as KeyState
 use Rattle.keyed_state.specs.contracts.state.KeyState.TheInside as KeyStateInside
 use Rattle.timer_core.specs.contracts.timers.Timers as Timers
+use Rattle.stateful_core.specs.contracts.key_index.KeyIndex as KeyIndex
 use Rattle.stateful_core.specs.contracts.keys.Keys as Keys
 use Rattle.stateful_core.specs.contracts.keys.Keys.TheInside as KeysInside
 use Rattle.stateful_core.specs.contracts.queue.Queue as KeyQueue
@@ -163,8 +164,11 @@ KeySlot-send : IsSend KeySlot.the_row
 KeySlot-send =
     declared_send KeySlot.the_type (search (Value-send, LogEntry-send, RoomyList-send, KeyState-send, Timers-send, TimerHolds-send, KeyQueue-send, as_row_send, sendable, crosses) depth 40)
 
+KeyIndex-send : IsSend KeyIndex.the_row
+KeyIndex-send = declared_send KeyIndex.the_type (search (CellIndex-send, as_row_send, sendable) depth 40)
+
 Keys-send : IsSend Keys.the_row
-Keys-send = view_send _ _ _ _ _ (declared_send KeysInside.the_type (search (KeySlot-send, as_row_send, sendable, crosses) depth 40))
+Keys-send = view_send _ _ _ _ _ (declared_send KeysInside.the_type (search (KeyIndex-send, KeySlot-send, as_row_send, sendable, crosses) depth 40))
 
 -- ---- the book
 
