@@ -1,5 +1,6 @@
 //! Guesses at the places of cells, by a hash of what a cell is found by. A guess is read and then
-//! compared with the cell at its place, so that one that is wrong or lost costs a look-up and no more.
+//! compared with the cell at its place, so that one that is wrong or lost costs time and nothing else: the
+//! index copies the key and walks down its map twice.
 
 ghost use Rattle.std.specs.Prelude.{◌≡◌, ◌<◌, ◌^◌, ℕ, [], All, Contains, IfSome};
 ghost use Rattle.std.specs.BTreeMap.{BTreeMap as TreeMap};

@@ -65,10 +65,10 @@ impl IndexKey {
         cell
     }
 
-    pub fn node(&self) -> u32
-        ensures { result ≡ self.now.node }
+    pub fn cell(&self) -> &CellKey
+        ensures { result.now ≡ self.now }
     {
-        self.cell.node
+        &self.cell
     }
 
     /// A hash of the node, the key and the start of the window. It is never 0, which says of a slot that

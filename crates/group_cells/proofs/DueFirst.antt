@@ -1,9 +1,9 @@
 -- The first key of a node is at the least moment of its cells.
-use Rattle.std.proofs.Common.{◌≡◌, ℕ, ◌<◌, ◌≤◌, ◌==◌, ℤ, ◌≤ℤ◌, ◌<ℤ◌, Bool, true, false, cond, List, get_or, Option, Some, None, refl, sym, ap, subst, ◌∙◌, arith}
+use Rattle.std.proofs.Common.{◌≡◌, ◌⊎◌, inl, inr, ℕ, ◌<◌, ◌≤◌, ◌==◌, ℤ, ◌≤ℤ◌, ◌<ℤ◌, Bool, true, false, cond, List, [], get_or, Option, Some, None, refl, sym, ap, subst, ◌∙◌, arith}
 use Rattle.std.specs.Prelude.{MatchOption, ◌&&◌, slice_get}
 use Rattle.std.specs.BTreeMap.Range.{IsInRange}
 use Rattle.std.specs.BTreeSet.{contains}
-use Rattle.std.specs.List.{Any}
+use Rattle.std.specs.List.{Any, Contains}
 use Rattle.std.specs.Option.{option_map}
 use Rattle.std.specs.Ordering.{int_cmp, is_gt, nat_cmp, ordering_then}
 use Rattle.std.specs.declared.cmp.Ordering.{Ordering}
@@ -54,7 +54,7 @@ moments_upto a b same h =
     (first_upto (int_cmp a.moment b.moment) (nat_cmp a.place b.place)
     (sym (ap (λ o. is_gt (ordering_then o (ordering_then (int_cmp a.moment b.moment) (nat_cmp a.place b.place)))) tie) ∙ h))
 
-module _ (plan : Plan) (due : DueCells) (cells : List Cell) (node : ℕ) (h : IsDueOf plan due cells) (least : IsLeast) where
+module _ (plan : Plan) (due : DueCells) (cells : List Cell) (node : ℕ) (h : IsDueOf plan due cells) (none_moved : due.moved.items ≡ []) (least : IsLeast) where
   abbrev pub bottom : DueKey
   bottom = record { node = node; moment = least_time; place = 0 }
 
@@ -77,8 +77,8 @@ module _ (plan : Plan) (due : DueCells) (cells : List Cell) (node : ℕ) (h : Is
 
       there : contains due_cmp due.moments (record { node = node; moment = m; place = k }) ≡ true
       there =
-          h.moments (record { node = node; moment = m; place = k }) ∙ ap (is_due_as plan (record { node = node; moment = m; place = k })) found
-          ∙ (λ i. (Decides-eqb cell.node node).1 at i && has_moment (own i) m) ∙ (Decides-int_eq m m).1 refl
+          h.moments.whole (record { node = node; moment = m; place = k })
+          (ap (is_due_as plan (record { node = node; moment = m; place = k })) found ∙ (λ i. (Decides-eqb cell.node node).1 at i && has_moment (own i) m) ∙ (Decides-int_eq m m).1 refl)
 
       inside : least_time ≤ℤ m → m ≤ℤ final_mark → Between (record { node = node; moment = m; place = k })
       inside low high =
@@ -110,6 +110,11 @@ module _ (plan : Plan) (due : DueCells) (cells : List Cell) (node : ℕ) (h : Is
           let in_ = listed k cell m found at e in
           absurd (false≢true (sym (none (record { node = node; moment = m; place = k }) in_.1) ∙ in_.0))
 
+  -- no moment is left that moved
+  due_now : (q : DueKey) → (is_due_as plan q (slice_get cells q.place) ≡ true) ⊎ Contains due.moved.items q → is_due_as plan q (slice_get cells q.place) ≡ true
+  due_now q (inl due_so) = due_so
+  due_now q (inr moved) = let there = subst (λ (l : List DueKey). Contains l q) none_moved moved in let within : there.0 < 0 = there.1 in absurd (omega (arith, within))
+
   key_at : (key : DueKey) → Between key → key.node ≡ node
   key_at key in_ =
       let low : node ≤ key.node = nat_from node key.node (first_upto (nat_cmp node key.node) (ordering_then (int_cmp least_time key.moment) (nat_cmp 0 key.place)) in_.0) in
@@ -117,7 +122,7 @@ module _ (plan : Plan) (due : DueCells) (cells : List Cell) (node : ℕ) (h : Is
       omega (arith, low, high)
 
   some_due : (key : DueKey) → IsFirstBetween due.moments bottom top (Some key) → IsNextDue plan node cells (Some key.moment)
-  some_due key first = (by_cell (slice_get cells key.place) refl (sym (h.moments key) ∙ first.1), λ k d within at. before k (get_or cells k d) (slice_get-get_or cells k d within) at (moment_of (trigger_of plan node) (get_or cells k d)) refl)
+  some_due key first = (by_cell (slice_get cells key.place) refl (due_now key (h.moments.only key first.1)), λ k d within at. before k (get_or cells k d) (slice_get-get_or cells k d within) at (moment_of (trigger_of plan node) (get_or cells k d)) refl)
     where
       here : key.node ≡ node
       here = key_at key first.0
@@ -150,9 +155,9 @@ module _ (plan : Plan) (due : DueCells) (cells : List Cell) (node : ℕ) (h : Is
   next_found None h = none_due h
   next_found (Some key) h = some_due key h
 
-pub next_is : (plan : Plan) (due : DueCells) (cells : List Cell) (node : ℕ) (first last_ : DueKey) (o : Option DueKey) → IsDueOf plan due cells → IsLeast
+pub next_is : (plan : Plan) (due : DueCells) (cells : List Cell) (node : ℕ) (first last_ : DueKey) (o : Option DueKey) → IsDueOf plan due cells → due.moved.items ≡ [] → IsLeast
     → first ≡ record { node = node; moment = least_time; place = 0 } → last_ ≡ record { node = node; moment = final_mark; place = 4294967295 }
     → IsFirstBetween due.moments first last_ o → IsNextDue plan node cells (option_map (λ k. k.moment) o)
-next_is plan due cells node first last_ o h least from_ to_ between =
-    next_found plan due cells node h least o
+next_is plan due cells node first last_ o h none_moved least from_ to_ between =
+    next_found plan due cells node h none_moved least o
     (subst (λ k. IsFirstBetween due.moments k (record { node = node; moment = final_mark; place = 4294967295 }) o) from_ (subst (λ k. IsFirstBetween due.moments first k o) to_ between))

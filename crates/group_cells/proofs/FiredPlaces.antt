@@ -188,7 +188,7 @@ all_listed plan rules node mark due cells places sorted trigger low high h from_
         ∙ ap (λ b. cond {A = Option ℤ} b (next_mark rules.trigger cell.span.end cell.on_time (unseen_in cell.entries)) None) stands ∙ e in
         let q : DueKey = record { node = node; moment = m; place = place } in
         let there : contains due_cmp due.moments q ≡ true =
-        h.moments q ∙ ap (is_due_as plan q) found ∙ (λ i. at i && has_moment (own i) m) ∙ (Decides-int_eq m m).1 refl in
+        h.moments.whole q (ap (is_due_as plan q) found ∙ (λ i. at i && has_moment (own i) m) ∙ (Decides-int_eq m m).1 refl) in
         Contains-permutation places sorted place same (listed q refl next.from_least reached (omega (arith, slice_get_within cells place cell found, h.small)) there)
 
     by_standing : (place : ℕ) (cell : Cell) → slice_get cells place ≡ Some cell → (cell.node == node) ≡ true → (s : Bool) → is_standing cell.merged_into ≡ s

@@ -1,31 +1,26 @@
 -- A cell gives way to the session of the last cell, and stands again.
-use Rattle.std.proofs.Common.{◌≡◌, ℕ, zero, suc, ◌+◌, ◌-◌, ◌<◌, ◌≤◌, ◌≢◌, ℤ, Bool, true, false, List, [], ◌∷◌, ◌++◌, length, get_or, take, Option, Some, None, refl, sym, ap, subst, ◌∙◌, arith, append-nil, append_assoc, length-append}
+use Rattle.std.proofs.Common.{◌≡◌, ℕ, zero, suc, ◌+◌, ◌-◌, ◌<◌, ◌≤◌, ◌≢◌, ℤ, Bool, true, false, List, [], ◌∷◌, ◌++◌, length, get_or, take, Option, Some, None, refl, sym, ap, ◌∙◌, arith, append-nil, append_assoc, length-append}
 use Rattle.std.proofs.Math.ListN.{set, length-set}
 use Rattle.std.proofs.Math.Seq.{set-append_seam}
 use Rattle.std.specs.Prelude.{◌&&◌, slice_get, slice_set, unwrap_or, fold}
 use Rattle.std.specs.Option.{option_map}
-use Rattle.std.proofs.lemmas.List.{get_or-set_other, get_or-set_same, get_or_append_left, set-append_left, take_more}
+use Rattle.std.proofs.lemmas.List.{get_or_append_left, set-append_left, take_more}
 use Rattle.std.proofs.lemmas.List.Sums.{fold-append}
 use Rattle.std.proofs.lemmas.Option.{slice_get_read}
 use Rattle.beam_values.specs.Intervals.{Interval}
 use Rattle.beam_values.specs.declared.cell.Cell.{Cell}
 use Rattle.beam_values.specs.declared.cell.Entry.{Entry}
-use Rattle.beam_values.specs.declared.plan.Plan.{Plan}
 use Rattle.beam_values.specs.declared.value.Value.{Value}
 use Rattle.beam_model.specs.Panes.{GroupRules}
 use Rattle.cell_index.specs.Indexes.{IsIndexOf}
 use Rattle.cell_index.specs.declared.index.CellIndex.{CellIndex}
 use Rattle.group_cells.specs.AtPlaces.{at_place, changed_at, given_all}
-use Rattle.group_cells.specs.Cells.{unseen_in}
-use Rattle.group_cells.specs.Due.{IsDueOf, own_moment}
 use Rattle.group_cells.specs.Handing.{given_entries, given_way, handed_back, kept_entries, standing_with, with_entries, without_given, HasGivenWay}
 use Rattle.group_cells.specs.Placing.{fresh_cell, gives_way, handed_over, is_absorbed, is_standing, once_opened}
 use Rattle.group_cells.specs.Undoing.{undone_all}
 use Rattle.group_cells.specs.declared.groups.draft.Change.{Change}
 use Rattle.group_cells.specs.declared.groups.draft.Change.TheVariants.{GaveWay}
-use Rattle.group_cells.specs.declared.groups.due.DueCells.{DueCells}
 use Rattle.group_cells.specs.declared.groups.handing.Given.{Given}
-use Rattle.group_cells.proofs.DueSteps.{counts_length, unseen_both, IsChanged, IsMomentAt}
 use Rattle.group_cells.proofs.FireSteps.{read_is}
 use Rattle.group_cells.proofs.Handing.{goes_there, none_there, stays_there}
 use Rattle.group_cells.proofs.Taking.{index_replaced, with_cell}
@@ -41,6 +36,10 @@ read_other (y ∷ xs) (suc i) (suc j) x ne = read_other xs i j x (λ e. ne (ap s
 read_end : {X : Type 0} (xs : List X) (x : X) → slice_get (xs ++ x ∷ []) (length xs) ≡ Some x
 read_end [] x = refl
 read_end (y ∷ xs) x = read_end xs x
+
+-- what is read at a later place
+pub read_later : (cells : List Cell) (place last_ : ℕ) (other cell : Cell) → place < last_ → slice_get cells last_ ≡ Some cell → slice_get (set cells place other) last_ ≡ Some cell
+read_later cells place last_ other cell before there = read_other cells place last_ other (λ e. absurd (omega arith)) ∙ there
 
 module _ (session : Interval) (cells : List Cell) (place last_ : ℕ) (before : place < last_) (ends : last_ + 1 ≡ length cells) where
   apart : last_ ≢ place
@@ -119,54 +118,12 @@ module _ (session : Interval) (cells : List Cell) (place last_ : ℕ) (before : 
         ∙ ap (λ (o : Option Interval). set cells place (record cell { merged_into = o })) (sym (stands cell found))
         ∙ set_back cells place cell found)
 
-  -- the index and the set of the due, where a cell gave way
+  -- the index, where a cell gave way
   pub given_index : (index : CellIndex) (new : List Cell) → HasGivenWay session place last_ cells new → IsIndexOf index cells → IsIndexOf index new
   given_index index new gone_ h = with_cell cells place within (λ cell found. with_cell cells last_ last_within (λ taker there.
       index_replaced index (set cells place (given_way session cell)) new last_ taker (with_entries cell.entries taker) (still cell taker found there) (refl, refl, refl)
       (gone_ cell taker found there)
       (index_replaced index cells (set cells place (given_way session cell)) place cell (given_way session cell) found (refl, refl, refl) refl h)))
-
-  module _ (plan : Plan) (old mid : DueCells) (after : List Cell) (was : Option ℤ) (first now : Cell)
-      (gone_ : HasGivenWay session place last_ cells after) (h : IsDueOf plan old cells)
-      (read : first ≡ get_or cells place first) (moment : IsMomentAt plan old place first was)
-      (again : now ≡ get_or after place now) (changed : IsChanged plan old mid place was now 0) where
-    once_due : (cell taker : Cell) → slice_get cells place ≡ Some cell → slice_get cells last_ ≡ Some taker → IsDueOf plan mid (set cells place (given_way session cell))
-    once_due cell taker found there =
-        let left : Cell = given_way session cell in
-        let full : Cell = with_entries cell.entries taker in
-        let here : first ≡ cell = read_is cells place first cell read found in
-        let now_is : now ≡ left = again ∙ ap (λ l. get_or l place now) (gone_ cell taker found there) ∙ get_or-set_other (set cells place left) last_ place full now (λ e. apart (sym e))
-        ∙ get_or-set_same cells place left now within in
-        subst (λ (x : Cell). IsDueOf plan mid (set cells place x)) now_is
-        (changed cells cell h found (moment cells h (found ∙ ap (λ (x : Cell). Some x) (sym here)) ∙ ap (own_moment plan) here) (ap (λ (x : Cell). x.node) now_is)
-        (sym (ap (λ (x : Cell). unseen_in x.entries) now_is)))
-
-    pub once_counted : length mid.unseen.items ≡ length cells
-    once_counted = with_cell cells place within (λ cell found. with_cell cells last_ last_within (λ taker there.
-        counts_length plan mid (set cells place (given_way session cell)) (once_due cell taker found there) ∙ length-set cells place (given_way session cell)))
-
-    pub given_due : (new : DueCells) (taker_was : Option ℤ) (count : ℕ) (taker_first taker_now : Cell)
-        → taker_first ≡ get_or cells last_ taker_first → IsMomentAt plan old last_ taker_first taker_was
-        → ((p : Plan) (l : List Cell) (cell with_ : Cell) → IsDueOf p old l → slice_get l place ≡ Some cell → slice_get l last_ ≡ Some with_
-        → count ≡ unseen_in cell.entries + unseen_in with_.entries)
-        → taker_now ≡ get_or after last_ taker_now → IsChanged plan mid new last_ taker_was taker_now count → IsDueOf plan new after
-    given_due new taker_was count taker_first taker_now taker_read taker_moment counted taker_again taker_changed =
-        with_cell cells place within (λ cell found. with_cell cells last_ last_within (λ taker there.
-        let left : Cell = given_way session cell in
-        let full : Cell = with_entries cell.entries taker in
-        let after_is : after ≡ set (set cells place left) last_ full = gone_ cell taker found there in
-        let taker_here : taker_first ≡ taker = read_is cells last_ taker_first taker taker_read there in
-        let in_left : last_ < length (set cells place left) = omega (arith, length-set cells place left, last_within) in
-        let taker_is : taker_now ≡ full = taker_again ∙ ap (λ l. get_or l last_ taker_now) after_is ∙ get_or-set_same (set cells place left) last_ full taker_now in_left in
-        subst (IsDueOf plan new) (ap (set (set cells place left) last_) taker_is ∙ sym after_is)
-        (taker_changed (set cells place left) taker (once_due cell taker found there) (still cell taker found there)
-        (taker_moment cells h (there ∙ ap (λ (x : Cell). Some x) (sym taker_here)) ∙ ap (own_moment plan) taker_here) (ap (λ (x : Cell). x.node) taker_is)
-        (counted plan cells cell taker h found there ∙ sym (unseen_both taker.entries cell.entries) ∙ ap (λ (x : Cell). unseen_in x.entries) (sym taker_is)))))
-
-  pub given_length : (new : List Cell) → HasGivenWay session place last_ cells new → length new ≡ length cells
-  given_length new gone_ = with_cell cells place within (λ cell found. with_cell cells last_ last_within (λ taker there.
-      ap length (gone_ cell taker found there)
-      ∙ length-set (set cells place (given_way session cell)) last_ (with_entries cell.entries taker) ∙ length-set cells place (given_way session cell)))
 
 standing_so : (m : Option Interval) (b : Bool) → (is_standing m && b) ≡ true → m ≡ None
 standing_so None b e = refl

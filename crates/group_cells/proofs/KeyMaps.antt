@@ -1,15 +1,15 @@
 -- Lists by Group and key: what is listed once a list was taken out or put in.
-use Rattle.std.proofs.Common.{◌≡◌, ℕ, ◌+◌, ◌<◌, ◌==◌, Bool, true, false, cond, List, [], ◌∷◌, ◌++◌, map, length, Option, Some, None, refl, sym, ap, subst, ◌∙◌, arith, append-nil}
-use Rattle.std.specs.Prelude.{◌&&◌, slice_get, unwrap_or}
+use Rattle.std.proofs.Common.{◌≡◌, ◌+◌, ◌<◌, ◌==◌, Bool, true, false, cond, List, [], ◌∷◌, ◌++◌, map, length, Option, Some, None, refl, sym, ap, ◌∙◌, arith, append-nil}
+use Rattle.std.specs.Prelude.{◌&&◌, unwrap_or}
 use Rattle.std.specs.BTreeMap as tree
 use Rattle.std.specs.BTreeMap.{BTreeMap, insert_entry, is_at}
 use Rattle.std.specs.Cmp.{IsTotalOrder, tied_then}
 use Rattle.std.specs.List.{filter, sum_by}
 use Rattle.std.specs.Map.{lookup, remove_entry, values_of}
-use Rattle.std.specs.Option.{is_some, option_map}
+use Rattle.std.specs.Option.{option_map}
 use Rattle.std.specs.Ordering.{is_eq, nat_cmp}
 use Rattle.std.specs.Str.{bytes_eq}
-use Rattle.std.proofs.lemmas.Bool.{and_parts, eqb-true, false≢true}
+use Rattle.std.proofs.lemmas.Bool.{and_parts, eqb-true}
 use Rattle.std.proofs.lemmas.Cmp.{nat_cmp_total, nat_list_cmp_total, on_total, then_total}
 use Rattle.std.proofs.lemmas.List.{map-append}
 use Rattle.std.proofs.lemmas.List.Elements.{filter-append}
@@ -22,9 +22,8 @@ use Rattle.beam_values.specs.Orders.{value_cmp}
 use Rattle.beam_values.specs.Spelling.{spelling}
 use Rattle.beam_values.specs.declared.arrival.Arrival.{Arrival}
 use Rattle.beam_values.specs.declared.element.Element.{Element}
-use Rattle.beam_model.specs.Panes.{is_cell_at_key, rules_of}
 use Rattle.cell_index.proofs.Indexing.{nat_tied}
-use Rattle.group_cells.specs.Commits.{cell_place, elements_keyed}
+use Rattle.group_cells.specs.Commits.{elements_keyed}
 use Rattle.group_cells.specs.KeyLists.{all_listed, group_key_cmp, listed}
 use Rattle.group_cells.specs.Plain.{is_arrival_at}
 use Rattle.group_cells.specs.declared.groups.keyed.GroupKey.{GroupKey}

@@ -20,17 +20,17 @@ use Rattle.beam_values.specs.declared.value.Value.{Value}
 use Rattle.beam_model.specs.Panes.{GroupRules, is_cell_at_key}
 use Rattle.group_cells.specs.AtPlaces.{at_place}
 use Rattle.group_cells.specs.Commits.{CellPlace, cell_place}
-use Rattle.group_cells.specs.KeyLists.{places_from, stands, stands_here}
+use Rattle.group_cells.specs.KeyLists.{stands, stands_here}
 use Rattle.group_cells.specs.KnownWindows.{meeting_places, meets, opens, opens_as, overlaps, window_at, AreFilled, AreKnown, AreListed, ArePlacesMet, HasNone, HasOpened, IsKnown, IsKnownOf, IsWithout}
 use Rattle.group_cells.specs.Placing.{fresh_cell, gives_way, is_absorbed, is_standing, stands_as, with_entry}
 use Rattle.group_cells.specs.Plain.{once_opened_at, opening_of, put_at, stands_at, takes_at}
-use Rattle.group_cells.specs.Rounds.{is_open, open_windows}
+use Rattle.group_cells.specs.Rounds.{is_open}
 use Rattle.group_cells.specs.declared.groups.standing.Known.{Known}
 use Rattle.group_cells.specs.declared.groups.standing.Known.TheVariants.{Apart, Nothing}
 use Rattle.group_cells.specs.declared.groups.standing.Standing.{Standing}
 use Rattle.group_cells.proofs.ListedWindows.{listed_as, listed_without}
 use Rattle.group_cells.proofs.PlacedKeys.{at_itself}
-use Rattle.group_cells.proofs.StandingPlaces.{at_number, got, in_places, passes_there, places_same, read_alike, read_nothing, read_there}
+use Rattle.group_cells.proofs.StandingPlaces.{at_number, got, in_places, passes_there, places_same, read_alike, read_there}
 use Rattle.group_cells.proofs.WindowTests.{lies_from, lies_overlaps, overlaps_back, span_itself, span_sound}
 
 -- ---- the test

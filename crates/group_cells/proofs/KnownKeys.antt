@@ -1,6 +1,6 @@
 -- What is known of the windows of each Group and key, as cells of one come or change.
-use Rattle.std.proofs.Common.{◌≡◌, ◌⊎◌, inl, inr, ℕ, zero, suc, ◌==◌, ℤ, Bool, true, false, cond, List, [], ◌∷◌, ◌++◌, map, length, Option, Some, None, refl, sym, ap, subst, ◌∙◌, append-nil}
-use Rattle.std.specs.Prelude.{◌&&◌, ◌||◌, not, bytes_eq, slice_get}
+use Rattle.std.proofs.Common.{◌≡◌, ℕ, zero, suc, ◌==◌, ℤ, Bool, true, false, cond, List, [], ◌∷◌, ◌++◌, map, length, Option, Some, None, refl, sym, ap, subst, ◌∙◌, append-nil}
+use Rattle.std.specs.Prelude.{◌&&◌, ◌||◌, not, bytes_eq}
 use Rattle.std.specs.Option.{is_some}
 use Rattle.std.specs.BTreeMap.{BTreeMap}
 use Rattle.std.specs.List.{All, filter}
@@ -31,7 +31,6 @@ use Rattle.group_cells.specs.KeyLists.{group_key_cmp, stands, stands_here}
 use Rattle.group_cells.specs.KnownWindows.{known_of, opens, opens_as, AreKnown, AreStanding, IsKnown, IsKnownOf}
 use Rattle.group_cells.specs.Placing.{is_same_key, is_standing}
 use Rattle.group_cells.specs.Plain.{AreNodesFired, ArePlacedAt, is_arrival_at}
-use Rattle.group_cells.specs.Rounds.{is_open}
 use Rattle.group_cells.specs.declared.groups.keyed.GroupKey.{GroupKey}
 use Rattle.group_cells.specs.declared.groups.standing.Known.{Known}
 use Rattle.group_cells.specs.declared.groups.standing.Known.TheVariants.{Apart, Nothing}

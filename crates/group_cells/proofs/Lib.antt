@@ -72,3 +72,6 @@ mod ShownFirst
 mod Unfiring
 mod Unmerged
 mod Writes
+mod SettledMoments
+mod Tracking
+mod UndonePlaces

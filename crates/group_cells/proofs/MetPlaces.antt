@@ -1,5 +1,5 @@
 -- The places of the windows that overlap another, ascending.
-use Rattle.std.proofs.Common.{◌≡◌, ◌⊎◌, inl, inr, ℕ, zero, suc, ◌+◌, ◌<◌, ◌≤◌, ℤ, Bool, true, false, cond, List, [], ◌∷◌, ◌++◌, map, length, get_or, take, Some, refl, sym, ap, subst, ◌∙◌, arith, append-nil}
+use Rattle.std.proofs.Common.{◌≡◌, ◌⊎◌, inl, inr, ℕ, zero, suc, ◌+◌, ◌<◌, ℤ, Bool, true, false, cond, List, [], ◌∷◌, ◌++◌, map, length, get_or, take, Some, refl, sym, ap, subst, ◌∙◌, arith, append-nil}
 use Rattle.std.specs.Prelude.{◌↔◌, Contains}
 use Rattle.std.specs.BTreeMap.{BTreeMap}
 use Rattle.std.specs.BTreeSet.{insert_key}
@@ -16,7 +16,6 @@ use Rattle.beam_values.specs.Sessions.{IsNonEmpty}
 use Rattle.beam_values.specs.declared.cell.Cell.{Cell}
 use Rattle.beam_values.specs.declared.value.Value.{Value}
 use Rattle.beam_model.specs.Panes.{GroupRules}
-use Rattle.group_cells.specs.KeyLists.{places_from}
 use Rattle.group_cells.specs.KnownWindows.{meeting_places, meets, overlaps, places_of, window_at, AreListed, AreMet, ArePlacesMet}
 use Rattle.group_cells.specs.declared.groups.standing.Standing.{Standing}
 use Rattle.group_cells.proofs.StandingPlaces.{places_push}

@@ -1,11 +1,9 @@
 -- The sessions over the windows that are near are those over all windows that are open.
-use Rattle.std.proofs.Common.{◌≡◌, ◌⊎◌, inl, inr, ℕ, zero, suc, ◌+◌, ◌<◌, ℤ, ◌≤ℤ◌, ◌<ℤ◌, Bool, true, false, cond, List, [], ◌∷◌, ◌++◌, map, length, get_or, take, Option, Some, None, refl, sym, ap, subst, ◌∙◌, arith}
-use Rattle.std.specs.Prelude.{◌&&◌, ◌||◌, not, slice_get, Contains}
+use Rattle.std.proofs.Common.{◌≡◌, ◌⊎◌, inl, inr, ℕ, zero, suc, ◌+◌, ◌<◌, ℤ, ◌≤ℤ◌, ◌<ℤ◌, Bool, true, false, cond, List, [], ◌∷◌, ◌++◌, map, length, get_or, take, Some, refl, sym, ap, subst, ◌∙◌, arith}
+use Rattle.std.specs.Prelude.{◌&&◌, Contains}
 use Rattle.std.specs.BTreeMap.{BTreeMap}
-use Rattle.std.specs.List.{All, Any, filter, list_any}
-use Rattle.std.specs.Ordering.{int_cmp}
-use Rattle.std.proofs.lemmas.Bool.{and_from, and_parts, cases_Bool, cases_lt, false≢true, or_cases, or_left, or_parts, or_right}
-use Rattle.std.proofs.lemmas.Cmp.{by_ranked, int_ranked}
+use Rattle.std.specs.List.{All, filter, list_any}
+use Rattle.std.proofs.lemmas.Bool.{and_from, and_parts, cases_Bool, false≢true, or_cases, or_left, or_right}
 use Rattle.std.proofs.lemmas.Int.{by_lt_z, ints}
 use Rattle.std.proofs.lemmas.List.{take_more}
 use Rattle.std.proofs.lemmas.List.Elements.{All-append, All-contains, All-contains_itself, All-map, All-push, All-weaker, Contains-append_cases, Contains-append_left, Contains-append_right}
@@ -16,10 +14,10 @@ use Rattle.beam_values.specs.Spans.{same_span}
 use Rattle.beam_values.specs.declared.cell.Cell.{Cell}
 use Rattle.beam_values.specs.declared.value.Value.{Value}
 use Rattle.beam_model.specs.Panes.{GroupRules, is_cell_at_key}
-use Rattle.group_cells.specs.KnownWindows.{opens, opens_as, overlaps, window_at, AreListed, AreListedApart, AreMet, AreNear, IsWellApart}
+use Rattle.group_cells.specs.KnownWindows.{opens, overlaps, window_at, AreListed, AreListedApart, AreMet, AreNear, IsWellApart}
 use Rattle.group_cells.specs.Rounds.{is_open, open_windows, AreSessionsOver}
 use Rattle.group_cells.specs.declared.groups.standing.Standing.{Standing}
-use Rattle.group_cells.proofs.KnownCells.{opened_there, IsOpenAs}
+use Rattle.group_cells.proofs.KnownCells.{opened_there}
 use Rattle.group_cells.proofs.ListedWindows.{one_there}
 use Rattle.group_cells.proofs.MetPlaces.{map_has}
 use Rattle.group_cells.proofs.WindowTests.{apart_from, overlap_from, span_itself, span_sound}

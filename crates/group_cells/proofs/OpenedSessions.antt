@@ -1,14 +1,13 @@
 -- A cell is opened for a session, where only the cells that it meets are looked at: the cells are those of the plain program.
-use Rattle.std.proofs.Common.{◌≡◌, ℕ, suc, ◌<◌, ℤ, Bool, true, false, cond, List, [], ◌∷◌, ◌++◌, map, length, get_or, refl, sym, ap, subst, ◌∙◌, arith}
+use Rattle.std.proofs.Common.{◌≡◌, ℕ, ℤ, Bool, true, false, cond, List, [], ◌∷◌, ◌++◌, map, length, refl, sym, ap, ◌∙◌}
 use Rattle.std.specs.Prelude.{◌&&◌, not, fold, Some}
-use Rattle.std.specs.List.{All, filter, flat_map, list_any}
-use Rattle.std.proofs.lemmas.Bool.{and_from, and_parts, cases_Bool, false≢true}
+use Rattle.std.specs.List.{All, flat_map, list_any}
+use Rattle.std.proofs.lemmas.Bool.{and_from, and_parts, false≢true}
 use Rattle.std.proofs.lemmas.List.Elements.{All-head, All-tail, All-weaker}
 use Rattle.beam_values.specs.Firing.{is_expired}
 use Rattle.beam_values.specs.Intervals.{Interval}
-use Rattle.beam_values.specs.Sessions.{IsNonEmpty, LiesIn}
+use Rattle.beam_values.specs.Sessions.{IsNonEmpty}
 use Rattle.beam_values.specs.declared.cell.Cell.{Cell}
-use Rattle.beam_values.specs.declared.cell.Entry.{Entry}
 use Rattle.beam_values.specs.declared.value.Value.{Value}
 use Rattle.beam_model.specs.Panes.{GroupRules, is_cell_at_key}
 use Rattle.group_cells.specs.AtPlaces.{changed_at, given_all}

@@ -1,10 +1,9 @@
 -- The arrivals at Groups of sessions are placed, one Group and key after another.
-use Rattle.std.proofs.Common.{◌≡◌, ◌⊎◌, inl, inr, ℕ, ◌+◌, ◌==◌, ◌≤◌, ℤ, Bool, true, false, cond, List, [], ◌∷◌, map, length, refl, sym, ap, subst, ◌∙◌, arith, append-nil}
-use Rattle.std.specs.Prelude.{◌&&◌, Option, Some, None}
+use Rattle.std.proofs.Common.{◌≡◌, ◌⊎◌, inl, inr, ℕ, ◌+◌, ◌==◌, ◌≤◌, ℤ, Bool, true, false, cond, List, [], ◌∷◌, map, length, refl, sym, ap, subst, ◌∙◌, arith}
+use Rattle.std.specs.Prelude.{None}
 use Rattle.std.specs.BTreeMap as tree
 use Rattle.std.specs.BTreeMap.{BTreeMap}
 use Rattle.std.specs.List.{All, filter}
-use Rattle.std.specs.Ordering.{is_eq}
 use Rattle.std.proofs.lemmas.Bool.{cases_Bool, and_parts, eqb-true}
 use Rattle.std.proofs.lemmas.List.{length-map}
 use Rattle.std.proofs.lemmas.List.Elements.{All-head, All-tail, All-weaker, filter_passes}
@@ -14,24 +13,22 @@ use Rattle.beam_values.specs.Marks.{marks_at}
 use Rattle.beam_values.specs.Nodes.{is_group}
 use Rattle.beam_values.specs.declared.arrival.Arrival.{Arrival}
 use Rattle.beam_values.specs.declared.cell.Cell.{Cell}
-use Rattle.beam_values.specs.declared.cell.Pane.{Pane}
 use Rattle.beam_values.specs.declared.element.Element.{Element}
-use Rattle.beam_values.specs.declared.element.Timing.{Timing}
 use Rattle.beam_values.specs.declared.marks.StageMarks.{StageMarks}
 use Rattle.beam_values.specs.declared.plan.Plan.{Plan}
 use Rattle.beam_values.specs.declared.value.Value.{Value}
 use Rattle.beam_model.specs.Panes.{GroupRules, is_cell_at_key, rules_of}
 use Rattle.beam_model.specs.Sessions.{is_keyed}
-use Rattle.group_cells.specs.Arrivals.{merging, with_arrivals}
-use Rattle.group_cells.specs.Commits.{cell_place, cells_keyed, elements_keyed, is_taken}
+use Rattle.group_cells.specs.Arrivals.{merging}
+use Rattle.group_cells.specs.Commits.{cells_keyed, elements_keyed, is_taken}
 use Rattle.group_cells.specs.KeyLists.{group_key_cmp, listed}
 use Rattle.group_cells.specs.Placing.{is_same_key}
-use Rattle.group_cells.specs.Plain.{AreAllPlaced, AreNodesFired, ArePlaced, ArePlacedAt, is_arrival_at, opened_all_at, opening_of, put_all_at}
+use Rattle.group_cells.specs.Plain.{AreAllPlaced, ArePlaced, ArePlacedAt, is_arrival_at, opened_all_at, opening_of, put_all_at}
 use Rattle.group_cells.specs.Rounds.{AreSessionsOver, AreWindowsFor, entry_of, open_windows}
 use Rattle.group_cells.specs.declared.groups.keyed.GroupKey.{GroupKey}
 use Rattle.group_cells.proofs.FiredFew.{all_opened_few, all_put_few}
 use Rattle.group_cells.proofs.KeyMaps.{listed_after, listed_alike, same_key}
-use Rattle.group_cells.proofs.PlacedCells.{GoesOn, GoesOnAt, goes_further, goes_nowhere, placed_on, placed_on_at, stays_at}
+use Rattle.group_cells.proofs.PlacedCells.{GoesOnAt, goes_further, placed_on_at, stays_at}
 use Rattle.group_cells.proofs.PlacedInTurn.{placed_none}
 use Rattle.group_cells.proofs.PlacedKeys.{at_alike, filter_same, is_at, placed_other, placed_same}
 

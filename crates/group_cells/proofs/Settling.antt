@@ -90,7 +90,7 @@ none_again trigger end mark false false unseen timing asks is kept on_time = by 
     by true e = let same : OnTime ≡ timing = cc in let no : false ≡ true = on_time (sym same) in absurd (cc)
     by false e = ap (λ (t : Bool). cond t (Some Early) None) (none_early trigger end mark asks)
 
-all_shown : (entries : List Entry) → unseen_in (map shown entries) ≡ 0
+pub all_shown : (entries : List Entry) → unseen_in (map shown entries) ≡ 0
 all_shown entries = count_none (λ (entry : Entry). not entry.shown) (map shown entries) (All-map (λ (entry : Entry). not entry.shown ≡ false) shown entries (λ k d within. refl))
 
 -- ---- a cell fires once at a mark

@@ -1,5 +1,5 @@
 -- When cells are due: an ordered set has each cell that has a moment, by its node, that moment and its place.
-use Rattle.std.specs.Prelude.{◌≡◌, ℕ, ◌≤◌, ◌^◌, ◌==◌, ℤ, Bool, true, false, ◌&&◌, List, length, map, slice_get, Option, Some, None}
+use Rattle.std.specs.Prelude.{◌≡◌, ◌⊎◌, ℕ, ◌≤◌, ◌^◌, ◌==◌, ℤ, Bool, true, false, ◌&&◌, List, length, map, slice_get, Contains, Option, Some, None}
 use Rattle.std.specs.BTreeMap.Range.{IsInRange}
 use Rattle.std.specs.BTreeSet.{BTreeSet, contains}
 use Rattle.std.specs.Ordering.{int_cmp, int_eq, is_gt, nat_cmp, on, then_cmp}
@@ -32,11 +32,25 @@ abbrev pub is_due_as : Plan → DueKey → Option Cell → Bool
 is_due_as plan q None = false
 is_due_as plan q (Some cell) = cell.node == q.node && has_moment (own_moment plan cell) q.moment
 
+-- each cell that has a moment is in the set; what else is there has moved
+pub record AreMomentsIn (plan : Plan) (moments : BTreeSet DueKey) (moved : List DueKey) (cells : List Cell) : Type 0 where
+  pub whole : (q : DueKey) → is_due_as plan q (slice_get cells q.place) ≡ true → contains due_cmp moments q ≡ true
+  pub only : (q : DueKey) → contains due_cmp moments q ≡ true → (is_due_as plan q (slice_get cells q.place) ≡ true) ⊎ Contains moved q
+
+abbrev pub AreMoments : Plan → DueCells → List Cell → Type 0
+AreMoments plan due cells = AreMomentsIn plan due.moments due.moved.items cells
+
+-- no moment is lost, and what comes has moved
+abbrev pub KeepsMoments : DueCells → DueCells → Type 0
+KeepsMoments old new = (plan : Plan) (cells : List Cell) → AreMoments plan old cells → AreMoments plan new cells
+
+-- how many entries of each cell no pane has shown
+abbrev pub IsCountOf : DueCells → List Cell → Type 0
+IsCountOf due cells = due.unseen.items ≡ map (λ cell. unseen_in cell.entries) cells
+
 pub record IsDueOf (plan : Plan) (due : DueCells) (cells : List Cell) : Type 0 where
-  -- how many entries of each cell no pane has shown
-  pub counts : due.unseen.items ≡ map (λ cell. unseen_in cell.entries) cells
-  -- the set has the moment of each cell, and nothing else
-  pub moments : (q : DueKey) → contains due_cmp due.moments q ≡ is_due_as plan q (slice_get cells q.place)
+  pub counts : IsCountOf due cells
+  pub moments : AreMoments plan due cells
   -- each place is a number of 32 bits
   pub small : length cells ≤ 2 ^ 32
 

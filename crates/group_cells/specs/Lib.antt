@@ -16,5 +16,4 @@ pub mod KnownWindows
 pub mod Plain
 pub mod FiredUpTo
 pub mod Drafts
-pub mod NextDue
 pub mod GroupPlans

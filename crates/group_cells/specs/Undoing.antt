@@ -1,7 +1,8 @@
 -- How a commit that finds no memory undoes what it did to the cells.
-use Rattle.std.specs.Prelude.{◌-◌, List, [], ◌∷◌, length, take, slice_get, slice_set, unwrap_or}
+use Rattle.std.specs.Prelude.{◌≡◌, ◌-◌, List, [], ◌∷◌, length, take, slice_get, slice_set, unwrap_or}
 use Rattle.std.specs.Option.{option_map}
 use Rattle.beam_values.specs.declared.cell.Cell.{Cell}
+use Rattle.beam_values.specs.declared.plan.Plan.{Plan}
 use Rattle.group_cells.specs.declared.groups.draft.Change.{Change}
 use Rattle.group_cells.specs.declared.groups.draft.Change.TheVariants.{Opened, Put, Fired, GaveWay}
 use Rattle.group_cells.specs.Handing.{handed_back}
@@ -22,3 +23,13 @@ undone (GaveWay place given) cells = handed_back place given cells
 abbrev pub undone_all : List Change → List Cell → List Cell
 undone_all [] cells = cells
 undone_all (change ∷ changes) cells = undone change (undone_all changes cells)
+
+-- what the cells of a commit are seen as: the plan whose Groups they are, the cells, and those that there were when the commit began
+pub record SeenDraft : Type 0 where
+  pub plan : Plan
+  pub cells : List Cell
+  pub begun : List Cell
+
+-- both are of one commit
+abbrev pub AreOfCommit : SeenDraft → SeenDraft → Type 0
+AreOfCommit old new = (new.plan ≡ old.plan) × (new.begun ≡ old.begun)

@@ -259,7 +259,7 @@ fn is_held(mode: Mode, entry: &Entry) -> bool
     }
 }
 
-fn is_on_time(timing: Timing) -> bool
+pub fn is_on_time(timing: Timing) -> bool
     ensures { result ≡ is_on_time timing }
 {
     match timing {

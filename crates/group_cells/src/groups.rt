@@ -5,7 +5,8 @@
 //! found by their ends. Firing finds the cells that are due in an ordered set. So a commit costs its
 //! arrivals, what these look at and the cells that fire, each times a logarithm; it fires at most a pane for
 //! each cell and makes at most a cell for each arrival. A commit that finds no memory undoes what it did,
-//! and gives the indexes' memory back, in which the next one makes them anew.
+//! and takes out of the index and the set what it put in. It gives the memory of what is known of windows
+//! that stand back, in which the next one makes that anew.
 //!
 //! Three things spare comparisons, and no public contract speaks of them: a guess at the place of an
 //! arrival's cell, which is compared with that cell before the map of the index is asked, a number that
@@ -37,16 +38,15 @@ mod room;
 mod standing;
 
 use crate::groups::advance::Next;
-use crate::groups::draft::Draft;
-use crate::groups::due::DueCells;
+use crate::groups::draft::Tracked;
 use crate::groups::group_plan::GroupPlan;
 use crate::groups::keyed::GroupKey;
-use crate::groups::looking::{next_due, place_among, shared_key};
+use crate::groups::looking::{place_among, shared_key};
 use crate::groups::standing::Known;
 use beam_values::{
     Arrival, Cell, Dropped, List, Mark, NoMemory, Pane, Plan, Span, StageMarks, Value,
 };
-use cell_index::{CellIndex, CellKey, IndexKey};
+use cell_index::{CellKey, IndexKey};
 use std::alloc::Global;
 use std::collections::BTreeMap;
 use std::marker::Model;
@@ -55,11 +55,10 @@ use std::marker::Model;
 #[derive(Debug, Drop)]
 pub struct Groups {
     plan: GroupPlan,
-    draft: Draft,
-    /// What is known of the windows that stand at Groups of sessions.
-    standing: BTreeMap<GroupKey, Known>,
-    /// Whether the indexes are whole: a commit that is refused leaves them for the next one to make anew.
-    indexed: bool,
+    tracked: Tracked,
+    dropped: Vec<Dropped>,
+    /// What is known of the windows that stand at Groups of sessions, unless a commit was refused.
+    standing: Option<BTreeMap<GroupKey, Known>>,
     alloc: Global,
 }
 
@@ -75,11 +74,11 @@ impl Model for Groups {
 
     ghost view = { λ g. record {
       plan = g.plan;
-      cells = g.draft.cells.items;
-      dropped = g.draft.dropped.items;
+      cells = g.tracked.cells.items;
+      dropped = g.dropped.items;
     } };
 
-    ghost invariant = { λ g. IsSettled g.plan g.draft g.standing g.indexed };
+    ghost invariant = { λ g. IsSettled g.plan g.tracked g.standing };
 }
 
 impl Groups {
@@ -91,15 +90,9 @@ impl Groups {
     {
         Ok(Groups {
             plan: GroupPlan::new(alloc, plan)?,
-            draft: Draft {
-                cells: Vec::new(alloc),
-                dropped: Vec::new(alloc),
-                index: CellIndex::new(alloc),
-                due: DueCells::new(alloc),
-                changes: Vec::new(alloc),
-            },
-            standing: BTreeMap::new(alloc),
-            indexed: true,
+            tracked: Tracked::new(alloc),
+            dropped: Vec::new(alloc),
+            standing: Some(BTreeMap::new(alloc)),
             alloc,
         })
     }
@@ -138,24 +131,24 @@ impl Groups {
         ensures err { OnErr result
             ((self.new ≡ self.old) × (marks.new ≡ marks.old) × (arrivals.new ≡ arrivals.old)) }
     {
-        let indexed = self.indexed;
-        self.indexed = false;
-        let next = self.draft.commit(
+        let standing = self.standing.take();
+        let next = self.tracked.commit(
             self.alloc,
             &self.plan,
             arrivals.as_slice(),
             holds,
             marks,
             commit,
-            indexed,
-            &mut self.standing,
+            standing,
+            &mut self.dropped,
         )?;
-        self.indexed = true;
         let Next {
             others,
             marks: after,
             fired,
+            standing,
         } = next;
+        self.standing = Some(standing);
         *arrivals = others;
         marks.copy_from_slice(after.as_slice());
         Ok(fired)
@@ -165,14 +158,14 @@ impl Groups {
     pub fn cells(&self) -> &[Cell]
         ensures { result.now ≡ self.now.cells }
     {
-        self.draft.cells.as_slice()
+        self.tracked.cells.as_slice()
     }
 
     /// The elements that came too late, in the order of their commits.
     pub fn dropped(&self) -> &[Dropped]
         ensures { result.now ≡ self.now.dropped }
     {
-        self.draft.dropped.as_slice()
+        self.dropped.as_slice()
     }
 
     /// The place of the cell of a node, key and window, found by index; one whose key is a sequence is
@@ -180,25 +173,20 @@ impl Groups {
     pub fn place(&self, node: u32, key: &Value, span: Span) -> Option<u32>
         ensures { result ≡ place_of node key.now span self.now.cells }
     {
-        if self.indexed {
-            if let Some(key) = shared_key(key) {
-                return self
-                    .draft
-                    .index
-                    .find(&IndexKey::of(CellKey { node, span, key }));
-            }
+        match shared_key(key) {
+            Some(key) => self
+                .tracked
+                .index
+                .find(&IndexKey::of(CellKey { node, span, key })),
+            None => place_among(node, key, span, self.tracked.cells.as_slice()),
         }
-        place_among(node, key, span, self.draft.cells.as_slice())
     }
 
     /// The least mark at which a cell of the node is due.
     pub fn next_due(&self, node: u32) -> Option<i64>
         ensures { IsNextDue self.now.plan node self.now.cells result }
     {
-        if self.indexed {
-            return self.draft.due.next(node);
-        }
-        next_due(&self.plan, node, self.draft.cells.as_slice())
+        self.tracked.due.next(node)
     }
 
     /// Gives both lists away. Takes no memory.
@@ -208,18 +196,17 @@ impl Groups {
     {
         let Groups {
             plan: _,
-            draft,
+            tracked,
+            dropped,
             standing: _,
-            indexed: _,
             alloc: _,
         } = self;
-        let Draft {
+        let Tracked {
             cells,
-            dropped,
             index: _,
             due: _,
             changes: _,
-        } = draft;
+        } = tracked;
         (List::from_vec(cells), List::from_vec(dropped))
     }
 }

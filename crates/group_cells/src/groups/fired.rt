@@ -1,8 +1,10 @@
 //! A cell fires where it lies, and keeps by what it is undone where memory is refused later.
 
-ghost use Rattle.std.specs.Prelude.{◌≡◌, ◌+◌, ◌<◌, ◌^◌, Some, length, map, true, IfOk, OnErr};
-ghost use Rattle.std.specs.Prelude.{OnOk};
+ghost use Rattle.std.specs.Prelude.{◌≡◌, ◌+◌, ◌<◌, ◌^◌, Some, length, map, slice_get, true, IfOk};
+ghost use Rattle.std.specs.Prelude.{OnErr, OnOk};
+ghost use Rattle.beam_values.specs.declared.cell.Cell.{Cell as CellOf};
 ghost use Rattle.group_cells.specs.Cells.{once_fired, AreShownTo};
+ghost use Rattle.group_cells.specs.FiredUpTo.{CanFireAt, HasFiredAt, IsShownAt};
 ghost use Rattle.group_cells.specs.Unfiring.{shown_as, unfired, was_first, was_shown, AreShownAs};
 
 use crate::firing::set_timed;
@@ -114,4 +116,25 @@ pub fn unfire(alloc: Global, before: &Unfired, cell: &mut Cell)
     before.shown.put_back(alloc, &mut cell.entries);
     cell.next_index = before.next_index;
     cell.on_time = before.on_time;
+}
+
+/// The same of the cell at a place.
+pub fn set_fired_at(
+    alloc: Global,
+    timing: Timing,
+    from: usize,
+    cells: &mut Vec<Cell>,
+    place: usize,
+) -> Result<Unfired, NoMemory>
+    requires within { place < length cells.old.items }
+    requires counted { CanFireAt place cells.old.items }
+    requires from { IsShownAt from place cells.old.items }
+    ensures cell { OnOk result (HasFiredAt place timing cells.old.items cells.new.items) }
+    ensures before { IfOk result
+        (λ before. (cell : CellOf) → slice_get cells.old.items place ≡ Some cell
+        → unfired before (once_fired (Some timing) cell) ≡ cell) }
+    ensures err { OnErr result (cells.new.items ≡ cells.old.items) }
+{
+    let before = set_fired(alloc, timing, from, &mut cells[place])?;
+    Ok(before)
 }

@@ -2,26 +2,23 @@
 //! one that no pane has shown, and no further; one that accumulates copies the parts of all.
 
 ghost use Rattle.std.specs.Prelude.{◌≡◌, ◌<◌, ◌≤◌, ◌++◌, List as ListOf, Some, None, [], true, false};
-ghost use Rattle.std.specs.Prelude.{length, option_to_list, slice_get, slice_set, IfOk, OnErr};
+ghost use Rattle.std.specs.Prelude.{length, option_to_list, slice_get, slice_set, IfOk};
 ghost use Rattle.std.specs.Prelude.{OnOk};
 ghost use Rattle.std.specs.List.Sorted.{IsNonDecreasing};
 ghost use Rattle.beam_values.specs.Checked.{IsChecked};
 ghost use Rattle.beam_values.specs.Nodes.{is_group};
 ghost use Rattle.beam_values.specs.declared.cell.Cell.{Cell as CellOf};
 ghost use Rattle.beam_model.specs.Panes.{rules_of, trigger_of};
-ghost use Rattle.group_cells.specs.Cells.{once_fired, unseen_in};
+ghost use Rattle.group_cells.specs.Cells.{unseen_in};
 ghost use Rattle.group_cells.specs.Plain.{after_node, AreGroupFired, AreNodesFired, FiresAs};
 ghost use Rattle.group_cells.specs.Plain.{firing_at, IsNodeDone};
-ghost use Rattle.group_cells.specs.Due.{IsDueOf};
 ghost use Rattle.group_cells.specs.FiredUpTo.{AreAllDue, AreCellsFired, AreFiredUpTo, CanFireAt};
 ghost use Rattle.group_cells.specs.FiredUpTo.{HasFiredAt, IsFiredPast, IsNoneDue, IsShownAt};
-ghost use Rattle.group_cells.specs.Undoing.{undone_all};
-ghost use Rattle.group_cells.specs.Unfiring.{unfired};
+ghost use Rattle.group_cells.specs.Undoing.{AreOfCommit};
 ghost use Rattle.watermarks.specs.Holds.{hold_at};
 
 use crate::firing::{firing_with, first_unseen, pane_with};
-use crate::groups::draft::{Change, Draft};
-use crate::groups::fired::{Unfired, set_fired};
+use crate::groups::draft::Draft;
 use crate::groups::group_plan::GroupPlan;
 use crate::groups::ranks::sort_by_ranks;
 use crate::panes::{cmp_panes, least_with, push_if};
@@ -31,7 +28,7 @@ use pane_triggers::laws::{cells_are_due_from_their_next_mark_on, the_next_mark_i
 use std::alloc::Global;
 use watermarks::marks_of_node;
 
-impl Draft {
+impl<'a> Draft<'a> {
     /// Writes the marks of all nodes, and fires the cells of each Group at the mark into it.
     pub fn fire_all(
         &mut self,
@@ -42,16 +39,13 @@ impl Draft {
         commit: u32,
         marks: &mut Vec<StageMarks>,
     ) -> Result<List<Pane>, NoMemory>
+        requires plan { self.old.plan ≡ plan.now }
         requires checked { IsChecked plan.now }
         requires holds { length holds.now ≡ length plan.now.nodes }
         requires marks { length marks.old.items ≡ length plan.now.nodes }
-        requires due { IsDueOf plan.now self.old.due self.old.cells.items }
         ensures fired { IfOk result (AreNodesFired plan.now before.now
-            (hold_at holds.now) commit self.old.cells.items self.new.cells.items marks.new.items) }
-        ensures due { OnOk result (IsDueOf plan.now self.new.due self.new.cells.items) }
-        ensures others { (self.new.index ≡ self.old.index) × (self.new.dropped ≡ self.old.dropped) }
-        ensures undo { undone_all self.new.changes.items self.new.cells.items
-            ≡ undone_all self.old.changes.items self.old.cells.items }
+            (hold_at holds.now) commit self.old.cells self.new.cells marks.new.items) }
+        ensures same { AreOfCommit self.old self.new }
     {
         let mut fired = List::new(alloc);
         for (n, hold) in holds.iter().enumerate() {
@@ -72,16 +66,13 @@ impl Draft {
         hold: Mark,
         marks: &mut Vec<StageMarks>,
     ) -> Result<List<Pane>, NoMemory>
+        requires plan { self.old.plan ≡ plan.now }
         requires checked { IsChecked plan.now }
         requires within { n < length plan.now.nodes }
         requires marks { length marks.old.items ≡ length plan.now.nodes }
-        requires due { IsDueOf plan.now self.old.due self.old.cells.items }
         ensures fired { IfOk result (IsNodeDone plan.now before.now hold commit n
-            self.old.cells.items self.new.cells.items marks.old.items marks.new.items) }
-        ensures due { OnOk result (IsDueOf plan.now self.new.due self.new.cells.items) }
-        ensures others { (self.new.index ≡ self.old.index) × (self.new.dropped ≡ self.old.dropped) }
-        ensures undo { undone_all self.new.changes.items self.new.cells.items
-            ≡ undone_all self.old.changes.items self.old.cells.items }
+            self.old.cells self.new.cells marks.old.items marks.new.items) }
+        ensures same { AreOfCommit self.old self.new }
     {
         let node = &plan.plan().nodes.as_slice()[n as usize];
         let mark_in = marks_of_node(node, hold, marks.as_slice()).mark_in;
@@ -100,20 +91,17 @@ impl Draft {
         commit: u32,
         mark: Mark,
     ) -> Result<List<Pane>, NoMemory>
-        requires due { IsDueOf plan.now self.old.due self.old.cells.items }
+        requires plan { self.old.plan ≡ plan.now }
         ensures fires { IfOk result (λ fired. is_group plan.now n ≡ true
             → AreGroupFired (rules_of plan.now n) n commit mark
-            self.old.cells.items self.new.cells.items fired) }
+            self.old.cells self.new.cells fired) }
         ensures rests { IfOk result (λ fired. is_group plan.now n ≡ false
-            → (self.new.cells.items ≡ self.old.cells.items) × (fired ≡ [])) }
-        ensures due { OnOk result (IsDueOf plan.now self.new.due self.new.cells.items) }
-        ensures others { (self.new.index ≡ self.old.index) × (self.new.dropped ≡ self.old.dropped) }
-        ensures undo { undone_all self.new.changes.items self.new.cells.items
-            ≡ undone_all self.old.changes.items self.old.cells.items }
+            → (self.new.cells ≡ self.old.cells) × (fired ≡ [])) }
+        ensures same { AreOfCommit self.old self.new }
     {
         match plan.rules(n) {
             None => Ok(List::new(alloc)),
-            Some(rules) => self.fire_group(alloc, plan, rules, n, commit, mark),
+            Some(rules) => self.fire_group(alloc, rules, n, commit, mark),
         }
     }
 
@@ -121,22 +109,17 @@ impl Draft {
     fn fire_group(
         &mut self,
         alloc: Global,
-        plan: &GroupPlan,
         rules: &Rules,
         node: u32,
         commit: u32,
         mark: Mark,
     ) -> Result<List<Pane>, NoMemory>
-        requires due { IsDueOf plan.now self.old.due self.old.cells.items }
-        requires trigger { rules.now.trigger ≡ trigger_of plan.now node }
+        requires trigger { rules.now.trigger ≡ trigger_of self.old.plan node }
         ensures fired { IfOk result
-            (AreGroupFired rules.now node commit mark self.old.cells.items self.new.cells.items) }
-        ensures due { OnOk result (IsDueOf plan.now self.new.due self.new.cells.items) }
-        ensures others { (self.new.index ≡ self.old.index) × (self.new.dropped ≡ self.old.dropped) }
-        ensures undo { undone_all self.new.changes.items self.new.cells.items
-            ≡ undone_all self.old.changes.items self.old.cells.items }
+            (AreGroupFired rules.now node commit mark self.old.cells self.new.cells) }
+        ensures same { AreOfCommit self.old self.new }
     {
-        let mut panes = self.fire_cells(alloc, plan, rules, node, commit, mark)?;
+        let mut panes = self.fire_cells(alloc, rules, node, commit, mark)?;
         sort_by_ranks(&mut panes);
         panes.sort_by(|a, b| cmp_panes(a, b))?;
         Ok(List::from_vec(panes))
@@ -145,57 +128,46 @@ impl Draft {
     fn fire_cells(
         &mut self,
         alloc: Global,
-        plan: &GroupPlan,
         rules: &Rules,
         node: u32,
         commit: u32,
         mark: Mark,
     ) -> Result<Vec<Pane>, NoMemory>
-        requires due { IsDueOf plan.now self.old.due self.old.cells.items }
-        requires trigger { rules.now.trigger ≡ trigger_of plan.now node }
+        requires trigger { rules.now.trigger ≡ trigger_of self.old.plan node }
         ensures fired { IfOk result (λ panes. AreCellsFired rules.now node
-            commit mark self.old.cells.items self.new.cells.items panes.items) }
-        ensures due { OnOk result (IsDueOf plan.now self.new.due self.new.cells.items) }
-        ensures others { (self.new.index ≡ self.old.index) × (self.new.dropped ≡ self.old.dropped) }
-        ensures undo { undone_all self.new.changes.items self.new.cells.items
-            ≡ undone_all self.old.changes.items self.old.cells.items }
+            commit mark self.old.cells self.new.cells panes.items) }
+        ensures same { AreOfCommit self.old self.new }
     {
         cells_are_due_from_their_next_mark_on();
         the_next_mark_is_the_least();
         let _reached = mark.ms();
-        let mut places = self.due.places_until(alloc, node, mark)?;
+        let mut places = self.tracked.due.places_until(alloc, node, mark)?;
         places.sort_unstable();
-        self.fire_places(alloc, plan, rules, node, commit, mark, places.as_slice())
+        self.fire_places(alloc, rules, node, commit, mark, places.as_slice())
     }
 
     /// The cells at these places fire, which ascend. No cell at another place is due.
     fn fire_places(
         &mut self,
         alloc: Global,
-        plan: &GroupPlan,
         rules: &Rules,
         node: u32,
         commit: u32,
         mark: Mark,
         places: &[u32],
     ) -> Result<Vec<Pane>, NoMemory>
-        requires due { IsDueOf plan.now self.old.due self.old.cells.items }
         requires ascending { IsNonDecreasing places.now }
-        requires all { AreAllDue rules.now node mark self.old.cells.items places.now }
+        requires all { AreAllDue rules.now node mark self.old.cells places.now }
         ensures fired { IfOk result (λ panes. AreCellsFired rules.now node
-            commit mark self.old.cells.items self.new.cells.items panes.items) }
-        ensures due { OnOk result (IsDueOf plan.now self.new.due self.new.cells.items) }
-        ensures others { (self.new.index ≡ self.old.index) × (self.new.dropped ≡ self.old.dropped) }
-        ensures undo { undone_all self.new.changes.items self.new.cells.items
-            ≡ undone_all self.old.changes.items self.old.cells.items }
+            commit mark self.old.cells self.new.cells panes.items) }
+        ensures same { AreOfCommit self.old self.new }
     {
         let mut panes = Vec::with_capacity(alloc, places.len())?;
-        self.changes.reserve(places.len())?;
+        self.make_room_for(places.len())?;
         let mut done = 0;
         for place in places {
             done = self.fire_next(
                 alloc,
-                plan,
                 rules,
                 node,
                 commit,
@@ -212,7 +184,6 @@ impl Draft {
     fn fire_next(
         &mut self,
         alloc: Global,
-        plan: &GroupPlan,
         rules: &Rules,
         node: u32,
         commit: u32,
@@ -221,25 +192,21 @@ impl Draft {
         done: usize,
         panes: &mut Vec<Pane>,
     ) -> Result<usize, NoMemory>
-        requires due { IsDueOf plan.now self.old.due self.old.cells.items }
         ensures fired { IfOk result (λ next. (cells : ListOf CellOf)
             → AreFiredUpTo rules.now node commit mark cells done
-            self.old.cells.items panes.old.items
+            self.old.cells panes.old.items
             → (done ≤ place → place < length cells → IsNoneDue rules.now node mark cells done place)
             → IsFiredPast rules.now node commit mark cells place
-            done next self.new.cells.items panes.new.items) }
-        ensures due { OnOk result (IsDueOf plan.now self.new.due self.new.cells.items) }
-        ensures others { (self.new.index ≡ self.old.index) × (self.new.dropped ≡ self.old.dropped) }
-        ensures undo { undone_all self.new.changes.items self.new.cells.items
-            ≡ undone_all self.old.changes.items self.old.cells.items }
+            done next self.new.cells panes.new.items) }
+        ensures same { AreOfCommit self.old self.new }
     {
         if place < done {
             return Ok(done);
         }
-        if self.cells.len() <= place {
+        if self.cells().len() <= place {
             return Ok(done);
         }
-        let pane = self.fire(alloc, plan, rules, node, commit, mark, place)?;
+        let pane = self.fire(alloc, rules, node, commit, mark, place)?;
         push_if(panes, pane)?;
         Ok(place + 1)
     }
@@ -248,88 +215,54 @@ impl Draft {
     fn fire(
         &mut self,
         alloc: Global,
-        plan: &GroupPlan,
         rules: &Rules,
         node: u32,
         commit: u32,
         mark: Mark,
         place: usize,
     ) -> Result<Option<Pane>, NoMemory>
-        requires within { place < length self.old.cells.items }
-        requires due { IsDueOf plan.now self.old.due self.old.cells.items }
+        requires within { place < length self.old.cells }
         ensures cells { OnOk result
-            ((cell : CellOf) → slice_get self.old.cells.items place ≡ Some cell
-            → self.new.cells.items
-            ≡ slice_set self.old.cells.items place (after_node rules.now node mark cell)) }
+            ((cell : CellOf) → slice_get self.old.cells place ≡ Some cell
+            → self.new.cells
+            ≡ slice_set self.old.cells place (after_node rules.now node mark cell)) }
         ensures pane { IfOk result
-            (λ pane. (cell : CellOf) → slice_get self.old.cells.items place ≡ Some cell
+            (λ pane. (cell : CellOf) → slice_get self.old.cells place ≡ Some cell
             → FiresAs rules.now node commit mark cell (option_to_list pane)) }
-        ensures due { OnOk result (IsDueOf plan.now self.new.due self.new.cells.items) }
-        ensures others { (self.new.index ≡ self.old.index) × (self.new.dropped ≡ self.old.dropped) }
-        ensures undo { undone_all self.new.changes.items self.new.cells.items
-            ≡ undone_all self.old.changes.items self.old.cells.items }
+        ensures same { AreOfCommit self.old self.new }
     {
-        let count = self.due.count_at(place);
-        match timing_at(rules, node, mark, count, &self.cells[place]) {
+        let count = self.tracked.due.count_at(place);
+        match timing_at(rules, node, mark, count, &self.tracked.cells[place]) {
             None => Ok(None),
             Some(timing) => {
-                let cell = &self.cells[place];
+                let cell = &self.tracked.cells[place];
                 let from = first_unseen(cell.entries.as_slice(), count);
                 let pane = pane_with(alloc, rules.trigger.mode, commit, timing, from, cell)?;
-                self.set_fired_due(alloc, plan, timing, from, place)?;
+                self.set_fired(alloc, timing, from, place)?;
                 Ok(Some(pane))
             }
         }
     }
 
     /// The cell at a place keeps that it fired a pane of this timing, and is due anew.
-    fn set_fired_due(
-        &mut self,
-        alloc: Global,
-        plan: &GroupPlan,
-        timing: Timing,
-        from: usize,
-        place: usize,
-    ) -> Result<(), NoMemory>
-        requires within { place < length self.old.cells.items }
-        requires due { IsDueOf plan.now self.old.due self.old.cells.items }
-        requires counted { CanFireAt place self.old.cells.items }
-        requires from { IsShownAt from place self.old.cells.items }
-        ensures ok { OnOk result
-            (HasFiredAt place timing self.old.cells.items self.new.cells.items) }
-        ensures due { OnOk result (IsDueOf plan.now self.new.due self.new.cells.items) }
-        ensures others { (self.new.index ≡ self.old.index) × (self.new.dropped ≡ self.old.dropped) }
-        ensures undo { undone_all self.new.changes.items self.new.cells.items
-            ≡ undone_all self.old.changes.items self.old.cells.items }
-    {
-        let at = u32::try_from(place).map_err(|_| NoMemory)?;
-        let was = self.due.moment_at(plan, at, &self.cells[place]);
-        self.set_fired(alloc, timing, from, place, at)?;
-        self.due.change(plan, at, was, &self.cells[place], 0)
-    }
-
     fn set_fired(
         &mut self,
         alloc: Global,
         timing: Timing,
         from: usize,
         place: usize,
-        at: u32,
     ) -> Result<(), NoMemory>
-        requires within { place < length self.old.cells.items }
-        requires at { at ≡ place }
-        requires counted { CanFireAt place self.old.cells.items }
-        requires from { IsShownAt from place self.old.cells.items }
-        ensures ok { OnOk result
-            (HasFiredAt place timing self.old.cells.items self.new.cells.items) }
-        ensures others { (self.new.index ≡ self.old.index)
-            × (self.new.dropped ≡ self.old.dropped) × (self.new.due ≡ self.old.due) }
-        ensures undo { undone_all self.new.changes.items self.new.cells.items
-            ≡ undone_all self.old.changes.items self.old.cells.items }
+        requires within { place < length self.old.cells }
+        requires counted { CanFireAt place self.old.cells }
+        requires from { IsShownAt from place self.old.cells }
+        ensures ok { OnOk result (HasFiredAt place timing self.old.cells self.new.cells) }
+        ensures same { AreOfCommit self.old self.new }
     {
-        self.changes.reserve(1)?;
-        let before = set_fired_at(alloc, timing, from, &mut self.cells, place)?;
-        self.changes.push_reserved(Change::Fired(at, before));
+        let at = u32::try_from(place).map_err(|_| NoMemory)?;
+        let cell = &self.tracked.cells[place];
+        self.tracked.due.expect_firing(self.plan, timing, at, cell)?;
+        self.tracked.set_fired(alloc, timing, from, at)?;
+        self.tracked.due.set_count(at, 0);
         Ok(())
     }
 }
@@ -356,24 +289,4 @@ fn timing_at(rules: &Rules, node: u32, mark: Mark, count: u64, cell: &Cell) -> O
     } else {
         None
     }
-}
-
-fn set_fired_at(
-    alloc: Global,
-    timing: Timing,
-    from: usize,
-    cells: &mut Vec<Cell>,
-    place: usize,
-) -> Result<Unfired, NoMemory>
-    requires within { place < length cells.old.items }
-    requires counted { CanFireAt place cells.old.items }
-    requires from { IsShownAt from place cells.old.items }
-    ensures cell { OnOk result (HasFiredAt place timing cells.old.items cells.new.items) }
-    ensures before { IfOk result
-        (λ before. (cell : CellOf) → slice_get cells.old.items place ≡ Some cell
-        → unfired before (once_fired (Some timing) cell) ≡ cell) }
-    ensures err { OnErr result (cells.new.items ≡ cells.old.items) }
-{
-    let before = set_fired(alloc, timing, from, &mut cells[place])?;
-    Ok(before)
 }

@@ -11,22 +11,18 @@ ghost use Rattle.beam_values.specs.Marks.{marks_at};
 ghost use Rattle.beam_values.specs.Nodes.{is_group};
 ghost use Rattle.beam_values.specs.declared.cell.Cell.{Cell as CellOf};
 ghost use Rattle.beam_model.specs.Panes.{is_cell_at_key, rules_of};
-ghost use Rattle.cell_index.specs.Indexes.{IsIndexOf};
 ghost use Rattle.group_cells.specs.AtPlaces.{at_place, changed_at, given_all};
 ghost use Rattle.group_cells.specs.Commits.{arrives_in_time};
-ghost use Rattle.group_cells.specs.Due.{IsDueOf};
 ghost use Rattle.group_cells.specs.Handing.{with_entries, HasGivenWay};
 ghost use Rattle.group_cells.specs.KnownWindows.{opens, AreKnown, AreStanding};
 ghost use Rattle.group_cells.specs.Placing.{fresh_cell, handed_over, once_opened};
 ghost use Rattle.group_cells.specs.Plain.{opened_all_at, opened_at, opening_of, put_all_at, put_at};
 ghost use Rattle.group_cells.specs.Plain.{AreAllPlaced, ArePlacedAt};
 ghost use Rattle.group_cells.specs.Rounds.{entry_of, open_windows, AreSessionsOver};
-ghost use Rattle.group_cells.specs.Undoing.{undone_all};
+ghost use Rattle.group_cells.specs.Undoing.{AreOfCommit};
 
 use crate::arrivals::mark_into;
-use crate::groups::draft::{Change, Draft};
-use crate::groups::group_plan::GroupPlan;
-use crate::groups::handing::give_way;
+use crate::groups::draft::Draft;
 use crate::groups::keyed::{GroupKey, by_key, take_known};
 use crate::groups::placing::Commit;
 use crate::groups::standing::Known;
@@ -37,7 +33,7 @@ use cell_index::{CellKey, IndexKey};
 use std::alloc::Global;
 use std::collections::BTreeMap;
 
-impl Draft {
+impl<'a> Draft<'a> {
     /// Places the arrivals at Groups whose windows merge, one Group and key after another.
     pub fn place_later(
         &mut self,
@@ -51,21 +47,14 @@ impl Draft {
             (λ arrival. (rules_of commit.plan.now arrival.node).merges ≡ true) taken }
         requires unexpired { All (λ arrival. arrives_in_time commit.plan.now commit.before.now arrival
             ≡ true) taken }
-        requires indexed { IsIndexOf self.old.index self.old.cells.items }
-        requires due { IsDueOf commit.plan.now self.old.due self.old.cells.items }
-        requires standing { AreStanding commit.plan.now standing.old self.old.cells.items }
+        requires standing { AreStanding commit.plan.now standing.old self.old.cells }
         ensures ok { OnOk result (AreAllPlaced commit.entry.plan.now commit.entry.before.now
-            commit.entry.number taken self.old.cells.items self.new.cells.items) }
+            commit.entry.number taken self.old.cells self.new.cells) }
         ensures grown { OnOk result
-            (length self.new.cells.items ≤ length self.old.cells.items + length taken) }
-        ensures indexed { OnOk result (IsIndexOf self.new.index self.new.cells.items) }
-        ensures due { OnOk result
-            (IsDueOf commit.entry.plan.now self.new.due self.new.cells.items) }
+            (length self.new.cells ≤ length self.old.cells + length taken) }
         ensures standing { OnOk result
-            (AreStanding commit.entry.plan.now standing.new self.new.cells.items) }
-        ensures dropped { self.new.dropped ≡ self.old.dropped }
-        ensures undo { undone_all self.new.changes.items self.new.cells.items
-            ≡ undone_all self.old.changes.items self.old.cells.items }
+            (AreStanding commit.entry.plan.now standing.new self.new.cells) }
+        ensures same { AreOfCommit self.old self.new }
     {
         let mut left = by_key(alloc, taken)?;
         'keys: while let Some((key, own)) = left.pop_first() {
@@ -90,22 +79,15 @@ impl Draft {
         requires merges { (rules_of commit.plan.now key.node).merges ≡ true }
         requires unexpired { All (λ e. is_expired (rules_of commit.plan.now key.node).trigger e.span.end
             (marks_at commit.before.now key.node).mark_in ≡ false) own }
-        requires indexed { IsIndexOf self.old.index self.old.cells.items }
-        requires due { IsDueOf commit.plan.now self.old.due self.old.cells.items }
-        requires standing { AreStanding commit.plan.now standing.old self.old.cells.items }
+        requires standing { AreStanding commit.plan.now standing.old self.old.cells }
         ensures ok { OnOk result (ArePlacedAt (rules_of commit.entry.plan.now key.node)
             (marks_at commit.entry.before.now key.node).mark_in key.node key.key
-            commit.entry.number own self.old.cells.items self.new.cells.items) }
+            commit.entry.number own self.old.cells self.new.cells) }
         ensures grown { OnOk result
-            (length self.new.cells.items ≤ length self.old.cells.items + length own) }
-        ensures indexed { OnOk result (IsIndexOf self.new.index self.new.cells.items) }
-        ensures due { OnOk result
-            (IsDueOf commit.entry.plan.now self.new.due self.new.cells.items) }
+            (length self.new.cells ≤ length self.old.cells + length own) }
         ensures standing { OnOk result
-            (AreStanding commit.entry.plan.now standing.new self.new.cells.items) }
-        ensures dropped { self.new.dropped ≡ self.old.dropped }
-        ensures undo { undone_all self.new.changes.items self.new.cells.items
-            ≡ undone_all self.old.changes.items self.old.cells.items }
+            (AreStanding commit.entry.plan.now standing.new self.new.cells) }
+        ensures same { AreOfCommit self.old self.new }
     {
         let Some(rules) = commit.plan.rules(key.node) else {
             unreachable!()
@@ -113,16 +95,8 @@ impl Draft {
         let mark = mark_into(commit.before, key.node);
         let known = take_known(alloc, standing, &key, rules, mark);
         let windows = self.sessions_for(alloc, rules, mark, &key, own.as_slice(), &known)?;
-        let known = self.open_all(
-            alloc,
-            commit.plan,
-            rules,
-            mark,
-            &key,
-            windows.as_slice(),
-            known,
-        )?;
-        self.put_all(commit.plan, rules, mark, &key, commit.number, own, &known)?;
+        let known = self.open_all(alloc, rules, mark, &key, windows.as_slice(), known)?;
+        self.put_all(rules, mark, &key, commit.number, own, &known)?;
         standing.insert(key, known)?;
         Ok(())
     }
@@ -138,17 +112,17 @@ impl Draft {
         known: &Known,
     ) -> Result<List<Span>, NoMemory>
         requires known { AreKnown before (opens rules.now before key.now.node key.now.key
-            self.now.cells.items) known.now }
+            self.now.cells) known.now }
         requires unexpired { All (λ e. is_expired rules.now.trigger e.span.end before ≡ false) own.now }
         ensures windows { IfOk result (AreSessionsOver (map (λ e. e.span) own.now)
             (open_windows rules.now before
-            (filter (is_cell_at_key key.now.node key.now.key) self.now.cells.items))) }
+            (filter (is_cell_at_key key.now.node key.now.key) self.now.cells))) }
         ensures unexpired { IfOk result
             (All (λ span. is_expired rules.now.trigger span.end before ≡ false)) }
         ensures few { IfOk result (λ windows. length windows ≤ length own.now) }
     {
         let spans = own_spans(alloc, own)?;
-        let cells = self.cells.as_slice();
+        let cells = self.cells();
         let near = known.near(
             alloc,
             rules,
@@ -166,7 +140,6 @@ impl Draft {
     fn open_all(
         &mut self,
         alloc: Global,
-        plan: &GroupPlan,
         rules: &Rules,
         before: Mark,
         key: &GroupKey,
@@ -174,24 +147,18 @@ impl Draft {
         known: Known,
     ) -> Result<Known, NoMemory>
         requires known { AreKnown before (opens rules.now before key.now.node key.now.key
-            self.old.cells.items) known }
+            self.old.cells) known }
         requires unexpired { All (λ span. is_expired rules.now.trigger span.end before ≡ false)
             windows.now }
-        requires indexed { IsIndexOf self.old.index self.old.cells.items }
-        requires due { IsDueOf plan.now self.old.due self.old.cells.items }
-        ensures ok { OnOk result (self.new.cells.items ≡ opened_all_at rules.now before key.now.node
-            (map (opening_of key.now.key) windows.now) self.old.cells.items) }
+        ensures ok { OnOk result (self.new.cells ≡ opened_all_at rules.now before key.now.node
+            (map (opening_of key.now.key) windows.now) self.old.cells) }
         ensures known { IfOk result (AreKnown before (opens rules.now before key.now.node
-            key.now.key self.new.cells.items)) }
-        ensures indexed { OnOk result (IsIndexOf self.new.index self.new.cells.items) }
-        ensures due { OnOk result (IsDueOf plan.now self.new.due self.new.cells.items) }
-        ensures dropped { self.new.dropped ≡ self.old.dropped }
-        ensures undo { undone_all self.new.changes.items self.new.cells.items
-            ≡ undone_all self.old.changes.items self.old.cells.items }
+            key.now.key self.new.cells)) }
+        ensures same { AreOfCommit self.old self.new }
     {
         let mut known = known;
         for span in windows {
-            known = self.open_session(alloc, plan, rules, before, key, *span, known)?;
+            known = self.open_session(alloc, rules, before, key, *span, known)?;
         }
         Ok(known)
     }
@@ -200,7 +167,6 @@ impl Draft {
     fn open_session(
         &mut self,
         alloc: Global,
-        plan: &GroupPlan,
         rules: &Rules,
         before: Mark,
         key: &GroupKey,
@@ -208,28 +174,22 @@ impl Draft {
         known: Known,
     ) -> Result<Known, NoMemory>
         requires known { AreKnown before (opens rules.now before key.now.node key.now.key
-            self.old.cells.items) known }
+            self.old.cells) known }
         requires unexpired { is_expired rules.now.trigger span.end before ≡ false }
-        requires indexed { IsIndexOf self.old.index self.old.cells.items }
-        requires due { IsDueOf plan.now self.old.due self.old.cells.items }
-        ensures ok { OnOk result (self.new.cells.items ≡ opened_at rules.now before
-            key.now.node self.old.cells.items (opening_of key.now.key span)) }
+        ensures ok { OnOk result (self.new.cells ≡ opened_at rules.now before
+            key.now.node self.old.cells (opening_of key.now.key span)) }
         ensures known { IfOk result (AreKnown before (opens rules.now before key.now.node
-            key.now.key self.new.cells.items)) }
-        ensures indexed { OnOk result (IsIndexOf self.new.index self.new.cells.items) }
-        ensures due { OnOk result (IsDueOf plan.now self.new.due self.new.cells.items) }
-        ensures dropped { self.new.dropped ≡ self.old.dropped }
-        ensures undo { undone_all self.new.changes.items self.new.cells.items
-            ≡ undone_all self.old.changes.items self.old.cells.items }
+            key.now.key self.new.cells)) }
+        ensures same { AreOfCommit self.old self.new }
     {
-        let cells = self.cells.as_slice();
+        let cells = self.cells();
         if known.stands(key.node, &key.key, cells, span) {
             return Ok(known);
         }
         let met = known.meeting(alloc, rules, before, key.node, &key.key, cells, span)?;
         let place = u32::try_from(cells.len()).map_err(|_| NoMemory)?;
-        self.open_over(alloc, plan, rules, before, key, span, met.as_slice())?;
-        let known = known.opened(alloc, self.cells.as_slice(), met.as_slice(), span, place)?;
+        self.open_over(alloc, rules, before, key, span, met.as_slice())?;
+        let known = known.opened(alloc, self.cells(), met.as_slice(), span, place)?;
         Ok(known)
     }
 
@@ -238,29 +198,22 @@ impl Draft {
     fn open_over(
         &mut self,
         alloc: Global,
-        plan: &GroupPlan,
         rules: &Rules,
         before: Mark,
         key: &GroupKey,
         span: Span,
         places: &[u32],
     ) -> Result<(), NoMemory>
-        requires indexed { IsIndexOf self.old.index self.old.cells.items }
-        requires due { IsDueOf plan.now self.old.due self.old.cells.items }
-        ensures ok { OnOk result (self.new.cells.items
-            ≡ fold (changed_at (once_opened rules.now before span)) self.old.cells.items places.now
+        ensures ok { OnOk result (self.new.cells
+            ≡ fold (changed_at (once_opened rules.now before span)) self.old.cells places.now
             ++ fresh_cell key.now.node key.now.key span
             (given_all (once_opened rules.now before span) (handed_over rules.now before span)
-            places.now self.old.cells.items) ∷ []) }
-        ensures indexed { OnOk result (IsIndexOf self.new.index self.new.cells.items) }
-        ensures due { OnOk result (IsDueOf plan.now self.new.due self.new.cells.items) }
-        ensures dropped { self.new.dropped ≡ self.old.dropped }
-        ensures undo { undone_all self.new.changes.items self.new.cells.items
-            ≡ undone_all self.old.changes.items self.old.cells.items }
+            places.now self.old.cells) ∷ []) }
+        ensures same { AreOfCommit self.old self.new }
     {
-        self.push_session(alloc, plan, key, span)?;
+        self.push_session(alloc, key, span)?;
         for place in places {
-            self.hand_over(alloc, plan, rules, before, span, *place)?;
+            self.hand_over(alloc, rules, before, span, *place)?;
         }
         Ok(())
     }
@@ -269,123 +222,69 @@ impl Draft {
     fn hand_over(
         &mut self,
         alloc: Global,
-        plan: &GroupPlan,
         rules: &Rules,
         before: Mark,
         span: Span,
         place: u32,
     ) -> Result<(), NoMemory>
-        requires indexed { IsIndexOf self.old.index self.old.cells.items }
-        requires due { IsDueOf plan.now self.old.due self.old.cells.items }
         ensures ok { OnOk result
-            ((front : ListOf CellOf) (taker : CellOf) → self.old.cells.items ≡ front ++ taker ∷ []
-            → self.new.cells.items ≡ changed_at (once_opened rules.now before span) front place
+            ((front : ListOf CellOf) (taker : CellOf) → self.old.cells ≡ front ++ taker ∷ []
+            → self.new.cells ≡ changed_at (once_opened rules.now before span) front place
             ++ with_entries (at_place (handed_over rules.now before span) [] front place) taker
             ∷ []) }
-        ensures indexed { OnOk result (IsIndexOf self.new.index self.new.cells.items) }
-        ensures due { OnOk result (IsDueOf plan.now self.new.due self.new.cells.items) }
-        ensures dropped { self.new.dropped ≡ self.old.dropped }
-        ensures undo { undone_all self.new.changes.items self.new.cells.items
-            ≡ undone_all self.old.changes.items self.old.cells.items }
+        ensures same { AreOfCommit self.old self.new }
     {
-        if self.cells.len() <= place as usize + 1 {
+        let cells = self.cells();
+        if cells.len() <= place as usize + 1 {
             return Ok(());
         }
-        if !gives_way(rules, before, span, &self.cells[place as usize]) {
+        if !gives_way(rules, before, span, &cells[place as usize]) {
             return Ok(());
         }
-        let last = u32::try_from(self.cells.len() - 1).map_err(|_| NoMemory)?;
-        self.give_way(alloc, plan, span, place, last)
+        let last = u32::try_from(cells.len() - 1).map_err(|_| NoMemory)?;
+        self.give_way(alloc, span, place, last)
     }
 
     /// The cell at a place, which stands, gives way to the session whose cell is the last one.
-    fn give_way(
-        &mut self,
-        alloc: Global,
-        plan: &GroupPlan,
-        span: Span,
-        place: u32,
-        last: u32,
-    ) -> Result<(), NoMemory>
+    fn give_way(&mut self, alloc: Global, span: Span, place: u32, last: u32) -> Result<(), NoMemory>
         requires before { place < last }
-        requires last { last + 1 ≡ length self.old.cells.items }
+        requires last { last + 1 ≡ length self.old.cells }
         requires stands { (cell : CellOf)
-            → slice_get self.old.cells.items place ≡ Some cell → cell.merged_into ≡ None }
-        requires indexed { IsIndexOf self.old.index self.old.cells.items }
-        requires due { IsDueOf plan.now self.old.due self.old.cells.items }
-        ensures ok { OnOk result
-            (HasGivenWay span place last self.old.cells.items self.new.cells.items) }
-        ensures indexed { OnOk result (IsIndexOf self.new.index self.new.cells.items) }
-        ensures due { OnOk result (IsDueOf plan.now self.new.due self.new.cells.items) }
-        ensures dropped { self.new.dropped ≡ self.old.dropped }
-        ensures undo { undone_all self.new.changes.items self.new.cells.items
-            ≡ undone_all self.old.changes.items self.old.cells.items }
+            → slice_get self.old.cells place ≡ Some cell → cell.merged_into ≡ None }
+        ensures ok { OnOk result (HasGivenWay span place last self.old.cells self.new.cells) }
+        ensures same { AreOfCommit self.old self.new }
     {
-        let was = self.due.moment_at(plan, place, &self.cells[place as usize]);
-        let taker_was = self.due.moment_at(plan, last, &self.cells[last as usize]);
-        let count = self.due.both(place, last)?;
-        self.move_entries(alloc, span, place, last)?;
-        self.due
-            .change(plan, place, was, &self.cells[place as usize], 0)?;
-        self.due
-            .change(plan, last, taker_was, &self.cells[last as usize], count)
-    }
-
-    fn move_entries(
-        &mut self,
-        alloc: Global,
-        span: Span,
-        place: u32,
-        last: u32,
-    ) -> Result<(), NoMemory>
-        requires before { place < last }
-        requires last { last + 1 ≡ length self.old.cells.items }
-        requires stands { (cell : CellOf)
-            → slice_get self.old.cells.items place ≡ Some cell → cell.merged_into ≡ None }
-        ensures ok { OnOk result
-            (HasGivenWay span place last self.old.cells.items self.new.cells.items) }
-        ensures others { (self.new.index ≡ self.old.index)
-            × (self.new.dropped ≡ self.old.dropped) × (self.new.due ≡ self.old.due) }
-        ensures undo { undone_all self.new.changes.items self.new.cells.items
-            ≡ undone_all self.old.changes.items self.old.cells.items }
-    {
-        self.changes.reserve(1)?;
-        let given = give_way(alloc, &mut self.cells, span, place, last)?;
-        self.changes.push_reserved(Change::GaveWay(place, given));
+        let cell = &self.tracked.cells[place as usize];
+        let taker = &self.tracked.cells[last as usize];
+        let count = self
+            .tracked
+            .due
+            .expect_handing(self.plan, place, cell, last, taker)?;
+        self.tracked.give_way(alloc, span, place, last)?;
+        self.tracked.due.set_count(place, 0);
+        self.tracked.due.set_count(last, count);
         Ok(())
     }
 
     /// Puts the cell of a session behind the others, still without entries. Its window may have had one
     /// that was merged.
-    fn push_session(
-        &mut self,
-        alloc: Global,
-        plan: &GroupPlan,
-        key: &GroupKey,
-        span: Span,
-    ) -> Result<(), NoMemory>
-        requires indexed { IsIndexOf self.old.index self.old.cells.items }
-        requires due { IsDueOf plan.now self.old.due self.old.cells.items }
-        ensures ok { OnOk result (self.new.cells.items
-            ≡ self.old.cells.items ++ fresh_cell key.now.node key.now.key span [] ∷ []) }
-        ensures indexed { OnOk result (IsIndexOf self.new.index self.new.cells.items) }
-        ensures due { OnOk result (IsDueOf plan.now self.new.due self.new.cells.items) }
-        ensures dropped { self.new.dropped ≡ self.old.dropped }
-        ensures undo { undone_all self.new.changes.items self.new.cells.items
-            ≡ undone_all self.old.changes.items self.old.cells.items }
+    fn push_session(&mut self, alloc: Global, key: &GroupKey, span: Span) -> Result<(), NoMemory>
+        ensures ok { OnOk result (self.new.cells
+            ≡ self.old.cells ++ fresh_cell key.now.node key.now.key span [] ∷ []) }
+        ensures same { AreOfCommit self.old self.new }
     {
         let cell = session_cell(alloc, key, span)?;
         let own = session_key(alloc, key, span)?;
-        match self.index.find(&own) {
-            None => self.open(plan, own, cell),
-            Some(_) => self.push(plan, cell),
-        }
+        let place = u32::try_from(self.tracked.cells.len()).map_err(|_| NoMemory)?;
+        self.tracked.make_room(self.plan, key.node, place, span, 0)?;
+        self.tracked.index.add(own, place)?;
+        self.tracked.push(cell, 0);
+        Ok(())
     }
 
     /// Each entry goes to the first cell of the key that takes it.
     fn put_all(
         &mut self,
-        plan: &GroupPlan,
         rules: &Rules,
         before: Mark,
         key: &GroupKey,
@@ -395,19 +294,13 @@ impl Draft {
     ) -> Result<(), NoMemory>
         requires merges { rules.now.merges ≡ true }
         requires known { AreKnown before (opens rules.now before key.now.node key.now.key
-            self.old.cells.items) known.now }
+            self.old.cells) known.now }
         requires unexpired { All (λ e. is_expired rules.now.trigger e.span.end before ≡ false) own }
-        requires indexed { IsIndexOf self.old.index self.old.cells.items }
-        requires due { IsDueOf plan.now self.old.due self.old.cells.items }
-        ensures ok { OnOk result (self.new.cells.items ≡ put_all_at rules.now
-            key.now.node key.now.key (map (entry_of commit) own) self.old.cells.items) }
+        ensures ok { OnOk result (self.new.cells ≡ put_all_at rules.now
+            key.now.node key.now.key (map (entry_of commit) own) self.old.cells) }
         ensures known { OnOk result (AreKnown before (opens rules.now before key.now.node
-            key.now.key self.new.cells.items) known.now) }
-        ensures indexed { OnOk result (IsIndexOf self.new.index self.new.cells.items) }
-        ensures due { OnOk result (IsDueOf plan.now self.new.due self.new.cells.items) }
-        ensures dropped { self.new.dropped ≡ self.old.dropped }
-        ensures undo { undone_all self.new.changes.items self.new.cells.items
-            ≡ undone_all self.old.changes.items self.old.cells.items }
+            key.now.key self.new.cells) known.now) }
+        ensures same { AreOfCommit self.old self.new }
     {
         for element in own.into_vec() {
             let entry = Entry {
@@ -415,14 +308,13 @@ impl Draft {
                 commit,
                 shown: false,
             };
-            self.put_first(plan, rules, before, key, entry, known)?;
+            self.put_first(rules, before, key, entry, known)?;
         }
         Ok(())
     }
 
     fn put_first(
         &mut self,
-        plan: &GroupPlan,
         rules: &Rules,
         before: Mark,
         key: &GroupKey,
@@ -432,25 +324,19 @@ impl Draft {
         requires unseen { entry.shown ≡ false }
         requires merges { rules.now.merges ≡ true }
         requires known { AreKnown before (opens rules.now before key.now.node key.now.key
-            self.old.cells.items) known.now }
+            self.old.cells) known.now }
         requires unexpired { is_expired rules.now.trigger entry.element.span.end before ≡ false }
-        requires indexed { IsIndexOf self.old.index self.old.cells.items }
-        requires due { IsDueOf plan.now self.old.due self.old.cells.items }
-        ensures ok { OnOk result (self.new.cells.items
-            ≡ put_at rules.now key.now.node key.now.key entry self.old.cells.items) }
+        ensures ok { OnOk result (self.new.cells
+            ≡ put_at rules.now key.now.node key.now.key entry self.old.cells) }
         ensures known { OnOk result (AreKnown before (opens rules.now before key.now.node
-            key.now.key self.new.cells.items) known.now) }
-        ensures indexed { OnOk result (IsIndexOf self.new.index self.new.cells.items) }
-        ensures due { OnOk result (IsDueOf plan.now self.new.due self.new.cells.items) }
-        ensures dropped { self.new.dropped ≡ self.old.dropped }
-        ensures undo { undone_all self.new.changes.items self.new.cells.items
-            ≡ undone_all self.old.changes.items self.old.cells.items }
+            key.now.key self.new.cells) known.now) }
+        ensures same { AreOfCommit self.old self.new }
     {
-        match known.taker(rules, key.node, &key.key, self.cells.as_slice(), &entry) {
+        match known.taker(rules, key.node, &key.key, self.cells(), &entry) {
             None => Ok(()),
             Some(at) => {
                 let place = u32::try_from(at).map_err(|_| NoMemory)?;
-                self.put_unseen(plan, place, entry)
+                self.put(place, entry)
             }
         }
     }

@@ -1,7 +1,5 @@
-use Rattle.std.proofs.Common.{◌≡◌, Some, subst, sym, ◌∙◌, ap, refl}
-use Rattle.std.specs.BTreeMap as tree
+use Rattle.std.proofs.Common.{Some, sym, ◌∙◌, ap, refl}
 use Rattle.std.proofs.lemmas.Bool.{false≢true}
-use Rattle.cell_index.specs.Indexes.{cell_key_cmp}
 use Rattle.cell_index.proofs.Indexing.{index_before, index_less}
 use Rattle.cell_index.proofs.index.CellIndex.remove_last.Goals as goal
 

@@ -2,9 +2,7 @@ use Rattle.std.proofs.Common.{List, None, ap, arith, length, refl, subst, sym, t
 use Rattle.std.proofs.lemmas.List.Elements.{All-nil}
 use Rattle.beam_values.specs.Nodes.{is_group}
 use Rattle.beam_values.specs.declared.cell.Cell.{Cell}
-use Rattle.cell_index.specs.Indexes.{IsIndexOf}
 use Rattle.group_cells.specs.Arrivals.{UnmergedStand}
-use Rattle.group_cells.specs.Due.{IsDueOf}
 use Rattle.group_cells.specs.Plain.{AreCells}
 use Rattle.group_cells.specs.KeyLists.{group_key_cmp}
 use Rattle.group_cells.specs.KnownWindows.{known_of, AreStanding, IsKnownOf}
@@ -19,20 +17,18 @@ use Rattle.group_cells.proofs.groups.Groups.new.Goals as goal
 pub invariant_of-result : goal.invariant_of-result
 invariant_of-result c =
     let plan = c.in_ok-new.field-0 in
-    let none = sym c.new-2.ensures.items in
-    let unknown : (q : GroupKey) → known_of c.new-7.result q ≡ None =
-    λ q. ap (λ (es : List (GroupKey × Known)). lookup (λ k. is_eq (group_key_cmp q k)) es) c.new-7.ensures.empty in
+    let none = sym c.new-2.ensures.cells in
+    let unknown : (q : GroupKey) → known_of c.new-4.result q ≡ None =
+    λ q. ap (λ (es : List (GroupKey × Known)). lookup (λ k. is_eq (group_key_cmp q k)) es) c.new-4.ensures.empty in
     record {
       cells = subst (λ (l : List Cell). AreCells plan l) none (record {
         groups = All-nil (λ (cell : Cell). is_group plan cell.node ≡ true);
         once = λ node key w. omega arith;
       });
       stand = subst (λ (l : List Cell). UnmergedStand plan l) none (record { each = λ node key group unmerged. tt });
-      index = λ _. subst (λ (l : List Cell). IsIndexOf c.new-4.result l) none c.new-4.ensures;
-      due = λ _. subst (λ (l : List Cell). IsDueOf plan c.new-5.result l) none (c.new-5.ensures plan);
-      standing_are = λ _. subst (λ (l : List Cell). AreStanding plan c.new-7.result l) none (record {
+      rest = c.new-2.ensures.rest plan;
+      standing_are = subst (λ (l : List Cell). AreStanding plan c.new-4.result l) none (record {
         each = λ q at merges. subst (IsKnownOf (rules_of plan q.node) q.node q.key []) (sym (unknown q)) (λ place. refl);
       });
-      small = omega (arith, ap length c.new-2.ensures.items);
-      changes = c.new-6.ensures.items;
+      small = omega (arith, ap length c.new-2.ensures.cells);
     }

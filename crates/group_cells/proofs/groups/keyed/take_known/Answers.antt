@@ -1,5 +1,5 @@
-use Rattle.std.proofs.Common.{None, Some, sym, subst}
-use Rattle.group_cells.specs.KnownWindows.{known_of, IsKnownOf}
+use Rattle.std.proofs.Common.{sym, subst}
+use Rattle.group_cells.specs.KnownWindows.{IsKnownOf}
 use Rattle.group_cells.proofs.groups.keyed.take_known.Goals as goal
 
 pub returns-in-None-clause-known : goal.returns-in-None-clause-known

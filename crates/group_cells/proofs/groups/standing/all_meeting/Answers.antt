@@ -1,8 +1,4 @@
-use Rattle.std.proofs.Common.{◌≡◌, ◌∙◌, arith, refl, rules, sym, take}
-use Rattle.std.specs.List.{All}
-use Rattle.std.proofs.lemmas.List.Elements.{All-more}
-use Rattle.beam_values.specs.Sessions.{IsNonEmpty}
-use Rattle.beam_values.specs.declared.cell.Cell.{Cell}
+use Rattle.std.proofs.Common.{◌≡◌, ◌∙◌, rules, sym}
 use Rattle.group_cells.proofs.MetPlaces.{filled_more, meeting_no, meeting_yes}
 use Rattle.group_cells.proofs.groups.standing.all_meeting.Goals as goal
 use Rattle.group_cells.proofs.groups.standing.all_meeting.Goals.{then-meets+in_ok-map_err+in_ok-push, else-meets}

@@ -1,4 +1,4 @@
-use Rattle.std.proofs.Common.{FitsSigned, ◌≡◌, ◌∙◌, Option, ap, arith, refl, rules, subst, sym, to_z, of_z, w64}
+use Rattle.std.proofs.Common.{FitsSigned, ◌≡◌, ◌∙◌, Option, ap, arith, refl, subst, sym, to_z, of_z, w64}
 use Rattle.std.specs.Option.{IsSome}
 use Rattle.std.proofs.lemmas.Int.{to_z-of_z}
 use Rattle.beam_values.specs.Firing.{is_expired}

@@ -1,5 +1,6 @@
-use Rattle.std.proofs.Common.{◌≡◌, List, Vec, Global, ap, arith, length, subst, sym, true, ◌∙◌}
+use Rattle.std.proofs.Common.{◌≡◌, List, ap, arith, length, subst, sym, true}
 use Rattle.std.specs.List.{All}
+use Rattle.std.specs.Prelude.{IfSome}
 use Rattle.beam_values.specs.Nodes.{is_group}
 use Rattle.beam_values.specs.declared.arrival.Arrival.{Arrival}
 use Rattle.beam_values.specs.declared.cell.Cell.{Cell}
@@ -12,10 +13,14 @@ use Rattle.group_cells.specs.KnownWindows.{AreStanding}
 use Rattle.group_cells.specs.Plain.{AreCellsNext}
 use Rattle.group_cells.proofs.AllArrived.{all_placed, all_stand, joined}
 use Rattle.group_cells.proofs.FiredFew.{arrivals_few, same_length}
-use Rattle.group_cells.proofs.Advancing.{index_moved, later_at_groups, stand_fired}
+use Rattle.group_cells.proofs.Advancing.{later_at_groups, stand_fired}
 use Rattle.group_cells.proofs.KnownKeys.{later_in_time, standing_arrived, standing_fired}
 use Rattle.group_cells.proofs.SessionsInTurn.{later_merges}
 use Rattle.group_cells.proofs.groups.draft.Draft.advance.Goals as goal
+
+pub known_standing-requires : goal.known_standing-requires
+known_standing-requires c =
+    subst (λ (l : List Cell). IfSome c.args.standing (λ known. AreStanding c.args.plan.now known l)) (sym c.cells.ensures) c.requires.standing
 
 pub place_later-requires-clause-groups : goal.place_later-requires-clause-groups
 place_later-requires-clause-groups c =
@@ -34,13 +39,13 @@ place_later-requires-clause-unexpired c =
 
 pub place_later-requires-clause-standing : goal.place_later-requires-clause-standing
 place_later-requires-clause-standing c =
-    let from : c.place_all.new.self.cells.items ≡ with_arrivals c.args.plan.now c.args.before.now c.args.commit c.prepare.new.self.cells.items c.args.arrivals.now = c.in_ok-place_all.ensures.ok in
-    subst (AreStanding c.args.plan.now c.prepare.new.standing) (sym from)
-    (standing_arrived c.args.plan.now c.args.before.now c.args.commit c.args.arrivals.now c.prepare.new.self.cells.items c.prepare.new.standing c.in_ok-prepare.ensures.standing)
+    let from : c.place_all.new.self.cells ≡ with_arrivals c.args.plan.now c.args.before.now c.args.commit c.args.self.now.cells c.args.arrivals.now = c.in_ok-place_all.ensures.ok in
+    subst (AreStanding c.args.plan.now c.in_ok-standing.standing) (sym from)
+    (standing_arrived c.args.plan.now c.args.before.now c.args.commit c.args.arrivals.now c.args.self.now.cells c.in_ok-standing.standing (subst (AreStanding c.args.plan.now c.in_ok-standing.standing) c.cells.ensures c.in_ok-standing.ensures))
 
 pub returns-clause-standing : goal.returns-clause-standing
 returns-clause-standing c =
-    standing_fired c.args.plan.now c.args.before.now (hold_at c.args.holds.now) c.args.commit c.place_later.new.self.cells.items c.fire_all.new.self.cells.items c.fire_all.new.marks.items
+    standing_fired c.args.plan.now c.args.before.now (hold_at c.args.holds.now) c.args.commit c.place_later.new.self.cells c.fire_all.new.self.cells c.fire_all.new.marks.items
     c.in_ok-fired.fired c.place_later.new.standing c.in_ok-fired.ensures.fired c.in_ok-place_later.ensures.standing
 
 pub returns-clause-cells : goal.returns-clause-cells
@@ -48,12 +53,12 @@ returns-clause-cells c =
     let plan = c.args.plan.now in
     let before = c.args.before.now in
     let arrivals = c.args.arrivals.now in
-    let old = c.args.self.now.cells.items in
-    let placed = c.place_later.new.self.cells.items in
-    let from : c.place_all.new.self.cells.items ≡ with_arrivals plan before c.args.commit old arrivals =
-    c.in_ok-place_all.ensures.ok ∙ ap (λ (v : Vec Cell Global). with_arrivals plan before c.args.commit v.items arrivals) c.prepare.ensures.others.0 in
-    let all = joined plan before c.args.commit arrivals c.in_ok-later.later old c.place_all.new.self.cells.items placed c.in_ok-later.ensures from c.in_ok-place_later.ensures.ok in
-    subst (λ (m : List StageMarks). AreCellsNext plan before (hold_at c.args.holds.now) c.args.commit arrivals old c.fire_all.new.self.cells.items m c.in_ok-fired.fired) (sym c.from_vec.ensures)
+    let old = c.args.self.now.cells in
+    let placed = c.place_later.new.self.cells in
+    let from : c.place_all.new.self.cells ≡ with_arrivals plan before c.args.commit old arrivals =
+    c.in_ok-place_all.ensures.ok in
+    let all = joined plan before c.args.commit arrivals c.in_ok-later.later old c.place_all.new.self.cells placed c.in_ok-later.ensures from c.in_ok-place_later.ensures.ok in
+    subst (λ (m : List StageMarks). AreCellsNext plan before (hold_at c.args.holds.now) c.args.commit arrivals old c.fire_all.new.self.cells m c.in_ok-fired.fired) (sym c.from_vec.ensures)
     (record {
       placed = placed;
       places = all_placed plan before c.args.commit arrivals old placed c.requires.stand all;
@@ -65,33 +70,28 @@ returns-clause-stand c =
     let plan = c.args.plan.now in
     let before = c.args.before.now in
     let arrivals = c.args.arrivals.now in
-    let old = c.args.self.now.cells.items in
-    let placed = c.place_later.new.self.cells.items in
-    let from : c.place_all.new.self.cells.items ≡ with_arrivals plan before c.args.commit old arrivals =
-    c.in_ok-place_all.ensures.ok ∙ ap (λ (v : Vec Cell Global). with_arrivals plan before c.args.commit v.items arrivals) c.prepare.ensures.others.0 in
-    let all = joined plan before c.args.commit arrivals c.in_ok-later.later old c.place_all.new.self.cells.items placed c.in_ok-later.ensures from c.in_ok-place_later.ensures.ok in
-    stand_fired plan before (hold_at c.args.holds.now) c.args.commit placed c.fire_all.new.self.cells.items c.fire_all.new.marks.items c.in_ok-fired.fired
+    let old = c.args.self.now.cells in
+    let placed = c.place_later.new.self.cells in
+    let from : c.place_all.new.self.cells ≡ with_arrivals plan before c.args.commit old arrivals =
+    c.in_ok-place_all.ensures.ok in
+    let all = joined plan before c.args.commit arrivals c.in_ok-later.later old c.place_all.new.self.cells placed c.in_ok-later.ensures from c.in_ok-place_later.ensures.ok in
+    stand_fired plan before (hold_at c.args.holds.now) c.args.commit placed c.fire_all.new.self.cells c.fire_all.new.marks.items c.in_ok-fired.fired
     (all_stand plan before c.args.commit arrivals old placed c.requires.stand all) c.in_ok-fired.ensures.fired
-
-pub returns-clause-indexed : goal.returns-clause-indexed
-returns-clause-indexed c =
-    index_moved c.place_later.new.self.index c.fire_all.new.self.index c.place_later.new.self.cells.items c.fire_all.new.self.cells.items c.fire_all.ensures.others.0
-    c.in_ok-fired.ensures.fired.places c.in_ok-place_later.ensures.indexed
 
 pub returns-clause-grown : goal.returns-clause-grown
 returns-clause-grown c =
     let plan = c.args.plan.now in
     let before = c.args.before.now in
     let arrivals = c.args.arrivals.now in
-    let old = c.args.self.now.cells.items in
-    let placed = c.place_later.new.self.cells.items in
-    let from : c.place_all.new.self.cells.items ≡ with_arrivals plan before c.args.commit old arrivals =
-    c.in_ok-place_all.ensures.ok ∙ ap (λ (v : Vec Cell Global). with_arrivals plan before c.args.commit v.items arrivals) c.prepare.ensures.others.0 in
+    let old = c.args.self.now.cells in
+    let placed = c.place_later.new.self.cells in
+    let from : c.place_all.new.self.cells ≡ with_arrivals plan before c.args.commit old arrivals =
+    c.in_ok-place_all.ensures.ok in
     omega (
       arith,
       arrivals_few plan before c.args.commit arrivals old,
       ap length from,
       ap length c.in_ok-later.ensures,
       c.in_ok-place_later.ensures.grown,
-      same_length placed c.fire_all.new.self.cells.items c.in_ok-fired.ensures.fired.places,
+      same_length placed c.fire_all.new.self.cells c.in_ok-fired.ensures.fired.places,
     )

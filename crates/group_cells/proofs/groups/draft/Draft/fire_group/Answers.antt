@@ -9,7 +9,7 @@ use Rattle.group_cells.proofs.groups.draft.Draft.fire_group.Goals as goal
 
 pub returns-clause-fired : goal.returns-clause-fired
 returns-clause-fired c =
-    subst (λ (l : List Pane). AreGroupFired c.args.rules.now c.args.node c.args.commit c.args.mark c.args.self.now.cells.items c.fire_cells.new.self.cells.items l) (sym c.from_vec.ensures) (record {
+    subst (λ (l : List Pane). AreGroupFired c.args.rules.now c.args.node c.args.commit c.args.mark c.args.self.now.cells c.fire_cells.new.self.cells l) (sym c.from_vec.ensures) (record {
       panes = c.in_ok-panes.panes.items;
       each = c.in_ok-panes.ensures.fired.each;
       order = IsPermutation-trans c.in_ok-panes.panes.items c.sort_by_ranks.new.panes.items c.sort_by.new.self.items c.sort_by_ranks.ensures c.in_ok-sort_by.ensures.permutation;

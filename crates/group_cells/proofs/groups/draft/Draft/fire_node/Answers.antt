@@ -48,7 +48,7 @@ returns-clause-fired c =
     record {
       node = node;
       there = there;
-      fires = λ group. subst (λ (m : ℤ). AreGroupFired (rules_of plan n) n c.args.commit m c.args.self.now.cells.items c.fire_if_group.new.self.cells.items fired) mark_is (c.in_ok-fired.ensures.fires group);
+      fires = λ group. subst (λ (m : ℤ). AreGroupFired (rules_of plan n) n c.args.commit m c.args.self.now.cells c.fire_if_group.new.self.cells fired) mark_is (c.in_ok-fired.ensures.fires group);
       rests = c.in_ok-fired.ensures.rests;
       marks_are = λ i. slice_set marks n (stage_is i);
     }

@@ -6,7 +6,7 @@ use Rattle.group_cells.proofs.groups.draft.Draft.fire_places.Goals as goal
 pub loop-place-preserved : goal.loop-place-preserved
 loop-place-preserved c =
     let rules = c.args.rules.now in
-    let xs = c.args.self.now.cells.items in
+    let xs = c.args.self.now.cells in
     let places = c.args.places.now in
     let i = c.loop-place.place-index in
     let p = get_or places i 0 in
@@ -17,17 +17,15 @@ loop-place-preserved c =
     record {
       fired = past.upto;
       passed = passed_more rules c.args.node c.args.commit c.args.mark xs places i p c.loop-place.done c.in_ok-done.done c.loop-place-test.true is past.on past.past was.passed;
-      due = c.in_ok-done.ensures.due;
-      others = (c.in_ok-done.ensures.others.0 ∙ was.others.0, c.in_ok-done.ensures.others.1 ∙ was.others.1);
-      undo = c.in_ok-done.ensures.undo ∙ was.undo;
+      same = (c.in_ok-done.ensures.same.0 ∙ was.same.0, c.in_ok-done.ensures.same.1 ∙ was.same.1);
     }
 
 pub returns-clause-fired : goal.returns-clause-fired
 returns-clause-fired c =
     let places = c.args.places.now in
     let i = c.loop-place.place-index in
-    let passed = subst (λ (l : List ℕ). ArePassed c.args.rules.now c.args.node c.args.commit c.args.mark c.args.self.now.cells.items c.loop-place.done l)
+    let passed = subst (λ (l : List ℕ). ArePassed c.args.rules.now c.args.node c.args.commit c.args.mark c.args.self.now.cells c.loop-place.done l)
     (take_all i places (omega (arith, c.loop-place-test.false))) c.loop-place.invariant.passed in
-    let all = all_fired c.args.rules.now c.args.node c.args.commit c.args.mark c.args.self.now.cells.items places c.loop-place.done c.loop-place.self.cells.items c.loop-place.panes.items
+    let all = all_fired c.args.rules.now c.args.node c.args.commit c.args.mark c.args.self.now.cells places c.loop-place.done c.loop-place.self.cells c.loop-place.panes.items
     c.loop-place.invariant.fired c.requires.all passed in
     record { fires = all.0; each = all.1 }

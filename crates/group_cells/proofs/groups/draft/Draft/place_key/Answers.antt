@@ -17,7 +17,7 @@ sessions_for-requires-clause-known c =
     let plan = c.args.commit.plan.now in
     let key = c.args.key in
     let own = c.args.own in
-    let old = c.args.self.now.cells.items in
+    let old = c.args.self.now.cells in
     let rs = c.in-Some.rules.now in
     let mark = c.mark_into-mark.result in
     let same : rs ≡ rules_of plan key.node = c.in-Some.ensures.1 in
@@ -32,7 +32,7 @@ sessions_for-requires-clause-unexpired c =
     let plan = c.args.commit.plan.now in
     let key = c.args.key in
     let own = c.args.own in
-    let old = c.args.self.now.cells.items in
+    let old = c.args.self.now.cells in
     let rs = c.in-Some.rules.now in
     let mark = c.mark_into-mark.result in
     let same : rs ≡ rules_of plan key.node = c.in-Some.ensures.1 in
@@ -47,7 +47,7 @@ open_all-requires-clause-known c =
     let plan = c.args.commit.plan.now in
     let key = c.args.key in
     let own = c.args.own in
-    let old = c.args.self.now.cells.items in
+    let old = c.args.self.now.cells in
     let rs = c.in-Some.rules.now in
     let mark = c.mark_into-mark.result in
     let same : rs ≡ rules_of plan key.node = c.in-Some.ensures.1 in
@@ -69,7 +69,7 @@ put_all-requires-clause-unexpired c =
     let plan = c.args.commit.plan.now in
     let key = c.args.key in
     let own = c.args.own in
-    let old = c.args.self.now.cells.items in
+    let old = c.args.self.now.cells in
     let rs = c.in-Some.rules.now in
     let mark = c.mark_into-mark.result in
     let same : rs ≡ rules_of plan key.node = c.in-Some.ensures.1 in
@@ -83,14 +83,14 @@ pub returns-clause-ok : goal.returns-clause-ok
 returns-clause-ok c =
     let key = c.args.key in
     placed_by c.in-Some.rules.now (rules_of c.args.commit.plan.now key.node) c.mark_into-mark.result (marks_at c.args.commit.before.now key.node).mark_in key.node key.key c.args.commit.number
-    c.as_slice.result.now c.args.own c.args.self.now.cells.items c.open_all.new.self.cells.items c.put_all.new.self.cells.items c.as_slice-2.result.now c.in_ok-windows.windows
+    c.as_slice.result.now c.args.own c.args.self.now.cells c.open_all.new.self.cells c.put_all.new.self.cells c.as_slice-2.result.now c.in_ok-windows.windows
     c.in-Some.ensures.1 c.mark_into-mark.ensures c.requires.merges c.as_slice.ensures c.as_slice-2.ensures
     c.in_ok-windows.ensures.windows c.in_ok-known.ensures.ok c.in_ok-put_all.ensures.ok
 
 pub returns-clause-grown : goal.returns-clause-grown
 returns-clause-grown c =
     let key = c.args.key in
-    placed_few c.in-Some.rules.now c.mark_into-mark.result key.node key.key c.args.commit.number c.args.own c.args.self.now.cells.items c.open_all.new.self.cells.items c.put_all.new.self.cells.items c.as_slice-2.result.now
+    placed_few c.in-Some.rules.now c.mark_into-mark.result key.node key.key c.args.commit.number c.args.own c.args.self.now.cells c.open_all.new.self.cells c.put_all.new.self.cells c.as_slice-2.result.now
     (omega (arith, c.in_ok-windows.ensures.few, ap length c.as_slice-2.ensures, ap length c.as_slice.ensures)) c.in_ok-known.ensures.ok c.in_ok-put_all.ensures.ok
 
 pub returns-clause-standing : goal.returns-clause-standing
@@ -98,17 +98,17 @@ returns-clause-standing c =
     let plan = c.args.commit.plan.now in
     let key = c.args.key in
     let own = c.args.own in
-    let old = c.args.self.now.cells.items in
+    let old = c.args.self.now.cells in
     let rs = c.in-Some.rules.now in
     let mark = c.mark_into-mark.result in
     let same : rs ≡ rules_of plan key.node = c.in-Some.ensures.1 in
     let at : mark ≡ (marks_at c.args.commit.before.now key.node).mark_in = c.mark_into-mark.ensures in
-    let placed : ArePlacedAt (rules_of plan key.node) (marks_at c.args.commit.before.now key.node).mark_in key.node key.key c.args.commit.number own old c.put_all.new.self.cells.items =
+    let placed : ArePlacedAt (rules_of plan key.node) (marks_at c.args.commit.before.now key.node).mark_in key.node key.key c.args.commit.number own old c.put_all.new.self.cells =
     placed_by rs (rules_of plan key.node) mark (marks_at c.args.commit.before.now key.node).mark_in key.node key.key c.args.commit.number
-    c.as_slice.result.now own old c.open_all.new.self.cells.items c.put_all.new.self.cells.items c.as_slice-2.result.now c.in_ok-windows.windows
+    c.as_slice.result.now own old c.open_all.new.self.cells c.put_all.new.self.cells c.as_slice-2.result.now c.in_ok-windows.windows
     same at c.requires.merges c.as_slice.ensures c.as_slice-2.ensures c.in_ok-windows.ensures.windows c.in_ok-known.ensures.ok c.in_ok-put_all.ensures.ok in
-    let here : IsKnown (rules_of plan key.node) key.node key.key c.put_all.new.self.cells.items c.in_ok-known.known =
-    subst (λ (r : GroupRules). IsKnown r key.node key.key c.put_all.new.self.cells.items c.in_ok-known.known) same
-    (known_at rs mark key.node key.key c.put_all.new.self.cells.items c.in_ok-known.known c.in_ok-put_all.ensures.known) in
-    standing_placed plan (marks_at c.args.commit.before.now key.node).mark_in c.args.commit.number key own old c.put_all.new.self.cells.items c.args.standing.now c.take_known-known.new.standing c.insert.new.self
+    let here : IsKnown (rules_of plan key.node) key.node key.key c.put_all.new.self.cells c.in_ok-known.known =
+    subst (λ (r : GroupRules). IsKnown r key.node key.key c.put_all.new.self.cells c.in_ok-known.known) same
+    (known_at rs mark key.node key.key c.put_all.new.self.cells c.in_ok-known.known c.in_ok-put_all.ensures.known) in
+    standing_placed plan (marks_at c.args.commit.before.now key.node).mark_in c.args.commit.number key own old c.put_all.new.self.cells c.args.standing.now c.take_known-known.new.standing c.insert.new.self
     c.in_ok-known.known c.requires.group placed c.requires.standing c.take_known-known.ensures.others c.in_ok-insert.ensures.updates.0 here

@@ -15,13 +15,10 @@ use Rattle.group_cells.proofs.groups.draft.Draft.place_later.Goals as goal
 
 pub keys-init : goal.keys-init
 keys-init c = record {
-  yet = none_yet c.args.commit.plan.now c.args.commit.before.now c.args.commit.number c.args.taken c.args.self.now.cells.items c.in_ok-left.left c.in_ok-left.ensures.lists;
+  yet = none_yet c.args.commit.plan.now c.args.commit.before.now c.args.commit.number c.args.taken c.args.self.now.cells c.in_ok-left.left c.in_ok-left.ensures.lists;
   grown = omega (arith, c.in_ok-left.ensures.count);
-  indexed = c.requires.indexed;
-  due = c.requires.due;
   standing = c.requires.standing;
-  dropped = refl;
-  undo = refl;
+  same = (refl, refl);
 }
 
 pub place_key-requires-clause-group : goal.place_key-requires-clause-group
@@ -31,7 +28,7 @@ place_key-requires-clause-group c =
     let own = c.in-Some.own in
     let own_is : listed c.keys.left key ≡ own = ap (λ o. unwrap_or o []) c.in-Some.ensures.value in
     let some = some_there own (λ none. false≢true (sym c.if-is_empty.false ∙ c.is_empty.ensures.1 none)) in
-    let whole = own_whole plan c.args.commit.before.now c.args.commit.number c.args.taken c.args.self.now.cells.items c.keys.left c.pop_first.new.self c.keys.self.cells.items c.keys.self.cells.items key own own_is
+    let whole = own_whole plan c.args.commit.before.now c.args.commit.number c.args.taken c.args.self.now.cells c.keys.left c.pop_first.new.self c.keys.self.cells c.keys.self.cells key own own_is
     c.in-Some.ensures.updates c.keys.invariant.yet some.0 some.1 some.2 in
     some_arrived (λ n. is_group plan n ≡ true) c.args.taken key.node key.key some.0 some.1 c.requires.groups (sym whole.0 ∙ some.2)
 
@@ -42,7 +39,7 @@ place_key-requires-clause-merges c =
     let own = c.in-Some.own in
     let own_is : listed c.keys.left key ≡ own = ap (λ o. unwrap_or o []) c.in-Some.ensures.value in
     let some = some_there own (λ none. false≢true (sym c.if-is_empty.false ∙ c.is_empty.ensures.1 none)) in
-    let whole = own_whole plan c.args.commit.before.now c.args.commit.number c.args.taken c.args.self.now.cells.items c.keys.left c.pop_first.new.self c.keys.self.cells.items c.keys.self.cells.items key own own_is
+    let whole = own_whole plan c.args.commit.before.now c.args.commit.number c.args.taken c.args.self.now.cells c.keys.left c.pop_first.new.self c.keys.self.cells c.keys.self.cells key own own_is
     c.in-Some.ensures.updates c.keys.invariant.yet some.0 some.1 some.2 in
     some_arrived (λ n. (rules_of plan n).merges ≡ true) c.args.taken key.node key.key some.0 some.1 c.requires.merging (sym whole.0 ∙ some.2)
 
@@ -54,7 +51,7 @@ place_key-requires-clause-unexpired c =
     let own = c.in-Some.own in
     let own_is : listed c.keys.left key ≡ own = ap (λ o. unwrap_or o []) c.in-Some.ensures.value in
     let some = some_there own (λ none. false≢true (sym c.if-is_empty.false ∙ c.is_empty.ensures.1 none)) in
-    let whole = own_whole plan before c.args.commit.number c.args.taken c.args.self.now.cells.items c.keys.left c.pop_first.new.self c.keys.self.cells.items c.keys.self.cells.items key own own_is
+    let whole = own_whole plan before c.args.commit.number c.args.taken c.args.self.now.cells c.keys.left c.pop_first.new.self c.keys.self.cells c.keys.self.cells key own own_is
     c.in-Some.ensures.updates c.keys.invariant.yet some.0 some.1 some.2 in
     subst (λ (l : List Element). All (λ (e : Element). is_expired (rules_of plan key.node).trigger e.span.end (marks_at before key.node).mark_in ≡ false) l) (sym whole.0)
     (own_open plan before key.node key.key c.args.taken c.requires.unexpired)
@@ -66,35 +63,29 @@ keys-preserved c =
     let own = c.in-Some.own in
     let own_is : listed c.keys.left key ≡ own = ap (λ o. unwrap_or o []) c.in-Some.ensures.value in
     let some = some_there own (λ none. false≢true (sym c.if-is_empty.false ∙ c.is_empty.ensures.1 none)) in
-    let whole = own_whole plan c.args.commit.before.now c.args.commit.number c.args.taken c.args.self.now.cells.items c.keys.left c.pop_first.new.self c.keys.self.cells.items c.place_key.new.self.cells.items key own own_is
+    let whole = own_whole plan c.args.commit.before.now c.args.commit.number c.args.taken c.args.self.now.cells c.keys.left c.pop_first.new.self c.keys.self.cells c.place_key.new.self.cells key own own_is
     c.in-Some.ensures.updates c.keys.invariant.yet some.0 some.1 some.2 in
     let group : is_group plan key.node ≡ true = some_arrived (λ n. is_group plan n ≡ true) c.args.taken key.node key.key some.0 some.1 c.requires.groups (sym whole.0 ∙ some.2) in
     record {
-      yet = placed_more plan c.args.commit.before.now c.args.commit.number c.args.taken c.args.self.now.cells.items c.keys.left c.pop_first.new.self c.keys.self.cells.items c.place_key.new.self.cells.items key own own_is
+      yet = placed_more plan c.args.commit.before.now c.args.commit.number c.args.taken c.args.self.now.cells c.keys.left c.pop_first.new.self c.keys.self.cells c.place_key.new.self.cells key own own_is
           c.in-Some.ensures.updates c.keys.invariant.yet some.0 some.1 some.2 group c.in_ok-place_key.ensures.ok;
       grown = omega (arith, c.keys.invariant.grown, c.in_ok-place_key.ensures.grown, popped_count c.keys.left c.pop_first.new.self key own c.in-Some.ensures.removal);
-      indexed = c.in_ok-place_key.ensures.indexed;
-      due = c.in_ok-place_key.ensures.due;
       standing = c.in_ok-place_key.ensures.standing;
-      dropped = c.in_ok-place_key.ensures.dropped ∙ c.keys.invariant.dropped;
-      undo = c.in_ok-place_key.ensures.undo ∙ c.keys.invariant.undo;
+      same = (c.in_ok-place_key.ensures.same.0 ∙ c.keys.invariant.same.0, c.in_ok-place_key.ensures.same.1 ∙ c.keys.invariant.same.1);
     }
 
 pub returns-clause-ok : goal.returns-clause-ok
 returns-clause-ok c =
-    all_yet c.args.commit.plan.now c.args.commit.before.now c.args.commit.number c.args.taken c.args.self.now.cells.items c.keys.left c.keys.self.cells.items
+    all_yet c.args.commit.plan.now c.args.commit.before.now c.args.commit.number c.args.taken c.args.self.now.cells c.keys.left c.keys.self.cells
     (none_listed c.keys.left (λ some. false≢true (c.in_default.ensures.variant.1 some))) c.keys.invariant.yet
 
 pub keys-preserved-then-is_empty : goal.keys-preserved-then-is_empty
 keys-preserved-then-is_empty c =
     let own_is : listed c.keys.left c.in-Some.key ≡ c.in-Some.own = ap (λ o. unwrap_or o []) c.in-Some.ensures.value in
     record {
-      yet = none_more c.args.commit.plan.now c.args.commit.before.now c.args.commit.number c.args.taken c.args.self.now.cells.items c.keys.left c.pop_first.new.self c.keys.self.cells.items c.keys.self.cells.items
+      yet = none_more c.args.commit.plan.now c.args.commit.before.now c.args.commit.number c.args.taken c.args.self.now.cells c.keys.left c.pop_first.new.self c.keys.self.cells c.keys.self.cells
           c.in-Some.key c.in-Some.own own_is c.in-Some.ensures.updates c.keys.invariant.yet (c.is_empty.ensures.0 c.if-is_empty.true);
       grown = omega (arith, c.keys.invariant.grown, popped_count c.keys.left c.pop_first.new.self c.in-Some.key c.in-Some.own c.in-Some.ensures.removal);
-      indexed = c.keys.invariant.indexed;
-      due = c.keys.invariant.due;
       standing = c.keys.invariant.standing;
-      dropped = c.keys.invariant.dropped;
-      undo = c.keys.invariant.undo;
+      same = c.keys.invariant.same;
     }

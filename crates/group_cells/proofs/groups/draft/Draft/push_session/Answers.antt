@@ -1,20 +1,63 @@
-use Rattle.std.proofs.Common.{◌≡◌, ◌∙◌, ap, sym, subst}
-use Rattle.std.proofs.lemmas.Result.{on_ok_weaker}
+use Rattle.std.proofs.Common.{◌≡◌, ℕ, ◌<◌, ◌^◌, ◌++◌, ◌∷◌, [], List, ap, length, refl, rules, subst, sym, ◌∙◌}
 use Rattle.beam_values.specs.declared.cell.Cell.{Cell}
 use Rattle.cell_index.specs.Indexes.{IsIndexOf}
 use Rattle.cell_index.specs.declared.index.CellIndex.{CellIndex}
 use Rattle.cell_index.specs.declared.index_key.CellKey.{CellKey}
-use Rattle.cell_index.proofs.Indexing.{index_again}
+use Rattle.group_cells.specs.Cells.{unseen_in}
+use Rattle.group_cells.specs.Due.{AreMoments}
+use Rattle.group_cells.specs.Placing.{fresh_cell}
+use Rattle.group_cells.specs.Undoing.{undone_all, SeenDraft}
+use Rattle.group_cells.specs.declared.groups.draft.Change.{Change}
+use Rattle.group_cells.specs.declared.groups.draft.Change.TheVariants.{Opened}
+use Rattle.group_cells.proofs.Tracking.{kept_tracked, opened_tracked, opened_undone}
 use Rattle.group_cells.proofs.groups.draft.Draft.push_session.Goals as goal
 
-pub returns-in-Some-clause-indexed : goal.returns-in-Some-clause-indexed
-returns-in-Some-clause-indexed c =
+pub invariant_of-self : goal.invariant_of-self
+invariant_of-self c =
+    let new = c.make_room.new.self in
+    kept_tracked c.self.inside.plan.now c.self.inside.tracked new c.self.invariant c.make_room.ensures.cells (λ cells h. subst (λ (i : CellIndex). IsIndexOf i cells) (sym c.make_room.ensures.index) h)
+    c.make_room.ensures.kept c.make_room.ensures.counts (λ i. undone_all (c.make_room.ensures.changes i) (c.make_room.ensures.cells i))
+
+pub invariant_of-self-in_err-add : goal.invariant_of-self-in_err-add
+invariant_of-self-in_err-add c =
+    let new = c.make_room.new.self in
+    kept_tracked c.self.inside.plan.now c.self.inside.tracked (record { cells = new.cells; index = c.add.new.self; due = new.due; changes = new.changes }) c.self.invariant c.make_room.ensures.cells
+    (λ cells h. c.in_err-add.ensures.err cells (subst (λ (i : CellIndex). IsIndexOf i cells) (sym c.make_room.ensures.index) h))
+    c.make_room.ensures.kept c.make_room.ensures.counts (λ i. undone_all (c.make_room.ensures.changes i) (c.make_room.ensures.cells i))
+
+pub invariant_of-self-2 : goal.invariant_of-self-2
+invariant_of-self-2 c =
+    let plan = c.self.inside.plan.now in
+    let old = c.self.inside.tracked in
+    let cells = old.cells.items in
     let cell = c.in_ok-cell.cell in
     let own = c.in_ok-own.own in
-    let keyed : own ≡ record { node = cell.node; span = cell.span; key = cell.key } =
-    c.in_ok-own.ensures ∙ (λ i. let x : Cell = sym c.in_ok-cell.ensures i in let k : CellKey = record { node = x.node; span = x.span; key = x.key } in k) in
-    on_ok_weaker c.push.result
-    (λ e. subst (λ (index : CellIndex). IsIndexOf index c.push.new.self.cells.items) (sym c.push.ensures.others.0)
-    (subst (IsIndexOf c.args.self.now.index) (sym e)
-    (index_again c.args.self.now.index c.args.self.now.cells.items cell own c.in-Some.field-0 (ap (λ (k : CellKey). k.node) (sym keyed)) (ap (λ (k : CellKey). k.key) (sym keyed)) (ap (λ (k : CellKey). k.span) (sym keyed)) (c.in-Some.ensures c.args.self.now.cells.items c.requires.indexed) c.requires.indexed)))
-    c.push.ensures.ok
+    let key = c.args.key.now in
+    let place : c.in_ok-place.place ≡ length cells = search rules in
+    let few : length cells < 2 ^ 32 = search rules in
+    let fresh : cell ≡ fresh_cell key.node key.key c.args.span [] = c.in_ok-cell.ensures in
+    let moments : AreMoments plan c.make_room.new.self.due (cells ++ cell ∷ []) =
+    subst (λ (x : Cell). AreMoments plan c.make_room.new.self.due (cells ++ x ∷ [])) (sym fresh) (c.in_ok-make_room.ensures.moments cells key.key [] c.self.invariant.due.moments place refl) in
+    let index : IsIndexOf c.add.new.self (cells ++ cell ∷ []) =
+    c.in_ok-add.ensures.ok cells cell (subst (λ (i : CellIndex). IsIndexOf i cells) (sym c.make_room.ensures.index) c.self.invariant.index) place
+    (ap (λ (x : Cell). x.node) fresh ∙ sym (ap (λ (k : CellKey). k.node) c.in_ok-own.ensures)) (ap (λ (x : Cell). x.key) fresh ∙ sym (ap (λ (k : CellKey). k.key) c.in_ok-own.ensures))
+    (ap (λ (x : Cell). x.span) fresh ∙ sym (ap (λ (k : CellKey). k.span) c.in_ok-own.ensures)) in
+    opened_tracked plan old c.push.new.self cell 0 c.self.invariant.due c.self.invariant.begun few
+    (c.push.ensures.cells ∙ ap (λ (l : List Cell). l ++ cell ∷ []) c.make_room.ensures.cells)
+    (subst (λ (i : CellIndex). IsIndexOf i (cells ++ cell ∷ [])) (sym c.push.ensures.index) index)
+    (c.push.ensures.kept plan (cells ++ cell ∷ []) moments) (λ p l h. c.push.ensures.kept p l (c.make_room.ensures.kept p l h))
+    (c.push.ensures.counts ∙ ap (λ (l : List ℕ). l ++ 0 ∷ []) c.make_room.ensures.counts) (sym (ap (λ (x : Cell). unseen_in x.entries) fresh))
+    (c.push.ensures.changes ∙ ap (λ (l : List Change). l ++ Opened ∷ []) c.make_room.ensures.changes)
+
+pub returns-clause-ok : goal.returns-clause-ok
+returns-clause-ok c =
+    c.push.ensures.cells ∙ ap (λ (l : List Cell). l ++ c.in_ok-cell.cell ∷ []) (c.make_room.ensures.cells ∙ ap (λ (d : SeenDraft). d.cells) c.self.view_is)
+    ∙ ap (λ (x : Cell). c.args.self.now.cells ++ x ∷ []) c.in_ok-cell.ensures
+
+pub returns-clause-same : goal.returns-clause-same
+returns-clause-same c = (
+  ap (λ (d : SeenDraft). d.plan) c.self.view_is,
+  opened_undone c.self.inside.tracked c.push.new.self c.in_ok-cell.cell (c.push.ensures.cells ∙ ap (λ (l : List Cell). l ++ c.in_ok-cell.cell ∷ []) c.make_room.ensures.cells)
+      (c.push.ensures.changes ∙ ap (λ (l : List Change). l ++ Opened ∷ []) c.make_room.ensures.changes)
+      ∙ ap (λ (d : SeenDraft). d.begun) c.self.view_is,
+)

@@ -1,5 +1,5 @@
 use Rattle.std.proofs.Common.{◌≡◌, ◌∙◌, List, ap, arith, false, length, map, subst, sym}
-use Rattle.std.specs.List.{All, filter}
+use Rattle.std.specs.List.{filter}
 use Rattle.std.proofs.lemmas.List.{length-map}
 use Rattle.std.proofs.lemmas.List.Elements.{All-map}
 use Rattle.beam_values.specs.Firing.{is_expired}
@@ -18,13 +18,13 @@ returns-clause-windows c =
     let before = c.args.before in
     let key = c.args.key.now in
     let own = map (λ (e : Element). e.span) c.args.own.now in
-    let old = c.args.self.now.cells.items in
-    let is = c.as_slice-cells.ensures.value in
-    let known : AreKnown before (opens rs before key.node key.key c.as_slice-cells.result.now) c.args.known.now =
+    let old = c.args.self.now.cells in
+    let is = c.cells-cells.ensures in
+    let known : AreKnown before (opens rs before key.node key.key c.cells-cells.result.now) c.args.known.now =
     subst (λ (l : List Cell). AreKnown before (opens rs before key.node key.key l) c.args.known.now) (sym is) c.requires.known in
     let near : AreNear own (open_windows rs before (filter (is_cell_at_key key.node key.key) old)) c.in_ok-near.near =
     subst (λ (l : List Cell). AreNear own (open_windows rs before (filter (is_cell_at_key key.node key.key) l)) c.in_ok-near.near) is
-    (subst (λ (l : List Interval). AreNear l (open_windows rs before (filter (is_cell_at_key key.node key.key) c.as_slice-cells.result.now)) c.in_ok-near.near) (c.as_slice.ensures ∙ c.in_ok-spans.ensures)
+    (subst (λ (l : List Interval). AreNear l (open_windows rs before (filter (is_cell_at_key key.node key.key) c.cells-cells.result.now)) c.in_ok-near.near) (c.as_slice.ensures ∙ c.in_ok-spans.ensures)
     (c.in_ok-near.ensures known)) in
     let over : AreSessionsOver own c.in_ok-near.near c.in_ok-windows.windows =
     subst (λ (l : List Interval). AreSessionsOver own l c.in_ok-windows.windows) c.as_slice-3.ensures
@@ -37,13 +37,13 @@ returns-clause-unexpired c =
     let before = c.args.before in
     let key = c.args.key.now in
     let own = map (λ (e : Element). e.span) c.args.own.now in
-    let old = c.args.self.now.cells.items in
-    let is = c.as_slice-cells.ensures.value in
-    let known : AreKnown before (opens rs before key.node key.key c.as_slice-cells.result.now) c.args.known.now =
+    let old = c.args.self.now.cells in
+    let is = c.cells-cells.ensures in
+    let known : AreKnown before (opens rs before key.node key.key c.cells-cells.result.now) c.args.known.now =
     subst (λ (l : List Cell). AreKnown before (opens rs before key.node key.key l) c.args.known.now) (sym is) c.requires.known in
     let near : AreNear own (open_windows rs before (filter (is_cell_at_key key.node key.key) old)) c.in_ok-near.near =
     subst (λ (l : List Cell). AreNear own (open_windows rs before (filter (is_cell_at_key key.node key.key) l)) c.in_ok-near.near) is
-    (subst (λ (l : List Interval). AreNear l (open_windows rs before (filter (is_cell_at_key key.node key.key) c.as_slice-cells.result.now)) c.in_ok-near.near) (c.as_slice.ensures ∙ c.in_ok-spans.ensures)
+    (subst (λ (l : List Interval). AreNear l (open_windows rs before (filter (is_cell_at_key key.node key.key) c.cells-cells.result.now)) c.in_ok-near.near) (c.as_slice.ensures ∙ c.in_ok-spans.ensures)
     (c.in_ok-near.ensures known)) in
     let over : AreSessionsOver own c.in_ok-near.near c.in_ok-windows.windows =
     subst (λ (l : List Interval). AreSessionsOver own l c.in_ok-windows.windows) c.as_slice-3.ensures

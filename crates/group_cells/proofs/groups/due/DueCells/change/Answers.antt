@@ -1,18 +1,19 @@
-use Rattle.std.specs.Vec.{with_item}
-use Rattle.std.proofs.Common.{refl, ap, ◌∙◌}
+use Rattle.std.proofs.Common.{◌∙◌, sym}
 use Rattle.std.proofs.lemmas.Result.{on_ok_weaker}
-use Rattle.group_cells.proofs.DueKeys.{due_changed, due_kept}
+use Rattle.group_cells.proofs.DueKeys.{moments_changed, moments_stay}
 use Rattle.group_cells.proofs.groups.due.DueCells.change.Goals as goal
 
-pub returns : goal.returns
-returns c =
-    on_ok_weaker c.enter.result
-    (λ entered cells before h found were nodes counted.
-    due_changed c.args.plan.now c.args.self.now c.enter.new.self cells c.args.place before c.args.cell.now c.args.was c.moment_with-now.result c.args.count c.leave.new.self.moments
-    h found were (c.moment_with-now.ensures counted) nodes counted (ap (λ v. v.items) c.enter.ensures.unseen ∙ ap (λ v. v.items) c.leave.ensures.unseen) c.leave.ensures.moments entered)
-    c.enter.ensures.moments
+pub returns-clause-kept : goal.returns-clause-kept
+returns-clause-kept c = λ plan cells h. c.enter.ensures.kept plan cells (c.leave.ensures.kept plan cells h)
 
-pub returns-then-is_same_moment : goal.returns-then-is_same_moment
-returns-then-is_same_moment c = λ cells before h found were nodes counted.
-    due_kept c.args.plan.now c.args.self.now (record { unseen = with_item c.args.self.now.unseen c.args.place c.args.count; moments = c.args.self.now.moments }) cells c.args.place before c.args.cell.now
-    c.args.was c.moment_with-now.result c.args.count h found were (c.moment_with-now.ensures counted) (c.is_same_moment.ensures c.if-is_same_moment.true) nodes counted refl refl
+pub returns-clause-ok : goal.returns-clause-ok
+returns-clause-ok c =
+    on_ok_weaker c.enter.result
+    (λ entered plan cells before cell h found were are at stays_at.
+    moments_changed plan c.args.self.now c.enter.new.self cells c.args.node c.args.place before cell c.args.was c.args.now
+    (λ p l k. c.enter.ensures.kept p l (c.leave.ensures.kept p l k)) h found were are at stays_at (λ q is. c.enter.ensures.noted q (c.in_ok-leave.ensures.left q is)) entered)
+    c.enter.ensures.entered
+
+pub returns-then-is_same_moment-clause-ok : goal.returns-then-is_same_moment-clause-ok
+returns-then-is_same_moment-clause-ok c = λ plan cells before cell h found were are at stays_at.
+    moments_stay plan c.args.self.now cells c.args.place before cell h found (sym were ∙ c.is_same_moment.ensures c.if-is_same_moment.true ∙ are) (at ∙ sym stays_at)

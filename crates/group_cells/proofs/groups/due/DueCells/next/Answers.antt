@@ -9,6 +9,6 @@ pub first_between-requires : goal.first_between-requires
 first_between-requires c = keys_forward c.args.node final_mark c.first.result c.last.result c.first.ensures c.last.ensures.value c.last.ensures.reached
 
 pub returns : goal.returns
-returns c = λ plan cells h.
+returns c = λ plan cells h none.
     subst (λ (o : Option ℤ). IsNextDue plan c.args.node cells o) (sym c.moment_in.ensures)
-    (next_is plan c.args.self.now cells c.args.node c.first.result c.last.result c.first_between.result h c.the_next_mark_is_the_least.ensures c.first.ensures c.last.ensures.value c.first_between.ensures)
+    (next_is plan c.args.self.now cells c.args.node c.first.result c.last.result c.first_between.result h none c.the_next_mark_is_the_least.ensures c.first.ensures c.last.ensures.value c.first_between.ensures)

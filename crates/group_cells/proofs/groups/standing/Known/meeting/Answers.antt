@@ -1,11 +1,7 @@
-use Rattle.std.proofs.Common.{◌≡◌, ℕ, List, subst}
+use Rattle.std.proofs.Common.{◌≡◌, ℕ, subst}
 use Rattle.std.specs.Prelude.{Bool}
-use Rattle.std.specs.List.{All}
-use Rattle.std.proofs.lemmas.List.Elements.{All-weaker}
 use Rattle.std.proofs.lemmas.Result.{IfOk-weaker, on_ok_weaker}
 use Rattle.beam_values.specs.Intervals.{Interval}
-use Rattle.beam_values.specs.Sessions.{IsNonEmpty}
-use Rattle.beam_values.specs.declared.cell.Cell.{Cell}
 use Rattle.group_cells.specs.KnownWindows.{meeting_places, opens, AreFilled, AreKnown, AreListed, ArePlacesMet}
 use Rattle.group_cells.proofs.KnownCells.{all_filled, listed_filled, places_are_met}
 use Rattle.group_cells.proofs.groups.standing.Known.meeting.Goals as goal

@@ -10,7 +10,6 @@ use Rattle.beam_model.specs.Panes.{GroupRules}
 use Rattle.group_cells.specs.AtPlaces.{at_place}
 use Rattle.group_cells.specs.KeyLists.{stands}
 use Rattle.group_cells.specs.KnownWindows.{meeting_places, opens, overlaps, AreKnown, AreListed, HasOpened}
-use Rattle.group_cells.specs.declared.groups.standing.Known.{Known}
 use Rattle.group_cells.proofs.KnownCells.{known_as, opened_opens}
 use Rattle.group_cells.proofs.ListedWindows.{listed_without}
 use Rattle.group_cells.proofs.groups.standing.Known.opened.Goals as goal

@@ -1,4 +1,4 @@
-use Rattle.std.proofs.Common.{◌≡◌, ◌∙◌, ◌+◌, ◌==◌, Bool, ℕ, ℤ, ap, arith, false, subst, sym, true, to_z, of_z, w64}
+use Rattle.std.proofs.Common.{◌≡◌, ◌∙◌, ◌==◌, Bool, ℕ, ℤ, ap, arith, false, subst, sym, true, to_z, of_z, w64}
 use Rattle.std.proofs.lemmas.Int.{to_z-of_z}
 use Rattle.std.specs.Prelude.{◌&&◌, ◌||◌, not}
 use Rattle.std.proofs.lemmas.Result.{IfOk-weaker}
@@ -7,7 +7,6 @@ use Rattle.beam_values.specs.Intervals.{Interval}
 use Rattle.beam_values.specs.Spans.{same_span}
 use Rattle.beam_model.specs.Panes.{GroupRules}
 use Rattle.group_cells.specs.KnownWindows.{AreKnown, AreListed}
-use Rattle.group_cells.specs.declared.groups.standing.Known.{Known}
 use Rattle.group_cells.proofs.KnownCells.{known_as, still_expired, yet_open}
 use Rattle.group_cells.proofs.ListedWindows.{listed_as}
 use Rattle.group_cells.proofs.groups.standing.Known.with_cell.Goals as goal

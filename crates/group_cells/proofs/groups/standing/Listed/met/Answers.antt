@@ -1,6 +1,5 @@
-use Rattle.std.proofs.Common.{◌≡◌, ◌≤ℤ◌, ◌<◌, ◌<ℤ◌, ◌∙◌, Some, ℤ, List, arith, subst, sym, to_z, of_z, w64}
+use Rattle.std.proofs.Common.{◌≡◌, ◌≤ℤ◌, ◌<◌, ◌<ℤ◌, ◌∙◌, Some, ℤ, arith, subst, sym, to_z, of_z, w64}
 use Rattle.std.proofs.lemmas.Int.{ints, to_z-of_z}
-use Rattle.group_cells.specs.KnownWindows.{IsNextAfter}
 use Rattle.group_cells.specs.declared.groups.standing.Standing.{Standing}
 use Rattle.group_cells.proofs.ListedWindows.{after_falls, ends_after, met_all, met_more, met_none, some_back, AreMetBy}
 use Rattle.group_cells.proofs.groups.standing.Listed.met.Goals as goal

@@ -1,5 +1,4 @@
-use Rattle.std.proofs.Common.{◌≡◌, ◌∙◌, ◌++◌, ap, arith, map, subst, sym, take}
-use Rattle.std.proofs.lemmas.List.{take_all}
+use Rattle.std.proofs.Common.{◌∙◌, ◌++◌, ap, map}
 use Rattle.group_cells.specs.declared.groups.standing.Standing.{Standing}
 use Rattle.group_cells.proofs.NearSessions.{near_more}
 use Rattle.group_cells.proofs.groups.standing.Listed.near.Goals as goal

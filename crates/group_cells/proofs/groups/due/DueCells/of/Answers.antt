@@ -1,4 +1,0 @@
-use Rattle.group_cells.proofs.groups.due.DueCells.of.Goals as goal
-
-pub loop-place-init : goal.loop-place-init
-loop-place-init c = c.new-due.ensures c.args.plan.now
