@@ -31,3 +31,7 @@ pub mod Turning
 pub mod ByIndex
 pub mod Roomy
 pub mod Named
+pub mod Entries
+pub mod FirstOfTrees
+pub mod TreeSteps
+pub mod KeptSteps

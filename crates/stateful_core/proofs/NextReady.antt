@@ -14,7 +14,7 @@ use Rattle.stateful_core.specs.Taking.{is_ready, sooner, or_sooner, next_place, 
 
 -- ---- one item more
 
-got_before : {X : Type 0} (xs : List X) (x y : X) (i : ℕ) → slice_get xs i ≡ Some y → slice_get (xs ++ x ∷ []) i ≡ Some y
+pub got_before : {X : Type 0} (xs : List X) (x y : X) (i : ℕ) → slice_get xs i ≡ Some y → slice_get (xs ++ x ∷ []) i ≡ Some y
 got_before [] x y i e = absurd (cc)
 got_before (z ∷ xs) x y zero e = e
 got_before (z ∷ xs) x y (suc i) e = got_before xs x y i e

@@ -22,7 +22,7 @@ use Rattle.stateful_core.proofs.OnceOnly.{own_fresh}
 
 -- ---- where it is put
 
-put_at : (before : List StageMarks) (arrival : Arrival) (cells : List KeyCell) (at : ℕ) (h : IsCellAt arrival cells at)
+pub put_at : (before : List StageMarks) (arrival : Arrival) (cells : List KeyCell) (at : ℕ) (h : IsCellAt arrival cells at)
     → put_in before arrival cells ≡ slice_set cells at (with_waiting h.cell (waits before arrival))
 put_at before arrival [] at h = refl
 put_at before arrival (c ∷ cells) zero h =

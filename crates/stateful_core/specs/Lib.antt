@@ -10,6 +10,8 @@ pub mod Seen
 pub mod Names
 pub mod Opening
 pub mod Routes
+pub mod Trees
+pub mod Ready
 pub mod Least
 pub mod Staying
 pub mod Leaving

@@ -9,6 +9,7 @@ ghost use Rattle.stateful_core.specs.Least.{AreLeast};
 ghost use Rattle.stateful_core.specs.Placing.{finish, place};
 ghost use Rattle.stateful_core.specs.Cells.{KeyCell, calls_of, key_holds, logs_of};
 ghost use Rattle.stateful_core.specs.Seen.{cell_of, cells_of};
+ghost use Rattle.stateful_core.specs.Trees.{AreTrees, HasPlace};
 ghost use Rattle.stateful_core.specs.Taking.{IsFirstReady, IsTaken, IsTakenOrNone, change, next_place, tried};
 ghost use Rattle.stateful_core.specs.Taking.{with_job};
 ghost use Rattle.stateful_core.specs.declared.slot.Slot.{Slot};
@@ -19,8 +20,9 @@ use crate::holding::least_holds;
 use crate::opening::{keep_all, let_all_go};
 use crate::putting::{finish, put_all};
 use crate::routing::route_all;
-use crate::taking::{give_back, next_place, start, turn_of};
-use crate::{KeyDone, KeyIndex, KeyTurn, Place, Routed, Slot};
+use crate::taking::{give_back, start, turn_of};
+use crate::trees::{grow_all, next_place, renew_at};
+use crate::{KeyDone, KeyIndex, KeyTurn, NodeTree, Place, Routed, Slot};
 use beam_values::{Arrival, KeyLog, List, LogEntry, Mark, NoMemory, Plan, Span, StageMarks, Value};
 use std::alloc::Global;
 use std::collections::VecDeque;
@@ -33,6 +35,8 @@ pub struct Keys {
     slots: Vec<Slot>,
     // Leads to each of the cells and the new ones.
     index: KeyIndex,
+    // Of each node when its cells are due.
+    trees: Vec<NodeTree>,
     // New cells of the commit that is prepared.
     fresh: Vec<Slot>,
     // For each of its arrivals at a Stateful node, in their order, the number of the cell.
@@ -44,8 +48,8 @@ impl Model for Keys {
     ghost use Rattle.std.specs.Prelude.{◌-◌};
     ghost use Rattle.std.specs.Coded.{codes};
     ghost use Rattle.beam_values.specs.contracts.value.Value as value;
-    ghost use Rattle.stateful_core.specs.Names.{AreStored};
     ghost use Rattle.stateful_core.specs.Opening.{SeenKeys};
+    ghost use Rattle.stateful_core.specs.Ready.{AreKept};
     ghost use Rattle.stateful_core.specs.Seen.{cells_of};
     ghost use Rattle.stateful_core.specs.contracts.slot.Slot as slot;
 
@@ -63,7 +67,7 @@ impl Model for Keys {
       };
     } };
 
-    ghost invariant = { λ k. AreStored k.index.numbers.places k.slots.items k.fresh.items };
+    ghost invariant = { λ k. AreKept k.index.numbers.places k.trees.items k.slots.items k.fresh.items };
 }
 
 impl Keys {
@@ -74,6 +78,7 @@ impl Keys {
         Keys {
             slots: Vec::new(alloc),
             index: KeyIndex::new(alloc),
+            trees: Vec::new(alloc),
             fresh: Vec::new(alloc),
             routes: VecDeque::new(alloc),
             alloc,
@@ -92,11 +97,12 @@ impl Keys {
             IsTakenOrNone marks.now bundle self.old.cells turn self.new.cells) }
         ensures err { OnErr result (self.new ≡ self.old) }
     {
-        let Some(place) = next_place(self.slots.as_slice(), marks) else {
+        let Some(place) = next_place(self.trees.as_slice(), marks) else {
             return Ok(None);
         };
         let turn = turn_at(self.alloc, self.slots.as_slice(), marks, place, bundle)?;
         start(&mut self.slots, place.at, bundle);
+        renew_at(&mut self.trees, self.slots.as_slice(), place.at);
         Ok(Some(turn))
     }
 
@@ -108,6 +114,7 @@ impl Keys {
         ensures { self.new.cells ≡ change tried cell self.old.cells }
     {
         give_back(&mut self.slots, cell as usize);
+        renew_at(&mut self.trees, self.slots.as_slice(), cell as usize);
     }
 
     /// How many cells stand.
@@ -174,6 +181,12 @@ impl Keys {
             marks,
             arrivals.as_slice(),
         )?;
+        grow_all(
+            self.alloc,
+            &mut self.trees,
+            self.slots.len(),
+            fresh.as_slice(),
+        )?;
         self.fresh = fresh;
         self.routes = routes;
         keep_room(&mut self.slots, &mut self.fresh, &self.routes, done)?;
@@ -195,11 +208,19 @@ impl Keys {
         ensures left { arrivals.new
             ≡ filter (λ arrival. not (is_stateful plan.now arrival.node)) arrivals.old }
     {
-        finish_any(&mut self.slots, marks, done);
+        finish_any(&mut self.slots, &mut self.trees, marks, done);
         let fresh = mem::replace(&mut self.fresh, Vec::new(self.alloc));
         let routes = mem::replace(&mut self.routes, VecDeque::new(self.alloc));
         open(&mut self.slots, fresh);
-        put_each(self.alloc, plan, marks, &mut self.slots, routes, arrivals);
+        put_each(
+            self.alloc,
+            plan,
+            marks,
+            &mut self.slots,
+            &mut self.trees,
+            routes,
+            arrivals,
+        );
     }
 }
 
@@ -218,6 +239,7 @@ fn put_each(
     plan: &Plan,
     before: &[StageMarks],
     slots: &mut Vec<Slot>,
+    trees: &mut Vec<NodeTree>,
     routes: VecDeque<u32>,
     arrivals: &mut List<Arrival>,
 )
@@ -228,22 +250,34 @@ fn put_each(
         ≡ put_all plan.now before.now arrivals.old (cells_of slots.old.items) }
     ensures left { arrivals.new
         ≡ filter (λ arrival. not (is_stateful plan.now arrival.node)) arrivals.old }
+    ensures due { AreTrees trees.old.items (cells_of slots.old.items)
+        → AreTrees trees.new.items (cells_of slots.new.items) }
 {
     let all = mem::replace(arrivals, List::new(alloc));
-    *arrivals = put_all(plan, before, slots.as_mut_slice(), routes, all);
+    *arrivals = put_all(plan, before, slots.as_mut_slice(), trees, routes, all);
 }
 
-fn finish_any(slots: &mut Vec<Slot>, before: &[StageMarks], done: Option<KeyDone>)
+fn finish_any(
+    slots: &mut Vec<Slot>,
+    trees: &mut Vec<NodeTree>,
+    before: &[StageMarks],
+    done: Option<KeyDone>,
+)
     requires { CanFinishAny slots.old.items (option_map done_of done) }
     ensures cells { cells_of slots.new.items
         ≡ finish before.now (option_map done_of done) (cells_of slots.old.items) }
     ensures roomy { (routes : ListOf ℕ) → AreRoomy 0 routes slots.old.items
         → AreRoomy 0 routes slots.new.items }
+    ensures due { AreTrees trees.old.items (cells_of slots.old.items)
+        → AreTrees trees.new.items (cells_of slots.new.items) }
+    ensures places { (n i : ℕ) → HasPlace trees.old.items n i → HasPlace trees.new.items n i }
     ensures len { vec_len slots.new ≡ vec_len slots.old }
     ensures capacity { vec_capacity slots.new ≡ vec_capacity slots.old }
 {
     if let Some(done) = done {
+        let at = done.cell as usize;
         finish(slots.as_mut_slice(), before, done);
+        renew_at(trees, slots.as_slice(), at);
     }
 }
 

@@ -8,7 +8,8 @@
 //! failure, and a commit is prepared, which takes all memory, and then placed, which takes none.
 //!
 //! No arrival looks through the cells: an index leads from its node, window and key to its cell
-//! (`specs/Names.antt`). Preparing a commit notes the numbers that it finds, and placing it goes by them.
+//! (`specs/Names.antt`). Preparing a commit notes the numbers that it finds, and placing it goes by them. Nor
+//! does taking a job: for each node a tree has the time at which each cell is due (`specs/Trees.antt`).
 //!
 //! What each step does stands in `specs/Taking.antt` and `specs/Placing.antt`. [`laws`] has what every list of
 //! steps keeps: the logs are those of calls in one legal order, and what came stands in a log or waits, once
@@ -21,6 +22,7 @@ mod key_index;
 mod key_job;
 mod keys;
 pub mod laws;
+mod node_tree;
 mod opening;
 mod place;
 mod putting;
@@ -29,11 +31,13 @@ mod routing;
 mod slot;
 mod taking;
 mod timer_holds;
+mod trees;
 mod waiting;
 
 pub use key_index::KeyIndex;
 pub use key_job::{KeyDone, KeyTurn};
 pub use keys::Keys;
+pub use node_tree::NodeTree;
 pub use place::Place;
 pub use queue::Queue;
 pub use routing::Routed;

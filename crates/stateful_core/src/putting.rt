@@ -12,10 +12,12 @@ ghost use Rattle.beam_model.specs.Holds.{arrival_hold};
 ghost use Rattle.stateful_core.specs.Placing.{finish, waits, with_done, with_waiting};
 ghost use Rattle.beam_values.specs.declared.marks.StageMarks.{StageMarks};
 ghost use Rattle.stateful_core.specs.Seen.{cell_of, cells_of};
+ghost use Rattle.stateful_core.specs.Trees.{AreTrees};
 ghost use Rattle.stateful_core.specs.declared.slot.Slot.{Slot};
 
 use crate::finding::is_stateful;
-use crate::{KeyDone, Slot, Waiting};
+use crate::trees::renew_at;
+use crate::{KeyDone, NodeTree, Slot, Waiting};
 use beam_values::{Arrival, List, LogEntry, Mark, Plan, RoomyList, StageMarks};
 use std::collections::VecDeque;
 
@@ -52,6 +54,7 @@ pub fn put(
     plan: &Plan,
     before: &[StageMarks],
     slots: &mut [Slot],
+    trees: &mut Vec<NodeTree>,
     routes: &mut VecDeque<u32>,
     arrival: Arrival,
 ) -> Option<Arrival>
@@ -63,6 +66,8 @@ pub fn put(
         (arrival ∷ rest) routes.old.items
         → AreRoutes plan.now (names_of (cells_of slots.new)) rest routes.new.items }
     ensures roomy { AreRoomy 0 routes.new.items slots.new }
+    ensures due { AreTrees trees.old.items (cells_of slots.old)
+        → AreTrees trees.new.items (cells_of slots.new) }
     ensures sized { length slots.new ≡ length slots.old }
     ensures left { option_to_list result
         ≡ filter (λ a. not (is_stateful plan.now a.node)) (arrival ∷ []) }
@@ -76,6 +81,7 @@ pub fn put(
     };
     let Arrival { element, .. } = arrival;
     add_at(slots, at as usize, Waiting { element, hold });
+    renew_at(trees, slots, at as usize);
     None
 }
 
@@ -101,6 +107,7 @@ pub fn put_all(
     plan: &Plan,
     before: &[StageMarks],
     slots: &mut [Slot],
+    trees: &mut Vec<NodeTree>,
     mut routes: VecDeque<u32>,
     arrivals: List<Arrival>,
 ) -> List<Arrival>
@@ -109,13 +116,15 @@ pub fn put_all(
     ensures cells { cells_of slots.new ≡ put_all plan.now before.now arrivals (cells_of slots.old) }
     ensures sized { length slots.new ≡ length slots.old }
     ensures left { result ≡ filter (λ a. not (is_stateful plan.now a.node)) arrivals }
+    ensures due { AreTrees trees.old.items (cells_of slots.old)
+        → AreTrees trees.new.items (cells_of slots.new) }
 {
     let mut turning = VecDeque::from_vec(arrivals.into_vec());
     for _turn in 0..turning.len() {
         let Some(arrival) = turning.pop_front() else {
             unreachable!()
         };
-        let left = put(plan, before, slots, &mut routes, arrival);
+        let left = put(plan, before, slots, trees, &mut routes, arrival);
         put_behind(&mut turning, left);
     }
     List::from_vec(turning.into_vec())

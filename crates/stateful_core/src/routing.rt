@@ -229,7 +229,8 @@ fn open(
     Ok(number)
 }
 
-fn number_behind(standing: usize, fresh: usize) -> Result<u32, NoMemory>
+/// The number of a cell behind so many others, which has 32 bits.
+pub fn number_behind(standing: usize, fresh: usize) -> Result<u32, NoMemory>
     ensures { IfOk result (λ number. number ≡ standing + fresh) }
 {
     let number = standing.checked_add(fresh).ok_or(NoMemory)?;

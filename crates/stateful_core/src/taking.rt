@@ -13,36 +13,8 @@ use beam_values::{List, LogInput, Mark, NoMemory, StageMarks, Timer};
 use std::alloc::Global;
 use timer_core::Timers;
 
-/// The ready cell of the lowest node, and of these that of the lowest number.
-pub fn next_place(slots: &[Slot], marks: &[StageMarks]) -> Option<Place>
-    ensures is { result ≡ next_place marks.now (cells_of slots.now) }
-    ensures first { IfSome result (IsFirstReady marks.now (cells_of slots.now)) }
-    ensures within { IfSome result (λ place. place.at < length slots.now) }
-{
-    let mut best: Option<Place> = None;
-    for (at, slot) in slots.iter().enumerate() {
-        best = or_sooner(marks, best, at, slot);
-    }
-    best
-}
-
-fn or_sooner(marks: &[StageMarks], best: Option<Place>, at: usize, slot: &Slot) -> Option<Place>
-    ensures { result ≡ or_sooner marks.now best (at, cell_of slot.now) }
-{
-    if is_ready(marks, slot) {
-        sooner(
-            best,
-            Place {
-                at,
-                node: slot.node,
-            },
-        )
-    } else {
-        best
-    }
-}
-
-fn sooner(best: Option<Place>, place: Place) -> Option<Place>
+/// The better of two places: that of the lower node.
+pub fn sooner(best: Option<Place>, place: Place) -> Option<Place>
     ensures { result ≡ sooner best place }
 {
     match best {
@@ -54,29 +26,6 @@ fn sooner(best: Option<Place>, place: Place) -> Option<Place>
                 Some(best)
             }
         }
-    }
-}
-
-fn is_ready(marks: &[StageMarks], slot: &Slot) -> bool
-    ensures { result ≡ is_ready marks.now (cell_of slot.now) }
-{
-    match slot.live {
-        Some(_) => false,
-        None => {
-            if slot.waiting.len() > 0 {
-                return true;
-            }
-            is_due(&slot.timers, mark_in(marks, slot.node))
-        }
-    }
-}
-
-fn is_due(timers: &Timers, mark: Mark) -> bool
-    ensures { result ≡ is_some (if_due mark (first_timer timers.now)) }
-{
-    match due(timers, mark) {
-        Some(_) => true,
-        None => false,
     }
 }
 

@@ -45,6 +45,10 @@ use Rattle.timer_core.specs.contracts.timers.Timers as Timers
 use Rattle.stateful_core.specs.contracts.key_index.KeyIndex as KeyIndex
 use Rattle.stateful_core.specs.contracts.keys.Keys as Keys
 use Rattle.stateful_core.specs.contracts.keys.Keys.TheInside as KeysInside
+use Rattle.mark_trees.specs.contracts.least_tree.LeastTree as LeastTree
+use Rattle.mark_trees.specs.contracts.least_tree.LeastTree.TheInside as LeastTreeInside
+use Rattle.mark_trees.specs.contracts.twin_marks.TwinMarks as TwinMarks
+use Rattle.stateful_core.specs.contracts.node_tree.NodeTree as NodeTree
 use Rattle.stateful_core.specs.contracts.queue.Queue as KeyQueue
 use Rattle.stateful_core.specs.contracts.queue.Queue.TheInside as KeyQueueInside
 use Rattle.stateful_core.specs.contracts.slot.Slot as KeySlot
@@ -167,8 +171,17 @@ KeySlot-send =
 KeyIndex-send : IsSend KeyIndex.the_row
 KeyIndex-send = declared_send KeyIndex.the_type (search (CellIndex-send, as_row_send, sendable) depth 40)
 
+TwinMarks-send : IsSend TwinMarks.the_row
+TwinMarks-send = search (sendable, crosses) depth 40
+
+LeastTree-send : IsSend LeastTree.the_row
+LeastTree-send = view_send _ _ _ _ _ (declared_send LeastTreeInside.the_type (search (TwinMarks-send, as_row_send, sendable, crosses) depth 40))
+
+NodeTree-send : IsSend NodeTree.the_row
+NodeTree-send = declared_send NodeTree.the_type (search (LeastTree-send, as_row_send, sendable) depth 40)
+
 Keys-send : IsSend Keys.the_row
-Keys-send = view_send _ _ _ _ _ (declared_send KeysInside.the_type (search (KeyIndex-send, KeySlot-send, as_row_send, sendable, crosses) depth 40))
+Keys-send = view_send _ _ _ _ _ (declared_send KeysInside.the_type (search (KeyIndex-send, KeySlot-send, NodeTree-send, as_row_send, sendable, crosses) depth 40))
 
 -- ---- the book
 

@@ -1,0 +1,11 @@
+use Rattle.std.proofs.Common.{◌≡◌}
+use Rattle.std.specs.Prelude.{vec_len}
+use Rattle.stateful_core.specs.Trees.{due_at}
+use Rattle.stateful_core.proofs.TreeSteps.{IsRenewed}
+use Rattle.stateful_core.proofs.trees.renew.Given as goal
+
+abbrev pub invariant-loop-k : goal.invariant-loop-k
+invariant-loop-k l = record {
+  renewed : IsRenewed l.initial.trees.items l.trees.items l.slot.node l.at (due_at l.due) l.k;
+  len : vec_len l.trees ≡ vec_len l.initial.trees;
+}
