@@ -1,13 +1,12 @@
 -- When a cell is due.
-use Rattle.std.proofs.Common.{◌≡◌, ℕ, ◌+◌, ◌<◌, ◌≤◌, ℤ, ◌<ℤ◌, ◌≤ℤ◌, Bool, true, false, cond, List, [], ◌∷◌, length, Option, Some, None, refl, sym, ap, ◌∙◌, arith}
+use Rattle.std.proofs.Common.{◌≡◌, ℕ, ◌<◌, ◌≤◌, ℤ, ◌<ℤ◌, ◌≤ℤ◌, Bool, true, false, cond, List, [], ◌∷◌, length, Option, Some, None, refl, sym, ap, ◌∙◌, arith}
 use Rattle.std.specs.Prelude.{int_le, ◌&&◌, ◌||◌}
 use Rattle.std.specs.Int.{int_min}
-use Rattle.std.specs.Option.{MatchOption}
 use Rattle.std.proofs.lemmas.Int.{ints}
 use Rattle.beam_values.specs.States.{IsFirstTimer, IsNoneDue}
 use Rattle.beam_values.specs.Times.{IsMark, IsTime, final_mark, greatest_time, least_time}
 use Rattle.beam_values.specs.declared.log.Timer.{Timer}
-use Rattle.mark_trees.specs.Halves.{is_due, no_marks}
+use Rattle.mark_trees.specs.Halves.{no_marks}
 use Rattle.stateful_core.specs.Cells.{KeyCell}
 use Rattle.stateful_core.specs.Taking.{first_timer, has_waiting, if_due, is_some}
 use Rattle.stateful_core.specs.Trees.{IsEntryOf, IsTimerDue, is_ready_at}

@@ -1,5 +1,5 @@
 -- What all key cells keep, step by step.
-use Rattle.std.proofs.Common.{◌≡◌, ℕ, ◌+◌, ◌<◌, List, [], ◌∷◌, ◌++◌, length, map, Option, Some, None, refl, sym, ap, subst, ◌∙◌, arith}
+use Rattle.std.proofs.Common.{◌≡◌, ℕ, ◌+◌, ◌<◌, List, [], ◌++◌, length, Some, refl, sym, ap, subst, ◌∙◌, arith}
 use Rattle.std.specs.Prelude.{slice_get}
 use Rattle.std.specs.BTreeMap.{BTreeMap}
 use Rattle.std.proofs.lemmas.List.{length-map, map-append}
@@ -7,7 +7,7 @@ use Rattle.beam_values.specs.declared.arrival.Arrival.{Arrival}
 use Rattle.beam_values.specs.declared.plan.Plan.{Plan}
 use Rattle.cell_index.specs.declared.index_key.CellKey.{CellKey}
 use Rattle.stateful_core.specs.Cells.{KeyCell}
-use Rattle.stateful_core.specs.Names.{AreFound, AreStored, name_of, names_of}
+use Rattle.stateful_core.specs.Names.{AreFound, AreStored, names_of}
 use Rattle.stateful_core.specs.Opening.{fresh_all}
 use Rattle.stateful_core.specs.Ready.{AreKept}
 use Rattle.stateful_core.specs.Seen.{cell_of, cells_of}

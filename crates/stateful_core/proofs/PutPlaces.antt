@@ -1,24 +1,20 @@
 -- An arrival is put at its cell, and the room that is left.
-use Rattle.std.proofs.Common.{◌≡◌, ℕ, zero, suc, ◌+◌, ◌<◌, ◌≤◌, Bool, true, false, cond, List, [], ◌∷◌, ◌++◌, length, map, take, get_or, Option, Some, None, refl, sym, ap, subst, ◌∙◌, arith, append_assoc}
-use Rattle.std.specs.Prelude.{slice_get, slice_set, fold, ◌&&◌, ◌||◌, not}
-use Rattle.std.specs.List.{All, list_any, count_by, filter}
+use Rattle.std.proofs.Common.{◌≡◌, ℕ, zero, suc, true, false, cond, List, [], ◌∷◌, ◌++◌, take, Option, Some, None, refl, sym, ap, ◌∙◌}
+use Rattle.std.specs.Prelude.{slice_get, slice_set}
 use Rattle.std.specs.Option.{option_map}
-use Rattle.std.proofs.lemmas.Bool.{cond_both, cases_Bool}
-use Rattle.std.proofs.lemmas.List.{map-set, append-nil, length-append}
-use Rattle.std.proofs.lemmas.List.Elements.{All-nil, All-cons, All-head, All-tail, All-set, All-weaker, All-append}
-use Rattle.std.proofs.lemmas.List.Sums.{sum_by-cons}
-use Rattle.std.proofs.lemmas.Option.{get_or_from_slice_get, slice_get-map, same_Some}
+use Rattle.std.proofs.lemmas.List.{map-set}
+use Rattle.std.proofs.lemmas.List.Elements.{All-head, All-tail}
+use Rattle.std.proofs.lemmas.Option.{slice_get-map, same_Some}
 use Rattle.beam_values.specs.Nodes.{is_stateful}
 use Rattle.beam_values.specs.declared.arrival.Arrival.{Arrival}
 use Rattle.beam_values.specs.declared.marks.StageMarks.{StageMarks}
 use Rattle.beam_values.specs.declared.plan.Plan.{Plan}
 use Rattle.stateful_core.specs.Cells.{KeyCell, belongs}
 use Rattle.stateful_core.specs.Opening.{put_in, put_one, put_all, IsCellAt, IsAdded}
-use Rattle.stateful_core.specs.Placing.{Done, fresh_cell, waits, with_waiting, place_in, place_one, place_all, set_done, with_done, finish, place}
+use Rattle.stateful_core.specs.Placing.{Done, waits, with_waiting, set_done, with_done, finish}
 use Rattle.stateful_core.specs.Seen.{cell_of, cells_of}
 use Rattle.stateful_core.specs.declared.slot.Slot.{Slot}
 use Rattle.stateful_core.specs.declared.waiting.Waiting.{Waiting}
-use Rattle.stateful_core.proofs.OnceOnly.{own_fresh}
 
 -- ---- where it is put
 

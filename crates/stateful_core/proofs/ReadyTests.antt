@@ -57,51 +57,14 @@ pub ready_free : (marks : List StageMarks) (cell : KeyCell) → cell.live ≡ No
 ready_free marks cell e =
     sym (ap (λ (o : Option ℕ). (elim o as (λ _. Bool) [ None ↦ true | Some k ↦ false ]) && (has_waiting cell.waiting || is_some (if_due (marks_at marks cell.log.node).mark_in (first_timer cell.kept.timers)))) e)
 
-some_waits : (waiting : List Waiting) → 0 < length waiting → has_waiting waiting ≡ true
-some_waits [] h = absurd (omega arith)
-some_waits (w ∷ ws) h = refl
-
 none_waits : (waiting : List Waiting) → length waiting ≤ 0 → has_waiting waiting ≡ false
 none_waits [] h = refl
 none_waits (w ∷ ws) h = absurd (omega arith)
-
-pub ready_waiting : (marks : List StageMarks) (cell : KeyCell) → cell.live ≡ None → 0 < length cell.waiting → true ≡ is_ready marks cell
-ready_waiting marks cell e h =
-    sym (ap (λ b. b || is_some (if_due (marks_at marks cell.log.node).mark_in (first_timer cell.kept.timers))) (some_waits cell.waiting h)) ∙ ready_free marks cell e
 
 pub ready_due : (marks : List StageMarks) (cell : KeyCell) → cell.live ≡ None → length cell.waiting ≤ 0
     → is_some (if_due (marks_at marks cell.log.node).mark_in (first_timer cell.kept.timers)) ≡ is_ready marks cell
 ready_due marks cell e h =
     sym (ap (λ b. b || is_some (if_due (marks_at marks cell.log.node).mark_in (first_timer cell.kept.timers))) (none_waits cell.waiting h)) ∙ ready_free marks cell e
-
-pub or_on : (marks : List StageMarks) (best : Option Place) (at : ℕ) (cell : KeyCell) → is_ready marks cell ≡ true
-    → sooner best (record { at = at; node = cell.log.node }) ≡ or_sooner marks best (at, cell)
-or_on marks best at cell e = sym (ap (λ b. cond b (sooner best (record { at = at; node = cell.log.node })) best) e)
-
-pub or_off : (marks : List StageMarks) (best : Option Place) (at : ℕ) (cell : KeyCell) → is_ready marks cell ≡ false → best ≡ or_sooner marks best (at, cell)
-or_off marks best at cell e = sym (ap (λ b. cond b (sooner best (record { at = at; node = cell.log.node })) best) e)
-
--- ---- a step of the search
-
-fold_last : {X Y : Type 0} (f : Y → (ℕ × X) → Y) (y : Y) (k : ℕ) (xs : List X) (x : X) → fold f y (enumerate_from k (xs ++ x ∷ [])) ≡ f (fold f y (enumerate_from k xs)) (k + length xs, x)
-fold_last f y k [] x = let e : k ≡ k + 0 = omega arith in ap (λ n. f y (n, x)) e
-fold_last f y k (z ∷ xs) x =
-    let e : k + 1 + length xs ≡ k + suc (length xs) = omega arith in
-    fold_last f (f y (k, z)) (k + 1) xs x ∙ ap (λ n. f (fold f (f y (k, z)) (enumerate_from (k + 1) xs)) (n, x)) e
-
-pub next_more : (marks : List StageMarks) (slots : List Slot) (at : ℕ) (slot : Slot) (best : Option Place) → at < length slots → slot ≡ get_or slots at slot
-    → best ≡ next_place marks (cells_of (take at slots)) → or_sooner marks best (at, cell_of slot) ≡ next_place marks (cells_of (take (at + 1) slots))
-next_more marks slots at slot best less read e =
-    let upto = take at slots in
-    let sized : 0 + length (cells_of upto) ≡ at = let s = length-map upto cell_of in let t = length-take-le at slots (omega (arith, less)) in omega (arith, s, t) in
-    let grown : cells_of (take (at + 1) slots) ≡ cells_of upto ++ cell_of slot ∷ [] =
-    ap cells_of (take_more slots at slot less ∙ ap (λ s. upto ++ s ∷ []) (sym read)) ∙ map-append cell_of upto (slot ∷ []) in
-    ap (λ b. or_sooner marks b (at, cell_of slot)) e
-    ∙ ap (λ n. or_sooner marks (next_place marks (cells_of upto)) (n, cell_of slot)) (sym sized)
-    ∙ sym (ap (next_place marks) grown ∙ fold_last (or_sooner marks) None 0 (cells_of upto) (cell_of slot))
-
-pub next_all : (marks : List StageMarks) (slots : List Slot) (at : ℕ) (best : Option Place) → length slots ≤ at → best ≡ next_place marks (cells_of (take at slots)) → best ≡ next_place marks (cells_of slots)
-next_all marks slots at best h e = e ∙ ap (λ l. next_place marks (cells_of l)) (take_all at slots h)
 
 -- ---- one slot in the place of another
 

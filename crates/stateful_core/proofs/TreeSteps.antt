@@ -1,5 +1,5 @@
 -- How the lists of nodes follow the cells.
-use Rattle.std.proofs.Common.{◌≡◌, ℕ, zero, suc, ◌+◌, ◌<◌, ◌≤◌, ◌==◌, ℤ, ◌<ℤ◌, ◌≤ℤ◌, Bool, true, false, cond, List, [], ◌∷◌, ◌++◌, length, get_or, replicate, Option, Some, None, refl, sym, ap, subst, ◌∙◌, ◌⊎◌, inl, inr, arith}
+use Rattle.std.proofs.Common.{◌≡◌, ℕ, zero, suc, ◌+◌, ◌<◌, ◌≤◌, ◌==◌, ℤ, Bool, true, false, cond, List, [], ◌∷◌, ◌++◌, length, get_or, Option, Some, None, refl, sym, ap, subst, ◌∙◌, ◌⊎◌, inl, inr, arith}
 use Rattle.std.specs.Prelude.{slice_get, slice_set, fold, ◌&&◌, not}
 use Rattle.std.specs.List.{All}
 use Rattle.std.proofs.lemmas.Bool.{cases_lt}
@@ -22,9 +22,8 @@ use Rattle.stateful_core.specs.Taking.{change, set_by}
 use Rattle.stateful_core.specs.Trees.{AreLonger, AreTrees, AreTreesBut, HasPlace, HavePlaces, IsAmong, IsEntryOf, IsIdle, IsLonger, IsSetLonger, IsTreeBut, entry_at, is_ready_at, renewed}
 use Rattle.stateful_core.specs.declared.node_tree.NodeTree.{NodeTree}
 use Rattle.stateful_core.specs.declared.slot.Slot.{Slot}
-use Rattle.stateful_core.proofs.ByIndex.{got_behind, got_front}
 use Rattle.stateful_core.proofs.FirstOfTrees.{none_idle}
-use Rattle.stateful_core.proofs.NextReady.{got_before, got_cases, got_last}
+use Rattle.stateful_core.proofs.NextReady.{got_before, got_cases}
 use Rattle.stateful_core.proofs.PutPlaces.{put_at}
 use Rattle.stateful_core.proofs.Roomy.{set_cases}
 

@@ -1,8 +1,7 @@
 -- Which cell is ready, without a look at all: for each node a list of marks, with an entry for each cell.
-use Rattle.std.specs.Prelude.{◌≡◌, ◌⊎◌, ◌+◌, ◌<◌, ◌≤◌, ℕ, ℤ, Bool, true, false, ◌&&◌, ◌||◌, if◌then◌else◌, int_le, ◌==◌, List, ◌∷◌, get_or, length, slice_get, slice_set, Option, Some, None}
+use Rattle.std.specs.Prelude.{◌≡◌, ◌⊎◌, ◌+◌, ◌<◌, ◌≤◌, ℕ, ℤ, Bool, true, false, ◌&&◌, ◌||◌, if◌then◌else◌, int_le, ◌==◌, List, get_or, length, slice_get, slice_set, Option, Some, None}
 use Rattle.std.specs.Int.{int_min}
 use Rattle.std.specs.Option.{MatchOption}
-use Rattle.beam_values.specs.Marks.{marks_at}
 use Rattle.beam_values.specs.Times.{IsMark, final_mark, greatest_time}
 use Rattle.beam_values.specs.declared.marks.StageMarks.{StageMarks}
 use Rattle.mark_trees.specs.Halves.{is_due, no_marks}

@@ -1,4 +1,4 @@
-use Rattle.std.proofs.Common.{arith, subst, ◌≡◌, ◌<◌, ◌≤◌, ◌∙◌, length, List, ℕ}
+use Rattle.std.proofs.Common.{arith, subst, ◌<◌, ◌≤◌, ◌∙◌, length, List, ℕ}
 use Rattle.std.proofs.lemmas.List.{take_all}
 use Rattle.stateful_core.specs.Names.{AreRoomy}
 use Rattle.stateful_core.proofs.Roomy.{roomy_more}

@@ -1,7 +1,6 @@
-use Rattle.std.proofs.Common.{◌≡◌, ℕ, ◌++◌, true, List, ap, subst, sym, ◌∙◌}
+use Rattle.std.proofs.Common.{ℕ, ◌++◌, List, ap, subst, sym, ◌∙◌}
 use Rattle.std.specs.BTreeMap.{BTreeMap}
 use Rattle.cell_index.specs.declared.index_key.CellKey.{CellKey}
-use Rattle.stateful_core.specs.Cells.{KeyCell}
 use Rattle.stateful_core.specs.Names.{AreFound, names_of}
 use Rattle.stateful_core.specs.Opening.{is_any}
 use Rattle.stateful_core.specs.Routes.{IsNumbered, belongs_at}

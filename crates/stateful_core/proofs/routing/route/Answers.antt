@@ -1,4 +1,4 @@
-use Rattle.std.proofs.Common.{rules, ◌≡◌, ℕ, ◌++◌, ◌∷◌, [], true, List, subst, sym, ◌∙◌}
+use Rattle.std.proofs.Common.{rules, ◌≡◌, ◌++◌, ◌∷◌, [], true, subst, sym, ◌∙◌}
 use Rattle.beam_values.specs.Nodes.{is_stateful}
 use Rattle.stateful_core.specs.Names.{AreRoutes, names_of}
 use Rattle.stateful_core.specs.Seen.{cells_of}

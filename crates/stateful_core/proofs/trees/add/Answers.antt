@@ -1,4 +1,4 @@
-use Rattle.std.proofs.Common.{◌≡◌, ◌++◌, ◌∷◌, [], ℕ, List, length, refl, ap, subst, sym}
+use Rattle.std.proofs.Common.{List, length, refl, ap, subst, sym}
 use Rattle.stateful_core.specs.Trees.{AreTreesBut, HasPlace, IsAmong, entry_at}
 use Rattle.stateful_core.specs.declared.node_tree.NodeTree.{NodeTree}
 use Rattle.stateful_core.proofs.NextReady.{got_last}

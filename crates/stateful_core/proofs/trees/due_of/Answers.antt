@@ -1,4 +1,4 @@
-use Rattle.std.proofs.Common.{arith, ◌≡◌, ◌<◌, ◌≤◌, ℤ, length, subst, sym}
+use Rattle.std.proofs.Common.{arith, ◌<◌, ◌≤◌, ℤ, length, subst, sym}
 use Rattle.stateful_core.specs.Seen.{cell_of}
 use Rattle.stateful_core.specs.Trees.{IsEntryOf, due_at}
 use Rattle.stateful_core.proofs.Entries.{live_entry, timer_entry, waiting_entry}

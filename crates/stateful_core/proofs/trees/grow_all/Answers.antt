@@ -1,4 +1,4 @@
-use Rattle.std.proofs.Common.{arith, ◌≡◌, ◌<◌, ◌≤◌, length, subst, sym}
+use Rattle.std.proofs.Common.{arith, ◌<◌, ◌≤◌, length, subst, sym}
 use Rattle.stateful_core.specs.Trees.{HasPlace}
 use Rattle.stateful_core.specs.declared.slot.Slot.{Slot}
 use Rattle.stateful_core.proofs.TreeSteps.{places_all, places_more}

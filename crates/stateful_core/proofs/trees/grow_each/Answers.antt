@@ -1,4 +1,4 @@
-use Rattle.std.proofs.Common.{arith, rules, ◌≡◌, ◌<◌, ◌≤◌, ◌∙◌, length}
+use Rattle.std.proofs.Common.{arith, rules, ◌<◌, ◌≤◌, ◌∙◌, length}
 use Rattle.stateful_core.proofs.TreeSteps.{all_grown, grown_more, grown_none, in_longer, longer_then}
 use Rattle.stateful_core.proofs.trees.grow_each.Goals as goal
 

@@ -1,4 +1,4 @@
-use Rattle.std.proofs.Common.{arith, List, ◌∷◌, [], ◌++◌, ◌≡◌, ◌<◌, subst, sym, ap, ◌∙◌, take, length}
+use Rattle.std.proofs.Common.{arith, List, ◌∷◌, [], ◌++◌, ◌<◌, subst, sym, ap, ◌∙◌, take, length}
 use Rattle.std.proofs.lemmas.List.{take_all, take_more}
 use Rattle.stateful_core.specs.Trees.{IsBestAmong}
 use Rattle.stateful_core.specs.declared.node_tree.NodeTree.{NodeTree}

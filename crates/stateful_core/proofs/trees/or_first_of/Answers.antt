@@ -1,4 +1,4 @@
-use Rattle.std.proofs.Common.{arith, List, ◌∷◌, [], ◌++◌, ◌≡◌, subst, sym, ap, ◌∙◌, Option, Some, None}
+use Rattle.std.proofs.Common.{◌∷◌, [], ◌++◌, subst, sym, Option, Some, None}
 use Rattle.stateful_core.specs.Trees.{IsBestAmong}
 use Rattle.stateful_core.specs.declared.place.Place.{Place}
 use Rattle.stateful_core.proofs.FirstOfTrees.{merged}

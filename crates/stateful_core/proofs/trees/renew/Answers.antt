@@ -1,4 +1,4 @@
-use Rattle.std.proofs.Common.{arith, rules, ◌≡◌, ◌<◌, ◌≤◌, ◌∙◌, length}
+use Rattle.std.proofs.Common.{arith, rules, ◌<◌, ◌≤◌, ◌∙◌, length}
 use Rattle.stateful_core.specs.Trees.{due_at}
 use Rattle.stateful_core.specs.Seen.{cell_of}
 use Rattle.stateful_core.proofs.TreeSteps.{renewed_all, renewed_more, renewed_none, renewed_place}

@@ -1,9 +1,8 @@
-use Rattle.std.proofs.Common.{arith, sym, ap, subst, ◌∙◌, ◌≡◌, ◌<◌, length, List, Some, None}
+use Rattle.std.proofs.Common.{arith, sym, ap, subst, ◌≡◌, length, List, Some}
 use Rattle.stateful_core.specs.Seen.{cells_of}
 use Rattle.stateful_core.specs.Taking.{next_place}
 use Rattle.stateful_core.specs.Trees.{AreTrees}
 use Rattle.stateful_core.specs.declared.node_tree.NodeTree.{NodeTree}
-use Rattle.stateful_core.specs.declared.place.Place.{Place}
 use Rattle.stateful_core.specs.declared.slot.Slot.{Slot}
 use Rattle.stateful_core.proofs.KeptSteps.{kept_job}
 use Rattle.stateful_core.proofs.ReadyTests.{if_found, if_within}
