@@ -13,8 +13,8 @@ use Rattle.book_core.specs.Runs.{AreOptions}
 use Rattle.chain_exec.specs.Causes.{ObservedShelf}
 use Rattle.command_words.specs.Commands.{Asked, Help, Panes, Run}
 use Rattle.dofn_traits.specs.declared.shelf.Shelf.{Ghosts as ShelfGhosts}
-use Rattle.worker_loop.specs.Kits.{EachBecomes, observed_shelves, sum_rises, told_by}
-use Rattle.worker_loop.specs.declared.kit.Kit.{Kit}
+use Rattle.bundle_work.specs.Kits.{EachBecomes, observed_shelves, sum_rises, told_by}
+use Rattle.bundle_work.specs.declared.kit.Kit.{Kit}
 use Rattle.run_engine.specs.Kits.{observed_each}
 use Rattle.run_engine.specs.Openings.{HasFailed, HasLength, IsFirstAbsent, IsOpeningRefused}
 use Rattle.run_engine.specs.PlanRun.{surroundings_of}

@@ -17,7 +17,7 @@ use Rattle.book_core.specs.Runs.{AreTold, HonestlyReached}
 use Rattle.book_core.specs.Work.{Surroundings}
 use Rattle.ended_runs.specs.Unpoisoned.{TakesNoPoison}
 use Rattle.command_words.specs.Commands.{Asked, Help, Panes, Run}
-use Rattle.worker_loop.specs.Openings.{file_names}
+use Rattle.bundle_work.specs.Openings.{file_names}
 use Rattle.run_engine.specs.Openings.{HasChanged, HasFailed, IsOpeningRefused, failed_before}
 use Rattle.run_engine.specs.PlanRun.{IsStoppedBy, surroundings_of}
 use Rattle.command_ends.specs.declared.status.Status.{Status}

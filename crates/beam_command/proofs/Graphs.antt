@@ -19,8 +19,8 @@ use Rattle.beam_ports.specs.Files.{Opening}
 use Rattle.beam_ports.specs.declared.store.Opened.{Opened}
 use Rattle.book_core.specs.Runs.{IsEnded}
 use Rattle.book_core.specs.Work.{Surroundings}
-use Rattle.worker_loop.specs.Bundles.{IsCountedAs}
-use Rattle.worker_loop.specs.Openings.{AreOpened, file_names}
+use Rattle.bundle_work.specs.Bundles.{IsCountedAs}
+use Rattle.bundle_work.specs.Openings.{AreOpened, file_names}
 use Rattle.run_engine.specs.Kits.{ObservedKits}
 use Rattle.run_engine.specs.PlanRun.{IsOutcomeWhere, IsPlanEnd, IsSpent, IsStoppedBy, surroundings_of}
 use Rattle.command_ends.specs.declared.status.Status.{Status}

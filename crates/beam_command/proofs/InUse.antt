@@ -7,8 +7,8 @@ use Rattle.beam_values.specs.declared.options.Options.{Options}
 use Rattle.beam_values.specs.declared.outcome.Outcome.{Outcome}
 use Rattle.command_words.specs.Commands.{Asked}
 use Rattle.dofn_traits.specs.declared.shelf.Shelf.{Ghosts as ShelfGhosts}
-use Rattle.worker_loop.specs.Kits.{EachBecomes}
-use Rattle.worker_loop.specs.declared.kit.Kit.{Kit}
+use Rattle.bundle_work.specs.Kits.{EachBecomes}
+use Rattle.bundle_work.specs.declared.kit.Kit.{Kit}
 use Rattle.run_engine.specs.Kits.{KeepsKit}
 use Rattle.command_ends.specs.declared.status.Status.{Status}
 use Rattle.beam_command.specs.Ends.{IsPipelineEnd}

@@ -11,14 +11,15 @@ use Rattle.beam_ports.specs.declared.store.Store.{Ghosts as StoreGhosts}
 use Rattle.beam_ports.specs.declared.store.Opened.{Opened}
 use Rattle.command_words.specs.Commands.{Asked}
 use Rattle.dofn_traits.specs.declared.shelf.Shelf.{Ghosts as ShelfGhosts}
-use Rattle.worker_loop.specs.Kits.{EachBecomes}
-use Rattle.worker_loop.specs.Openings.{AreOpened, file_names}
-use Rattle.worker_loop.specs.Outside.{IsKitKept, IsStoreKept}
-use Rattle.worker_loop.specs.declared.kit.Kit.{Kit}
-use Rattle.worker_loop.proofs.Answered.{kit_onward, kit_same}
+use Rattle.bundle_work.specs.Kits.{EachBecomes}
+use Rattle.bundle_work.specs.Openings.{AreOpened, file_names}
+use Rattle.bundle_work.specs.Outside.{IsKitKept, IsStoreKept}
+use Rattle.bundle_work.specs.declared.kit.Kit.{Kit}
+use Rattle.bundle_work.proofs.Answered.{kit_onward, kit_same}
 use Rattle.run_engine.specs.Kits.{KeepsKit, ObservedKits, OpensKit, RunsKit}
 use Rattle.run_engine.specs.Openings.{AgreeInLength, AgreeWithFirst, AreOpenedByAll}
-use Rattle.run_engine.specs.PlanRun.{IsPlanEnd, lengths_of_first, opened_lengths}
+use Rattle.run_engine.specs.PlanRun.{IsPlanEnd, lengths_of_first}
+use Rattle.bundle_work.specs.Reading.{opened_lengths}
 use Rattle.command_ends.specs.declared.status.Status.{Status}
 use Rattle.command_ends.specs.declared.status.Status.TheVariants as status
 use Rattle.run_engine.proofs.Opens.{become_onward, opened_later, same_become}

@@ -36,8 +36,8 @@ use Rattle.command_words.specs.Parts.{Part}
 use Rattle.command_words.specs.declared.setting.Setting.TheVariants.{Attempts}
 use Rattle.ended_runs.specs.Stops.{IsHonestStop}
 use Rattle.ended_runs.specs.Unpoisoned.{TakesNoPoison}
-use Rattle.worker_loop.specs.Bundles.{IsCountedAs}
-use Rattle.worker_loop.specs.Openings.{file_names}
+use Rattle.bundle_work.specs.Bundles.{IsCountedAs}
+use Rattle.bundle_work.specs.Openings.{file_names}
 use Rattle.run_engine.specs.Openings.{IsOpeningRefused}
 use Rattle.command_ends.specs.Statuses.{IsNoSourceOrNoMemory}
 use Rattle.run_engine.specs.PlanRun.{IsStoppedBy, surroundings_of}

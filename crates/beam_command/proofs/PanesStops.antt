@@ -3,18 +3,23 @@ use Rattle.std.proofs.Common.{◌≡◌, inl, inr, ℕ, zero, suc, ℤ, true, fa
 use Rattle.std.specs.List.{All, flat_map}
 use Rattle.std.proofs.lemmas.Bool.{false≢true}
 use Rattle.std.proofs.lemmas.List.Elements.{All-head}
+use Rattle.beam_values.specs.Intervals.{Interval}
 use Rattle.beam_values.specs.Nodes.{is_group}
+use Rattle.beam_values.specs.States.{KeptState}
 use Rattle.beam_values.specs.declared.cell.Pane.{Pane}
 use Rattle.beam_values.specs.declared.fault.Cause.{Cause}
 use Rattle.beam_values.specs.declared.fault.Cause.TheVariants.{Call}
 use Rattle.beam_values.specs.declared.fault.FaultNote.{FaultNote}
 use Rattle.beam_values.specs.declared.file_text.FileText.{FileText}
+use Rattle.beam_values.specs.declared.log.LogInput.{LogInput}
 use Rattle.beam_values.specs.declared.piece.Piece.{Piece}
 use Rattle.beam_values.specs.declared.plan.Plan.{Plan}
+use Rattle.beam_values.specs.declared.value.Value.{Value}
 use Rattle.beam_model.specs.Plans.{panes_plan}
 use Rattle.beam_model.specs.Positions.{items}
 use Rattle.beam_model.specs.Spread.{HasPoison, first_poison}
 use Rattle.beam_model.specs.Flow.{batch_outputs}
+use Rattle.stateful_core.specs.KeyWork.{key_outputs}
 use Rattle.book_core.specs.Book.{SeenBook, batch_of, held_at, held_in, live_batches, panes_of, queued}
 use Rattle.book_core.specs.Changes.{note_of}
 use Rattle.book_core.specs.Facts.{AreKept, IsHeldPane}
@@ -38,6 +43,16 @@ only_group file size (suc (suc zero)) is = absurd (false≢true is)
 only_group file size (suc (suc (suc zero))) is = refl
 only_group file size (suc (suc (suc (suc zero)))) is = absurd (false≢true is)
 only_group file size (suc (suc (suc (suc (suc node))))) is = absurd (false≢true is)
+
+-- no node is Stateful, so a key job brings nothing
+pub no_key_outputs : (file : List ℕ) (size : ℤ) (node : ℕ) (key : Value) (span : Interval) (inputs : List LogInput) (kept : KeptState)
+    → key_outputs (panes_plan file size) node key span inputs kept ≡ []
+no_key_outputs file size zero key span inputs kept = refl
+no_key_outputs file size (suc zero) key span inputs kept = refl
+no_key_outputs file size (suc (suc zero)) key span inputs kept = refl
+no_key_outputs file size (suc (suc (suc zero))) key span inputs kept = refl
+no_key_outputs file size (suc (suc (suc (suc zero)))) key span inputs kept = refl
+no_key_outputs file size (suc (suc (suc (suc (suc node))))) key span inputs kept = refl
 
 same_note : (note : FaultNote) (attempts : ℕ) → note.node ≡ 0 → note.item ≡ 0 → note.at ≡ 0 → note.attempt ≡ attempts → note.cause ≡ Call
     → note ≡ record { node = 0; item = 0; at = 0; attempt = attempts; cause = Call }
@@ -90,6 +105,12 @@ module _ (file : List ℕ) (size : ℤ) (b : SeenBook) (of : b.plan ≡ panes_pl
     of_job (live.Batch batch) works is honest = elim honest [
       | inl loose ↦ absurd (false≢true (sym loose ∙ strict))
       | inr called ↦ absurd (batch_comes batch.node note.at batch.panes (batch_held slot batch works) called)
+    ]
+    of_job (live.Key turn) works is honest = elim honest [
+      | inl loose ↦ absurd (false≢true (sym loose ∙ strict))
+      | inr called ↦
+          absurd (let none = no_key_outputs file size turn.node turn.key turn.span turn.inputs (record { cells = turn.state; timers = turn.timers }) in
+          let first : None ≡ Some note.at = sym (ap first_poison none) ∙ called in cc)
     ]
 
 -- the fault is that of the source's function, and a position is poison

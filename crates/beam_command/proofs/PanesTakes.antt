@@ -1,17 +1,18 @@
 -- A run of `panes` over files without poison takes none.
-use Rattle.std.proofs.Common.{◌≡◌, ℕ, zero, suc, ℤ, true, List, [], ◌∷◌, Option, Some, None, slice_get, refl, sym, ap, subst, ◌∙◌}
+use Rattle.std.proofs.Common.{◌≡◌, ℕ, zero, suc, ℤ, true, false, List, [], ◌∷◌, Option, Some, None, slice_get, refl, sym, ap, subst, ◌∙◌}
 use Rattle.std.specs.Prelude.{slice_set}
+use Rattle.std.specs.List.{list_any}
 use Rattle.beam_values.specs.declared.cell.Pane.{Pane}
 use Rattle.beam_values.specs.declared.file_text.FileText.{FileText}
 use Rattle.beam_values.specs.declared.options.Options.{Options}
 use Rattle.beam_values.specs.declared.plan.Plan.{Plan}
 use Rattle.beam_model.specs.Plans.{panes_plan}
 use Rattle.beam_model.specs.Positions.{items}
-use Rattle.beam_model.specs.Spread.{HasPoison}
+use Rattle.beam_model.specs.Spread.{HasPoison, is_poison}
 use Rattle.beam_model.specs.Flow.{batch_outputs}
 use Rattle.book_core.specs.Book.{SeenBook, panes_of}
 use Rattle.book_core.specs.Facts.{AreKept}
-use Rattle.book_core.specs.Jobs.{Due, GivenBack, Oldest, first_due, job_of, without_due}
+use Rattle.book_core.specs.Jobs.{Due, GivenBack, Oldest, job_of, without_due}
 use Rattle.book_core.specs.Runs.{HonestlyReached}
 use Rattle.book_core.specs.Steps.{IsWorking, Take, TakenJob}
 use Rattle.book_core.specs.Work.{IsPoisonJob, Surroundings}
@@ -21,7 +22,7 @@ use Rattle.ended_runs.proofs.Stopped.{honest_more}
 use Rattle.ended_runs.proofs.Unpoisoned.{take_keeps}
 use Rattle.ended_runs.specs.Unpoisoned.{TakesNoPoison}
 use Rattle.beam_command.proofs.PanesPoison.{poison_is_first, range_is_poison}
-use Rattle.beam_command.proofs.PanesStops.{batch_comes, batch_held}
+use Rattle.beam_command.proofs.PanesStops.{batch_comes, batch_held, no_key_outputs}
 
 get_set : {X : Type 0} (xs : List X) (i : ℕ) (old new : X) → slice_get xs i ≡ Some old → slice_get (slice_set xs i new) i ≡ Some new
 get_set [] i old new at = absurd cc
@@ -49,13 +50,16 @@ module _ (file : List ℕ) (size : ℤ) (told : List FileText) (clean : HasPoiso
   works_none b of kept slot (live.Batch batch) works poison =
       let first = poison_is_first (batch_outputs plan batch.node (panes_of b.panes batch.panes)) poison in
       batch_comes file size b of kept batch.node first.0 batch.panes (batch_held file size b of kept slot batch works) first.1
+  works_none b of kept slot (live.Key turn) works poison =
+      absurd (let none = no_key_outputs file size turn.node turn.key turn.span turn.inputs (record { cells = turn.state; timers = turn.timers }) in
+      let any : false ≡ true = sym (ap (list_any is_poison) none) ∙ poison in cc)
 
   abbrev seen : Surroundings
   seen = record { told = Some told; strict = true }
 
   pub takes_none : (options : Options) → ((b : SeenBook) → HonestlyReached seen b → AreKept b) → TakesNoPoison seen plan options
   takes_none options kept b new slot job reached of with_options lengths step poison =
-      let rest = take_keeps worked_of b (λ ps. refl) (due_worked b) (first_due b) b.pending step.next refl step.is_next in
+      let rest = take_keeps worked_of b (λ ps. refl) (due_worked b) (λ cells. refl) step.next step.is_next in
       let now = ap worked_of step.is ∙ ap (λ (w : Worked). (w.0, (w.1.0, slice_set w.1.1 slot (Some step.next.job)))) rest in
       let works : IsWorking new slot step.next.job =
       ap (λ (w : Worked). slice_get w.1.1 slot) now ∙ get_set b.slots slot None (Some step.next.job) step.free in

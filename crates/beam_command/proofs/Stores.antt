@@ -11,9 +11,9 @@ use Rattle.beam_ports.specs.Observed.{ObservedStore, observed_store}
 use Rattle.beam_ports.specs.declared.store.Store.{Ghosts as StoreGhosts}
 use Rattle.chain_exec.specs.Causes.{ObservedShelf}
 use Rattle.dofn_traits.specs.declared.shelf.Shelf.{Ghosts as ShelfGhosts}
-use Rattle.worker_loop.specs.Kits.{EachBecomes, observed_shelves, sum_rises, told_by}
-use Rattle.worker_loop.specs.declared.kit.Kit.{Kit}
-use Rattle.worker_loop.proofs.Told.{told_by_each}
+use Rattle.bundle_work.specs.Kits.{EachBecomes, observed_shelves, sum_rises, told_by}
+use Rattle.bundle_work.specs.declared.kit.Kit.{Kit}
+use Rattle.bundle_work.proofs.Told.{told_by_each}
 use Rattle.run_engine.specs.Kits.{ObservedKits, OpensKit, observed_each, observed_kits}
 use Rattle.run_engine.specs.Openings.{AreOpenedByAll}
 use Rattle.run_engine.specs.PlanRun.{IsPlanEnd}

@@ -13,7 +13,7 @@ use Rattle.beam_model.specs.Plain.{ArePlainlyWritten, ArePlainlyWrittenWhere}
 use Rattle.beam_model.specs.Positions.{item_len, items}
 use Rattle.command_words.specs.Commands.{Asked, command_of, words_of}
 use Rattle.dofn_traits.specs.declared.shelf.Shelf.{Ghosts as ShelfGhosts}
-use Rattle.worker_loop.specs.declared.kit.Kit.{Kit}
+use Rattle.bundle_work.specs.declared.kit.Kit.{Kit}
 use Rattle.run_engine.specs.declared.run_end.RunEnd.{RunEnd}
 use Rattle.beam_command.specs.Ends.{Observed, AreFound, IsEndOf}
 use Rattle.beam_command.specs.Kits.{AreKitsLeft, IsOutcomeOfKits, in_use, observed_in_use, told_files}

@@ -12,7 +12,7 @@ use Rattle.book_core.specs.Book.{SeenBook}
 use Rattle.book_core.specs.Runs.{IsEnded}
 use Rattle.command_words.specs.Commands.{Asked, Help, Panes, Run}
 use Rattle.command_words.specs.HelpText.{help_text}
-use Rattle.worker_loop.specs.Openings.{file_names}
+use Rattle.bundle_work.specs.Openings.{file_names}
 use Rattle.run_engine.specs.Kits.{ObservedKits}
 use Rattle.run_engine.specs.Openings.{IsOpeningRefused}
 use Rattle.run_engine.specs.PlanRun.{IsOutcomeWhere, IsSpent, IsStoppedBy, surroundings_of}

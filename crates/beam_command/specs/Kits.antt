@@ -7,8 +7,8 @@ use Rattle.beam_values.specs.declared.file_text.FileText.{FileText}
 use Rattle.beam_values.specs.declared.outcome.Outcome.{Outcome}
 use Rattle.command_words.specs.Commands.{Asked, Panes, Run}
 use Rattle.dofn_traits.specs.declared.shelf.Shelf.{Ghosts as ShelfGhosts}
-use Rattle.worker_loop.specs.Kits.{EachBecomes, told_by}
-use Rattle.worker_loop.specs.declared.kit.Kit.{Kit}
+use Rattle.bundle_work.specs.Kits.{EachBecomes, told_by}
+use Rattle.bundle_work.specs.declared.kit.Kit.{Kit}
 use Rattle.run_engine.specs.Kits.{KeepsKit, observed_kits}
 use Rattle.run_engine.specs.Openings.{AreOpenedByAll}
 use Rattle.run_engine.specs.PlanRun.{lengths_of_first}

@@ -4,7 +4,7 @@ ghost use Rattle.std.specs.Prelude.{◌≡◌, ◌≤◌, ◌<◌, length, IfSom
 ghost use Rattle.beam_values.specs.declared.outcome.Outcome.{Outcome as OutcomeOf};
 ghost use Rattle.beam_ports.specs.Observed.{observed_sink};
 ghost use Rattle.book_core.specs.Runs.{AreOptions};
-ghost use Rattle.worker_loop.specs.Kits.{EachBecomes};
+ghost use Rattle.bundle_work.specs.Kits.{EachBecomes};
 ghost use Rattle.run_engine.specs.Kits.{KeepsKit};
 ghost use Rattle.beam_command.specs.Kits.{HasNotBegun, IsOutcomeOfOpened, KeepsShelf, observed_at};
 ghost use Rattle.beam_command.specs.Pipelines.{IsGraphEnd, IsRunPrinted};

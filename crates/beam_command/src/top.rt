@@ -3,7 +3,7 @@ ghost use Rattle.beam_ports.specs.Observed.{observed_sink};
 ghost use Rattle.beam_values.specs.Strategies.{IsLength};
 ghost use Rattle.command_words.specs.Commands.{Panes as PanesOf, Run as RunOf};
 ghost use Rattle.book_core.specs.Runs.{AreOptions};
-ghost use Rattle.worker_loop.specs.Kits.{EachBecomes};
+ghost use Rattle.bundle_work.specs.Kits.{EachBecomes};
 ghost use Rattle.beam_model.specs.Plans.{panes_plan};
 ghost use Rattle.command_ends.specs.Notes.{IsNoted};
 ghost use Rattle.run_engine.specs.Kits.{KeepsKit};

@@ -12,7 +12,7 @@ use Rattle.book_core.specs.Runs.{HonestRun, HonestlyReached, IsOpening, IsThroug
 use Rattle.book_core.specs.Sane.{AreKeptWith, IsSane}
 use Rattle.book_core.specs.Steps.{Action, Answer, IsIdle, Step}
 use Rattle.book_core.specs.Work.{Surroundings}
-use Rattle.book_core.proofs.BalancedAlways.{NoStateful, keeps_balanced}
+use Rattle.book_core.proofs.BalancedAlways.{keeps_balanced}
 use Rattle.book_core.proofs.Cases.{AreAlways, Both, always_reached, step_keeps}
 use Rattle.book_core.proofs.CellsAlways.{StrategiesOfPlans, keeps_celled}
 use Rattle.book_core.proofs.EarlyAlways.{keeps_early}
@@ -62,20 +62,20 @@ module _ (strategies : StrategiesOfPlans) (settings : SettingsOfPlans) (windows 
   reached_kept_with told = always_reached told AreKeptWith (kept_always told)
 
   -- what has no job left is through
-  pub reached_through : NoStateful → (told : Option (List FileText)) (b : SeenBook) → Reached told b → next_job b ≡ None → IsIdle b → IsThrough b
-  reached_through no_stateful told b reached = kept_through no_stateful settings b (reached_kept_with told b reached)
+  pub reached_through : (told : Option (List FileText)) (b : SeenBook) → Reached told b → next_job b ≡ None → IsIdle b → IsThrough b
+  reached_through told b reached = kept_through settings b (reached_kept_with told b reached)
 
   -- ---- and where the files are told
 
-  module _ (no_stateful : NoStateful) (told : List FileText) where
+  module _ (told : List FileText) where
     pub step_kept_of : (b new : SeenBook) (slot : ℕ) (action : Action) (answer : Answer) → Step (Some told) b slot action answer new → AreKeptWith b → AreKeptOf told b → AreKeptOf told new
     step_kept_of b new slot action answer step kept h = record {
-      balanced = step_keeps (Some told) AreKeptWith (IsBalanced told) (keeps_balanced no_stateful told) b new slot action answer step kept h.balanced;
+      balanced = step_keeps (Some told) AreKeptWith (IsBalanced told) (keeps_balanced told) b new slot action answer step kept h.balanced;
       seen = step_keeps (Some told) AreWithin (AreSeenBefore told) (keeps_seen told) b new slot action answer step kept.sane.attempted h.seen;
     }
 
     first_kept_of : (b first : SeenBook) → IsOpening b.plan b.files b.options first → AreKeptOf told first
-    first_kept_of b first opening = record { balanced = (keeps_balanced no_stateful told).opens b first opening; seen = (keeps_seen told).opens b first opening }
+    first_kept_of b first opening = record { balanced = (keeps_balanced told).opens b first opening; seen = (keeps_seen told).opens b first opening }
 
     pub opened_kept_of : (plan : Plan) (files : List FileLen) (options : Options) (first : SeenBook) → IsOpening plan files options first → AreKeptOf told first
     opened_kept_of plan files options first opening = first_kept_of (opened plan files options []) first opening

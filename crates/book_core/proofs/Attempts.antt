@@ -1,5 +1,5 @@
 -- How often jobs failed, over the lists of a book: what is taken, and what is put back.
-use Rattle.std.proofs.Common.{◌≡◌, ℕ, ◌+◌, ◌<◌, ◌≤◌, not, List, [], ◌∷◌, ◌++◌, subst, arith}
+use Rattle.std.proofs.Common.{◌≡◌, ℕ, ◌+◌, ◌<◌, ◌≤◌, true, not, List, [], ◌∷◌, ◌++◌, subst, arith}
 use Rattle.std.specs.Prelude.{Option, Some, None, ◌==◌, slice_set}
 use Rattle.std.specs.List.{All, filter, flat_map}
 use Rattle.std.proofs.lemmas.List.Elements.{All-nil, All-cons, All-head, All-tail, All-append, All-filter, All-weaker}
@@ -7,17 +7,21 @@ use Rattle.beam_values.specs.declared.piece.Piece.{Piece}
 use Rattle.beam_ports.specs.Counts.{greatest_count}
 use Rattle.split_core.specs.Order.{with_piece}
 use Rattle.split_core.proofs.Ordered.{All-with_piece}
+use Rattle.stateful_core.specs.Cells.{KeyCell}
+use Rattle.stateful_core.specs.Taking.{is_some, with_job}
+use Rattle.stateful_core.specs.declared.place.Place.{Place}
 use Rattle.book_core.specs.Book.{SeenBook, piece_of, batch_of}
 use Rattle.book_core.specs.Changes.{with_slot, with_residual}
 use Rattle.book_core.specs.Facts.{IsStopNoted, IsWellFormed}
-use Rattle.book_core.specs.Jobs.{GivenBack, Oldest, without_due, first_pane}
+use Rattle.book_core.specs.Jobs.{GivenBack, Oldest, without_due, first_pane, key_turn, with_key}
 use Rattle.book_core.specs.Steps.{IsRunning}
 use Rattle.book_core.specs.declared.live.Batch.{Batch}
 use Rattle.book_core.specs.declared.live.Live.{Live}
 use Rattle.book_core.specs.declared.live.Live.TheVariants as live
+use Rattle.book_core.proofs.EachKeyCell.{change_each}
 use Rattle.book_core.proofs.HeldMoves.{All-middle}
 use Rattle.book_core.proofs.Slotted.{All-flat_set}
-use Rattle.book_core.proofs.Taking.{IsAmong, IsOldest}
+use Rattle.book_core.proofs.Taking.{IsAmong, IsNextCell, IsOldest}
 
 -- ---- the counts, over the lists themselves
 
@@ -32,11 +36,30 @@ pub record AreCounted (limit total : ℕ) (running : Type 0) (pending : List Pie
   pub pending_most : All (λ piece. piece.attempts ≤ limit) pending
   pub returned_most : All (λ batch. (batch.attempts ≤ limit) × (batch.attempts ≤ total)) returned
 
+abbrev pub IsCellWorked : ℕ → KeyCell → Type 0
+IsCellWorked limit cell = is_some cell.live ≡ true → cell.attempts < limit
+
+abbrev pub IsCellBelow : ℕ → KeyCell → Type 0
+IsCellBelow limit cell = cell.attempts < limit
+
+abbrev pub IsCellMost : ℕ → KeyCell → Type 0
+IsCellMost limit cell = cell.attempts ≤ limit
+
+pub record AreCellsCounted (limit : ℕ) (running : Type 0) (keys : List KeyCell) : Type 0 where
+  pub worked : All (IsCellWorked limit) keys
+  pub below : running → All (IsCellBelow limit) keys
+  pub most : All (IsCellMost limit) keys
+
+-- the run may have stopped
+pub cells_onward : (limit : ℕ) (running runs : Type 0) (keys : List KeyCell) → (runs → running) → AreCellsCounted limit running keys → AreCellsCounted limit runs keys
+cells_onward limit running runs keys still h = record { worked = h.worked; below = λ r. h.below (still r); most = h.most }
+
 abbrev pub CountsOf : SeenBook → Type 0
 CountsOf b = AreCounted b.options.attempts (b.calls + b.reads) (IsRunning b) b.pending b.returned b.slots
 
 pub record IsCounted (b : SeenBook) : Type 0 where
   pub counts : CountsOf b
+  pub cells : AreCellsCounted b.options.attempts (IsRunning b) b.keys
   pub stop : IsStopNoted b b.stopped
   pub calls : b.calls ≤ greatest_count
   pub reads : b.reads ≤ greatest_count
@@ -148,6 +171,7 @@ module _ (b : SeenBook) (slot : ℕ) (formed : IsWellFormed b) (h : IsCounted b)
           returned_most = All-filter (λ (other : Batch). not (first_pane other == first_pane batch)) (IsBatchMost limit total (IsRunning b)) b.returned k.returned_most;
         }) slot (Some (live.Batch batch)) (All-nil (IsPiece limit total (IsRunning b)))
             (All-cons (IsBatch limit total (IsRunning b)) batch [] (below, most.1) (All-nil (IsBatch limit total (IsRunning b))));
+        cells = h.cells;
         stop = h.stop;
         calls = h.calls;
         reads = h.reads;
@@ -160,6 +184,23 @@ module _ (b : SeenBook) (slot : ℕ) (formed : IsWellFormed b) (h : IsCounted b)
       record {
         counts = set_counted limit total (IsRunning b) b.pending b.returned b.slots h.counts slot (Some (live.Batch batch)) (All-nil (IsPiece limit total (IsRunning b)))
             (All-cons (IsBatch limit total (IsRunning b)) batch [] (omega (arith, none, some), omega (arith, none)) (All-nil (IsBatch limit total (IsRunning b))));
+        cells = h.cells;
+        stop = h.stop;
+        calls = h.calls;
+        reads = h.reads;
+      }
+
+  pub keyed_counted : (place : Place) (cell : KeyCell) → IsNextCell b place cell → IsCounted (with_slot (with_key b place.at cell).rest slot (Some (with_key b place.at cell).job))
+  keyed_counted place cell found =
+      let below = change_each (IsCellBelow limit) (with_job b.options.bundle) place.at b.keys (λ c e k. k) (h.cells.below running) in
+      record {
+        counts = set_counted limit total (IsRunning b) b.pending b.returned b.slots h.counts slot (Some (live.Key (key_turn b place.at cell))) (All-nil (IsPiece limit total (IsRunning b)))
+            (All-nil (IsBatch limit total (IsRunning b)));
+        cells = record {
+          worked = All-weaker (IsCellBelow limit) (IsCellWorked limit) (λ c k works. k) _ below;
+          below = λ runs. below;
+          most = change_each (IsCellMost limit) (with_job b.options.bundle) place.at b.keys (λ c e k. k) h.cells.most;
+        };
         stop = h.stop;
         calls = h.calls;
         reads = h.reads;
@@ -181,6 +222,7 @@ module _ (b : SeenBook) (slot : ℕ) (formed : IsWellFormed b) (h : IsCounted b)
         }) slot (Some (live.Span piece None))
             (All-cons (IsPiece limit total (IsRunning b)) piece [] (All-head (IsPieceBelow limit total (IsRunning b)) piece later below) (All-nil (IsPiece limit total (IsRunning b))))
             (All-nil (IsBatch limit total (IsRunning b)));
+        cells = h.cells;
         stop = h.stop;
         calls = h.calls;
         reads = h.reads;

@@ -1,6 +1,6 @@
 -- No job fails more often than it may, and none more often than jobs failed at all: every step keeps it.
-use Rattle.std.proofs.Common.{◌≡◌, ℕ, ◌+◌, ◌<◌, ◌≤◌, Bool, true, false, cond, List, [], ◌∷◌, ◌++◌, refl, sym, subst, ◌∙◌, arith}
-use Rattle.std.specs.Prelude.{Option, Some, None, nat_le, nat_lt, slice_set}
+use Rattle.std.proofs.Common.{◌≡◌, ℕ, ◌+◌, ◌<◌, ◌≤◌, Bool, true, false, cond, List, [], ◌∷◌, ◌++◌, length, refl, sym, ap, subst, ◌∙◌, arith}
+use Rattle.std.specs.Prelude.{Option, Some, None, nat_le, nat_lt, slice_get, slice_set}
 use Rattle.std.specs.List.{All}
 use Rattle.std.proofs.lemmas.Bool.Decides.{nat_tests}
 use Rattle.std.proofs.lemmas.List.Elements.{All-nil, All-cons, All-head, All-weaker}
@@ -12,11 +12,18 @@ use Rattle.beam_values.specs.declared.outcome.StopCause.{StopCause}
 use Rattle.beam_values.specs.declared.outcome.StopCause.TheVariants as stop
 use Rattle.beam_values.specs.declared.piece.Piece.{Piece}
 use Rattle.beam_ports.specs.Counts.{raised, greatest_count}
+use Rattle.beam_values.specs.declared.marks.StageMarks.{StageMarks}
+use Rattle.beam_values.specs.declared.plan.Plan.{Plan}
+use Rattle.beam_values.specs.declared.arrival.Arrival.{Arrival}
 use Rattle.bundle_commit.specs.declared.job.Receipt.{Receipt}
 use Rattle.split_core.specs.Order.{with_piece}
-use Rattle.book_core.specs.Book.{SeenBook, piece_of, batch_of}
-use Rattle.book_core.specs.Changes.{with_slot, cut_to, rest_of, given_back, tried_piece, tried_batch, counted, stopped_where, ends_run, is_at_limit, note_of, or_stopped, pending_after, residual_of}
-use Rattle.book_core.specs.Facts.{IsStopNoted, IsWellFormed}
+use Rattle.stateful_core.specs.Cells.{KeyCell}
+use Rattle.stateful_core.specs.Placing.{Done, place}
+use Rattle.stateful_core.specs.Taking.{change, is_some, tried}
+use Rattle.stateful_core.specs.declared.key_job.KeyTurn.{KeyTurn}
+use Rattle.book_core.specs.Book.{SeenBook, piece_of, batch_of, last_marks}
+use Rattle.book_core.specs.Changes.{with_slot, cut_to, rest_of, given_back, tried_piece, tried_batch, counted, stopped_where, ends_run, is_at_limit, note_of, or_stopped, key_done, pending_after, residual_of}
+use Rattle.book_core.specs.Facts.{AreTurnsKept, IsStopNoted, IsTurnOf, IsWellFormed}
 use Rattle.book_core.specs.Jobs.{Next}
 use Rattle.book_core.specs.Runs.{IsOpening, pieces_of}
 use Rattle.book_core.specs.Steps.{IsWorking, IsRunning}
@@ -24,12 +31,14 @@ use Rattle.book_core.specs.Work.{worked_to}
 use Rattle.book_core.specs.declared.live.Batch.{Batch}
 use Rattle.book_core.specs.declared.live.Live.{Live}
 use Rattle.book_core.specs.declared.live.Live.TheVariants as live
-use Rattle.book_core.proofs.Cases.{Keeps, AreAlways, Both, kept_with}
-use Rattle.book_core.proofs.Formed.{formed_always}
+use Rattle.book_core.proofs.Cases.{Keeps, Both}
+use Rattle.book_core.proofs.EachKeyCell.{change_each, place_each}
 use Rattle.book_core.proofs.OpenedPieces.{all_pieces, enrolled_of}
+use Rattle.book_core.proofs.Slots.{All-slice_get}
 use Rattle.book_core.proofs.Slotted.{All-flat_at}
 use Rattle.book_core.proofs.Taking.{take_cases}
-use Rattle.book_core.proofs.Attempts.{AreCounted, IsCounted, MayBeWorked, IsPiece, IsBatch, set_counted, fresh_counted, residual_counted, more_counted, piece_back, batch_back, given_counted, waits_counted, pending_counted}
+use Rattle.book_core.proofs.Turns.{turn_at}
+use Rattle.book_core.proofs.Attempts.{AreCellsCounted, AreCounted, IsCounted, MayBeWorked, IsPiece, IsBatch, IsCellBelow, IsCellMost, IsCellWorked, cells_onward, set_counted, fresh_counted, residual_counted, more_counted, piece_back, batch_back, given_counted, waits_counted, keyed_counted, pending_counted}
 
 -- ---- a fail
 
@@ -48,6 +57,7 @@ tried_read attempts calls reads h few = omega arith
 -- with the note that stops the run where the job is given up
 record IsFailedTo (spent : Bool) (y : SeenBook) (note : FaultNote) : Type 0 where
   counts : AreCounted y.options.attempts (y.calls + y.reads) ((spent ≡ false) × IsRunning y) y.pending y.returned y.slots
+  cells : AreCellsCounted y.options.attempts ((spent ≡ false) × IsRunning y) y.keys
   stop : IsStopNoted y y.stopped
   noted : spent ≡ true → note.attempt ≡ y.options.attempts
   calls : y.calls ≤ greatest_count
@@ -65,6 +75,7 @@ finish_counted : (spent : Bool) (y : SeenBook) (note : FaultNote) → IsFailedTo
 finish_counted true y note h = record {
   counts = more_counted y.options.attempts (y.calls + y.reads) ((true ≡ false) × IsRunning y) y.pending y.returned y.slots h.counts (y.calls + y.reads) (or_stopped y.stopped (stop.Spent note) ≡ None)
       (omega arith) (λ none. absurd (never_none y.stopped (stop.Spent note) none));
+  cells = cells_onward y.options.attempts ((true ≡ false) × IsRunning y) (or_stopped y.stopped (stop.Spent note) ≡ None) y.keys (λ none. absurd (never_none y.stopped (stop.Spent note) none)) h.cells;
   stop = stop_is_noted y y.stopped note h.stop (h.noted refl);
   calls = h.calls;
   reads = h.reads;
@@ -72,6 +83,7 @@ finish_counted true y note h = record {
 finish_counted false y note h = record {
   counts = more_counted y.options.attempts (y.calls + y.reads) ((false ≡ false) × IsRunning y) y.pending y.returned y.slots h.counts (y.calls + y.reads) (IsRunning y)
       (omega arith) (λ runs. (refl, runs));
+  cells = cells_onward y.options.attempts ((false ≡ false) × IsRunning y) (IsRunning y) y.keys (λ runs. (refl, runs)) h.cells;
   stop = h.stop;
   calls = h.calls;
   reads = h.reads;
@@ -124,44 +136,89 @@ module _ (b : SeenBook) (slot at : ℕ) (formed : IsWellFormed b) (h : IsCounted
       All-head (IsBatch most_tried so_far (IsRunning b)) batch []
       (All-flat_at batch_of b.slots slot (IsBatch most_tried so_far (IsRunning b)) (Some (live.Batch batch)) works h.counts.worked_batches)
 
+  -- a fail of another job leaves key cells
+  stays : (spent : Bool) → AreCellsCounted most_tried ((spent ≡ false) × IsRunning b) b.keys
+  stays spent = cells_onward most_tried (IsRunning b) ((spent ≡ false) × IsRunning b) b.keys (λ r. r.1) h.cells
+
+  -- the attempts of a key job are those of its cell
+  turn_tries : (turn : KeyTurn) → IsTurnOf b.keys turn → (cell : KeyCell) → slice_get b.keys turn.cell ≡ Some cell → turn.attempts ≡ cell.attempts
+  turn_tries turn own cell e = let same : own.cell ≡ cell = let is = own.is_at in cc in ap (λ (t : KeyTurn). t.attempts) own.is ∙ ap (λ (c : KeyCell). c.attempts) same
+
+  worked_turn : (turn : KeyTurn) → IsTurnOf b.keys turn → turn.attempts < most_tried
+  worked_turn turn own =
+      let below = All-slice_get (IsCellWorked most_tried) b.keys turn.cell own.cell own.is_at h.cells.worked (ap is_some own.works) in
+      omega (arith, below, turn_tries turn own own.cell own.is_at)
+
+  turn_back : (turn : KeyTurn) → IsTurnOf b.keys turn → (spent : Bool) → is_at_limit b (live.Key turn) ≡ spent → AreCellsCounted most_tried ((spent ≡ false) × IsRunning b) (change tried turn.cell b.keys)
+  turn_back turn own spent ends = record {
+    worked = change_each (IsCellWorked most_tried) tried turn.cell b.keys (λ cell e k works. absurd (cc)) h.cells.worked;
+    below = λ r. change_each (IsCellBelow most_tried) tried turn.cell b.keys
+        (λ cell e k. omega (arith, below_again most_tried turn.attempts (ends ∙ r.0), turn_tries turn own cell e)) (h.cells.below r.1);
+    most = change_each (IsCellMost most_tried) tried turn.cell b.keys (λ cell e k. omega (arith, worked_turn turn own, turn_tries turn own cell e)) h.cells.most;
+  }
+
   few_tries : (attempts : ℕ) → MayBeWorked most_tried so_far attempts → attempts < 1000
   few_tries attempts may = let limits = formed.allowed.attempts.1 in omega (arith, may.0, limits)
 
-  failed_to : (job : Live) (cause : Cause) → IsWorking b slot job → (spent : Bool) → is_at_limit b job ≡ spent
+  failed_to : AreTurnsKept b → (job : Live) (cause : Cause) → IsWorking b slot job → (spent : Bool) → is_at_limit b job ≡ spent
       → IsFailedTo spent (counted (given_back (with_slot b slot None) job at cause) cause) (note_of job at cause)
-  failed_to (live.Span piece attempted) Call works spent ends =
+  failed_to turns (live.Span piece attempted) Call works spent ends =
       let may = worked_piece piece attempted works in
       record {
         counts = span_back piece attempted works spent ends (raised b.calls + b.reads) (rises_call b.calls b.reads h.calls) may;
+        cells = stays spent;
         stop = h.stop;
         noted = λ e. just_spent most_tried piece.attempts may (ends ∙ e);
         calls = omega arith;
         reads = h.reads;
       }
-  failed_to (live.Span piece attempted) Read works spent ends =
+  failed_to turns (live.Span piece attempted) Read works spent ends =
       let may = worked_piece piece attempted works in
       record {
         counts = span_back piece attempted works spent ends (b.calls + raised b.reads) (rises_read b.calls b.reads h.reads) may;
+        cells = stays spent;
         stop = h.stop;
         noted = λ e. just_spent most_tried piece.attempts may (ends ∙ e);
         calls = h.calls;
         reads = omega arith;
       }
-  failed_to (live.Batch batch) Call works spent ends =
+  failed_to turns (live.Batch batch) Call works spent ends =
       let may = worked_batch batch works in
       record {
         counts = batch_given batch works spent ends (raised b.calls + b.reads) (rises_call b.calls b.reads h.calls) may.0 (tried_call batch.attempts b.calls b.reads may.1 (few_tries batch.attempts may));
+        cells = stays spent;
         stop = h.stop;
         noted = λ e. just_spent most_tried batch.attempts may.0 (ends ∙ e);
         calls = omega arith;
         reads = h.reads;
       }
-  failed_to (live.Batch batch) Read works spent ends =
+  failed_to turns (live.Batch batch) Read works spent ends =
       let may = worked_batch batch works in
       record {
         counts = batch_given batch works spent ends (b.calls + raised b.reads) (rises_read b.calls b.reads h.reads) may.0 (tried_read batch.attempts b.calls b.reads may.1 (few_tries batch.attempts may));
+        cells = stays spent;
         stop = h.stop;
         noted = λ e. just_spent most_tried batch.attempts may.0 (ends ∙ e);
+        calls = h.calls;
+        reads = omega arith;
+      }
+  failed_to turns (live.Key turn) Call works spent ends =
+      let own = turn_at b slot turn turns works in
+      record {
+        counts = freed (raised b.calls + b.reads) ((spent ≡ false) × IsRunning b) (rises_call b.calls b.reads h.calls) (λ r. r.1);
+        cells = turn_back turn own spent ends;
+        stop = h.stop;
+        noted = λ e. just_spent most_tried turn.attempts (worked_turn turn own) (ends ∙ e);
+        calls = omega arith;
+        reads = h.reads;
+      }
+  failed_to turns (live.Key turn) Read works spent ends =
+      let own = turn_at b slot turn turns works in
+      record {
+        counts = freed (b.calls + raised b.reads) ((spent ≡ false) × IsRunning b) (rises_read b.calls b.reads h.reads) (λ r. r.1);
+        cells = turn_back turn own spent ends;
+        stop = h.stop;
+        noted = λ e. just_spent most_tried turn.attempts (worked_turn turn own) (ends ∙ e);
         calls = h.calls;
         reads = omega arith;
       }
@@ -184,6 +241,17 @@ commit_counted limit total running pending returned slots slot (live.Span piece 
     (residual_of piece attempted receipt) (residual_untried piece attempted receipt) some
 commit_counted limit total running pending returned slots slot (live.Batch batch) receipt some h =
     set_counted limit total running pending returned slots h slot None (All-nil (IsPiece limit total running)) (All-nil (IsBatch limit total running))
+commit_counted limit total running pending returned slots slot (live.Key turn) receipt some h =
+    set_counted limit total running pending returned slots h slot None (All-nil (IsPiece limit total running)) (All-nil (IsBatch limit total running))
+
+-- a cell whose job is done has all its attempts again, and so has a new one
+commit_cells : (limit : ℕ) (running : Type 0) (plan : Plan) (before : List StageMarks) (done : Option Done) (arrivals : List Arrival) (keys : List KeyCell) → 1 ≤ limit
+    → AreCellsCounted limit running keys → AreCellsCounted limit running (place plan before done arrivals keys)
+commit_cells limit running plan before done arrivals keys some h = record {
+  worked = place_each (IsCellWorked limit) plan before (λ cell waiting k. k) (λ arrival works. omega (arith, some)) (λ done cell k works. omega (arith, some)) done arrivals keys h.worked;
+  below = λ runs. place_each (IsCellBelow limit) plan before (λ cell waiting k. k) (λ arrival. omega (arith, some)) (λ done cell k. omega (arith, some)) done arrivals keys (h.below runs);
+  most = place_each (IsCellMost limit) plan before (λ cell waiting k. k) (λ arrival. omega arith) (λ done cell k. omega arith) done arrivals keys h.most;
+}
 
 -- first pieces were never tried
 abbrev IsUntried : Piece → Type 0
@@ -202,6 +270,11 @@ opening_counted b first opening =
         pending_most = All-weaker IsUntried (λ piece. piece.attempts ≤ b.options.attempts) (λ piece e. omega (arith, e)) (pieces_of b.options.chunk b.files) untried;
         returned_most = All-nil (λ batch. (batch.attempts ≤ b.options.attempts) × (batch.attempts ≤ 0 + 0));
       };
+      cells = record {
+        worked = All-nil (IsCellWorked b.options.attempts);
+        below = λ runs. All-nil (IsCellBelow b.options.attempts);
+        most = All-nil (IsCellMost b.options.attempts);
+      };
       stop = tt;
       calls = omega arith;
       reads = omega arith;
@@ -211,10 +284,10 @@ stop_no_memory : (y : SeenBook) (old : Option StopCause) → IsStopNoted y old �
 stop_no_memory y (Some cause) h = h
 stop_no_memory y None h = tt
 
-pub keeps_counted : (told : Option (List FileText)) → Keeps told IsWellFormed IsCounted
+pub keeps_counted : (told : Option (List FileText)) → Keeps told (Both IsWellFormed AreTurnsKept) IsCounted
 keeps_counted told = record {
   opens = opening_counted;
-  enrolls = λ b formed h within. record {
+  enrolls = λ b known h within. record {
     counts = record {
       worked_pieces = subst (All (λ piece. piece.attempts < b.options.attempts)) (sym (enrolled_of piece_of b.slots refl)) h.counts.worked_pieces;
       worked_batches = subst (All (λ batch. MayBeWorked b.options.attempts (b.calls + b.reads) batch.attempts)) (sym (enrolled_of batch_of b.slots refl)) h.counts.worked_batches;
@@ -223,50 +296,52 @@ keeps_counted told = record {
       pending_most = h.counts.pending_most;
       returned_most = h.counts.returned_most;
     };
+    cells = h.cells;
     stop = h.stop;
     calls = h.calls;
     reads = h.reads;
   };
-  takes = λ b slot next formed h running free is within.
+  takes = λ b slot next known h running free is within.
       take_cases b (λ (n : Next). IsCounted (with_slot n.rest slot (Some n.job)))
-      (given_counted b slot formed h running) (waits_counted b slot formed h running) (pending_counted b slot formed h running) next is;
-  claims = λ b slot p piece attempted formed h works may. record {
+      (given_counted b slot known.0 h running) (waits_counted b slot known.0 h running) (keyed_counted b slot known.0 h running) (pending_counted b slot known.0 h running) next is;
+  claims = λ b slot p piece attempted known h works may. record {
     counts = set_counted b.options.attempts (b.calls + b.reads) (IsRunning b) b.pending b.returned b.slots h.counts slot (Some (live.Span piece (Some p)))
-        (All-cons (IsPiece b.options.attempts (b.calls + b.reads) (IsRunning b)) piece [] (worked_piece b slot 0 formed h piece attempted works) (All-nil (IsPiece b.options.attempts (b.calls + b.reads) (IsRunning b))))
+        (All-cons (IsPiece b.options.attempts (b.calls + b.reads) (IsRunning b)) piece [] (worked_piece b slot 0 known.0 h piece attempted works) (All-nil (IsPiece b.options.attempts (b.calls + b.reads) (IsRunning b))))
         (All-nil (IsBatch b.options.attempts (b.calls + b.reads) (IsRunning b)));
+    cells = h.cells;
     stop = h.stop;
     calls = h.calls;
     reads = h.reads;
   };
-  splits = λ b slot at piece attempted formed h works inside behind within. record {
+  splits = λ b slot at piece attempted known h works inside behind within. record {
     counts =
         let front = cut_to piece (record { from = piece.range.from; to = at }) in
         fresh_counted b.options.attempts (b.calls + b.reads) (IsRunning b) b.pending b.returned (slice_set b.slots slot (Some (live.Span front attempted)))
         (set_counted b.options.attempts (b.calls + b.reads) (IsRunning b) b.pending b.returned b.slots h.counts slot (Some (live.Span front attempted))
-        (All-cons (IsPiece b.options.attempts (b.calls + b.reads) (IsRunning b)) front [] (worked_piece b slot 0 formed h piece attempted works) (All-nil (IsPiece b.options.attempts (b.calls + b.reads) (IsRunning b))))
+        (All-cons (IsPiece b.options.attempts (b.calls + b.reads) (IsRunning b)) front [] (worked_piece b slot 0 known.0 h piece attempted works) (All-nil (IsPiece b.options.attempts (b.calls + b.reads) (IsRunning b))))
         (All-nil (IsBatch b.options.attempts (b.calls + b.reads) (IsRunning b))))
-        (rest_of piece (record { from = at; to = piece.range.to })) refl formed.allowed.attempts.0;
+        (rest_of piece (record { from = at; to = piece.range.to })) refl known.0.allowed.attempts.0;
+    cells = h.cells;
     stop = h.stop;
     calls = h.calls;
     reads = h.reads;
   };
-  commits = λ b slot job receipt cells fired marks formed h made. record {
-    counts = commit_counted b.options.attempts (b.calls + b.reads) (IsRunning b) b.pending b.returned b.slots slot job receipt formed.allowed.attempts.0 h.counts;
+  commits = λ b slot job receipt cells fired marks known h made. record {
+    counts = commit_counted b.options.attempts (b.calls + b.reads) (IsRunning b) b.pending b.returned b.slots slot job receipt known.0.allowed.attempts.0 h.counts;
+    cells = commit_cells b.options.attempts (IsRunning b) b.plan (last_marks b) (key_done (length b.commits) job receipt.logged) receipt.arrivals b.keys known.0.allowed.attempts.0 h.cells;
     stop = h.stop;
     calls = h.calls;
     reads = h.reads;
   };
-  fails = λ b slot at job cause formed h works.
+  fails = λ b slot at job cause known h works.
       finish_counted (ends_run b job cause) (counted (given_back (with_slot b slot None) job at cause) cause) (note_of job at cause)
-      (failed_to b slot at formed h job cause works (ends_run b job cause) refl);
-  stops = λ b formed h. record {
+      (failed_to b slot at known.0 h known.1 job cause works (ends_run b job cause) refl);
+  stops = λ b known h. record {
     counts = more_counted b.options.attempts (b.calls + b.reads) (IsRunning b) b.pending b.returned b.slots h.counts (b.calls + b.reads) (or_stopped b.stopped stop.NoMemory ≡ None)
         (omega arith) (λ none. absurd (never_none b.stopped stop.NoMemory none));
+    cells = cells_onward b.options.attempts (IsRunning b) (or_stopped b.stopped stop.NoMemory ≡ None) b.keys (λ none. absurd (never_none b.stopped stop.NoMemory none)) h.cells;
     stop = stop_no_memory b b.stopped h.stop;
     calls = h.calls;
     reads = h.reads;
   };
 }
-
-pub counted_always : (told : Option (List FileText)) → AreAlways told (Both IsWellFormed IsCounted)
-counted_always told = kept_with told IsWellFormed IsCounted (formed_always told) (keeps_counted told)

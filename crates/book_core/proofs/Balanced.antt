@@ -1,7 +1,7 @@
 -- Where the files are told, a commit keeps the balance: the arrivals and the chains of the panes that aren't through are the outputs of the done ranges and
 -- the chains of all panes.
 use Rattle.std.proofs.Common.{◌≡◌, ℕ, ◌+◌, ◌-◌, Bool, true, false, cond, List, [], ◌∷◌, ◌++◌, length, map, refl, sym, ap, subst, ◌∙◌, append_assoc, length-append, arith}
-use Rattle.std.specs.Prelude.{Option, Some, None, slice_get}
+use Rattle.std.specs.Prelude.{Option, Some, None, slice_get, option_map, filter}
 use Rattle.std.specs.List.{All, flat_map, sum_by, enumerate_from}
 use Rattle.std.specs.Ordering.{is_lt}
 use Rattle.std.proofs.lemmas.List.Concat.{flat_map-append}
@@ -38,7 +38,21 @@ use Rattle.book_core.specs.declared.live.Live.TheVariants as live
 use Rattle.book_core.specs.declared.live.WaitingPane.{WaitingPane}
 use Rattle.book_core.proofs.Cases.{Commits, LegalIn}
 use Rattle.book_core.proofs.CellsAlways.{commit_entries}
-use Rattle.book_core.proofs.Ends.{IsEnd, IsEnded, arrivals_added, panes_ended, spread_ended}
+use Rattle.bundle_commit.specs.declared.job.Logged.{Logged}
+use Rattle.beam_model.specs.Flow.{log_chains}
+use Rattle.stateful_core.specs.Cells.{key_arrivals, logs_of}
+use Rattle.stateful_core.specs.Facts.{Folded}
+use Rattle.stateful_core.specs.KeyWork.{KeyCommit, entry_chains, numbered_entry}
+use Rattle.stateful_core.specs.Placing.{Done as KeyDone, place}
+use Rattle.stateful_core.specs.declared.key_job.KeyTurn.{KeyTurn}
+use Rattle.stateful_core.proofs.Came.{place_bag}
+use Rattle.stateful_core.proofs.FlowKept.{other_chains, place_chains}
+use Rattle.book_core.specs.Changes.{key_done, key_done_of, keys_after}
+use Rattle.book_core.specs.Facts.{AreTurnsKept}
+use Rattle.book_core.specs.Work.{folded_by}
+use Rattle.book_core.proofs.Ends.{IsEnd, IsEnded, arrivals_added, entries_ended, panes_ended, spread_ended}
+use Rattle.book_core.proofs.KeysKept.{KeysKept}
+use Rattle.book_core.proofs.Turns.{commit_done, turn_committed}
 use Rattle.book_core.proofs.HeldMoves.{fired_held}
 use Rattle.book_core.proofs.HeldOnce.{commit_bag, get_at_end, get_front}
 use Rattle.book_core.proofs.Queues.{held_fired}
@@ -139,26 +153,31 @@ batch_held b slot once batch works =
     let each = All-of_flat_map (IsHeldPane b) held_in (live_batches b) live_held in
     All-head (λ (x : Batch). All (IsHeldPane b) (held_in x)) batch [] (All-flat_at batch_of b.slots slot (λ (x : Batch). All (IsHeldPane b) (held_in x)) (Some (live.Batch batch)) works each)
 
--- the arrivals of a receipt are the outputs of its range, which is done now, or of its batch
+-- the arrivals of a receipt are the outputs of its range, which is done now, or of its batch, or what the calls of its key job brought, which are logged now
 pub record IsReceiptBalanced (told : List FileText) (b : SeenBook) (job : Live) (receipt : Receipt) : Type 0 where
   pub ends : All (IsEnd b.plan) receipt.arrivals
   pub weighs : (w : Output → ℕ)
       → sum_by w (spread_dones b.plan (items told b.plan) (done_after b.done job)) + sum_by (held_weight b.plan w b.panes) (flat_map held_in (batch_of (Some job)))
-      ≡ sum_by w (spread_dones b.plan (items told b.plan) b.done) + sum_by w (map Arrives receipt.arrivals)
+      + sum_by w (log_chains b.plan (logs_of (keys_after b job receipt)))
+      ≡ sum_by w (spread_dones b.plan (items told b.plan) b.done) + sum_by w (log_chains b.plan (logs_of b.keys)) + sum_by w (map Arrives receipt.arrivals)
 
-module _ (told : List FileText) (b : SeenBook) (slot : ℕ) (receipt : Receipt) (no_stateful : (n : ℕ) → is_stateful b.plan n ≡ false) (once : AreHeldOnce b) where
+module _ (told : List FileText) (b : SeenBook) (slot : ℕ) (receipt : Receipt) (once : AreHeldOnce b) (kept : KeysKept b) (turns : AreTurnsKept b) where
+  -- the logs stay where no key job is done
+  same_chains : (w : Output → ℕ) → sum_by w (log_chains b.plan (logs_of (place b.plan (last_marks b) None receipt.arrivals b.keys))) ≡ sum_by w (log_chains b.plan (logs_of b.keys))
+  same_chains w = ap (sum_by w) (other_chains b.plan (last_marks b) receipt.arrivals b.keys)
+
   ended : (outputs : List Output) → map Arrives receipt.arrivals ≡ outputs → All (IsEnded b.plan) outputs → All (IsEnd b.plan) receipt.arrivals
   ended outputs same all = All-unmap (IsEnded b.plan) Arrives receipt.arrivals (subst (All (IsEnded b.plan)) (sym same) all)
 
   span_balanced : (piece : Piece) (attempted : Option ℕ) (found : Option SourceItem) → item_at (items told b.plan) piece.node piece.item ≡ found
       → IsWorkOnItem b.plan piece (worked_to piece attempted) found receipt → IsReceiptBalanced told b (live.Span piece attempted) receipt
-  span_balanced piece attempted found at given = record { ends = by_ends found given; weighs = λ w. by_weight w found at given }
+  span_balanced piece attempted found at given = record { ends = by_ends found given; weighs = λ w. omega (arith, by_weight w found at given, same_chains w) }
     where
       by_ends : (found : Option SourceItem) → IsWorkOnItem b.plan piece (worked_to piece attempted) found receipt → All (IsEnd b.plan) receipt.arrivals
       by_ends None given = subst (All (IsEnd b.plan)) (sym given.0) (All-nil (IsEnd b.plan))
       by_ends (Some item) given =
           ended (spread_range b.plan item piece.range.from (worked_to piece attempted)) given.arrivals
-          (spread_ended b.plan no_stateful item (offsets piece.range.from (worked_to piece attempted - piece.range.from)))
+          (spread_ended b.plan item (offsets piece.range.from (worked_to piece attempted - piece.range.from)))
 
       brings : (found : Option SourceItem) → IsWorkOnItem b.plan piece (worked_to piece attempted) found receipt
           → map Arrives receipt.arrivals ≡ spread_of b.plan (done_of piece attempted).range found
@@ -184,34 +203,58 @@ module _ (told : List FileText) (b : SeenBook) (slot : ℕ) (receipt : Receipt) 
   batch_balanced : (batch : Batch) → All (IsHeldPane b) (held_in batch) → map Arrives receipt.arrivals ≡ batch_outputs b.plan batch.node (panes_of b.panes batch.panes)
       → IsReceiptBalanced told b (live.Batch batch) receipt
   batch_balanced batch all given = record {
-    ends = ended (batch_outputs b.plan batch.node (panes_of b.panes batch.panes)) given (panes_ended b.plan no_stateful batch.node (panes_of b.panes batch.panes));
+    ends = ended (batch_outputs b.plan batch.node (panes_of b.panes batch.panes)) given (panes_ended b.plan batch.node (panes_of b.panes batch.panes));
     weighs = λ w. omega (
       arith,
       ap (sum_by w) given,
       batch_flow b.plan w b batch.node batch.panes all,
       sum_by-append (held_weight b.plan w b.panes) (held_in batch) [],
+      same_chains w,
     );
   }
 
+  turn_balanced : (turn : KeyTurn) → IsWorking b slot (live.Key turn) → IsGiven (Some told) b.plan (job_of b.panes (live.Key turn)) None receipt → IsReceiptBalanced told b (live.Key turn) receipt
+  turn_balanced turn works given = by receipt.logged refl (turn_committed b slot turn works kept turns (Some told) receipt (length b.commits) given)
+    where
+      by : (logged : Option Logged) → receipt.logged ≡ logged → KeyCommit b.plan (length b.commits) b.keys turn.cell receipt.arrivals (option_map folded_by logged)
+          → IsReceiptBalanced told b (live.Key turn) receipt
+      by None e commit = let was = commit.was in absurd (cc)
+      by (Some logged) e commit =
+          let done : KeyDone = record { cell = turn.cell; kept = (folded_by logged).kept; entries = map (numbered_entry (length b.commits)) logged.entries } in
+          let all_is : folded_by logged ≡ commit.all = cc in
+          let brings : map Arrives receipt.arrivals ≡ entry_chains b.plan commit.cell.log.node done.entries =
+          sym commit.brings ∙ ap (λ (all : Folded). entry_chains b.plan commit.cell.log.node (map (numbered_entry (length b.commits)) all.entries)) (sym all_is) in
+          record {
+            ends = ended (entry_chains b.plan commit.cell.log.node done.entries) brings (entries_ended b.plan commit.cell.log.node done.entries);
+            weighs = λ w. omega (
+              arith,
+              ap (λ (o : Option Logged). sum_by w (log_chains b.plan (logs_of (place b.plan (last_marks b) (key_done_of (length b.commits) turn.cell o) receipt.arrivals b.keys)))) e,
+              (place_chains b.plan (last_marks b) done receipt.arrivals b.keys commit.cell commit.is_at).weighs w,
+              sum_by-append w (log_chains b.plan (logs_of b.keys)) (entry_chains b.plan commit.cell.log.node done.entries),
+              ap (sum_by w) brings,
+            );
+          }
+
   pub job_balanced : (job : Live) → IsWorking b slot job → IsGiven (Some told) b.plan (job_of b.panes job) (attempted_of job) receipt → IsReceiptBalanced told b job receipt
   job_balanced (live.Span piece attempted) works given = span_balanced piece attempted (item_at (items told b.plan) piece.node piece.item) refl given.0
+  job_balanced (live.Key turn) works given = turn_balanced turn works given
   job_balanced (live.Batch batch) works given =
       batch_balanced batch (batch_held b slot once batch works) given.0
 
 module _ (told : List FileText) (b : SeenBook) (slot : ℕ) (job : Live) (receipt : Receipt) (cells : List Cell) (fired : List Pane) (marks : List StageMarks)
-    (no_stateful : (n : ℕ) → is_stateful b.plan n ≡ false)
-    (formed : IsWellFormed b) (once : AreHeldOnce b) (legal : LegalIn b) (made : Commits (Some told) b slot job receipt cells fired marks) (was : IsBalanced told b) where
+    (formed : IsWellFormed b) (once : AreHeldOnce b) (kept : KeysKept b) (turns : AreTurnsKept b) (legal : LegalIn b) (made : Commits (Some told) b slot job receipt cells fired marks) (was : IsBalanced told b) where
   abbrev after : SeenBook
   after = committed b slot job receipt cells fired marks
 
   abbrev receipt_balanced : IsReceiptBalanced told b job receipt
-  receipt_balanced = job_balanced told b slot receipt no_stateful once job made.works made.given
+  receipt_balanced = job_balanced told b slot receipt once kept turns job made.works made.given
 
   job_held : All (IsHeldPane b) (flat_map held_in (batch_of (Some job)))
   job_held = by job made.works
     where
       by : (j : Live) → IsWorking b slot j → All (IsHeldPane b) (flat_map held_in (batch_of (Some j)))
       by (live.Span piece attempted) works = All-nil (IsHeldPane b)
+      by (live.Key turn) works = All-nil (IsHeldPane b)
       by (live.Batch batch) works = All-append (IsHeldPane b) (held_in batch) [] (batch_held b slot once batch works) (All-nil (IsHeldPane b))
 
   pub commit_balanced : IsBalanced told after
@@ -223,14 +266,21 @@ module _ (told : List FileText) (b : SeenBook) (slot : ℕ) (job : Live) (receip
           arith,
           was.weighs w,
           receipt_balanced.weighs w,
-          sum_by-append w (spread_dones b.plan (items told b.plan) b.done) (pane_chains b.plan b.panes),
-          sum_by-append w (spread_dones b.plan (items told b.plan) after.done) (pane_chains b.plan (b.panes ++ fired)),
+          sum_by-append w (spread_dones b.plan (items told b.plan) b.done) (pane_chains b.plan b.panes ++ log_chains b.plan (logs_of b.keys)),
+          sum_by-append w (pane_chains b.plan b.panes) (log_chains b.plan (logs_of b.keys)),
+          sum_by-append w (spread_dones b.plan (items told b.plan) after.done) (pane_chains b.plan (b.panes ++ fired) ++ log_chains b.plan (logs_of after.keys)),
+          sum_by-append w (pane_chains b.plan (b.panes ++ fired)) (log_chains b.plan (logs_of after.keys)),
           ap (sum_by w) (flat_map-append (λ (pane : Pane). chain b.plan pane.node pane.element) b.panes fired),
           sum_by-append w (pane_chains b.plan b.panes) (pane_chains b.plan fired),
-          sum_by-append w (map Arrives (arrivals_of b.cells b.dropped [] b.written)) (held_chains b),
-          sum_by-append w (map Arrives (arrivals_of after.cells after.dropped [] after.written)) (held_chains after),
-          sum_by-map w Arrives (arrivals_of b.cells b.dropped [] b.written),
-          sum_by-map w Arrives (arrivals_of after.cells after.dropped [] after.written),
+          sum_by-append w (map Arrives (arrivals_of b.cells b.dropped [] b.written ++ key_arrivals b.keys)) (held_chains b),
+          sum_by-append w (map Arrives (arrivals_of after.cells after.dropped [] after.written ++ key_arrivals after.keys)) (held_chains after),
+          sum_by-map w Arrives (arrivals_of b.cells b.dropped [] b.written ++ key_arrivals b.keys),
+          sum_by-map w Arrives (arrivals_of after.cells after.dropped [] after.written ++ key_arrivals after.keys),
+          sum_by-append v (arrivals_of b.cells b.dropped [] b.written) (key_arrivals b.keys),
+          sum_by-append v (arrivals_of after.cells after.dropped [] after.written) (key_arrivals after.keys),
+          (place_bag b.plan (length b.commits) (last_marks b) (key_done (length b.commits) job receipt.logged) receipt.arrivals b.keys
+              (commit_done (Some told) b slot job receipt kept turns made.works made.given)).weighs v,
+          sum_by-append v (key_arrivals b.keys) (filter (λ (a : Arrival). is_stateful b.plan a.node) receipt.arrivals),
           sum_by-map w Arrives receipt.arrivals,
           arrivals_added v b.plan (last_marks b) (length b.commits) receipt.arrivals b.cells cells b.dropped b.written (commit_entries (Some told) b slot job receipt cells fired marks legal made) receipt_balanced.ends,
           chains_weigh b.plan w b refl,

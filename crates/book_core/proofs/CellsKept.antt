@@ -33,7 +33,10 @@ use Rattle.book_core.specs.declared.live.Batch.{Batch}
 use Rattle.book_core.specs.declared.live.Live.{Live}
 use Rattle.book_core.specs.declared.live.Live.TheVariants as live
 use Rattle.book_core.specs.declared.live.WaitingPane.{WaitingPane}
-use Rattle.book_core.proofs.Gaps.{AreStrategies, IsGapped, group_fits, outputs_gapped, source_fits}
+use Rattle.beam_values.specs.States.{KeptState}
+use Rattle.stateful_core.specs.KeyWork.{key_outputs}
+use Rattle.book_core.proofs.KeyOutputs.{outputs_all}
+use Rattle.book_core.proofs.Gaps.{AreStrategies, IsGapped, group_fits, outputs_gapped, source_fits, stateful_fits}
 use Rattle.book_core.proofs.HeldMoves.{IsNonempty}
 use Rattle.book_core.proofs.Slots.{All-slice_get}
 use Rattle.book_core.proofs.Slotted.{All-append_right, All-of_flat_map, All-flat_at}
@@ -164,6 +167,10 @@ pub given_gapped : (told : Option (List FileText)) (b : SeenBook) (slot : ℕ) (
     → All (λ pane. is_group b.plan pane.node ≡ true) b.panes → IsWorking b slot job → IsGiven told b.plan (job_of b.panes job) (attempted_of job) receipt → All (HasGap b.plan) receipt.arrivals
 given_gapped told b slot (live.Span piece attempted) receipt known once groups works given =
     range_gapped b.plan known (is_known told b.plan piece.node) told piece (worked_to piece attempted) receipt given.0
+given_gapped told b slot (live.Key turn) receipt known once groups works given =
+    let kept : KeptState = record { cells = turn.state; timers = turn.timers } in
+    arrivals_gapped b.plan known receipt.arrivals (key_outputs b.plan turn.node turn.key turn.span turn.inputs kept) given.arrives
+    (outputs_all (IsGapped b.plan) b.plan turn.node tt (λ keyed e. outputs_gapped b.plan known turn.node e (stateful_fits b.plan known turn.node e keyed)) turn.key turn.span turn.inputs kept)
 given_gapped told b slot (live.Batch batch) receipt known once groups works given =
     arrivals_gapped b.plan known receipt.arrivals (batch_outputs b.plan batch.node (panes_of b.panes batch.panes)) given.0
     (panes_gapped b.plan known batch.node (panes_of b.panes batch.panes) (batch_at_group b slot batch once groups works))

@@ -20,11 +20,17 @@ use Rattle.bundle_commit.specs.declared.job.Receipt.{Receipt}
 use Rattle.group_cells.specs.Commits.{AreRounds, HasGap, IsCommitted, RisesFrom, SeenGroups, is_at_group}
 use Rattle.watermarks.specs.Holds.{SeenHolds}
 use Rattle.stateful_core.specs.Cells.{KeyCell, key_holds}
-use Rattle.stateful_core.specs.Placing.{place}
+use Rattle.stateful_core.specs.Opening.{IsStanding}
+use Rattle.stateful_core.specs.Placing.{Done as KeyDone, place}
+use Rattle.stateful_core.specs.declared.key_job.KeyTurn.{KeyTurn}
+use Rattle.bundle_commit.specs.declared.job.Logged.{Logged}
+use Rattle.std.proofs.lemmas.Option.{slice_get_within}
 use Rattle.book_core.specs.Book.{SeenBook, last_marks, waiting_in}
-use Rattle.book_core.specs.Changes.{keys_after, with_fired, with_slot}
+use Rattle.book_core.specs.Changes.{key_done, keys_after, with_fired, with_slot}
 use Rattle.book_core.specs.Committing.{node_of, job_holds, residual_in, residual_holds, HasRoom}
-use Rattle.book_core.specs.Facts.{IsAttemptedWithin}
+use Rattle.book_core.specs.Facts.{AreTurnsKept, IsAttemptedWithin}
+use Rattle.book_core.proofs.KeysKept.{keys_within}
+use Rattle.book_core.proofs.Turns.{turn_at}
 use Rattle.book_core.specs.Indexes.{IsIndexed, AreHeldIn, least_in, least_with, marks_in, room_in, own_holds}
 use Rattle.book_core.specs.Jobs.{job_of, attempted_of}
 use Rattle.book_core.specs.Queues.{SeenQueue}
@@ -56,6 +62,7 @@ given_there told b slot job receipt can mine =
 -- what is left of a job is at its node
 pub left_there : (P : ℕ → Type 0) (job : Live) (receipt : Receipt) → P (node_of job) → ForSome (residual_in job receipt) (λ piece. P piece.node)
 left_there P (live.Batch batch) receipt h = λ x e. absurd (cc)
+left_there P (live.Key turn) receipt h = λ x e. absurd (cc)
 left_there P (live.Span piece attempted) receipt h = by (nat_lt (worked_to piece attempted) piece.range.to)
   where
     by : (t : Bool) → ForSome (cond t (Some (record piece { range = record { from = worked_to piece attempted; to = piece.range.to }; seen = receipt.seen; attempts = 0 })) None) (λ (p : Piece). P p.node)
@@ -68,6 +75,7 @@ left_there P (live.Span piece attempted) receipt h = by (nat_lt (worked_to piece
 pub left_room : (b : SeenBook) (slot : ℕ) (job : Live) (receipt : Receipt) (held : List SeenHolds) (piece_room batch_room : ℕ) → IsWorking b slot job → IsIndexed b held piece_room batch_room
     → ForSome (residual_in job receipt) (λ _. 0 < piece_room)
 left_room b slot (live.Batch batch) receipt held piece_room batch_room works k = λ x e. absurd (cc)
+left_room b slot (live.Key turn) receipt held piece_room batch_room works k = λ x e. absurd (cc)
 left_room b slot (live.Span piece attempted) receipt held piece_room batch_room works k =
     left_there (λ n. 0 < piece_room) (live.Span piece attempted) receipt (omega (arith, k.pieces, pieces_after b.slots slot (Some (live.Span piece attempted)) None works))
 
@@ -81,6 +89,10 @@ module _ (b : SeenBook) (slot : ℕ) (job : Live) (receipt : Receipt) (held : Li
     where
       by : (job : Live) → IsWorking b slot job → node_of job < length b.plan.nodes
       by (live.Span piece attempted) works = omega (arith, node_within b held piece_room batch_room slot piece attempted works k, k.sized)
+      by (live.Key turn) works =
+          let own = turn_at b slot turn k.sane.turns works in
+          let cell = All-slice_get (λ (c : KeyCell). c.log.node < length b.plan.nodes) b.keys turn.cell own.cell own.is_at (keys_within b k.sane.keys) in
+          omega (arith, cell, ap (λ (t : KeyTurn). t.node) own.is)
       by (live.Batch batch) works =
           group_within b.plan batch.node
           (batch_at_group b slot batch k.sane.held k.sane.panes.at_groups works)
@@ -119,10 +131,10 @@ module _ (b : SeenBook) (slot : ℕ) (job : Live) (receipt : Receipt) (held : Li
       (subst (λ (r : Option Piece). AreHeldIn after (residual_holds plan r ++ own_holds (with_slot b slot None))) f (add (own_holds (with_slot b slot None)) h))
 
   pub rises_there : (new : List SeenHolds) → IsGiven None b.plan (job_of b.panes job) (attempted_of job) receipt → AreHeldIn new (kept_holds b slot job receipt)
-      → RisesFrom b.plan (least_with new (key_holds (keys_after b receipt))) (last_marks b)
+      → RisesFrom b.plan (least_with new (key_holds (keys_after b job receipt))) (last_marks b)
   rises_there new given h marks are =
       let formed = k.sane.formed in
-      let came = key_holds (keys_after b receipt) in
+      let came = key_holds (keys_after b job receipt) in
       kept_rise None b slot job receipt formed.checked k.sane.keys works given k.sane.marks.last marks
       (marks_as b.plan (least_with new came) (least_hold (kept_holds b slot job receipt ++ came)) marks
       (λ n. turned (least_in new n) (least_hold came n) ∙ ap (int_min (least_hold came n)) (least_held new (kept_holds b slot job receipt) h n)
@@ -180,19 +192,21 @@ indexed_room b new held after piece_room batch_room e same sized k =
 
 -- in the words of the book
 pub are_fired : (b : SeenBook) (slot : ℕ) (job : Live) (receipt : Receipt) (old new : SeenGroups) (fired : List Pane) (marks : List StageMarks) (left : List Arrival) (held : List SeenHolds)
-    (plan : Plan) (c : ℕ) (before : List StageMarks) → plan ≡ b.plan → c ≡ length b.commits → before ≡ last_marks b → IsWorking b slot job → old.cells ≡ b.cells → old.dropped ≡ b.dropped
-    → IsCommitted plan c before marks (least_with held (key_holds (place plan before None receipt.arrivals b.keys))) receipt.arrivals left old new fired → AreRounds plan c before marks receipt.arrivals old.cells new.cells fired
+    (plan : Plan) (c : ℕ) (before : List StageMarks) (done : Option KeyDone) → plan ≡ b.plan → c ≡ length b.commits → before ≡ last_marks b → done ≡ key_done (length b.commits) job receipt.logged
+    → IsWorking b slot job → old.cells ≡ b.cells → old.dropped ≡ b.dropped
+    → IsCommitted plan c before marks (least_with held (key_holds (place plan before done receipt.arrivals b.keys))) receipt.arrivals left old new fired → AreRounds plan c before marks receipt.arrivals old.cells new.cells fired
     → length fired ≤ length old.cells + length receipt.arrivals → AreHeldIn held (kept_holds b slot job receipt)
     → length b.commits + 1 < 4294967295 → length b.panes + (length b.cells + length receipt.arrivals) < 4294967295 → length b.dropped + length receipt.arrivals < 4294967295
     → length new.cells < 4294967295 → length b.keys + length receipt.arrivals < 4294967295 → waiting_in b.keys + length receipt.arrivals < 4294967295 → AreFired b slot job receipt old new fired marks left held
-are_fired b slot job receipt old new fired marks left held plan c before e f g works cells dropped done rounds few holding commits panes drops all_cells all_keys all_waiting_too = record {
+are_fired b slot job receipt old new fired marks left held plan c before done e f g d works cells dropped ends rounds few holding commits panes drops all_cells all_keys all_waiting_too = record {
   works = works;
   cells = cells;
   dropped = dropped;
   committed =
-      subst (λ (p : Plan). IsCommitted p (length b.commits) (last_marks b) marks (least_with held (key_holds (place p (last_marks b) None receipt.arrivals b.keys))) receipt.arrivals left old new fired) e
-      (subst (λ (n : ℕ). IsCommitted plan n (last_marks b) marks (least_with held (key_holds (place plan (last_marks b) None receipt.arrivals b.keys))) receipt.arrivals left old new fired) f
-      (subst (λ (l : List StageMarks). IsCommitted plan c l marks (least_with held (key_holds (place plan l None receipt.arrivals b.keys))) receipt.arrivals left old new fired) g done));
+      subst (λ (o : Option KeyDone). IsCommitted b.plan (length b.commits) (last_marks b) marks (least_with held (key_holds (place b.plan (last_marks b) o receipt.arrivals b.keys))) receipt.arrivals left old new fired) d
+      (subst (λ (p : Plan). IsCommitted p (length b.commits) (last_marks b) marks (least_with held (key_holds (place p (last_marks b) done receipt.arrivals b.keys))) receipt.arrivals left old new fired) e
+      (subst (λ (n : ℕ). IsCommitted plan n (last_marks b) marks (least_with held (key_holds (place plan (last_marks b) done receipt.arrivals b.keys))) receipt.arrivals left old new fired) f
+      (subst (λ (l : List StageMarks). IsCommitted plan c l marks (least_with held (key_holds (place plan l done receipt.arrivals b.keys))) receipt.arrivals left old new fired) g ends)));
   rounds =
       subst (λ (p : Plan). AreRounds p (length b.commits) (last_marks b) marks receipt.arrivals old.cells new.cells fired) e
       (subst (λ (n : ℕ). AreRounds plan n (last_marks b) marks receipt.arrivals old.cells new.cells fired) f
@@ -206,6 +220,13 @@ are_fired b slot job receipt old new fired marks left held plan c before e f g w
   few_keys = all_keys;
   few_waiting = all_waiting_too;
 }
+
+-- the cell of the job stands, where one is done
+pub job_stands : (b : SeenBook) (slot : ℕ) (job : Live) (c : ℕ) (logged : Option Logged) → IsWorking b slot job → AreTurnsKept b → IsStanding b.keys (key_done c job logged)
+job_stands b slot (live.Span piece attempted) c logged works turns = tt
+job_stands b slot (live.Batch batch) c logged works turns = tt
+job_stands b slot (live.Key turn) c None works turns = tt
+job_stands b slot (live.Key turn) c (Some logged) works turns = let own = turn_at b slot turn turns works in slice_get_within b.keys turn.cell own.cell own.is_at
 
 -- room for all of them
 pub room_for_fired : (plan : Plan) (queues : List SeenQueue) (held freed after : List SeenHolds) (most : ℕ) (fired : List Pane)

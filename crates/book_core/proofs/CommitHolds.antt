@@ -1,16 +1,12 @@
 -- The holds of a book at a commit: without the job, with what is left of it, and with the panes that fire.
-use Rattle.std.proofs.Common.{◌≡◌, ℕ, ◌+◌, ◌<◌, ℤ, Bool, true, false, cond, List, [], ◌∷◌, ◌++◌, length, map, refl, sym, ap, ◌∙◌, arith}
-use Rattle.std.specs.Prelude.{Option, Some, None, ◌==◌, ◌≤ℤ◌, nat_lt, fold}
-use Rattle.std.specs.Int.{int_min}
-use Rattle.std.specs.List.{All, filter, sum_by, enumerate_from}
-use Rattle.std.proofs.lemmas.Int.{ints, fold-int_min_bounds}
-use Rattle.std.proofs.lemmas.List.{map-append}
-use Rattle.std.proofs.lemmas.List.Elements.{All-nil, All-cons, All-head, All-append, All-weaker, filter-append}
-use Rattle.std.proofs.lemmas.List.Sums.{fold-append, sum_by-cons, sum_by-append}
+use Rattle.std.proofs.Common.{◌≡◌, ℕ, ◌+◌, ◌<◌, Bool, true, false, cond, List, [], ◌∷◌, ◌++◌, length, map, refl, ap, arith}
+use Rattle.std.specs.Prelude.{Option, Some, None, ◌≤ℤ◌, nat_lt}
+use Rattle.std.specs.List.{All, sum_by, enumerate_from}
+use Rattle.std.proofs.lemmas.List.Elements.{All-nil, All-cons, All-head, All-append, All-weaker}
+use Rattle.std.proofs.lemmas.List.Sums.{sum_by-cons, sum_by-append}
 use Rattle.beam_values.specs.Bags.{IsSameBag}
 use Rattle.beam_values.specs.Checked.{IsChecked}
-use Rattle.beam_values.specs.Marks.{least_mark, mark_of, marks_at}
-use Rattle.beam_values.specs.Times.{final_mark}
+use Rattle.beam_values.specs.Marks.{mark_of, marks_at}
 use Rattle.beam_values.proofs.Bags.{sum_by-map}
 use Rattle.beam_values.specs.declared.cell.Cell.{Cell}
 use Rattle.beam_values.specs.declared.cell.Pane.{Pane}
@@ -18,13 +14,13 @@ use Rattle.beam_values.specs.declared.file_text.FileText.{FileText}
 use Rattle.beam_values.specs.declared.marks.StageMarks.{StageMarks}
 use Rattle.beam_values.specs.declared.piece.Piece.{Piece}
 use Rattle.beam_values.specs.declared.plan.Plan.{Plan}
-use Rattle.beam_model.specs.Holds.{Hold, estimator_of, piece_hold, pane_hold, marks_held, least_hold}
+use Rattle.beam_model.specs.Holds.{Hold, estimator_of, piece_hold, pane_hold, least_hold}
 use Rattle.bundle_commit.specs.declared.job.Receipt.{Receipt}
 use Rattle.group_cells.specs.Commits.{RisesFrom}
 use Rattle.split_core.proofs.Ordered.{bag_with_piece}
 use Rattle.watermarks.proofs.Rising.{mark_of_rises}
 use Rattle.book_core.specs.Book.{SeenBook, last_marks, AreMarksOfBook}
-use Rattle.book_core.specs.Changes.{with_slot, committed, keys_after, pending_after, with_residual}
+use Rattle.book_core.specs.Changes.{with_slot, committed, keys_after, pending_after, with_residual, key_done}
 use Rattle.book_core.specs.Committing.{job_holds, residual_in, residual_holds}
 use Rattle.stateful_core.specs.Cells.{key_holds}
 use Rattle.book_core.specs.Indexes.{all_holds, own_holds}
@@ -49,6 +45,7 @@ use Rattle.book_core.proofs.Slotted.{All-append_left, All-append_right}
 job_weighs : (w : Hold → ℕ) (plan : Plan) (job : Live) → sum_by w (job_holds plan job) ≡ slot_weight w plan (Some job)
 job_weighs w plan (live.Span piece attempted) =
     omega (arith, sum_by-cons w (piece_hold plan piece) [], sum_by-cons (piece_weight w plan) piece [])
+job_weighs w plan (live.Key turn) = omega arith
 job_weighs w plan (live.Batch batch) =
     omega (
       arith,
@@ -87,6 +84,7 @@ with_residual_weighs w plan (Some piece) pending =
 pub pending_is : (pending : List Piece) (job : Live) (receipt : Receipt) → pending_after pending job receipt ≡ with_residual (residual_in job receipt) pending
 pending_is pending (live.Span piece attempted) receipt = refl
 pending_is pending (live.Batch batch) receipt = refl
+pending_is pending (live.Key turn) receipt = refl
 
 fired_holds_weigh : (w : Hold → ℕ) (before : List StageMarks) (n : ℕ) (fired : List Pane)
     → sum_by (pane_weight w) (map (held_fired before) (enumerate_from n fired)) ≡ sum_by w (map (pane_hold before) fired)
@@ -145,6 +143,7 @@ module _ (plan : Plan) (before : List StageMarks) where
       → All (IsHoldUp plan before) (job_holds plan job) → All (IsHoldUp plan before) (residual_holds plan (residual_in job receipt))
   unfolding IsHoldUp
   left_up told panes (live.Batch batch) receipt given up = All-nil (IsHoldUp plan before)
+  left_up told panes (live.Key turn) receipt given up = All-nil (IsHoldUp plan before)
   left_up told panes (live.Span piece attempted) receipt given up = by (nat_lt (worked_to piece attempted) piece.range.to)
     where
       risen : mark_of (estimator_of plan piece.node) piece.seen ≤ℤ mark_of (estimator_of plan piece.node) receipt.seen
@@ -164,7 +163,7 @@ module _ (plan : Plan) (before : List StageMarks) where
 -- nor does what waits at key cells and comes to them
 pub kept_rise : (told : Option (List FileText)) (b : SeenBook) (slot : ℕ) (job : Live) (receipt : Receipt) → IsChecked b.plan → KeysKept b → IsWorking b slot job
     → IsGiven told b.plan (job_of b.panes job) (attempted_of job) receipt → AreMarksOfBook b (last_marks b)
-    → RisesFrom b.plan (least_hold (kept_holds b slot job receipt ++ key_holds (keys_after b receipt))) (last_marks b)
+    → RisesFrom b.plan (least_hold (kept_holds b slot job receipt ++ key_holds (keys_after b job receipt))) (last_marks b)
 unfolding IsHoldUp
 kept_rise told b slot job receipt checked keys works given was marks are =
     let before = last_marks b in
@@ -173,9 +172,9 @@ kept_rise told b slot job receipt checked keys works given was marks are =
     let own_up = All-append_left (IsHoldUp b.plan before) (own_holds b) (key_holds b.keys) all_up in
     let key_up = All-append_right (IsHoldUp b.plan before) (own_holds b) (key_holds b.keys) all_up in
     let up = holds_of_bag b.plan before (own_holds b) (job_holds b.plan job ++ rest) (without_job b slot job works) own_up in
-    rise_from b.plan (all_holds b) (kept_holds b slot job receipt ++ key_holds (keys_after b receipt)) before marks checked was are
-    (All-append (IsHoldUp b.plan before) (kept_holds b slot job receipt) (key_holds (keys_after b receipt))
+    rise_from b.plan (all_holds b) (kept_holds b slot job receipt ++ key_holds (keys_after b job receipt)) before marks checked was are
+    (All-append (IsHoldUp b.plan before) (kept_holds b slot job receipt) (key_holds (keys_after b job receipt))
     (All-append (IsHoldUp b.plan before) (residual_holds b.plan (residual_in job receipt)) rest
     (left_up b.plan before told b.panes job receipt given (All-append_left (IsHoldUp b.plan before) (job_holds b.plan job) rest up))
     (All-append_right (IsHoldUp b.plan before) (job_holds b.plan job) rest up))
-    (keys_up b.plan before receipt.arrivals b.keys (keys_within b keys) key_up))
+    (keys_up b.plan before (key_done (length b.commits) job receipt.logged) receipt.arrivals b.keys (keys_within b keys) key_up))

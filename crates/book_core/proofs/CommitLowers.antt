@@ -1,13 +1,15 @@
 -- A commit of a job that goes on lowers what is left: at the job's node there is less, and before it as much as there was.
-use Rattle.std.proofs.Common.{◌≡◌, inl, inr, ℕ, zero, suc, ◌+◌, ◌-◌, ◌<◌, ◌≤◌, min, Bool, true, false, cond, List, [], ◌∷◌, ◌++◌, length, map, refl, sym, ap, subst, arith}
-use Rattle.std.specs.Prelude.{Option, Some, None, ◌==◌, nat_lt}
+use Rattle.std.proofs.Common.{◌≡◌, inl, inr, ℕ, zero, suc, ◌+◌, ◌-◌, ◌<◌, ◌≤◌, min, Bool, true, false, cond, List, [], ◌∷◌, ◌++◌, length, map, refl, sym, ap, subst, ◌∙◌, arith}
+use Rattle.std.specs.Prelude.{Option, Some, None, ◌==◌, nat_lt, slice_get}
 use Rattle.std.specs.List.{All, count_by, enumerate_from, flat_map, sum_by}
 use Rattle.std.proofs.lemmas.Bool.{cases_lt}
 use Rattle.std.proofs.lemmas.Bool.Decides.{nat_tests}
-use Rattle.std.proofs.lemmas.List.Elements.{All-head, All-tail}
+use Rattle.std.proofs.lemmas.List.Elements.{All-head, All-tail, All-weaker}
 use Rattle.std.proofs.lemmas.List.Sums.{sum_by-cons}
+use Rattle.std.proofs.lemmas.Option.{same_Some}
 use Rattle.beam_values.specs.Lines.{offsets}
 use Rattle.beam_values.proofs.Bags.{bag_count}
+use Rattle.beam_values.specs.declared.arrival.Arrival.{Arrival}
 use Rattle.beam_values.specs.declared.cell.Cell.{Cell}
 use Rattle.beam_values.specs.declared.cell.Pane.{Pane}
 use Rattle.beam_values.specs.declared.file_text.FileText.{FileText}
@@ -16,6 +18,13 @@ use Rattle.beam_values.specs.declared.piece.Piece.{Piece}
 use Rattle.beam_values.specs.declared.plan.Plan.{Plan}
 use Rattle.bundle_commit.specs.declared.job.Receipt.{Receipt}
 use Rattle.group_cells.proofs.Counting.{count-append}
+use Rattle.stateful_core.specs.Cells.{KeyCell}
+use Rattle.stateful_core.specs.Facts.{IsCellKept}
+use Rattle.stateful_core.specs.Lasting.{left_of}
+use Rattle.stateful_core.specs.Placing.{Done, fresh_cell, place, waits, with_done, with_waiting}
+use Rattle.stateful_core.specs.declared.key_job.KeyTurn.{KeyTurn}
+use Rattle.stateful_core.proofs.OnceOnly.{belongs_keyed}
+use Rattle.stateful_core.proofs.WhatIsLeft.{done_lowers}
 use Rattle.book_core.specs.Book.{SeenBook, HeldPane, batch_of, held, held_at, held_in, last_marks, live_pieces, piece_of}
 use Rattle.book_core.specs.Changes.{committed, residual_of, with_residual}
 use Rattle.book_core.specs.Committing.{node_of}
@@ -30,15 +39,19 @@ use Rattle.book_core.specs.declared.live.Live.TheVariants as live
 use Rattle.book_core.specs.declared.live.WaitingPane.{WaitingPane}
 use Rattle.book_core.proofs.Cases.{Commits}
 use Rattle.book_core.proofs.CellsKept.{batch_at_group}
+use Rattle.book_core.proofs.EachKeyCell.{IsWeightless, all_weigh, done_weighs}
 use Rattle.book_core.proofs.HeldMoves.{IsNonempty, fired_held}
 use Rattle.book_core.proofs.HeldOnce.{commit_bag, group_within}
 use Rattle.book_core.proofs.HoldBags.{piece_set_weighs, with_piece_weight}
-use Rattle.book_core.proofs.Lowered.{at_node, left_at_weighs}
+use Rattle.book_core.proofs.KeysKept.{cells_within}
+use Rattle.book_core.proofs.Lowered.{at_node, cell_left, left_at_weighs}
+use Rattle.book_core.proofs.Onward.{ArriveBehind, given_arrives}
 use Rattle.book_core.proofs.PiecesListed.{IsPlaced, placed_of}
 use Rattle.book_core.proofs.Queues.{held_fired}
 use Rattle.book_core.proofs.Settled.{NoneAt, none_fires}
 use Rattle.book_core.proofs.Slots.{All-slice_get}
 use Rattle.book_core.proofs.Slotted.{All-append_right, All-flat_at, one_weighs}
+use Rattle.book_core.proofs.Turns.{IsPlacedJob, placed_job, turn_at}
 
 -- ---- lists of numbers
 
@@ -136,12 +149,38 @@ other a m v less = let off : (a == m) ≡ false = grind (arith, nat_tests) in ap
 own : (a v : ℕ) → cond {A = ℕ} (a == a) v 0 ≡ v
 own a v = let same : (a == a) ≡ true = grind (arith, nat_tests) in ap (λ (t : Bool). cond {A = ℕ} t v 0) same
 
+-- ---- key cells
+
+cell_other : (m : ℕ) (cell : KeyCell) → m < cell.log.node → cell_left m cell ≡ 0
+unfolding cell_left
+cell_other m cell less = other cell.log.node m (left_of cell) less
+
+cell_own : (cell : KeyCell) → cell_left cell.log.node cell ≡ left_of cell
+unfolding cell_left
+cell_own cell = own cell.log.node (left_of cell)
+
+-- what arrives behind a node changes nothing there
+no_weight : (plan : Plan) (before : List StageMarks) (n m : ℕ) (arrival : Arrival) → m ≤ n → n < arrival.node → IsWeightless (cell_left m) plan before arrival
+no_weight plan before n m arrival upto less = record {
+  joins = λ cell e.
+      let at = (belongs_keyed arrival cell e).2 in
+      cell_other m (with_waiting cell (waits before arrival)) (omega (arith, at, upto, less)) ∙ sym (cell_other m cell (omega (arith, at, upto, less)));
+  opens = cell_other m (with_waiting (fresh_cell arrival) (waits before arrival)) (omega (arith, upto, less));
+}
+
+none_weigh : (plan : Plan) (before : List StageMarks) (n m : ℕ) (arrivals : List Arrival) → m ≤ n → ArriveBehind n arrivals → All (IsWeightless (cell_left m) plan before) arrivals
+none_weigh plan before n m arrivals upto behind =
+    All-weaker (λ (a : Arrival). n < a.node) (IsWeightless (cell_left m) plan before) (λ a less. no_weight plan before n m a upto less) arrivals behind
+
 -- ---- a commit
 
 module _ (told : Option (List FileText)) (b : SeenBook) (slot : ℕ) (job : Live) (receipt : Receipt) (cells : List Cell) (fired : List Pane) (marks : List StageMarks)
     (sane : IsSane b) (made : Commits told b slot job receipt cells fired marks) where
   abbrev after : SeenBook
   after = committed b slot job receipt cells fired marks
+
+  none_left : (m : ℕ) → m ≤ node_of job → All (IsWeightless (cell_left m) b.plan (last_marks b)) receipt.arrivals
+  none_left m upto = none_weigh b.plan (last_marks b) (node_of job) m receipt.arrivals upto (given_arrives told b.plan sane.formed.checked b.panes job receipt made.given)
 
   abbrev of_node : ℕ → HeldPane → Bool
   of_node m pane = pane.node == m
@@ -161,10 +200,11 @@ module _ (told : Option (List FileText)) (b : SeenBook) (slot : ℕ) (job : Live
 span_left : (b : SeenBook) (slot : ℕ) (piece : Piece) (attempted : Option ℕ) (receipt : Receipt) (cells : List Cell) (fired : List Pane) (marks : List StageMarks)
     → IsWorking b slot (live.Span piece attempted) → (m : ℕ)
     → count_by (λ (pane : HeldPane). pane.node == m) (held (committed b slot (live.Span piece attempted) receipt cells fired marks)) + 0 ≡ count_by (λ (pane : HeldPane). pane.node == m) (held b)
+    → All (IsWeightless (cell_left m) b.plan (last_marks b)) receipt.arrivals
     → left_at (committed b slot (live.Span piece attempted) receipt cells fired marks) m + cond (piece.node == m) (offsets_and_one piece) 0
     ≡ left_at b m + cond (piece.node == m) (rest_size piece (worked_to piece attempted)) 0
 unfolding at_node
-span_left b slot piece attempted receipt cells fired marks works m panes =
+span_left b slot piece attempted receipt cells fired marks works m panes none =
     omega (
       arith,
       panes,
@@ -173,14 +213,16 @@ span_left b slot piece attempted receipt cells fired marks works m panes =
       piece_set_weighs (at_node m) b slot (Some (live.Span piece attempted)) None works,
       rest_weighs piece attempted receipt b.pending m,
       one_weighs (at_node m) piece,
+      all_weigh (cell_left m) b.plan (last_marks b) receipt.arrivals none b.keys,
     )
 
 batch_left : (b : SeenBook) (slot : ℕ) (batch : Batch) (receipt : Receipt) (cells : List Cell) (fired : List Pane) (marks : List StageMarks)
     → IsWorking b slot (live.Batch batch) → (m : ℕ)
     → count_by (λ (pane : HeldPane). pane.node == m) (held (committed b slot (live.Batch batch) receipt cells fired marks)) + count_by (λ (pane : HeldPane). pane.node == m) (held_in batch ++ [])
     ≡ count_by (λ (pane : HeldPane). pane.node == m) (held b)
+    → All (IsWeightless (cell_left m) b.plan (last_marks b)) receipt.arrivals
     → left_at (committed b slot (live.Batch batch) receipt cells fired marks) m + cond (batch.node == m) (length batch.panes) 0 ≡ left_at b m
-batch_left b slot batch receipt cells fired marks works m panes =
+batch_left b slot batch receipt cells fired marks works m panes none =
     omega (
       arith,
       panes,
@@ -189,6 +231,24 @@ batch_left b slot batch receipt cells fired marks works m panes =
       piece_set_weighs (at_node m) b slot (Some (live.Batch batch)) None works,
       count-append (λ (pane : HeldPane). pane.node == m) (held_in batch) [],
       batch_counts m batch.node batch.panes,
+      all_weigh (cell_left m) b.plan (last_marks b) receipt.arrivals none b.keys,
+    )
+
+key_left : (b : SeenBook) (slot : ℕ) (turn : KeyTurn) (receipt : Receipt) (cells : List Cell) (fired : List Pane) (marks : List StageMarks)
+    → IsWorking b slot (live.Key turn) → (placed : IsPlacedJob b turn receipt) (m : ℕ)
+    → count_by (λ (pane : HeldPane). pane.node == m) (held (committed b slot (live.Key turn) receipt cells fired marks)) + 0 ≡ count_by (λ (pane : HeldPane). pane.node == m) (held b)
+    → All (IsWeightless (cell_left m) b.plan (last_marks b)) receipt.arrivals
+    → left_at (committed b slot (live.Key turn) receipt cells fired marks) m + cell_left m placed.made.cell
+    ≡ left_at b m + cell_left m (with_done (last_marks b) placed.done placed.made.cell)
+key_left b slot turn receipt cells fired marks works placed m panes none =
+    omega (
+      arith,
+      panes,
+      left_at_weighs b m,
+      left_at_weighs (committed b slot (live.Key turn) receipt cells fired marks) m,
+      piece_set_weighs (at_node m) b slot (Some (live.Key turn)) None works,
+      ap (λ (o : Option Done). sum_by (cell_left m) (place b.plan (last_marks b) o receipt.arrivals b.keys)) placed.is,
+      done_weighs (cell_left m) b.plan (last_marks b) placed.done receipt.arrivals b.keys placed.made.cell none placed.made.is_at,
     )
 
 pub commit_lowers : (told : Option (List FileText)) (b : SeenBook) (slot : ℕ) (job : Live) (receipt : Receipt) (cells : List Cell) (fired : List Pane) (marks : List StageMarks)
@@ -198,7 +258,7 @@ commit_lowers told b slot (live.Span piece attempted) receipt cells fired marks 
     let new = committed b slot job receipt cells fired marks in
     let at = λ (m : ℕ) (upto : m ≤ piece.node).
     span_left b slot piece attempted receipt cells fired marks made.works m
-    (panes_upto told b slot job receipt cells fired marks sane made m upto) in
+    (panes_upto told b slot job receipt cells fired marks sane made m upto) (none_left told b slot job receipt cells fired marks sane made m upto) in
     let rest = rest_size piece (worked_to piece attempted) in
     let less = rest_less piece attempted (All-slice_get IsAttemptedWithin b.slots slot (Some job) made.works sane.attempted) goes in
     lower_at b new piece.node refl (All-head (IsPlaced b) piece [] (All-flat_at piece_of b.slots slot (IsPlaced b) (Some job) made.works (All-append_right (IsPlaced b) b.pending (live_pieces b) (placed_of b sane.formed sane.listed sane.partitioned)))).0
@@ -216,7 +276,7 @@ commit_lowers told b slot (live.Batch batch) receipt cells fired marks sane made
     let new = committed b slot job receipt cells fired marks in
     let at = λ (m : ℕ) (upto : m ≤ batch.node).
     batch_left b slot batch receipt cells fired marks made.works m
-    (panes_upto told b slot job receipt cells fired marks sane made m upto) in
+    (panes_upto told b slot job receipt cells fired marks sane made m upto) (none_left told b slot job receipt cells fired marks sane made m upto) in
     let more : 1 ≤ length batch.panes =
     All-head IsNonempty batch [] (All-flat_at batch_of b.slots slot IsNonempty (Some job) made.works (All-append_right IsNonempty b.returned _ sane.held.batches)) in
     lower_at b new batch.node refl (group_within b.plan batch.node (batch_at_group b slot batch sane.held sane.panes.at_groups made.works))
@@ -227,3 +287,28 @@ commit_lowers told b slot (live.Batch batch) receipt cells fired marks sane made
     (let is = at batch.node (omega arith) in
     let a = own batch.node (length batch.panes) in
     omega (arith, is, a, more))
+commit_lowers told b slot (live.Key turn) receipt cells fired marks sane made goes =
+    let job = live.Key turn in
+    let new = committed b slot job receipt cells fired marks in
+    let placed = placed_job told b slot turn receipt sane.keys sane.turns made.works made.given in
+    let cell = placed.made.cell in
+    let after = with_done (last_marks b) placed.done cell in
+    let own = turn_at b slot turn sane.turns made.works in
+    let same : own.cell ≡ cell = same_Some own.cell cell (sym own.is_at ∙ ap (slice_get b.keys) (sym placed.cell_is) ∙ placed.made.is_at) in
+    let node : turn.node ≡ cell.log.node = ap (λ (t : KeyTurn). t.node) own.is ∙ ap (λ (c : KeyCell). c.log.node) same in
+    let kept = All-slice_get (IsCellKept b.plan b.commits) b.keys placed.done.cell cell placed.made.is_at sane.keys.each in
+    let less = done_lowers b.plan b.commits (last_marks b) cell placed.done (length b.commits) placed.made.count kept placed.made.works placed.made.folds in
+    let at = λ (m : ℕ) (upto : m ≤ turn.node).
+    key_left b slot turn receipt cells fired marks made.works placed m
+    (panes_upto told b slot job receipt cells fired marks sane made m upto) (none_left told b slot job receipt cells fired marks sane made m upto) in
+    lower_at b new cell.log.node refl
+    (All-slice_get (λ (c : KeyCell). c.log.node < length b.plan.nodes) b.keys placed.done.cell cell placed.made.is_at (cells_within b.plan b.commits b.keys sane.keys))
+    (λ m low.
+    let is = at m (omega (arith, low, node)) in
+    let a = cell_other m cell low in
+    let c = cell_other m after low in
+    omega (arith, is, a, c))
+    (let is = at cell.log.node (omega (arith, node)) in
+    let a = cell_own cell in
+    let c = cell_own after in
+    omega (arith, is, a, c, less))

@@ -149,21 +149,22 @@ write_no_group plan node e = by (slice_get plan.nodes node) e
     by None e = absurd (cc)
     by (Some n) e = write_kind n.kind e
 
+-- what passes one test, of what passes another that it passes too
+pub filter_within : {X : Type 0} (p q : X → Bool) → ((x : X) → p x ≡ true → q x ≡ true) → (xs : List X) → filter p (filter q xs) ≡ filter p xs
+filter_within p q within [] = refl
+filter_within {X = X} p q within (x ∷ xs) = by (p x) (q x) refl refl (filter_within p q within xs)
+  where
+    by : (s t : Bool) → p x ≡ s → q x ≡ t → filter p (filter q xs) ≡ filter p xs
+        → filter p (cond t (x ∷ filter q xs) (filter q xs)) ≡ cond s (x ∷ filter p xs) (filter p xs)
+    by true false e f behind = absurd (false≢true (sym f ∙ within x e))
+    by false false e f behind = behind
+    by s true e f behind = ap (λ (t : Bool). cond t (x ∷ filter p (filter q xs)) (filter p (filter q xs))) e ∙ ap (λ (l : List X). cond s (x ∷ l) l) behind
+
 -- those at Writes are among those that aren't at Groups
 pub written_same : (plan : Plan) (arrivals : List Arrival)
     → filter (λ arrival. is_write plan arrival.node) (filter (λ arrival. not (is_at_group plan arrival)) arrivals) ≡ filter (λ arrival. is_write plan arrival.node) arrivals
-written_same plan [] = refl
-written_same plan (a ∷ later) = by (is_group plan a.node) (is_write plan a.node) refl refl (written_same plan later)
-  where
-    by : (g w : Bool) → is_group plan a.node ≡ g → is_write plan a.node ≡ w
-        → filter (λ arrival. is_write plan arrival.node) (filter (λ arrival. not (is_at_group plan arrival)) later) ≡ filter (λ arrival. is_write plan arrival.node) later
-        → filter (λ arrival. is_write plan arrival.node) (cond (not g) (a ∷ filter (λ arrival. not (is_at_group plan arrival)) later) (filter (λ arrival. not (is_at_group plan arrival)) later))
-        ≡ cond w (a ∷ filter (λ arrival. is_write plan arrival.node) later) (filter (λ arrival. is_write plan arrival.node) later)
-    by true true e f behind = let none = write_no_group plan a.node f in absurd (false≢true (sym none ∙ e))
-    by true false e f behind = behind
-    by false w e f behind =
-        ap (λ (t : Bool). cond t (a ∷ filter (λ arrival. is_write plan arrival.node) (filter (λ arrival. not (is_at_group plan arrival)) later)) (filter (λ arrival. is_write plan arrival.node) (filter (λ arrival. not (is_at_group plan arrival)) later))) f
-        ∙ ap (λ (l : List Arrival). cond w (a ∷ l) l) behind
+written_same plan arrivals =
+    filter_within (λ (arrival : Arrival). is_write plan arrival.node) (λ arrival. not (is_at_group plan arrival)) (λ arrival e. ap not (write_no_group plan arrival.node e)) arrivals
 
 -- ---- where panes wait
 

@@ -25,7 +25,10 @@ use Rattle.split_core.proofs.Ordered.{length-with_piece}
 use Rattle.watermarks.specs.Holds.{SeenHolds}
 use Rattle.stateful_core.specs.Cells.{KeyCell, key_holds}
 use Rattle.book_core.specs.Book.{SeenBook, piece_of, last_marks, AreMarksOfBook, waiting_in}
-use Rattle.book_core.specs.Changes.{committed, done_after, keys_after, with_fired, with_residual, IsCommit}
+use Rattle.stateful_core.specs.Placing.{finish}
+use Rattle.stateful_core.proofs.FinishedHolds.{finish_sized}
+use Rattle.book_core.proofs.KeyDones.{finish_most}
+use Rattle.book_core.specs.Changes.{committed, done_after, key_done, keys_after, with_fired, with_residual, IsCommit}
 use Rattle.book_core.specs.Committing.{done_in, residual_in, with_done_in}
 use Rattle.book_core.specs.Indexes.{IsIndexed, AreHeldIn, all_holds, least_in, least_with, own_holds}
 use Rattle.book_core.specs.Sane.{IsSane}
@@ -51,7 +54,7 @@ pub record AreFired (b : SeenBook) (slot : ℕ) (job : Live) (receipt : Receipt)
   pub works : IsWorking b slot job
   pub cells : old.cells ≡ b.cells
   pub dropped : old.dropped ≡ b.dropped
-  pub committed : IsCommitted b.plan (length b.commits) (last_marks b) marks (least_with held (key_holds (keys_after b receipt))) receipt.arrivals left old new fired
+  pub committed : IsCommitted b.plan (length b.commits) (last_marks b) marks (least_with held (key_holds (keys_after b job receipt))) receipt.arrivals left old new fired
   pub rounds : AreRounds b.plan (length b.commits) (last_marks b) marks receipt.arrivals old.cells new.cells fired
   pub few : length fired ≤ length b.cells + length receipt.arrivals
   pub holding : AreHeldIn held (kept_holds b slot job receipt)
@@ -76,6 +79,7 @@ no_longer p (x ∷ xs) = by (p x) (no_longer p xs)
 
 residual_many : (job : Live) (receipt : Receipt) → length (option_to_list (residual_in job receipt)) ≤ length (piece_of (Some job))
 residual_many (live.Batch batch) receipt = omega arith
+residual_many (live.Key turn) receipt = omega arith
 residual_many (live.Span piece attempted) receipt = by (nat_lt (worked_to piece attempted) piece.range.to)
   where
     by : (t : Bool) → length (option_to_list (cond t (Some (record piece { range = record { from = worked_to piece attempted; to = piece.range.to }; seen = receipt.seen; attempts = 0 })) None)) ≤ 1
@@ -102,14 +106,14 @@ module _ (b : SeenBook) (slot : ℕ) (job : Live) (receipt : Receipt) (old new :
       ∙ sym (least_of_both (map (pane_hold (last_marks b)) fired) (kept_holds b slot job receipt) n)
       ∙ least_of_bag (map (pane_hold (last_marks b)) fired ++ kept_holds b slot job receipt) (own_holds after) (after_commit b slot job receipt new.cells fired marks at_nodes) n
 
-  least_after : (n : ℕ) → hold_with (least_with held (key_holds (keys_after b receipt))) (last_marks b) fired n ≡ least_hold (all_holds after) n
+  least_after : (n : ℕ) → hold_with (least_with held (key_holds (keys_after b job receipt))) (last_marks b) fired n ≡ least_hold (all_holds after) n
   least_after n =
-      three_least (least_in held n) (least_hold (key_holds (keys_after b receipt)) n) (least_hold (map (pane_hold (last_marks b)) fired) n)
-      ∙ ap (int_min (least_hold (key_holds (keys_after b receipt)) n)) (own_after n)
+      three_least (least_in held n) (least_hold (key_holds (keys_after b job receipt)) n) (least_hold (map (pane_hold (last_marks b)) fired) n)
+      ∙ ap (int_min (least_hold (key_holds (keys_after b job receipt)) n)) (own_after n)
       ∙ sym (least_of_all after n)
 
   marked : AreMarksOfBook after marks
-  marked = marks_as b.plan (hold_with (least_with held (key_holds (keys_after b receipt))) (last_marks b) fired) (least_hold (all_holds after)) marks least_after h.committed.marks
+  marked = marks_as b.plan (hold_with (least_with held (key_holds (keys_after b job receipt))) (last_marks b) fired) (least_hold (all_holds after)) marks least_after h.committed.marks
 
   is_commit : IsCommit b slot job receipt after
   is_commit = record {
@@ -124,6 +128,7 @@ module _ (b : SeenBook) (slot : ℕ) (job : Live) (receipt : Receipt) (old new :
   within : IsWithinLimits after
   within =
       let was = sane.formed.within in
+      let done = key_done (length b.commits) job receipt.logged in
       record {
         commits = omega (arith, h.few_commits, length-append b.commits (as_commit marks ∷ []));
         panes = omega (arith, h.few_panes, h.few, length-append b.panes fired);
@@ -135,11 +140,17 @@ module _ (b : SeenBook) (slot : ℕ) (job : Live) (receipt : Receipt) (old new :
           no_longer (is_dropped b.plan (last_marks b)) receipt.arrivals,
         );
         cells = h.few_cells;
-        keys = omega (arith, h.few_keys, all_many b.plan (last_marks b) receipt.arrivals b.keys);
+        keys = omega (
+          arith,
+          h.few_keys,
+          all_many b.plan (last_marks b) receipt.arrivals (finish (last_marks b) done b.keys),
+          finish_sized (last_marks b) done b.keys,
+        );
         waiting = omega (
           arith,
           h.few_waiting,
-          all_waiting b.plan (last_marks b) receipt.arrivals b.keys,
+          all_waiting b.plan (last_marks b) receipt.arrivals (finish (last_marks b) done b.keys),
+          finish_most (last_marks b) done b.keys,
           few_counted (λ (a : Arrival). is_stateful b.plan a.node) receipt.arrivals,
         );
         slots = omega (arith, was.slots, length-set b.slots slot None);
@@ -188,7 +199,7 @@ module _ (b : SeenBook) (slot : ℕ) (job : Live) (receipt : Receipt) (old new :
     pub slots_are : slots ≡ slice_set b.slots slot None
     pub pending_are : pending ≡ with_residual (residual_in job receipt) b.pending
     pub queues_are : queues ≡ map (with_fired (last_marks b) (enumerate_from (length b.panes) fired)) (enumerate_from 0 b.queues)
-    pub keys_are : keys ≡ keys_after b receipt
+    pub keys_are : keys ≡ keys_after b job receipt
     pub panes_are : panes ≡ b.panes ++ fired
     pub done_are : done ≡ with_done_in (done_in job) b.done
     pub written_are : written ≡ b.written ++ filter (λ arrival. is_write b.plan arrival.node) left
@@ -197,6 +208,7 @@ module _ (b : SeenBook) (slot : ℕ) (job : Live) (receipt : Receipt) (old new :
   done_is : (job : Live) (done : List Done) → with_done_in (done_in job) done ≡ done_after done job
   done_is (live.Span piece attempted) done = refl
   done_is (live.Batch batch) done = refl
+  done_is (live.Key turn) done = refl
 
   abbrev pub as_written : List (Option Live) → List Piece → List (List WaitingPane) → List KeyCell → List Pane → List Done → List Arrival → List CommitMarks → SeenBook
   as_written slots pending queues keys panes done written commits = record b {

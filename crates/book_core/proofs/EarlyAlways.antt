@@ -1,5 +1,5 @@
 -- From the opening on, what Groups took and put out ends early.
-use Rattle.std.proofs.Common.{◌≡◌, ℕ, ◌-◌, ◌<◌, ℤ, pos, Bool, true, false, cond, List, [], ◌∷◌, ◌++◌, length, map, get_or, refl, sym, ap, subst, arith}
+use Rattle.std.proofs.Common.{◌≡◌, ℕ, ◌-◌, ◌<◌, ℤ, pos, Bool, true, false, cond, List, [], ◌∷◌, ◌++◌, length, map, get_or, refl, sym, ap, subst, arith, ◌∙◌}
 use Rattle.std.specs.Prelude.{Option, Some, None, ◌==◌, ◌&&◌, ◌≤ℤ◌, ◌-ℤ◌, bytes_eq, int_le, int_lt, slice_get, unwrap_or}
 use Rattle.std.specs.List.{All, filter}
 use Rattle.std.proofs.lemmas.Bool.{and_from}
@@ -54,6 +54,27 @@ use Rattle.book_core.proofs.HeldOnce.{All-of_bag}
 use Rattle.book_core.proofs.SaneResults.{StaysCelled, fail_stays, take_stays}
 use Rattle.book_core.proofs.Shown.{stands_early}
 use Rattle.book_core.proofs.Slots.{All-slice_get}
+use Rattle.std.specs.Option.{option_map}
+use Rattle.std.proofs.lemmas.List.Elements.{All-set}
+use Rattle.beam_values.specs.Nodes.{is_stateful, is_stateful_kind}
+use Rattle.beam_values.specs.States.{KeptState}
+use Rattle.beam_values.specs.declared.fault.Cause.{Cause}
+use Rattle.beam_values.specs.declared.fault.Cause.TheVariants.{Call, Read}
+use Rattle.beam_values.specs.declared.fault.FaultNote.{FaultNote}
+use Rattle.beam_values.specs.declared.plan.NodeKind.{NodeKind}
+use Rattle.beam_values.specs.declared.plan.NodeKind.TheVariants.{Source, ParDo, Flatten, WindowInto, Group, Stateful, Write}
+use Rattle.pipeline_graph.specs.Rules.{HasSettings}
+use Rattle.stateful_core.specs.Cells.{KeyCell}
+use Rattle.stateful_core.specs.KeyWork.{key_outputs}
+use Rattle.stateful_core.specs.Placing.{place}
+use Rattle.stateful_core.specs.Taking.{change, set_by, tried, with_job}
+use Rattle.book_core.specs.Changes.{counted, ends_run, given_back, key_done, keys_after, note_of, stopped_where}
+use Rattle.book_core.specs.Facts.{IsEarlyCell}
+use Rattle.book_core.specs.Jobs.{Next, next_job}
+use Rattle.book_core.proofs.KeyOutputs.{outputs_all}
+use Rattle.book_core.proofs.KeysKept.{none_keyed}
+use Rattle.book_core.proofs.Taking.{take_cases}
+use Rattle.book_core.proofs.ToKeys.{none_placed}
 use Rattle.book_core.proofs.Through.{passes_have}
 
 last_early : (w : Interval) → last_time w ≤ℤ greatest_time
@@ -149,18 +170,83 @@ module _ (strategies : StrategiesOfPlans) (windows : WindowsOfKind) (settings : 
   range_early plan piece upto receipt checked true work = item_early plan piece upto receipt checked (item_at (items_told told plan) piece.node piece.item) refl work
   range_early plan piece upto receipt checked false work = work.ends
 
+  -- As long as no checked plan has a Stateful node. Where one has, the times of what waits there have to be early too, also of files that aren't told.
+  no_settings : (kind : NodeKind) → HasSettings kind → is_stateful_kind kind ≡ true → ⊥
+  no_settings (Stateful work args log) set is = let no = set.0 in cc
+  no_settings (Source work args files estimator) set is = cc
+  no_settings (ParDo work args) set is = cc
+  no_settings Flatten set is = cc
+  no_settings (WindowInto strategy) set is = cc
+  no_settings (Group trigger) set is = cc
+  no_settings (Write label) set is = cc
+
+  none_keyed_of : (b : SeenBook) → IsWellFormed b → (n : ℕ) → is_stateful b.plan n ≡ true → ⊥
+  none_keyed_of b formed n is = by (slice_get b.plan.nodes n) refl is
+    where
+      by : (found : Option Node) → slice_get b.plan.nodes n ≡ found → unwrap_or (option_map (λ (x : Node). is_stateful_kind x.kind) found) false ≡ true → ⊥
+      by None at is = cc
+      by (Some node) at is = no_settings node.kind (settings b.plan n node formed.checked at) is
+
+  no_node : (b : SeenBook) → IsWellFormed b → (n : ℕ) → is_stateful b.plan n ≡ false
+  no_node b formed n = by (is_stateful b.plan n) refl
+    where
+      by : (t : Bool) → is_stateful b.plan n ≡ t → t ≡ false
+      by false e = refl
+      by true e = absurd (none_keyed_of b formed n e)
+
   given_early : (b : SeenBook) (job : Live) (receipt : Receipt) → IsWellFormed b → All IsEarlyPane b.panes → IsGiven told b.plan (job_of b.panes job) (attempted_of job) receipt
       → All HasEarlyEnd receipt.arrivals
   given_early b (live.Span piece attempted) receipt formed panes given =
       range_early b.plan piece (worked_to piece attempted) receipt formed.checked (is_known told b.plan piece.node) given.0
+  given_early b (live.Key turn) receipt formed panes given =
+      let kept : KeptState = record { cells = turn.state; timers = turn.timers } in
+      arrivals_early receipt.arrivals (key_outputs b.plan turn.node turn.key turn.span turn.inputs kept) given.arrives
+      (outputs_all IsEarlyOutput b.plan turn.node tt (λ keyed e. absurd (none_keyed_of b formed turn.node keyed)) turn.key turn.span turn.inputs kept)
   given_early b (live.Batch batch) receipt formed panes given =
       arrivals_early receipt.arrivals (batch_outputs b.plan batch.node (panes_of b.panes batch.panes)) given.0
       (batch_early windows b.plan (λ n node here. settings b.plan n node formed.checked here) batch.node (panes_of b.panes batch.panes) (panes_of_early b.panes panes batch.panes))
 
   -- ---- each step
 
-  early_onward : (old new : SeenBook) → StaysCelled old new → IsEarlyBook old → IsEarlyBook new
-  early_onward old new s h = record {
+  change_early : (f : KeyCell → KeyCell) → ((cell : KeyCell) → IsEarlyCell cell → IsEarlyCell (f cell)) → (at : ℕ) (cells : List KeyCell) → All IsEarlyCell cells → All IsEarlyCell (change f at cells)
+  change_early f same at cells h = by (slice_get cells at) refl
+    where
+      by : (found : Option KeyCell) → slice_get cells at ≡ found → All IsEarlyCell (set_by f found at cells)
+      by None e = h
+      by (Some cell) e = All-set IsEarlyCell cells at (f cell) (same cell (All-slice_get IsEarlyCell cells at cell e h)) h
+
+  take_keys : (b : SeenBook) (slot : ℕ) (next : Next) → next_job b ≡ Some next → All IsEarlyCell b.keys → All IsEarlyCell (with_slot next.rest slot (Some next.job)).keys
+  take_keys b slot next is h =
+      take_cases b (λ (n : Next). All IsEarlyCell n.rest.keys) (λ batch among. h) (λ batch oldest. h)
+      (λ place cell found. change_early (with_job b.options.bundle) (λ c early. record { span = early.span; waiting = early.waiting }) place.at b.keys h) (λ piece later e. h) next is
+
+  back_keys : (b : SeenBook) (slot : ℕ) (job : Live) (at : ℕ) (cause : Cause) → All IsEarlyCell b.keys → All IsEarlyCell (given_back (with_slot b slot None) job at cause).keys
+  back_keys b slot (live.Span piece attempted) at cause h = h
+  back_keys b slot (live.Batch batch) at cause h = h
+  back_keys b slot (live.Key turn) at cause h = change_early tried (λ c early. record { span = early.span; waiting = early.waiting }) turn.cell b.keys h
+
+  counted_keys : (x : SeenBook) (cause : Cause) → All IsEarlyCell x.keys → All IsEarlyCell (counted x cause).keys
+  counted_keys x Call h = h
+  counted_keys x Read h = h
+
+  stop_keys : (x : SeenBook) (spent : Bool) (note : FaultNote) → All IsEarlyCell x.keys → All IsEarlyCell (stopped_where spent x note).keys
+  stop_keys x true note h = h
+  stop_keys x false note h = h
+
+  fail_keys : (b : SeenBook) (slot at : ℕ) (job : Live) (cause : Cause) → All IsEarlyCell b.keys → All IsEarlyCell (failed b slot job at cause).keys
+  fail_keys b slot at job cause h =
+      stop_keys (counted (given_back (with_slot b slot None) job at cause) cause) (ends_run b job cause) (note_of job at cause)
+      (counted_keys (given_back (with_slot b slot None) job at cause) cause (back_keys b slot job at cause h))
+
+  commit_keys : (b : SeenBook) (job : Live) (receipt : Receipt) → IsSane b → All IsEarlyCell (keys_after b job receipt)
+  commit_keys b job receipt sane =
+      let none = no_node b sane.formed in
+      subst (All IsEarlyCell) (sym (ap (place b.plan (last_marks b) (key_done (length b.commits) job receipt.logged) receipt.arrivals) (none_keyed b.plan b.commits b.keys none sane.keys)
+      ∙ none_placed b.plan none (last_marks b) (key_done (length b.commits) job receipt.logged) receipt.arrivals)) (All-nil IsEarlyCell)
+
+  early_onward : (old new : SeenBook) → StaysCelled old new → All IsEarlyCell new.keys → IsEarlyBook old → IsEarlyBook new
+  early_onward old new s keys h = record {
+    keys = keys;
     taken = subst (λ (l : List Cell). All EndsEarly (taken_by l)) (sym s.cells) h.taken;
     panes = subst (All IsEarlyPane) (sym s.panes) h.panes;
   }
@@ -194,17 +280,18 @@ module _ (strategies : StrategiesOfPlans) (windows : WindowsOfKind) (settings : 
       let taken = commit_taken (length b.commits) receipt.arrivals (is_taken b.plan (last_marks b)) b.cells cells entries h.taken (given_early b job receipt sane.formed h.panes made.given) in
       record {
         taken = taken;
+        keys = commit_keys b job receipt sane;
         panes = legal_early (committed b slot job receipt cells fired marks) (commit_legal strategies told b slot job receipt cells fired marks sane celled made) taken;
       }
 
   pub keeps_early : Keeps told (Both IsSane AreCellsKept) IsEarlyBook
   keeps_early = record {
-    opens = λ b first opening. subst IsEarlyBook (sym opening.is) (record { taken = All-nil EndsEarly; panes = All-nil IsEarlyPane });
-    enrolls = λ b known h within. record { taken = h.taken; panes = h.panes };
-    takes = λ b slot next known h running free is within. early_onward b (with_slot next.rest slot (Some next.job)) (take_stays b slot next is) h;
-    claims = λ b slot p piece attempted known h works may. record { taken = h.taken; panes = h.panes };
-    splits = λ b slot at piece attempted known h works inside behind within. record { taken = h.taken; panes = h.panes };
+    opens = λ b first opening. subst IsEarlyBook (sym opening.is) (record { taken = All-nil EndsEarly; panes = All-nil IsEarlyPane; keys = All-nil IsEarlyCell });
+    enrolls = λ b known h within. record { taken = h.taken; panes = h.panes; keys = h.keys };
+    takes = λ b slot next known h running free is within. early_onward b (with_slot next.rest slot (Some next.job)) (take_stays b slot next is) (take_keys b slot next is h.keys) h;
+    claims = λ b slot p piece attempted known h works may. record { taken = h.taken; panes = h.panes; keys = h.keys };
+    splits = λ b slot at piece attempted known h works inside behind within. record { taken = h.taken; panes = h.panes; keys = h.keys };
     commits = λ b slot job receipt cells fired marks known h made. commit_early b slot job receipt cells fired marks known.0 known.1 h made;
-    fails = λ b slot at job cause known h works. early_onward b (failed b slot job at cause) (fail_stays b slot at job cause) h;
-    stops = λ b known h. record { taken = h.taken; panes = h.panes };
+    fails = λ b slot at job cause known h works. early_onward b (failed b slot job at cause) (fail_stays b slot at job cause) (fail_keys b slot at job cause h.keys) h;
+    stops = λ b known h. record { taken = h.taken; panes = h.panes; keys = h.keys };
   }

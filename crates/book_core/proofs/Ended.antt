@@ -10,27 +10,25 @@ use Rattle.book_core.specs.Jobs.{next_job}
 use Rattle.book_core.specs.Runs.{IsThrough}
 use Rattle.book_core.specs.Sane.{AreKeptWith}
 use Rattle.book_core.specs.Steps.{IsIdle}
-use Rattle.book_core.proofs.BalancedAlways.{NoStateful}
-use Rattle.book_core.proofs.KeysKept.{none_keyed}
-use Rattle.book_core.proofs.NothingLeft.{all_marks_final, each_final, none_held, none_pending}
+use Rattle.book_core.proofs.NothingLeft.{all_marks_final, all_through, each_final, none_held, none_pending}
 use Rattle.book_core.proofs.Through.{all_shown, late_group}
 
 -- what each node of a checked plan has
 abbrev pub SettingsOfPlans : Type 0
 SettingsOfPlans = (plan : Plan) (n : ℕ) (node : Node) → IsChecked plan → slice_get plan.nodes n ≡ Some node → HasSettings node.kind
 
-pub kept_through : NoStateful → SettingsOfPlans → (b : SeenBook) → AreKeptWith b → next_job b ≡ None → IsIdle b → IsThrough b
-kept_through no_stateful settings b h none idle =
+pub kept_through : SettingsOfPlans → (b : SeenBook) → AreKeptWith b → next_job b ≡ None → IsIdle b → IsThrough b
+kept_through settings b h none idle =
     let formed = h.sane.formed in
     let once = h.sane.held in
     let groups = h.sane.panes.at_groups in
     let last = h.sane.marks.last in
-    let no_keys = none_keyed b.plan b.commits b.keys (λ n. no_stateful b.plan n formed.checked) h.sane.keys in
     record {
       pending = none_pending b formed once groups none idle;
       idle = idle;
       held = none_held b formed once groups none idle;
-      shown = all_shown b h.kept.cells.legal (all_marks_final b formed once groups none idle no_keys last) h.early.taken
+      keyed = all_through b formed once groups none idle h.sane.turns h.sane.keys last;
+      shown = all_shown b h.kept.cells.legal (all_marks_final b formed once groups none idle h.sane.turns h.sane.keys last) h.early.taken
           (late_group b.plan (λ n node at. settings b.plan n node formed.checked at));
-      final = each_final b formed once groups none idle no_keys last;
+      final = each_final b formed once groups none idle h.sane.turns h.sane.keys last;
     }

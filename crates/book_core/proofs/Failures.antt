@@ -16,22 +16,27 @@ use Rattle.retry_core.specs.declared.attempt.Next.{Next as Retried}
 use Rattle.retry_core.specs.declared.attempt.Next.TheVariants as retry
 use Rattle.retry_core.specs.declared.share.FaultShare.{FaultShare}
 use Rattle.split_core.proofs.Ordered.{bag_with_piece}
+use Rattle.stateful_core.specs.Cells.{KeyCell}
+use Rattle.stateful_core.specs.Taking.{is_some, tried}
+use Rattle.stateful_core.specs.declared.key_job.KeyTurn.{KeyTurn}
 use Rattle.watermarks.specs.Holds.{SeenHolds}
-use Rattle.book_core.specs.Book.{SeenBook, piece_of, batch_of}
+use Rattle.book_core.specs.Book.{SeenBook, piece_of, batch_of, live_batches, live_pieces, waiting_in}
 use Rattle.book_core.specs.Calls.{Makes, CanFail, failure_of}
 use Rattle.book_core.specs.Changes.{with_slot, given_back, counted, stopped_where, failed, ends_run, note_of, tried_piece, tried_batch, attempts_of}
-use Rattle.book_core.specs.Indexes.{IsIndexed, own_holds, pieces_back, batches_back, is_spent, stopped_after}
+use Rattle.book_core.specs.Indexes.{IsIndexed, own_holds, pieces_back, batches_back, keys_back, is_spent, stopped_after}
 use Rattle.book_core.specs.Sane.{IsSane}
 use Rattle.book_core.specs.Steps.{Fail, Step, IsFailure}
 use Rattle.book_core.specs.declared.live.Batch.{Batch}
 use Rattle.book_core.specs.declared.live.Failure.TheVariants as failure
 use Rattle.book_core.specs.declared.live.Live.{Live}
 use Rattle.book_core.specs.declared.live.Live.TheVariants as live
-use Rattle.book_core.proofs.Slotted.{All-flat_at}
+use Rattle.book_core.proofs.Slotted.{All-append_right, All-flat_at}
 use Rattle.book_core.proofs.Holding.{bag_held, all_weigh, piece_weight, batch_weight, slot_weight}
+use Rattle.book_core.proofs.KeyChanges.{change_weighs}
 use Rattle.book_core.proofs.Limits.{pieces_after, batches_after}
-use Rattle.book_core.proofs.SaneAlways.{step_sane}
-use Rattle.book_core.proofs.Slots.{set_weighs}
+use Rattle.book_core.proofs.SaneAlways.{each_tried, step_sane}
+use Rattle.book_core.proofs.Slots.{All-slice_get, set_weighs}
+use Rattle.book_core.proofs.Turns.{turn_at}
 
 -- a slot that can fail works something
 pub can_job : (b : SeenBook) (slot : ℕ) (job : Option Live) → CanFail b slot → slice_get b.slots slot ≡ Some job → (work : Live) × (job ≡ Some work)
@@ -44,6 +49,29 @@ below_limit b slot (live.Span piece attempted) sane works =
 below_limit b slot (live.Batch batch) sane works =
     All-head (λ (x : Batch). x.attempts < b.options.attempts) batch []
     (All-flat_at batch_of b.slots slot (λ (x : Batch). x.attempts < b.options.attempts) (Some (live.Batch batch)) works sane.attempts.worked_batches)
+below_limit b slot (live.Key turn) sane works =
+    let own = turn_at b slot turn sane.turns works in
+    let below = All-slice_get (λ (c : KeyCell). is_some c.live ≡ true → c.attempts < b.options.attempts) b.keys turn.cell own.cell own.is_at sane.attempts.worked_keys (ap is_some own.works) in
+    omega (arith, below, ap (λ (t : KeyTurn). t.attempts) own.is)
+
+-- no job failed more often than jobs failed at all
+pub tried_at_most : (b : SeenBook) (slot : ℕ) (job : Live) → IsSane b → slice_get b.slots slot ≡ Some (Some job) → attempts_of job ≤ b.calls + b.reads
+tried_at_most b slot (live.Span piece attempted) sane works =
+    All-head (λ (p : Piece). p.attempts ≤ b.calls + b.reads) piece []
+    (All-flat_at piece_of b.slots slot (λ (p : Piece). p.attempts ≤ b.calls + b.reads) (Some (live.Span piece attempted)) works
+    (All-append_right (λ (p : Piece). p.attempts ≤ b.calls + b.reads) b.pending (live_pieces b) (each_tried b sane.attempts)))
+tried_at_most b slot (live.Batch batch) sane works =
+    All-head (λ (x : Batch). x.attempts ≤ b.calls + b.reads) batch []
+    (All-flat_at batch_of b.slots slot (λ (x : Batch). x.attempts ≤ b.calls + b.reads) (Some (live.Batch batch)) works
+    (All-append_right (λ (x : Batch). x.attempts ≤ b.calls + b.reads) b.returned (live_batches b) sane.attempts.batches))
+tried_at_most b slot (live.Key turn) sane works =
+    let own = turn_at b slot turn sane.turns works in
+    omega (
+      arith,
+      sane.attempts.together,
+      set_weighs (λ (cell : KeyCell). cell.attempts) b.keys turn.cell own.cell (record own.cell { attempts = 0 }) own.is_at,
+      ap (λ (t : KeyTurn). t.attempts) own.is,
+    )
 
 pub few_attempts : (b : SeenBook) (slot : ℕ) (job : Live) → IsSane b → slice_get b.slots slot ≡ Some (Some job) → attempts_of job < 4294967295
 few_attempts b slot job sane works = omega (arith, below_limit b slot job sane works, sane.formed.allowed.attempts.1)
@@ -68,6 +96,7 @@ written b slot at job cause spent note share = record b {
   slots = slice_set b.slots slot None;
   pending = pieces_back b.pending job at cause;
   returned = batches_back b.returned job;
+  keys = keys_back b.keys job;
   calls = share.calls;
   reads = share.reads;
   stopped = stopped_after spent b.stopped note;
@@ -86,6 +115,10 @@ parts_are b slot at (live.Batch batch) Call true note = refl
 parts_are b slot at (live.Batch batch) Call false note = refl
 parts_are b slot at (live.Batch batch) Read true note = refl
 parts_are b slot at (live.Batch batch) Read false note = refl
+parts_are b slot at (live.Key turn) Call true note = refl
+parts_are b slot at (live.Key turn) Call false note = refl
+parts_are b slot at (live.Key turn) Read true note = refl
+parts_are b slot at (live.Key turn) Read false note = refl
 
 -- all holds stay
 back_holds : (b : SeenBook) (slot : ℕ) (job : Live) (at : ℕ) (cause : Cause) → slice_get b.slots slot ≡ Some (Some job) → IsSameBag (own_holds b)
@@ -112,6 +145,14 @@ back_holds b slot (live.Batch batch) at cause works = record {
     sum_by-cons (batch_weight w) batch [],
   );
 }
+back_holds b slot (live.Key turn) at cause works = record {
+  weighs = λ w. omega (
+    arith,
+    all_weigh w b,
+    all_weigh w (record b { slots = slice_set b.slots slot None }),
+    set_weighs (slot_weight w b.plan) b.slots slot (Some (live.Key turn)) None works,
+  );
+}
 
 answers : (b : SeenBook) (job : Live) (at : ℕ) (cause : Cause) (spent : Bool) → ends_run b job cause ≡ spent
     → IsFailure b job at cause (failure_of (cond spent (failure.Spent (note_of job at cause)) failure.Retry))
@@ -127,34 +168,42 @@ makes_failed b slot at job cause works = λ told. to_step told (ends_run b job c
     to_step told true e = record { job = job; works = works; answers = (e, refl); is = refl }
     to_step told false e = record { job = job; works = works; answers = e; is = refl }
 
+-- as many elements wait at key cells
+pub back_waiting : (cells : List KeyCell) (job : Live) → waiting_in (keys_back cells job) ≡ waiting_in cells
+back_waiting cells (live.Span piece attempted) = refl
+back_waiting cells (live.Batch batch) = refl
+back_waiting cells (live.Key turn) = change_weighs (λ (cell : KeyCell). length cell.waiting) tried (λ cell. refl) turn.cell cells
+
 -- what is written after a fail
-pub record IsWritten (b : SeenBook) (slot at : ℕ) (job : Live) (cause : Cause) (spent : Bool) (note : FaultNote) (slots : List (Option Live)) (pending : List Piece) (returned : List Batch) (share : FaultShare) (stopped : Option StopCause) : Type 0 where
+pub record IsWritten (b : SeenBook) (slot at : ℕ) (job : Live) (cause : Cause) (spent : Bool) (note : FaultNote) (slots : List (Option Live)) (pending : List Piece) (returned : List Batch) (keys : List KeyCell) (share : FaultShare) (stopped : Option StopCause) : Type 0 where
   pub works : slice_get b.slots slot ≡ Some (Some job)
   pub spent_is : spent ≡ ends_run b job cause
   pub note_is : note ≡ note_of job at cause
   pub slots_are : slots ≡ slice_set b.slots slot None
   pub pending_is : pending ≡ pieces_back b.pending job at cause
   pub returned_is : returned ≡ batches_back b.returned job
+  pub keys_are : keys ≡ keys_back b.keys job
   pub share_is : share ≡ share_after (share_of b) cause 1
   pub stopped_is : stopped ≡ stopped_after spent b.stopped note
 
-abbrev as_written : SeenBook → List (Option Live) → List Piece → List Batch → FaultShare → Option StopCause → SeenBook
-as_written b slots pending returned share stopped =
-    record b { slots = slots; pending = pending; returned = returned; calls = share.calls; reads = share.reads; stopped = stopped }
+abbrev as_written : SeenBook → List (Option Live) → List Piece → List Batch → List KeyCell → FaultShare → Option StopCause → SeenBook
+as_written b slots pending returned keys share stopped =
+    record b { slots = slots; pending = pending; returned = returned; keys = keys; calls = share.calls; reads = share.reads; stopped = stopped }
 
 module _ (b : SeenBook) (slot at : ℕ) (job : Live) (cause : Cause) (spent : Bool) (note : FaultNote) (slots : List (Option Live)) (pending : List Piece) (returned : List Batch)
-    (share : FaultShare) (stopped : Option StopCause) (h : IsWritten b slot at job cause spent note slots pending returned share stopped) where
-  is_failed : as_written b slots pending returned share stopped ≡ failed b slot job at cause
+    (keys : List KeyCell) (share : FaultShare) (stopped : Option StopCause) (h : IsWritten b slot at job cause spent note slots pending returned keys share stopped) where
+  is_failed : as_written b slots pending returned keys share stopped ≡ failed b slot job at cause
   is_failed =
-      ap (λ (x : List (Option Live)). as_written b x pending returned share stopped) h.slots_are
-      ∙ ap (λ (x : List Piece). as_written b (slice_set b.slots slot None) x returned share stopped) h.pending_is
-      ∙ ap (λ (x : List Batch). as_written b (slice_set b.slots slot None) (pieces_back b.pending job at cause) x share stopped) h.returned_is
-      ∙ ap (λ (x : FaultShare). as_written b (slice_set b.slots slot None) (pieces_back b.pending job at cause) (batches_back b.returned job) x stopped) h.share_is
-      ∙ ap (λ (x : Option StopCause). as_written b (slice_set b.slots slot None) (pieces_back b.pending job at cause) (batches_back b.returned job) (share_after (share_of b) cause 1) x)
+      ap (λ (x : List (Option Live)). as_written b x pending returned keys share stopped) h.slots_are
+      ∙ ap (λ (x : List Piece). as_written b (slice_set b.slots slot None) x returned keys share stopped) h.pending_is
+      ∙ ap (λ (x : List Batch). as_written b (slice_set b.slots slot None) (pieces_back b.pending job at cause) x keys share stopped) h.returned_is
+      ∙ ap (λ (x : List KeyCell). as_written b (slice_set b.slots slot None) (pieces_back b.pending job at cause) (batches_back b.returned job) x share stopped) h.keys_are
+      ∙ ap (λ (x : FaultShare). as_written b (slice_set b.slots slot None) (pieces_back b.pending job at cause) (batches_back b.returned job) (keys_back b.keys job) x stopped) h.share_is
+      ∙ ap (λ (x : Option StopCause). as_written b (slice_set b.slots slot None) (pieces_back b.pending job at cause) (batches_back b.returned job) (keys_back b.keys job) (share_after (share_of b) cause 1) x)
       (h.stopped_is ∙ ap (λ (t : Bool). stopped_after t b.stopped note) h.spent_is ∙ ap (λ (n : FaultNote). stopped_after (ends_run b job cause) b.stopped n) h.note_is)
       ∙ parts_are b slot at job cause (ends_run b job cause) (note_of job at cause)
 
-  pub makes_fail : Makes b slot (Fail at cause) (failure_of (cond spent (failure.Spent note) failure.Retry)) (as_written b slots pending returned share stopped)
+  pub makes_fail : Makes b slot (Fail at cause) (failure_of (cond spent (failure.Spent note) failure.Retry)) (as_written b slots pending returned keys share stopped)
   makes_fail =
       subst (Makes b slot (Fail at cause) (failure_of (cond spent (failure.Spent note) failure.Retry))) (sym is_failed)
       (subst (λ (n : FaultNote). Makes b slot (Fail at cause) (failure_of (cond spent (failure.Spent n) failure.Retry)) (failed b slot job at cause)) (sym h.note_is)
@@ -162,7 +211,7 @@ module _ (b : SeenBook) (slot at : ℕ) (job : Live) (cause : Cause) (spent : Bo
       (makes_failed b slot at job cause h.works)))
 
   pub fail_indexed : (held : List SeenHolds) (piece_room batch_room fewer fewer_batches : ℕ) → IsIndexed b held piece_room batch_room → piece_room ≤ fewer + length (piece_of (Some job))
-      → batch_room ≤ fewer_batches + length (batch_of (Some job)) → IsIndexed (as_written b slots pending returned share stopped) held fewer fewer_batches
+      → batch_room ≤ fewer_batches + length (batch_of (Some job)) → IsIndexed (as_written b slots pending returned keys share stopped) held fewer fewer_batches
   fail_indexed held piece_room batch_room fewer fewer_batches k some some_batches = record {
     sane = step_sane None b _ slot (Fail at cause) _ (makes_fail None) k.sane;
     sized = k.sized;

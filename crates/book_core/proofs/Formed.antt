@@ -27,7 +27,10 @@ use Rattle.split_core.proofs.Ordered.{ascending_with_piece, ascending_with_piece
 use Rattle.book_core.specs.Book.{SeenBook, piece_of, live_pieces, waiting_in}
 use Rattle.book_core.specs.Changes.{with_slot, split_off, committed, or_stopped, with_done, done_cmp, done_of, done_after, residual_of, with_residual, pending_after, given_back, tried_piece, counted, stopped_where, ends_run, note_of}
 use Rattle.book_core.specs.Facts.{IsWellFormed}
-use Rattle.book_core.specs.Jobs.{GivenBack, Oldest, Next, next_job, without_due}
+use Rattle.stateful_core.specs.Cells.{KeyCell}
+use Rattle.stateful_core.specs.Taking.{tried}
+use Rattle.stateful_core.specs.declared.place.Place.{Place}
+use Rattle.book_core.specs.Jobs.{GivenBack, Oldest, Next, next_job, with_key, without_due}
 use Rattle.book_core.specs.Runs.{IsOpening, AreOptions, AreLengthsOf}
 use Rattle.book_core.specs.Steps.{IsWorking, IsWithinLimits}
 use Rattle.book_core.specs.declared.live.Batch.{Batch}
@@ -35,7 +38,8 @@ use Rattle.book_core.specs.declared.live.Live.{Live}
 use Rattle.book_core.specs.declared.live.Live.TheVariants as live
 use Rattle.book_core.proofs.Cases.{Keeps, Anything, AreAlways, kept_alone, enrolled}
 use Rattle.book_core.proofs.Slotted.{flat_set_weighs, sum_ones}
-use Rattle.book_core.proofs.Taking.{IsAmong, IsOldest, take_cases}
+use Rattle.book_core.proofs.KeyChanges.{change_many, change_weighs}
+use Rattle.book_core.proofs.Taking.{IsAmong, IsNextCell, IsOldest, take_cases}
 
 -- ---- done ranges stay in order
 
@@ -151,7 +155,7 @@ formed_onward old new stays h within = record {
 take_formed : (b : SeenBook) (slot : ℕ) (next : Next) → IsWellFormed b → next_job b ≡ Some next → IsWithinLimits (with_slot next.rest slot (Some next.job))
     → IsWellFormed (with_slot next.rest slot (Some next.job))
 take_formed b slot next h is =
-    take_cases b (λ (n : Next). IsWithinLimits (with_slot n.rest slot (Some n.job)) → IsWellFormed (with_slot n.rest slot (Some n.job))) given waits pending next is
+    take_cases b (λ (n : Next). IsWithinLimits (with_slot n.rest slot (Some n.job)) → IsWellFormed (with_slot n.rest slot (Some n.job))) given waits keyed pending next is
   where
     given : (batch : Batch) → IsAmong b.returned batch → IsWithinLimits (with_slot (without_due b (GivenBack batch)).rest slot (Some (live.Batch batch)))
         → IsWellFormed (with_slot (without_due b (GivenBack batch)).rest slot (Some (live.Batch batch)))
@@ -164,6 +168,12 @@ take_formed b slot next h is =
     waits batch oldest within =
         formed_onward b (with_slot (without_due b (Oldest batch)).rest slot (Some (live.Batch batch)))
         (record { plan = refl; options = refl; files = refl; queues = length-set b.queues batch.node _; ascending = λ up. up; done = λ up. up }) h within
+
+    keyed : (place : Place) (cell : KeyCell) → IsNextCell b place cell → IsWithinLimits (with_slot (with_key b place.at cell).rest slot (Some (with_key b place.at cell).job))
+        → IsWellFormed (with_slot (with_key b place.at cell).rest slot (Some (with_key b place.at cell).job))
+    keyed place cell found within =
+        formed_onward b (with_slot (with_key b place.at cell).rest slot (Some (with_key b place.at cell).job))
+        (record { plan = refl; options = refl; files = refl; queues = refl; ascending = λ up. up; done = λ up. up }) h within
 
     pending : (piece : Piece) (later : List Piece) → b.pending ≡ piece ∷ later
         → IsWithinLimits (with_slot (record b { pending = later }) slot (Some (live.Span piece None)))
@@ -181,10 +191,12 @@ pending_up pending (live.Span piece attempted) receipt up = by (residual_of piec
     by None = up
     by (Some piece) = ascending_with_piece piece pending up
 pending_up pending (live.Batch batch) receipt up = up
+pending_up pending (live.Key turn) receipt up = up
 
 done_up : (done : List Done) (job : Live) → IsSorted done_cmp done → IsSorted done_cmp (done_after done job)
 done_up done (live.Span piece attempted) up = sorted_with_done (done_of piece attempted) done up
 done_up done (live.Batch batch) up = up
+done_up done (live.Key turn) up = up
 
 -- ---- a fail
 
@@ -221,6 +233,19 @@ back_formed b slot (live.Batch batch) at cause h works =
       waiting = omega arith;
       slots = omega (arith, length-set b.slots slot None);
       pieces = omega (arith, pieces_set b slot (Some (live.Batch batch)) None works);
+    }) h.within)
+back_formed b slot (live.Key turn) at cause h works =
+    let new = given_back (with_slot b slot None) (live.Key turn) at cause in
+    formed_onward b new (record { plan = refl; options = refl; files = refl; queues = refl; ascending = λ up. up; done = λ up. up }) h
+    (limits_onward b new (record {
+      commits = omega arith;
+      panes = omega arith;
+      dropped = omega arith;
+      cells = omega arith;
+      keys = omega (arith, change_many tried turn.cell b.keys);
+      waiting = omega (arith, change_weighs (λ (cell : KeyCell). length cell.waiting) tried (λ cell. refl) turn.cell b.keys);
+      slots = omega (arith, length-set b.slots slot None);
+      pieces = omega (arith, pieces_set b slot (Some (live.Key turn)) None works);
     }) h.within)
 
 counted_formed : (b : SeenBook) (cause : Cause) → IsWellFormed b → IsWellFormed (counted b cause)

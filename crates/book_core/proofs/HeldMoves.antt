@@ -19,7 +19,9 @@ use Rattle.bundle_commit.specs.declared.job.Receipt.{Receipt}
 use Rattle.book_core.specs.Book.{SeenBook, HeldPane, batch_of, live_batches, held, held_at, held_in, queued, queue_at, last_marks}
 use Rattle.book_core.specs.Changes.{with_slot, committed, given_back, tried_batch}
 use Rattle.book_core.specs.Facts.{is_held_at, AreHeldOnce}
-use Rattle.book_core.specs.Jobs.{GivenBack, Oldest, Next, next_job, without_due, first_pane, first_in}
+use Rattle.stateful_core.specs.Cells.{KeyCell}
+use Rattle.stateful_core.specs.declared.place.Place.{Place}
+use Rattle.book_core.specs.Jobs.{GivenBack, Oldest, Next, next_job, with_key, without_due, first_pane, first_in}
 use Rattle.book_core.specs.Steps.{IsWorking, IsFree}
 use Rattle.book_core.specs.declared.live.Batch.{Batch}
 use Rattle.book_core.specs.declared.live.Live.{Live}
@@ -193,12 +195,19 @@ module _ (b : SeenBook) (slot : ℕ) (free : IsFree b slot) (held_once : AreHeld
       let new = with_slot (record b { pending = later }) slot (Some (live.Span piece None)) in
       omega (arith, held_weighs w new, held_weighs w b, batch_set_weighs w b slot None (Some (live.Span piece None)) free)
 
+  keyed_moves : (place : Place) (cell : KeyCell) (w : HeldPane → ℕ)
+      → sum_by w (held (with_slot (with_key b place.at cell).rest slot (Some (with_key b place.at cell).job))) ≡ sum_by w (held b)
+  keyed_moves place cell w =
+      let new = with_slot (with_key b place.at cell).rest slot (Some (with_key b place.at cell).job) in
+      omega (arith, held_weighs w new, held_weighs w b, batch_set_weighs w b slot None (Some (with_key b place.at cell).job) free)
+
   -- a take leaves one bag
   pub take_moves : (next : Next) → next_job b ≡ Some next → IsSameBag (held (with_slot next.rest slot (Some next.job))) (held b)
   take_moves next is =
       take_cases b (λ (n : Next). IsSameBag (held (with_slot n.rest slot (Some n.job))) (held b))
       (λ batch among. record { weighs = given_moves batch among })
       (λ batch oldest. record { weighs = waits_move batch oldest })
+      (λ place cell found. record { weighs = keyed_moves place cell })
       (λ piece later e. record { weighs = pending_moves piece later e })
       next is
 
@@ -236,6 +245,14 @@ back_moves b slot (live.Span piece attempted) at cause works = record {
     held_weighs w (given_back (with_slot b slot None) (live.Span piece attempted) at cause),
     held_weighs w b,
     batch_set_weighs w b slot (Some (live.Span piece attempted)) None works,
+  );
+}
+back_moves b slot (live.Key turn) at cause works = record {
+  weighs = λ w. omega (
+    arith,
+    held_weighs w (given_back (with_slot b slot None) (live.Key turn) at cause),
+    held_weighs w b,
+    batch_set_weighs w b slot (Some (live.Key turn)) None works,
   );
 }
 back_moves b slot (live.Batch batch) at cause works = record {

@@ -29,7 +29,7 @@ use Rattle.group_cells.proofs.Counting.{count_none, none_counted, count-append}
 use Rattle.book_core.specs.Book.{SeenBook, HeldPane, batch_of, live_batches, held, held_in, last_marks}
 use Rattle.book_core.specs.Changes.{with_slot, cut_to, committed, given_back, tried_batch, counted, stopped_where, ends_run, note_of, or_stopped}
 use Rattle.book_core.specs.Facts.{is_held_at, IsHeldPane, AreHeldOnce, IsWellFormed}
-use Rattle.book_core.specs.Jobs.{Next, next_job, first_pane}
+use Rattle.book_core.specs.Jobs.{Next, next_job, with_key, first_pane}
 use Rattle.book_core.specs.Runs.{IsOpening, opened}
 use Rattle.book_core.specs.Steps.{IsWorking, IsFree}
 use Rattle.book_core.specs.declared.live.Batch.{Batch}
@@ -122,6 +122,7 @@ module _ (b : SeenBook) (h : AreHeldOnce b) where
       (All-filter (λ (other : Batch). not (first_pane other == first_pane batch)) IsNonempty b.returned returned_some)
       (one_some batch (All-middle IsNonempty among.front batch among.back (subst (All IsNonempty) among.is returned_some)).0))
       (λ batch oldest. set_some b.returned slot (Some (live.Batch batch)) returned_some (one_some batch (oldest_some batch oldest)))
+      (λ place cell found. set_some b.returned slot (Some (with_key b place.at cell).job) returned_some (All-nil IsNonempty))
       (λ piece later e. set_some b.returned slot (Some (live.Span piece None)) returned_some (All-nil IsNonempty))
       next is
     where
@@ -133,7 +134,7 @@ module _ (b : SeenBook) (h : AreHeldOnce b) where
   take_keeps : IsWellFormed b → (slot : ℕ) (next : Next) → IsFree b slot → next_job b ≡ Some next → AreHeldOnce (with_slot next.rest slot (Some next.job))
   take_keeps formed slot next free is =
       held_onward b (with_slot next.rest slot (Some next.job)) (take_moves b slot free h next is)
-      (take_cases b (λ (n : Next). n.rest.panes ≡ b.panes) (λ batch among. refl) (λ batch oldest. refl) (λ piece later e. refl) next is)
+      (take_cases b (λ (n : Next). n.rest.panes ≡ b.panes) (λ batch among. refl) (λ batch oldest. refl) (λ place cell found. refl) (λ piece later e. refl) next is)
       (take_some formed slot next is) h
 
   set_keeps : (slot : ℕ) (old new : Option Live) → slice_get b.slots slot ≡ Some old → batch_of old ≡ [] → batch_of new ≡ [] → AreHeldOnce (with_slot b slot new)
@@ -144,6 +145,9 @@ module _ (b : SeenBook) (h : AreHeldOnce b) where
   back_keeps : (slot : ℕ) (job : Live) (at : ℕ) (cause : Cause) → IsWorking b slot job → AreHeldOnce (given_back (with_slot b slot None) job at cause)
   back_keeps slot (live.Span piece attempted) at cause works =
       held_onward b (given_back (with_slot b slot None) (live.Span piece attempted) at cause) (back_moves b slot (live.Span piece attempted) at cause works) refl
+      (set_some b.returned slot None returned_some (All-nil IsNonempty)) h
+  back_keeps slot (live.Key turn) at cause works =
+      held_onward b (given_back (with_slot b slot None) (live.Key turn) at cause) (back_moves b slot (live.Key turn) at cause works) refl
       (set_some b.returned slot None returned_some (All-nil IsNonempty)) h
   back_keeps slot (live.Batch batch) at cause works =
       let one = All-head IsNonempty batch [] (All-flat_at batch_of b.slots slot IsNonempty (Some (live.Batch batch)) works live_some) in

@@ -21,7 +21,7 @@ use Rattle.watermarks.proofs.BagMembers.{bag_least}
 use Rattle.book_core.specs.Book.{SeenBook, piece_of, live_pieces, held, hold_of}
 use Rattle.book_core.specs.Changes.{with_slot, cut_to, rest_of, split_off, given_back, tried_piece}
 use Rattle.book_core.specs.Facts.{AreHeldOnce}
-use Rattle.book_core.specs.Jobs.{GivenBack, Oldest, Next, next_job, without_due}
+use Rattle.book_core.specs.Jobs.{GivenBack, Oldest, Next, next_job, with_key, without_due}
 use Rattle.book_core.specs.Steps.{IsWorking, IsFree}
 use Rattle.book_core.specs.declared.live.Live.{Live}
 use Rattle.book_core.specs.declared.live.Live.TheVariants as live
@@ -118,6 +118,15 @@ take_holds b slot next once free is =
         piece_set_weighs (piece_weight b.plan w) b slot None (Some (live.Batch batch)) free,
       );
     })
+    (λ place cell found moves. record {
+      weighs = λ w. omega (
+        arith,
+        holds_weigh w b,
+        holds_weigh w (with_slot (with_key b place.at cell).rest slot (Some (with_key b place.at cell).job)),
+        moves.weighs (λ h. w (hold_of h)),
+        piece_set_weighs (piece_weight b.plan w) b slot None (Some (with_key b place.at cell).job) free,
+      );
+    })
     (λ piece later e moves. record {
       weighs = λ w. omega (
         arith,
@@ -154,6 +163,15 @@ back_holds b slot (live.Span piece attempted) at cause works = record {
     piece_set_weighs (piece_weight b.plan w) b slot (Some (live.Span piece attempted)) None works,
     with_piece_weight (piece_weight b.plan w) (tried_piece piece) b.pending,
     one_weighs (piece_weight b.plan w) piece,
+  );
+}
+back_holds b slot (live.Key turn) at cause works = record {
+  weighs = λ w. omega (
+    arith,
+    holds_weigh w b,
+    holds_weigh w (given_back (with_slot b slot None) (live.Key turn) at cause),
+    (back_moves b slot (live.Key turn) at cause works).weighs (λ h. w (hold_of h)),
+    piece_set_weighs (piece_weight b.plan w) b slot (Some (live.Key turn)) None works,
   );
 }
 back_holds b slot (live.Batch batch) at cause works = record {

@@ -1,7 +1,7 @@
 -- What is known of a book's key cells: their nodes lie in the plan, and how many cells and elements a commit leaves.
-use Rattle.std.proofs.Common.{◌≡◌, ℕ, suc, ◌+◌, ◌≤◌, ◌<◌, ℤ, Bool, true, false, cond, List, [], ◌∷◌, ◌++◌, length, map, refl, sym, ap, ◌∙◌, length-append, arith}
+use Rattle.std.proofs.Common.{◌≡◌, ℕ, suc, ◌+◌, ◌≤◌, ◌<◌, ℤ, Bool, true, false, cond, List, [], ◌∷◌, ◌++◌, length, map, refl, sym, ◌∙◌, length-append, arith}
 use Rattle.std.specs.Prelude.{Option, Some, None, ◌==◌, count_by, slice_get, unwrap_or}
-use Rattle.std.specs.List.{All, filter, flat_map, sum_by}
+use Rattle.std.specs.List.{All, filter, flat_map}
 use Rattle.std.proofs.lemmas.Bool.Decides.{nat_tests}
 use Rattle.std.proofs.lemmas.List.Elements.{All-nil, All-cons, All-head, All-tail, All-append, All-filter, All-map, All-weaker}
 use Rattle.std.proofs.lemmas.List.Sums.{sum_by-cons}
@@ -23,8 +23,6 @@ use Rattle.beam_model.specs.Logs.{LeadsAt, LeadsIn}
 use Rattle.stateful_core.specs.Cells.{KeyCell, belongs, cell_holds, element_hold, key_holds, timer_hold}
 use Rattle.stateful_core.specs.Facts.{AreKeysKept, IsCellKept}
 use Rattle.stateful_core.specs.Placing.{fresh_cell, place_all, place_in, place_one, waits, with_waiting}
-use Rattle.stateful_core.specs.Seen.{cell_of, cells_of}
-use Rattle.stateful_core.specs.declared.slot.Slot.{Slot}
 use Rattle.stateful_core.specs.declared.waiting.Waiting.{Waiting}
 use Rattle.stateful_core.specs.Lasting.{arrival_holds}
 use Rattle.stateful_core.proofs.HoldsKept.{place_holds_bag}
@@ -49,23 +47,28 @@ cells_within plan commits cells h =
 pub keys_within : (b : SeenBook) → KeysKept b → All (λ cell. cell.log.node < length b.plan.nodes) b.keys
 keys_within b h = cells_within b.plan b.commits b.keys h
 
-elements_within : (many node : ℕ) → node < many → (waiting : List Waiting) → All (λ (hold : Hold). hold.node < many) (map (element_hold node) waiting)
-elements_within many node less [] = All-nil (λ (hold : Hold). hold.node < many)
-elements_within many node less (w ∷ ws) = All-cons (λ (hold : Hold). hold.node < many) (element_hold node w) (map (element_hold node) ws) less (elements_within many node less ws)
+-- what holds of the nodes of cells holds of the nodes that they hold back
+module _ (P : ℕ → Type 0) where
+  elements_at : (node : ℕ) → P node → (waiting : List Waiting) → All (λ (hold : Hold). P hold.node) (map (element_hold node) waiting)
+  elements_at node here [] = All-nil (λ (hold : Hold). P hold.node)
+  elements_at node here (w ∷ ws) = All-cons (λ (hold : Hold). P hold.node) (element_hold node w) (map (element_hold node) ws) here (elements_at node here ws)
 
-timers_within : (many node : ℕ) → node < many → (timers : List (Option ℤ)) → All (λ (hold : Hold). hold.node < many) (flat_map (timer_hold node) timers)
-timers_within many node less [] = All-nil (λ (hold : Hold). hold.node < many)
-timers_within many node less (None ∷ ts) = timers_within many node less ts
-timers_within many node less (Some mark ∷ ts) = All-cons (λ (hold : Hold). hold.node < many) (record { node = node; mark = mark }) (flat_map (timer_hold node) ts) less (timers_within many node less ts)
+  timers_at : (node : ℕ) → P node → (timers : List (Option ℤ)) → All (λ (hold : Hold). P hold.node) (flat_map (timer_hold node) timers)
+  timers_at node here [] = All-nil (λ (hold : Hold). P hold.node)
+  timers_at node here (None ∷ ts) = timers_at node here ts
+  timers_at node here (Some mark ∷ ts) = All-cons (λ (hold : Hold). P hold.node) (record { node = node; mark = mark }) (flat_map (timer_hold node) ts) here (timers_at node here ts)
+
+  pub holds_at : (cells : List KeyCell) → All (λ cell. P cell.log.node) cells → All (λ hold. P hold.node) (key_holds cells)
+  holds_at [] h = All-nil (λ (hold : Hold). P hold.node)
+  holds_at (cell ∷ cells) h =
+      let here = All-head (λ (c : KeyCell). P c.log.node) cell cells h in
+      All-append (λ (hold : Hold). P hold.node) (cell_holds cell) (key_holds cells)
+      (All-append (λ (hold : Hold). P hold.node) (map (element_hold cell.log.node) cell.waiting) (flat_map (timer_hold cell.log.node) cell.timer_holds)
+      (elements_at cell.log.node here cell.waiting) (timers_at cell.log.node here cell.timer_holds))
+      (holds_at cells (All-tail (λ (c : KeyCell). P c.log.node) cell cells h))
 
 pub holds_within : (many : ℕ) (cells : List KeyCell) → All (λ cell. cell.log.node < many) cells → All (λ hold. hold.node < many) (key_holds cells)
-holds_within many [] h = All-nil (λ (hold : Hold). hold.node < many)
-holds_within many (cell ∷ cells) h =
-    let here = All-head (λ (c : KeyCell). c.log.node < many) cell cells h in
-    All-append (λ (hold : Hold). hold.node < many) (cell_holds cell) (key_holds cells)
-    (All-append (λ (hold : Hold). hold.node < many) (map (element_hold cell.log.node) cell.waiting) (flat_map (timer_hold cell.log.node) cell.timer_holds)
-    (elements_within many cell.log.node here cell.waiting) (timers_within many cell.log.node here cell.timer_holds))
-    (holds_within many cells (All-tail (λ (c : KeyCell). c.log.node < many) cell cells h))
+holds_within many cells h = holds_at (λ node. node < many) cells h
 
 -- a cell's node is a Stateful one
 stateful_at : (commits : List CommitMarks) (kind : NodeKind) (log : KeyLog) (end : KeptState) → LeadsAt commits kind log end → is_stateful_kind kind ≡ true
@@ -77,13 +80,15 @@ stateful_in : (commits : List CommitMarks) (found : Option Node) (log : KeyLog) 
 stateful_in commits (Some node) log end leads = stateful_at commits node.kind log end leads
 stateful_in commits None log end leads = absurd leads
 
+pub cell_stateful : (plan : Plan) (commits : List CommitMarks) (cell : KeyCell) → IsCellKept plan commits cell → is_stateful plan cell.log.node ≡ true
+cell_stateful plan commits cell kept = stateful_in commits (slice_get plan.nodes cell.log.node) cell.log cell.kept kept.leads
+
 -- a plan without Stateful nodes has no key cells
 pub none_keyed : (plan : Plan) (commits : List CommitMarks) (cells : List KeyCell) → ((n : ℕ) → is_stateful plan n ≡ false) → AreKeysKept plan commits cells → cells ≡ []
 none_keyed plan commits [] none h = refl
 none_keyed plan commits (cell ∷ cells) none h =
     let kept = All-head (IsCellKept plan commits) cell cells h.each in
-    let is = stateful_in commits (slice_get plan.nodes cell.log.node) cell.log cell.kept kept.leads in
-    let no : true ≡ false = sym is ∙ none cell.log.node in
+    let no : true ≡ false = sym (cell_stateful plan commits cell kept) ∙ none cell.log.node in
     absurd (cc)
 
 -- ---- how many cells and elements there are

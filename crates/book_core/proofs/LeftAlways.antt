@@ -61,7 +61,7 @@ take_leaves b new slot job sane step =
     subst (λ (x : SeenBook). IsBelow (left x) (left b) ⊎ (left x ≡ left b)) (sym step.is) (take_no_higher b slot sane.formed sane.held step.free step.next step.is_next)
 
 pub fail_leaves : (b new : SeenBook) (slot at : ℕ) (cause : Cause) (answer : Answer) → IsSane b → IsFailing b slot at cause answer new → IsBelow (left new) (left b)
-fail_leaves b new slot at cause answer sane step = subst (λ (x : SeenBook). IsBelow (left x) (left b)) (sym step.is) (fail_lowers b slot at step.job cause sane.attempts step.works)
+fail_leaves b new slot at cause answer sane step = subst (λ (x : SeenBook). IsBelow (left x) (left b)) (sym step.is) (fail_lowers b slot at step.job cause sane.attempts sane.turns step.works)
 
 -- ---- a commit
 

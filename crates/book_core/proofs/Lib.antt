@@ -1,9 +1,11 @@
 pub mod Slots
+pub mod Writes
 pub mod Weighing
 pub mod Kept
 pub mod Partitioned
 pub mod Cases
 pub mod Taking
+pub mod KeyChanges
 pub mod Slotted
 pub mod Formed
 pub mod Queues
@@ -17,7 +19,10 @@ pub mod Seen
 pub mod KeysKept
 pub mod MarksKept
 pub mod RisingMarks
+pub mod Turns
 pub mod KeysAlways
+pub mod EachKeyCell
+pub mod FewTimers
 pub mod Reaching
 pub mod Limits
 pub mod Holding
@@ -30,6 +35,7 @@ pub mod Opened
 pub mod Takings
 pub mod CellOrder
 pub mod Steady
+pub mod KeyOutputs
 pub mod Gaps
 pub mod CellsKept
 pub mod CellsAlways
@@ -59,6 +65,7 @@ pub mod CommitRooms
 pub mod CommitFired
 pub mod CommitHolds
 pub mod ToKeys
+pub mod KeyDones
 pub mod CommitStep
 pub mod CommitCalls
 pub mod Worked

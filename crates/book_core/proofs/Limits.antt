@@ -11,6 +11,9 @@ use Rattle.book_core.specs.Jobs.{Next, next_job}
 use Rattle.book_core.specs.Steps.{IsWithinLimits}
 use Rattle.book_core.specs.declared.live.Live.{Live}
 use Rattle.book_core.proofs.Slots.{set_weighs}
+use Rattle.stateful_core.specs.Cells.{KeyCell}
+use Rattle.stateful_core.specs.Taking.{with_job}
+use Rattle.book_core.proofs.KeyChanges.{change_many, change_weighs}
 use Rattle.book_core.proofs.Taking.{take_cases}
 
 -- how many pieces and batches a slot works
@@ -53,6 +56,16 @@ takes_one b next is =
     take_cases b (TakesOne b)
     (λ batch among. record { pieces = omega arith; slots = refl; panes = refl; dropped = refl; cells = refl; keys = refl; waiting = refl; commits = refl })
     (λ batch oldest. record { pieces = omega arith; slots = refl; panes = refl; dropped = refl; cells = refl; keys = refl; waiting = refl; commits = refl })
+    (λ place cell found. record {
+      pieces = omega arith;
+      slots = refl;
+      panes = refl;
+      dropped = refl;
+      cells = refl;
+      keys = change_many (with_job b.options.bundle) place.at b.keys;
+      waiting = change_weighs (λ (c : KeyCell). length c.waiting) (with_job b.options.bundle) (λ c. refl) place.at b.keys;
+      commits = refl;
+    })
     (λ piece later e. record { pieces = omega (arith, ap (length {A = Piece}) e); slots = refl; panes = refl; dropped = refl; cells = refl; keys = refl; waiting = refl; commits = refl })
     next is
 

@@ -1,7 +1,7 @@
 -- A fail lowers what is left of a run, and a take doesn't raise it.
 use Rattle.std.proofs.Common.{◌≡◌, inl, inr, ℕ, ◌+◌, ◌-◌, ◌*◌, ◌<◌, Bool, true, false, cond, List, [], ◌∷◌, ◌++◌, length, map, refl, sym, ap, subst, ◌∙◌, arith}
 use Rattle.std.specs.Prelude.{Some, None, ◌==◌}
-use Rattle.std.specs.List.{count_by, sum_by}
+use Rattle.std.specs.List.{count_by, filter, sum_by}
 use Rattle.std.proofs.lemmas.List.Elements.{All-head}
 use Rattle.std.proofs.lemmas.List.Sums.{length-filter, sum_by-append}
 use Rattle.beam_values.specs.Lines.{offsets}
@@ -10,17 +10,24 @@ use Rattle.beam_values.specs.declared.fault.Cause.{Cause}
 use Rattle.beam_values.specs.declared.fault.Cause.TheVariants.{Call, Read}
 use Rattle.beam_values.specs.declared.fault.FaultNote.{FaultNote}
 use Rattle.beam_values.specs.declared.piece.Piece.{Piece}
+use Rattle.stateful_core.specs.Cells.{KeyCell}
+use Rattle.stateful_core.specs.Lasting.{left_of}
+use Rattle.stateful_core.specs.Taking.{is_some, tried, with_job}
 use Rattle.book_core.specs.Book.{SeenBook, HeldPane, piece_of, batch_of, live_pieces, live_batches, held, queued}
 use Rattle.book_core.specs.Changes.{with_slot, failed, given_back, counted, stopped_where, tried_piece, tried_batch, ends_run, note_of}
-use Rattle.book_core.specs.Facts.{AreAttemptsCounted}
-use Rattle.book_core.specs.Left.{IsBelow, attempts_left, left, left_at, left_of_batch, left_of_piece, offsets_and_one}
+use Rattle.book_core.specs.Facts.{AreAttemptsCounted, AreTurnsKept}
+use Rattle.book_core.specs.Left.{IsBelow, attempts_left, left, left_at, left_of_batch, left_of_cell, left_of_piece, offsets_and_one}
 use Rattle.book_core.specs.Steps.{IsWorking}
 use Rattle.book_core.specs.declared.live.Batch.{Batch}
 use Rattle.book_core.specs.declared.live.Live.{Live}
 use Rattle.book_core.specs.declared.live.Live.TheVariants as live
+use Rattle.book_core.proofs.EachKeyCell.{changed_weighs}
 use Rattle.book_core.proofs.HeldMoves.{back_moves}
 use Rattle.book_core.proofs.HoldBags.{piece_set_weighs, with_piece_weight}
+use Rattle.book_core.proofs.KeyChanges.{change_weighs}
+use Rattle.book_core.proofs.Slots.{All-slice_get}
 use Rattle.book_core.proofs.Slotted.{All-flat_at, flat_set_weighs, one_weighs}
+use Rattle.book_core.proofs.Turns.{turn_at}
 
 -- ---- one number lower at the end
 
@@ -43,8 +50,24 @@ lower_last b new plan same less =
 unfoldable pub at_node : ℕ → Piece → ℕ
 at_node node piece = cond (piece.node == node) (offsets_and_one piece) 0
 
+unfoldable pub cell_left : ℕ → KeyCell → ℕ
+cell_left node cell = cond (cell.log.node == node) (left_of cell) 0
+
+-- a job that is taken or given back leaves what is left of its cell
+pub taken_left : (node bundle : ℕ) (cell : KeyCell) → cell_left node (with_job bundle cell) ≡ cell_left node cell
+unfolding cell_left
+taken_left node bundle cell = refl
+
+tried_left : (node : ℕ) (cell : KeyCell) → cell_left node (tried cell) ≡ cell_left node cell
+unfolding cell_left
+tried_left node cell = refl
+
+cells_weigh : (node : ℕ) (cells : List KeyCell) → sum_by left_of (filter (λ (cell : KeyCell). cell.log.node == node) cells) ≡ sum_by (cell_left node) cells
+unfolding cell_left
+cells_weigh node cells = sum_by-filter left_of (λ (cell : KeyCell). cell.log.node == node) cells
+
 pub left_at_weighs : (b : SeenBook) (node : ℕ)
-    → left_at b node ≡ sum_by (at_node node) b.pending + sum_by (at_node node) (live_pieces b) + count_by (λ (pane : HeldPane). pane.node == node) (held b)
+    → left_at b node ≡ sum_by (at_node node) b.pending + sum_by (at_node node) (live_pieces b) + count_by (λ (pane : HeldPane). pane.node == node) (held b) + sum_by (cell_left node) b.keys
 unfolding at_node
 left_at_weighs b node =
     omega (
@@ -52,12 +75,14 @@ left_at_weighs b node =
       sum_by-filter offsets_and_one (λ (piece : Piece). piece.node == node) (b.pending ++ live_pieces b),
       sum_by-append (at_node node) b.pending (live_pieces b),
       length-filter (λ (pane : HeldPane). pane.node == node) (held b),
+      cells_weigh node b.keys,
     )
 
 pub attempts_weigh : (b : SeenBook)
     → attempts_left b
     ≡ sum_by (left_of_piece b.options.attempts) b.pending + sum_by (left_of_piece b.options.attempts) (live_pieces b)
     + (sum_by (left_of_batch b.options.attempts) b.returned + sum_by (left_of_batch b.options.attempts) (live_batches b)) + b.options.attempts * length (queued b)
+    + sum_by (left_of_cell b.options.attempts) b.keys
 attempts_weigh b =
     omega (
       arith,
@@ -67,7 +92,7 @@ attempts_weigh b =
 
 -- ---- a job is given back
 
-module _ (b : SeenBook) (slot at : ℕ) (cause : Cause) (counts : AreAttemptsCounted b) where
+module _ (b : SeenBook) (slot at : ℕ) (cause : Cause) (counts : AreAttemptsCounted b) (turns : AreTurnsKept b) where
   abbrev back : Live → SeenBook
   back job = given_back (with_slot b slot None) job at cause
 
@@ -93,6 +118,15 @@ module _ (b : SeenBook) (slot at : ℕ) (cause : Cause) (counts : AreAttemptsCou
         left_at_weighs (back (live.Batch batch)) node,
         bag_count (λ (pane : HeldPane). pane.node == node) (held (back (live.Batch batch))) (held b) (back_moves b slot (live.Batch batch) at cause works),
         piece_set_weighs (at_node node) b slot (Some (live.Batch batch)) None works,
+      )
+  back_nodes (live.Key turn) works node =
+      omega (
+        arith,
+        left_at_weighs b node,
+        left_at_weighs (back (live.Key turn)) node,
+        bag_count (λ (pane : HeldPane). pane.node == node) (held (back (live.Key turn))) (held b) (back_moves b slot (live.Key turn) at cause works),
+        piece_set_weighs (at_node node) b slot (Some (live.Key turn)) None works,
+        change_weighs (cell_left node) tried (tried_left node) turn.cell b.keys,
       )
 
   one_less : (attempts : ℕ) → attempts < most → most - (attempts + 1) + 1 ≡ most - attempts
@@ -126,6 +160,18 @@ module _ (b : SeenBook) (slot at : ℕ) (cause : Cause) (counts : AreAttemptsCou
         one_weighs (left_of_batch most) batch,
         one_less batch.attempts below,
       )
+  back_lower (live.Key turn) works =
+      let own = turn_at b slot turn turns works in
+      let below = All-slice_get (λ (c : KeyCell). is_some c.live ≡ true → c.attempts < most) b.keys turn.cell own.cell own.is_at counts.worked_keys (ap is_some own.works) in
+      omega (
+        arith,
+        attempts_weigh b,
+        attempts_weigh (back (live.Key turn)),
+        piece_set_weighs (left_of_piece most) b slot (Some (live.Key turn)) None works,
+        flat_set_weighs batch_of b.slots slot (left_of_batch most) (Some (live.Key turn)) None works,
+        changed_weighs (left_of_cell most) tried turn.cell b.keys own.cell own.is_at,
+        one_less own.cell.attempts below,
+      )
 
 -- ---- counts and stops are no matter
 
@@ -145,12 +191,13 @@ stop_left false x note = record { plan = refl; nodes = λ node. refl; attempts =
 back_plan : (b : SeenBook) (slot : ℕ) (job : Live) (at : ℕ) (cause : Cause) → (given_back (with_slot b slot None) job at cause).plan ≡ b.plan
 back_plan b slot (live.Span piece attempted) at cause = refl
 back_plan b slot (live.Batch batch) at cause = refl
+back_plan b slot (live.Key turn) at cause = refl
 
-pub fail_lowers : (b : SeenBook) (slot at : ℕ) (job : Live) (cause : Cause) → AreAttemptsCounted b → IsWorking b slot job → IsBelow (left (failed b slot job at cause)) (left b)
-fail_lowers b slot at job cause counts works =
+pub fail_lowers : (b : SeenBook) (slot at : ℕ) (job : Live) (cause : Cause) → AreAttemptsCounted b → AreTurnsKept b → IsWorking b slot job → IsBelow (left (failed b slot job at cause)) (left b)
+fail_lowers b slot at job cause counts turns works =
     let back = given_back (with_slot b slot None) job at cause in
     let first = counted_left back cause in
     let then = stop_left (ends_run b job cause) (counted back cause) (note_of job at cause) in
     lower_last b (failed b slot job at cause) (then.plan ∙ first.plan ∙ back_plan b slot job at cause)
-    (λ node. then.nodes node ∙ first.nodes node ∙ back_nodes b slot at cause counts job works node)
-    (omega (arith, then.attempts, first.attempts, back_lower b slot at cause counts job works))
+    (λ node. then.nodes node ∙ first.nodes node ∙ back_nodes b slot at cause counts turns job works node)
+    (omega (arith, then.attempts, first.attempts, back_lower b slot at cause counts turns job works))

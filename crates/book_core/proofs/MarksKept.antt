@@ -23,7 +23,7 @@ use Rattle.group_cells.specs.Commits.{NoneFalls}
 use Rattle.split_core.proofs.Ordered.{All-with_piece}
 use Rattle.watermarks.proofs.Rising.{mark_of_rises, marks_rise, below_hold}
 use Rattle.book_core.specs.Book.{SeenBook, HeldPane, piece_of, batch_of, live_pieces, held, held_in, hold_of, holds, last_marks, AreMarksOfBook}
-use Rattle.book_core.specs.Changes.{committed, pending_after, residual_of, with_residual}
+use Rattle.book_core.specs.Changes.{committed, pending_after, residual_of, with_residual, key_done}
 use Rattle.book_core.specs.Facts.{AreHeldOnce, IsWellFormed}
 use Rattle.book_core.specs.Jobs.{job_of, attempted_of}
 use Rattle.book_core.specs.Work.{IsGiven, worked_to, is_known}
@@ -34,7 +34,7 @@ use Rattle.book_core.proofs.HeldMoves.{fired_held}
 use Rattle.book_core.proofs.HeldOnce.{All-of_bag, commit_bag}
 use Rattle.beam_values.specs.declared.arrival.Arrival.{Arrival}
 use Rattle.stateful_core.specs.Cells.{KeyCell, key_holds}
-use Rattle.stateful_core.specs.Placing.{place}
+use Rattle.stateful_core.specs.Placing.{place, Done as KeyDone}
 use Rattle.stateful_core.proofs.HoldsKept.{place_above}
 use Rattle.book_core.proofs.KeysKept.{KeysKept, holds_within, keys_within}
 use Rattle.book_core.specs.Indexes.{all_holds}
@@ -150,11 +150,11 @@ rise_from plan old new before after checked was is up = marks_rise plan (least_h
 -- ---- key cells
 
 -- what waits at key cells, and comes to them, holds no node below the mark after it
-pub keys_up : (plan : Plan) (before : List StageMarks) (arrivals : List Arrival) (cells : List KeyCell) → All (λ cell. cell.log.node < length plan.nodes) cells
-    → All (λ hold. IsUp plan before hold.node hold.mark) (key_holds cells) → All (λ hold. IsUp plan before hold.node hold.mark) (key_holds (place plan before None arrivals cells))
-keys_up plan before arrivals cells within up =
-    All-weaker (λ hold. (marks_at before hold.node).mark_out ≤ℤ hold.mark) (λ hold. IsUp plan before hold.node hold.mark) (λ hold above less. above) (key_holds (place plan before None arrivals cells))
-    (place_above before plan None arrivals cells (λ k d inside. up k d inside (holds_within (length plan.nodes) cells within k d inside)))
+pub keys_up : (plan : Plan) (before : List StageMarks) (done : Option KeyDone) (arrivals : List Arrival) (cells : List KeyCell) → All (λ cell. cell.log.node < length plan.nodes) cells
+    → All (λ hold. IsUp plan before hold.node hold.mark) (key_holds cells) → All (λ hold. IsUp plan before hold.node hold.mark) (key_holds (place plan before done arrivals cells))
+keys_up plan before done arrivals cells within up =
+    All-weaker (λ hold. (marks_at before hold.node).mark_out ≤ℤ hold.mark) (λ hold. IsUp plan before hold.node hold.mark) (λ hold above less. above) (key_holds (place plan before done arrivals cells))
+    (place_above before plan done arrivals cells (λ k d inside. up k d inside (holds_within (length plan.nodes) cells within k d inside)))
 
 -- ---- a commit
 
@@ -188,6 +188,7 @@ module _ (plan : Plan) (before : List StageMarks) where
   pending_up told panes (live.Span piece attempted) receipt pending given up all =
       residual_up told piece attempted receipt pending given (All-head (IsPieceUp plan before) piece [] up) all
   pending_up told panes (live.Batch batch) receipt pending given up all = all
+  pending_up told panes (live.Key turn) receipt pending given up all = all
 
   fired_up : (n : ℕ) (fired : List Pane) → All (IsPaneUp plan before) (map (held_fired before) (enumerate_from n fired))
   unfolding IsPaneUp
@@ -237,7 +238,7 @@ module _ (told : Option (List FileText)) (b : SeenBook) (slot : ℕ) (job : Live
 
   keys_are : All (λ hold. IsUp b.plan before hold.node hold.mark) (key_holds after.keys)
   keys_are =
-      keys_up b.plan before receipt.arrivals b.keys (keys_within b keys)
+      keys_up b.plan before (key_done (length b.commits) job receipt.logged) receipt.arrivals b.keys (keys_within b keys)
       (All-append_right (λ hold. IsUp b.plan before hold.node hold.mark) (map hold_of (held b)) (key_holds b.keys)
       (All-append_right (λ hold. IsUp b.plan before hold.node hold.mark) (map (piece_hold b.plan) (b.pending ++ live_pieces b)) (holds b) all_up))
 

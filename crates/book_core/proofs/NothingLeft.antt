@@ -1,7 +1,9 @@
 -- Where no job can be taken and nothing is worked, nothing is pending or waits, and every mark is FINAL.
 use Rattle.std.proofs.Common.{◌≡◌, inl, inr, ℕ, zero, suc, ◌+◌, ◌<◌, ◌≤◌, Bool, true, false, cond, List, [], ◌∷◌, ◌++◌, length, get_or, map, refl, sym, ap, subst, ◌∙◌, arith}
 use Rattle.std.specs.Prelude.{Option, Some, None, ◌==◌, fold, slice_get, unwrap_or, nat_lt}
-use Rattle.std.specs.List.{All, filter, flat_map}
+use Rattle.std.specs.List.{All, count_by, filter, flat_map}
+use Rattle.std.specs.Option.{option_map}
+use Rattle.std.proofs.lemmas.Option.{slice_get-get_or}
 use Rattle.std.proofs.lemmas.Bool.{cases_lt}
 use Rattle.std.proofs.lemmas.Bool.Decides.{nat_tests}
 use Rattle.std.proofs.lemmas.List.{get_or_default}
@@ -15,9 +17,9 @@ use Rattle.beam_values.specs.declared.piece.Piece.{Piece}
 use Rattle.beam_model.specs.Holds.{Hold, least_hold, piece_hold}
 use Rattle.watermarks.proofs.NodeMarks.{final_stage, marks_at-is}
 use Rattle.watermarks.proofs.Rising.{all_final}
-use Rattle.book_core.specs.Book.{SeenBook, HeldPane, batch_of, held, held_at, held_in, hold_of, live_batches, live_pieces, piece_of, queue_at, queued, last_marks, AreMarksOfBook}
+use Rattle.book_core.specs.Book.{SeenBook, HeldPane, batch_of, cell_worked, held, held_at, held_in, hold_of, live_batches, live_pieces, piece_of, queue_at, queued, last_marks, AreMarksOfBook}
 use Rattle.book_core.specs.Facts.{AreHeldOnce, IsHeldPane, IsWellFormed}
-use Rattle.book_core.specs.Jobs.{Due, due_at, due_or_piece, first_due, given_back_or, lower_batch, lowest_of, next_job, oldest, or_due, first_pane, without_first}
+use Rattle.book_core.specs.Jobs.{Due, due_at, due_or_other, first_due, key_or_piece, next_cell, with_key, given_back_or, lower_batch, lowest_of, next_job, oldest, or_due, first_pane, without_first}
 use Rattle.book_core.specs.Steps.{IsIdle}
 use Rattle.book_core.specs.declared.live.Batch.{Batch}
 use Rattle.book_core.specs.declared.live.Live.{Live}
@@ -25,7 +27,17 @@ use Rattle.book_core.specs.declared.live.WaitingPane.{WaitingPane}
 use Rattle.book_core.proofs.CellsKept.{nonempty_held}
 use Rattle.book_core.proofs.HeldMoves.{IsNonempty}
 use Rattle.book_core.proofs.HeldOnce.{group_within}
-use Rattle.stateful_core.specs.Cells.{key_holds}
+use Rattle.beam_values.specs.declared.marks.CommitMarks.{CommitMarks}
+use Rattle.beam_values.specs.declared.plan.Plan.{Plan}
+use Rattle.stateful_core.specs.Cells.{KeyCell, key_holds}
+use Rattle.stateful_core.specs.Facts.{AreKeysKept, IsCellKept, IsCellThrough}
+use Rattle.stateful_core.specs.Taking.{is_free, is_some}
+use Rattle.stateful_core.specs.Working.{is_live, is_live_at, is_number}
+use Rattle.stateful_core.specs.declared.place.Place.{Place}
+use Rattle.stateful_core.proofs.AtTheEnd.{no_holds, nothing_left}
+use Rattle.stateful_core.proofs.NextReady.{next_found}
+use Rattle.watermarks.proofs.CheckedNodes.{inputs_lower}
+use Rattle.book_core.specs.Facts.{AreTurnsKept}
 use Rattle.book_core.specs.Indexes.{all_holds}
 use Rattle.book_core.proofs.Queues.{queued_from}
 use Rattle.book_core.proofs.Slotted.{All-append_left, All-append_right, All-of_flat_map}
@@ -146,9 +158,15 @@ module _ (b : SeenBook) (formed : IsWellFormed b) (once : AreHeldOnce b) (groups
       (All-append_right (IsHeldPane b) (queued b) (flat_map held_in b.returned ++ flat_map held_in (live_batches b)) once.panes)))
 
   -- what next_job found
-  next_none : (due : Option Due) (pieces : List Piece) → due_or_piece b due ≡ None → (due ≡ None) × (without_first b b.pending ≡ None)
-  next_none None pieces e = (refl, e)
-  next_none (Some due) pieces e = absurd (cc)
+  next_none : (due : Option Due) → due_or_other b due ≡ None → (due ≡ None) × (key_or_piece b (next_cell b) ≡ None)
+  next_none None e = (refl, e)
+  next_none (Some due) e = absurd (cc)
+
+  cell_none : (place : Option Place) → next_cell b ≡ place → key_or_piece b place ≡ None → (place ≡ None) × (without_first b b.pending ≡ None)
+  cell_none None at e = (refl, e)
+  cell_none (Some place) at e =
+      let first = next_found (last_marks b) b.keys place at in
+      absurd (none_some (with_key b place.at first.cell) (sym (ap (option_map (with_key b place.at)) first.is_at) ∙ e))
 
   first_none : (pieces : List Piece) → without_first b pieces ≡ None → pieces ≡ []
   first_none [] e = refl
@@ -156,10 +174,13 @@ module _ (b : SeenBook) (formed : IsWellFormed b) (once : AreHeldOnce b) (groups
 
   module _ (none : next_job b ≡ None) (idle : IsIdle b) where
     no_due : first_due b ≡ None
-    no_due = (next_none (first_due b) b.pending none).0
+    no_due = (next_none (first_due b) none).0
+
+    pub no_cell : next_cell b ≡ None
+    no_cell = (cell_none (next_cell b) refl (next_none (first_due b) none).1).0
 
     pub none_pending : b.pending ≡ []
-    none_pending = first_none b.pending (next_none (first_due b) b.pending none).1
+    none_pending = first_none b.pending (cell_none (next_cell b) refl (next_none (first_due b) none).1).1
 
     queues_empty : All (λ queue. queue ≡ []) b.queues
     queues_empty k d within =
@@ -171,20 +192,52 @@ module _ (b : SeenBook) (formed : IsWellFormed b) (once : AreHeldOnce b) (groups
         ∙ ap (λ (l : List Batch). flat_map held_in l ++ flat_map held_in (live_batches b)) (none_of_none (length b.plan.nodes) b.returned returned_within (no_returned b no_due))
         ∙ ap (flat_map held_in) (idle_batches b idle)
 
-    no_holds : b.keys ≡ [] → all_holds b ≡ []
-    no_holds no_keys =
+    -- key cells alone hold nodes back
+    keys_alone : all_holds b ≡ key_holds b.keys
+    keys_alone =
         ap (λ (l : List Piece). map (piece_hold b.plan) (l ++ live_pieces b) ++ (map hold_of (held b) ++ key_holds b.keys)) none_pending
         ∙ ap (λ (l : List Piece). map (piece_hold b.plan) l ++ (map hold_of (held b) ++ key_holds b.keys)) (idle_pieces b idle)
         ∙ ap (λ (l : List HeldPane). map hold_of l ++ key_holds b.keys) none_held
-        ∙ ap key_holds no_keys
 
-    pub all_marks_final : b.keys ≡ [] → AreMarksOfBook b (last_marks b) → (n : ℕ) → marks_at (last_marks b) n ≡ final_stage
-    all_marks_final no_keys marked n =
-        all_final b.plan (least_hold []) (last_marks b) formed.checked (subst (λ (l : List Hold). AreMarks b.plan (least_hold l) (last_marks b)) (no_holds no_keys) marked)
+    -- no key cell is worked
+    all_free : AreTurnsKept b → All (λ cell. is_free cell ≡ true) b.keys
+    all_free turns k d inside = of_cell (get_or b.keys k d) (slice_get-get_or b.keys k d inside)
+      where
+        no_count : count_by (is_number k) (flat_map cell_worked b.slots) ≡ 0
+        no_count = ap (count_by (is_number k)) (none_in cell_worked b.slots refl idle)
+
+        not_live : (t : Bool) → count_by (is_number k) (flat_map cell_worked b.slots) ≡ cond t 1 0 → t ≡ false
+        not_live false e = refl
+        not_live true e = absurd (omega (arith, e, no_count))
+
+        free : (live : Option ℕ) → is_some live ≡ false → (elim live as (λ _. Bool) [ None ↦ true | Some n ↦ false ]) ≡ true
+        free None e = refl
+        free (Some n) e = absurd (cc)
+
+        of_cell : (cell : KeyCell) → slice_get b.keys k ≡ Some cell → is_free cell ≡ true
+        of_cell cell at = free cell.live (sym (ap is_live at) ∙ not_live (is_live_at b.keys k) (turns.once.once k))
+
+    -- so nothing waits there, and no timer is set
+    pub all_through : AreTurnsKept b → AreKeysKept b.plan b.commits b.keys → AreMarksOfBook b (last_marks b) → All IsCellThrough b.keys
+    all_through turns keys marked =
+        nothing_left b.plan b.commits (last_marks b) b.keys keys (λ n node at. inputs_lower b.plan n node formed.checked at)
+        (subst (λ (l : List Hold). AreMarks b.plan (least_hold l) (last_marks b)) keys_alone marked) (all_free turns) no_cell
+
+    none_hold : (plan : Plan) (commits : List CommitMarks) (cells : List KeyCell) → All (IsCellKept plan commits) cells → All IsCellThrough cells → key_holds cells ≡ []
+    none_hold plan commits [] kept through = refl
+    none_hold plan commits (cell ∷ cells) kept through =
+        ap (λ (l : List Hold). l ++ key_holds cells) (no_holds cell (All-head (IsCellKept plan commits) cell cells kept).holds (All-head IsCellThrough cell cells through))
+        ∙ none_hold plan commits cells (All-tail (IsCellKept plan commits) cell cells kept) (All-tail IsCellThrough cell cells through)
+
+    pub all_marks_final : AreTurnsKept b → AreKeysKept b.plan b.commits b.keys → AreMarksOfBook b (last_marks b) → (n : ℕ) → marks_at (last_marks b) n ≡ final_stage
+    all_marks_final turns keys marked n =
+        all_final b.plan (least_hold []) (last_marks b) formed.checked
+        (subst (λ (l : List Hold). AreMarks b.plan (least_hold l) (last_marks b)) (keys_alone ∙ none_hold b.plan b.commits b.keys keys.each (all_through turns keys marked)) marked)
         (λ k less. refl) n
 
-    pub each_final : b.keys ≡ [] → AreMarksOfBook b (last_marks b) → All (λ marks. (marks.mark_in ≡ final_mark) × (marks.mark_out ≡ final_mark)) (last_marks b)
-    each_final no_keys marked k d within =
+    pub each_final : AreTurnsKept b → AreKeysKept b.plan b.commits b.keys → AreMarksOfBook b (last_marks b)
+        → All (λ marks. (marks.mark_in ≡ final_mark) × (marks.mark_out ≡ final_mark)) (last_marks b)
+    each_final turns keys marked k d within =
         let is : get_or (last_marks b) k d ≡ final_stage =
-        get_or_default (last_marks b) k d final_stage within ∙ sym (marks_at-is (last_marks b) k) ∙ all_marks_final no_keys marked k in
+        get_or_default (last_marks b) k d final_stage within ∙ sym (marks_at-is (last_marks b) k) ∙ all_marks_final turns keys marked k in
         (ap (λ (s : StageMarks). s.mark_in) is, ap (λ (s : StageMarks). s.mark_out) is)

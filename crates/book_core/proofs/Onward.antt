@@ -13,6 +13,7 @@ use Rattle.beam_values.specs.declared.cell.Pane.{Pane}
 use Rattle.beam_values.specs.declared.element.Element.{Element}
 use Rattle.beam_values.specs.declared.file_text.FileText.{FileText}
 use Rattle.beam_values.specs.declared.piece.Piece.{Piece}
+use Rattle.beam_values.specs.States.{KeptState}
 use Rattle.beam_values.specs.declared.plan.Node.{Node}
 use Rattle.beam_values.specs.declared.plan.Plan.{Plan}
 use Rattle.beam_values.specs.Lines.{offsets}
@@ -26,6 +27,7 @@ use Rattle.beam_model.specs.Spread.{emission_outputs, from_source, is_left_out, 
 use Rattle.beam_model.proofs.Barriers.{chains_end}
 use Rattle.bundle_commit.specs.declared.job.Receipt.{Receipt}
 use Rattle.group_cells.proofs.Counting.{All-unmap}
+use Rattle.stateful_core.specs.KeyWork.{key_outputs}
 use Rattle.watermarks.proofs.CheckedNodes.{inputs_lower}
 use Rattle.book_core.specs.Book.{panes_of}
 use Rattle.book_core.specs.Committing.{node_of}
@@ -33,6 +35,7 @@ use Rattle.book_core.specs.Jobs.{attempted_of, job_of}
 use Rattle.book_core.specs.Work.{IsGiven, IsWorkOnItem, IsWorkOnRange, is_known, items_told, worked_to}
 use Rattle.book_core.specs.declared.live.Live.{Live}
 use Rattle.book_core.specs.declared.live.Live.TheVariants as live
+use Rattle.book_core.proofs.KeyOutputs.{outputs_all}
 
 -- ---- chains
 
@@ -180,3 +183,7 @@ module _ (told : Option (List FileText)) (plan : Plan) (checked : IsChecked plan
   given_arrives panes (live.Span piece attempted) receipt given = range_arrives piece (worked_to piece attempted) receipt (is_known told plan piece.node) given.0
   given_arrives panes (live.Batch batch) receipt given =
       outputs_arrive batch.node receipt.arrivals (batch_outputs plan batch.node (panes_of panes batch.panes)) given.0 (panes_behind plan batch.node (panes_of panes batch.panes))
+  given_arrives panes (live.Key turn) receipt given =
+      let kept : KeptState = record { cells = turn.state; timers = turn.timers } in
+      outputs_arrive turn.node receipt.arrivals (key_outputs plan turn.node turn.key turn.span turn.inputs kept) given.arrives
+      (outputs_all (IsBehind turn.node) plan turn.node tt (λ on e. chain_behind plan turn.node e) turn.key turn.span turn.inputs kept)

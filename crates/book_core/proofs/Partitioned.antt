@@ -22,7 +22,7 @@ use Rattle.bundle_commit.specs.declared.job.Receipt.{Receipt}
 use Rattle.book_core.specs.Book.{SeenBook, live_pieces}
 use Rattle.book_core.specs.Changes.{with_slot, split_off, done_of, with_residual, done_after, pending_after, given_back, counted, stopped_where, ends_run, note_of, or_stopped, tried_piece}
 use Rattle.book_core.specs.Facts.{ArePartitioned, IsAttemptedWithin}
-use Rattle.book_core.specs.Jobs.{Due, GivenBack, Oldest, Next, first_due, next_job, due_or_piece, without_due, without_first}
+use Rattle.book_core.specs.Jobs.{Next, next_job}
 use Rattle.book_core.specs.Steps.{Action, Enroll, Take, Claim, Split, Commit, Fail, Stop, Answer, Enrolled, TakenJob, Nothing, Finished, Stopped, Claimed, SplitAt, Committed, Noted, NoMemory, Step, IsClaiming, IsSplitting, IsCommitting, IsFailing}
 use Rattle.book_core.specs.Work.{worked_to}
 use Rattle.book_core.specs.declared.live.Live.{Live}
@@ -30,6 +30,7 @@ use Rattle.book_core.specs.declared.live.Live.TheVariants as live
 use Rattle.book_core.specs.Runs.{Reached, IsOpening}
 use Rattle.book_core.proofs.Kept.{reached_has}
 use Rattle.book_core.proofs.Slots.{set_weighs, All-slice_get}
+use Rattle.book_core.proofs.Taking.{take_cases}
 use Rattle.book_core.proofs.Weighing.{piece_at, slot_weight, live_weighs, with_piece_weighs, with_pieces_weigh, with_done_weighs, cut_weighs, empty_weighs}
 
 -- all that the book has at a place
@@ -54,30 +55,25 @@ pub record TakesOut (b : SeenBook) (next : Next) : Type 0 where
   pub files : next.rest.files ≡ b.files
   pub fresh : IsAttemptedWithin (Some next.job)
 
-takes_due : (b : SeenBook) (due : Due) → TakesOut b (without_due b due)
-takes_due b (GivenBack batch) = record { weighs = λ place. omega arith; slots = refl; done = refl; files = refl; fresh = tt }
-takes_due b (Oldest batch) = record { weighs = λ place. omega arith; slots = refl; done = refl; files = refl; fresh = tt }
-
-takes_first : (b : SeenBook) (pieces : List Piece) (next : Next) → b.pending ≡ pieces → without_first b pieces ≡ Some next → TakesOut b next
-takes_first b [] next e h = absurd (cc)
-takes_first b (piece ∷ later) next e h =
-    let is : record { job = live.Span piece None; rest = record b { pending = later } } ≡ next = cc in
-    subst (TakesOut b) is (record {
+takes_out : (b : SeenBook) (next : Next) → next_job b ≡ Some next → TakesOut b next
+takes_out b next is =
+    take_cases b (TakesOut b)
+    (λ batch among. record { weighs = λ place. omega arith; slots = refl; done = refl; files = refl; fresh = tt })
+    (λ batch oldest. record { weighs = λ place. omega arith; slots = refl; done = refl; files = refl; fresh = tt })
+    (λ at cell found. record { weighs = λ place. omega arith; slots = refl; done = refl; files = refl; fresh = tt })
+    (λ piece later e. record {
       weighs = λ place. omega (arith, ap (λ l. times_pending l place) e, sum_by-cons (piece_at place) piece later, sum_by-cons (piece_at place) piece []);
       slots = refl;
       done = refl;
       files = refl;
       fresh = tt;
     })
-
-takes_out : (b : SeenBook) (due : Option Due) (next : Next) → due_or_piece b due ≡ Some next → TakesOut b next
-takes_out b (Some due) next h = let is : without_due b due ≡ next = cc in subst (TakesOut b) is (takes_due b due)
-takes_out b None next h = takes_first b b.pending next refl h
+    next is
 
 keeps_take : (b new : SeenBook) (slot : ℕ) (next : Next) → slice_get b.slots slot ≡ Some None → next_job b ≡ Some next
     → new ≡ with_slot next.rest slot (Some next.job) → HasSame b new
 keeps_take b new slot next free is_next e =
-    let out = takes_out b (first_due b) next is_next in
+    let out = takes_out b next is_next in
     subst (HasSame b) (sym e) (record {
       held = λ place. by place out;
       files = out.files;
@@ -203,6 +199,7 @@ commit_weighs (live.Span piece attempted) pending done receipt place within =
       one_piece place piece attempted,
     )
 commit_weighs (live.Batch batch) pending done receipt place within = omega arith
+commit_weighs (live.Key turn) pending done receipt place within = omega arith
 
 keeps_commit : (told : Option (List FileText)) (b new : SeenBook) (slot : ℕ) (receipt : Receipt) → IsCommitting told b slot receipt new
     → All IsAttemptedWithin b.slots → HasSame b new
@@ -223,10 +220,12 @@ keeps_commit told b new slot receipt step within =
 given_back_weighs : (b : SeenBook) (job : Live) (at : ℕ) (cause : Cause) (place : Place) → times_pending (given_back b job at cause).pending place ≡ times_pending b.pending place + slot_weight place (Some job)
 given_back_weighs b (live.Span piece attempted) at cause place = omega (arith, with_piece_weighs place (tried_piece piece) b.pending, one_piece place piece attempted)
 given_back_weighs b (live.Batch batch) at cause place = omega arith
+given_back_weighs b (live.Key turn) at cause place = omega arith
 
 given_back_keeps : (b : SeenBook) (job : Live) (at : ℕ) (cause : Cause) → ((given_back b job at cause).slots ≡ b.slots) × ((given_back b job at cause).done ≡ b.done) × ((given_back b job at cause).files ≡ b.files)
 given_back_keeps b (live.Span piece attempted) at cause = (refl, refl, refl)
 given_back_keeps b (live.Batch batch) at cause = (refl, refl, refl)
+given_back_keeps b (live.Key turn) at cause = (refl, refl, refl)
 
 counted_same : (b : SeenBook) (cause : Cause) → HasSame b (counted b cause)
 counted_same b Call = record { held = λ place. refl; files = refl; attempted = λ h. h }

@@ -25,7 +25,7 @@ use Rattle.split_core.proofs.Ordered.{All-with_piece}
 use Rattle.book_core.specs.Book.{SeenBook, piece_of, live_pieces}
 use Rattle.book_core.specs.Changes.{with_slot, cut_to, rest_of, split_off, given_back, tried_piece, counted, done_after, done_cmp, done_of, stopped_where, ends_run, note_of, pending_after, residual_of, with_done, with_residual}
 use Rattle.book_core.specs.Facts.{ArePartitioned, IsWellFormed}
-use Rattle.book_core.specs.Jobs.{Next}
+use Rattle.book_core.specs.Jobs.{Next, with_key}
 use Rattle.book_core.specs.Left.{all_lengths}
 use Rattle.book_core.specs.Runs.{IsOpening, opened}
 use Rattle.book_core.specs.Sane.{AreListed}
@@ -105,10 +105,12 @@ module _ (b : SeenBook) (h : AreListed b) where
   commit_pieces slot (live.Span piece attempted) receipt works =
       set_listed (with_residual (residual_of piece attempted receipt) b.pending) slot None (residual_listed slot piece attempted receipt works) (All-nil (IsOf b.files))
   commit_pieces slot (live.Batch batch) receipt works = set_listed b.pending slot None pending_listed (All-nil (IsOf b.files))
+  commit_pieces slot (live.Key turn) receipt works = set_listed b.pending slot None pending_listed (All-nil (IsOf b.files))
 
   commit_done : (slot : ℕ) (job : Live) → IsWorking b slot job → All (IsDoneOf b.files) (done_after b.done job)
   commit_done slot (live.Span piece attempted) works = All-with_done (IsDoneOf b.files) (done_of piece attempted) b.done (worked_listed slot piece attempted works) h.done
   commit_done slot (live.Batch batch) works = h.done
+  commit_done slot (live.Key turn) works = h.done
 
 back_listed : (b : SeenBook) (slot : ℕ) (job : Live) (at : ℕ) (cause : Cause) → AreListed b → IsWorking b slot job → AreListed (given_back (with_slot b slot None) job at cause)
 back_listed b slot (live.Span piece attempted) at cause h works = record {
@@ -117,6 +119,7 @@ back_listed b slot (live.Span piece attempted) at cause h works = record {
   done = h.done;
 }
 back_listed b slot (live.Batch batch) at cause h works = record { pieces = set_listed b h b.pending slot None (pending_listed b h) (All-nil (IsOf b.files)); done = h.done }
+back_listed b slot (live.Key turn) at cause h works = record { pieces = set_listed b h b.pending slot None (pending_listed b h) (All-nil (IsOf b.files)); done = h.done }
 
 counted_listed : (x : SeenBook) (cause : Cause) → AreListed x → AreListed (counted x cause)
 counted_listed x Call h = record { pieces = h.pieces; done = h.done }
@@ -160,6 +163,7 @@ keeps_listed told = record {
       take_cases b (λ (n : Next). AreListed (with_slot n.rest slot (Some n.job)))
       (λ batch among. record { pieces = set_listed b h b.pending slot (Some (live.Batch batch)) (pending_listed b h) (All-nil (IsOf b.files)); done = h.done })
       (λ batch oldest. record { pieces = set_listed b h b.pending slot (Some (live.Batch batch)) (pending_listed b h) (All-nil (IsOf b.files)); done = h.done })
+      (λ place cell found. record { pieces = set_listed b h b.pending slot (Some (with_key b place.at cell).job) (pending_listed b h) (All-nil (IsOf b.files)); done = h.done })
       (λ piece later e. record { pieces = take_listed b h slot piece later e; done = h.done }) next is;
   claims = λ b slot p piece attempted known h works may. record {
     pieces = set_listed b h b.pending slot (Some (live.Span piece (Some p))) (pending_listed b h) (one_listed b h piece (worked_listed b h slot piece attempted works));

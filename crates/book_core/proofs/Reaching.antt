@@ -7,15 +7,15 @@ use Rattle.beam_values.specs.declared.fault.FaultNote.{FaultNote}
 use Rattle.beam_values.specs.declared.file_text.FileText.{FileText}
 use Rattle.beam_values.specs.declared.options.Options.{Options}
 use Rattle.beam_values.specs.declared.piece.FileLen.{FileLen}
-use Rattle.beam_values.specs.declared.piece.Piece.{Piece}
 use Rattle.beam_values.specs.declared.plan.Plan.{Plan}
 use Rattle.book_core.specs.Book.{SeenBook}
 use Rattle.book_core.specs.Changes.{with_slot, given_back, counted, stopped_where, ends_run, note_of}
-use Rattle.book_core.specs.Jobs.{Due, GivenBack, Oldest, Next, first_due, due_or_piece, without_due, without_first}
+use Rattle.book_core.specs.Jobs.{Next, next_job}
 use Rattle.book_core.specs.Runs.{MadeStep, Run, Reached, IsOpening}
 use Rattle.book_core.specs.Steps.{Action, Enroll, Take, Claim, Split, Commit, Fail, Stop, Answer, Enrolled, TakenJob, Nothing, Finished, Stopped, Claimed, SplitAt, Committed, Noted, NoMemory, Step}
 use Rattle.book_core.specs.declared.live.Live.{Live}
 use Rattle.book_core.specs.declared.live.Live.TheVariants as live
+use Rattle.book_core.proofs.Taking.{take_cases}
 
 -- what no step changes
 pub record HasSamePlan (b new : SeenBook) : Type 0 where
@@ -32,19 +32,14 @@ same_where b new e = subst (HasSamePlan b) (sym e) (same_itself b)
 same_onward : (a b c : SeenBook) → HasSamePlan a b → HasSamePlan b c → HasSamePlan a c
 same_onward a b c p q = record { plan = q.plan ∙ p.plan; files = q.files ∙ p.files; options = q.options ∙ p.options }
 
-first_same : (b : SeenBook) (pieces : List Piece) (next : Next) → without_first b pieces ≡ Some next → HasSamePlan b next.rest
-first_same b [] next h = absurd (cc)
-first_same b (piece ∷ later) next h =
-    let is : record { job = live.Span piece None; rest = record b { pending = later } } ≡ next = cc in
-    subst (λ (n : Next). HasSamePlan b n.rest) is (record { plan = refl; files = refl; options = refl })
-
-due_same : (b : SeenBook) (due : Due) → HasSamePlan b (without_due b due).rest
-due_same b (GivenBack batch) = record { plan = refl; files = refl; options = refl }
-due_same b (Oldest batch) = record { plan = refl; files = refl; options = refl }
-
-next_same : (b : SeenBook) (due : Option Due) (next : Next) → due_or_piece b due ≡ Some next → HasSamePlan b next.rest
-next_same b (Some due) next h = let is : without_due b due ≡ next = cc in subst (λ (n : Next). HasSamePlan b n.rest) is (due_same b due)
-next_same b None next h = first_same b b.pending next h
+next_same : (b : SeenBook) (next : Next) → next_job b ≡ Some next → HasSamePlan b next.rest
+next_same b next is =
+    take_cases b (λ (n : Next). HasSamePlan b n.rest)
+    (λ batch among. record { plan = refl; files = refl; options = refl })
+    (λ batch oldest. record { plan = refl; files = refl; options = refl })
+    (λ place cell found. record { plan = refl; files = refl; options = refl })
+    (λ piece later e. record { plan = refl; files = refl; options = refl })
+    next is
 
 slot_same : (b : SeenBook) (slot : ℕ) (job : Option Live) → HasSamePlan b (with_slot b slot job)
 slot_same b slot job = record { plan = refl; files = refl; options = refl }
@@ -52,6 +47,7 @@ slot_same b slot job = record { plan = refl; files = refl; options = refl }
 back_same : (b : SeenBook) (job : Live) (at : ℕ) (cause : Cause) → HasSamePlan b (given_back b job at cause)
 back_same b (live.Span piece attempted) at cause = record { plan = refl; files = refl; options = refl }
 back_same b (live.Batch batch) at cause = record { plan = refl; files = refl; options = refl }
+back_same b (live.Key turn) at cause = record { plan = refl; files = refl; options = refl }
 
 counted_same : (b : SeenBook) (cause : Cause) → HasSamePlan b (counted b cause)
 counted_same b Call = record { plan = refl; files = refl; options = refl }
@@ -75,7 +71,7 @@ step_same told b new slot Enroll (Enrolled number) step = subst (HasSamePlan b) 
 step_same told b new slot Enroll NoMemory step = same_where b new step
 step_same told b new slot Take (TakenJob job) step =
     subst (HasSamePlan b) (sym step.is)
-    (same_onward b step.next.rest _ (next_same b (first_due b) step.next step.is_next) (slot_same step.next.rest slot (Some step.next.job)))
+    (same_onward b step.next.rest _ (next_same b step.next step.is_next) (slot_same step.next.rest slot (Some step.next.job)))
 step_same told b new slot Take Nothing step = same_where b new step.4
 step_same told b new slot Take Finished step = same_where b new step.4
 step_same told b new slot Take Stopped step = same_where b new step.2

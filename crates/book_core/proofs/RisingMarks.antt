@@ -34,6 +34,7 @@ use Rattle.book_core.proofs.KeysKept.{KeysKept}
 use Rattle.book_core.proofs.HoldBags.{least_as, least_of_bag, marks_of_least, enroll_holds, take_holds, claim_holds, back_holds, split_least}
 use Rattle.book_core.specs.Indexes.{all_holds, own_holds}
 use Rattle.book_core.proofs.MarksKept.{none_falls}
+use Rattle.stateful_core.proofs.LeftAs.{give_back_leaves, take_leaves}
 use Rattle.book_core.proofs.Taking.{take_cases}
 
 -- the commits so far, the last of which left these marks
@@ -83,7 +84,8 @@ marked_onward old new stays h = record {
 take_marked : (b : SeenBook) (slot : ℕ) (next : Next) → AreHeldOnce b → IsFree b slot → next_job b ≡ Some next → IsMarked b → IsMarked (with_slot next.rest slot (Some next.job))
 take_marked b slot next once free is h =
     let same = take_cases b (λ (n : Next). (n.rest.plan ≡ b.plan) × (n.rest.commits ≡ b.commits) × (key_holds n.rest.keys ≡ key_holds b.keys))
-    (λ batch among. (refl, refl, refl)) (λ batch oldest. (refl, refl, refl)) (λ piece later e. (refl, refl, refl)) next is in
+    (λ batch among. (refl, refl, refl)) (λ batch oldest. (refl, refl, refl)) (λ place cell found. (refl, refl, (take_leaves b.options.bundle place.at b.keys).holds))
+    (λ piece later e. (refl, refl, refl)) next is in
     marked_onward b (with_slot next.rest slot (Some next.job)) (record {
       plan = same.0;
       commits = same.1;
@@ -98,6 +100,7 @@ record SameBack (b new : SeenBook) : Type 0 where
 back_same : (b : SeenBook) (slot : ℕ) (job : Live) (at : ℕ) (cause : Cause) → SameBack b (given_back (with_slot b slot None) job at cause)
 back_same b slot (live.Span piece attempted) at cause = record { plan = refl; commits = refl; keys = refl }
 back_same b slot (live.Batch batch) at cause = record { plan = refl; commits = refl; keys = refl }
+back_same b slot (live.Key turn) at cause = record { plan = refl; commits = refl; keys = (give_back_leaves turn.cell b.keys).holds }
 
 counted_marked : (b : SeenBook) (cause : Cause) → IsMarked b → IsMarked (counted b cause)
 counted_marked b Call h = record { earlier = h.earlier; before = h.before; commits = h.commits; sized = h.sized; marked = h.marked; never_fall = h.never_fall }

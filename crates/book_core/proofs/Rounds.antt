@@ -14,12 +14,14 @@ use Rattle.beam_values.specs.declared.piece.FileLen.{FileLen}
 use Rattle.beam_values.specs.declared.piece.Piece.{Piece}
 use Rattle.beam_values.specs.declared.plan.Plan.{Plan}
 use Rattle.group_cells.proofs.Counting.{count_none, filter_all}
-use Rattle.book_core.specs.Book.{SeenBook, HeldPane, held, held_in, live_batches, live_pieces, queued}
+use Rattle.stateful_core.specs.Cells.{KeyCell}
+use Rattle.book_core.specs.Book.{SeenBook, HeldPane, held, held_in, live_batches, live_pieces, queued, waiting_in}
 use Rattle.book_core.specs.Facts.{AreHeldOnce, IsHeldPane, IsWellFormed, is_held_at}
-use Rattle.book_core.specs.Left.{IsBelow, above_each, all_lengths, attempts_left, left, left_at, left_of_batch, left_of_piece, offsets_and_one, rounds_left}
+use Rattle.book_core.specs.Left.{IsBelow, above_each, all_lengths, attempts_left, left, left_at, left_of_batch, left_of_cell, left_of_piece, offsets_and_one, rounds_left}
 use Rattle.book_core.specs.Sane.{IsSane}
 use Rattle.book_core.specs.declared.live.Batch.{Batch}
 use Rattle.book_core.specs.declared.live.WaitingPane.{WaitingPane}
+use Rattle.book_core.proofs.FewTimers.{cells_most}
 use Rattle.book_core.proofs.HeldMoves.{IsNonempty}
 use Rattle.book_core.proofs.PiecesListed.{ArePlaced, IsPlaced, placed_of}
 use Rattle.book_core.proofs.Reaching.{HasSamePlan}
@@ -157,10 +159,13 @@ module _ (b : SeenBook) (sane : IsSane b) where
       let sum = pieces_most (λ (piece : Piece). piece.node == m) most pieces (All-weaker (IsPlaced b) (EndsBy most) (λ piece is. is.1) pieces placed) in
       let all : (most + 1) * length pieces ≤ (most + 1) * 4294967295 = mul-le-mul_left {m = length pieces} {n = 4294967295} (most + 1) (omega (arith, formed.within.pieces, length-append b.pending (live_pieces b))) in
       let panes = filtered_few (λ (pane : HeldPane). pane.node == m) (held b) in
-      bounded most b.options.attempts (length (filter (λ (pane : HeldPane). pane.node == m) (held b))) (omega (arith, panes, few_held)) (omega (arith, sum, all))
+      let cells = cells_most b.plan b.commits (λ (cell : KeyCell). cell.log.node == m) b.keys sane.keys.each in
+      bounded most b.options.attempts (length (filter (λ (pane : HeldPane). pane.node == m) (held b))) (waiting_in b.keys) (length b.keys) (omega (arith, panes, few_held)) formed.within.waiting
+      formed.within.keys (omega (arith, sum, all)) cells
     where
-      bounded : (most attempts panes : ℕ) {offsets : ℕ} → panes < 4294967295 → offsets ≤ (most + 1) * 4294967295 → offsets + panes < 4294967296 * (most + 3 * attempts + 2)
-      bounded most attempts panes few sum = omega (arith, few, sum)
+      bounded : (most attempts panes waiting keys : ℕ) {offsets cells : ℕ} → panes < 4294967295 → waiting < 4294967295 → keys < 4294967295 → offsets ≤ (most + 1) * 4294967295
+          → cells ≤ 9 * waiting + keys → offsets + panes + cells < 4294967296 * (most + 4 * attempts + 20)
+      bounded most attempts panes waiting keys few few_waiting few_keys sum left = omega (arith, few, few_waiting, few_keys, sum, left)
 
   attempts_below : attempts_left b < above_each b
   attempts_below =
@@ -169,6 +174,7 @@ module _ (b : SeenBook) (sane : IsSane b) where
       let batches = b.returned ++ live_batches b in
       let first = sum_most (left_of_piece limit) limit pieces (λ piece. less limit piece.attempts) in
       let second = sum_most (left_of_batch limit) limit batches (λ batch. less limit batch.attempts) in
+      let third = sum_most (left_of_cell limit) limit b.keys (λ cell. less limit cell.attempts) in
       let few_queued : length (queued b) ≤ length (held b) = omega (arith, length-append (queued b) (flat_map held_in b.returned ++ flat_map held_in (live_batches b))) in
       let few_batches : length batches ≤ length (held b) =
       omega (
@@ -180,7 +186,7 @@ module _ (b : SeenBook) (sane : IsSane b) where
         batches_few (live_batches b) (All-append_right IsNonempty b.returned (live_batches b) once.batches),
       ) in
       bounded (all_lengths b) limit (product limit (length pieces) (omega (arith, formed.within.pieces, length-append b.pending (live_pieces b)))) (product limit (length batches) (omega (arith, few_batches, few_held)))
-      (product limit (length (queued b)) (omega (arith, few_queued, few_held))) first second
+      (product limit (length (queued b)) (omega (arith, few_queued, few_held))) (product limit (length b.keys) (omega (arith, formed.within.keys))) first second third
     where
       less : (limit attempts : ℕ) → limit - attempts ≤ limit
       less limit attempts = omega arith
@@ -188,9 +194,9 @@ module _ (b : SeenBook) (sane : IsSane b) where
       product : (limit n : ℕ) → n ≤ 4294967295 → limit * n ≤ limit * 4294967295
       product limit n few = mul-le-mul_left {m = n} {n = 4294967295} limit few
 
-      bounded : (most limit : ℕ) {p q r x y : ℕ} → p ≤ limit * 4294967295 → q ≤ limit * 4294967295 → r ≤ limit * 4294967295 → x ≤ p → y ≤ q
-          → x + y + r < 4294967296 * (most + 3 * limit + 2)
-      bounded most limit a c d e f = omega (arith, a, c, d, e, f)
+      bounded : (most limit : ℕ) {p q r s x y z : ℕ} → p ≤ limit * 4294967295 → q ≤ limit * 4294967295 → r ≤ limit * 4294967295 → s ≤ limit * 4294967295 → x ≤ p → y ≤ q → z ≤ s
+          → x + y + r + z < 4294967296 * (most + 4 * limit + 20)
+      bounded most limit a c d e f g h = omega (arith, a, c, d, e, f, g, h)
 
   digits : All (λ x. x < above_each b) (left b)
   digits =
@@ -201,8 +207,8 @@ module _ (b : SeenBook) (sane : IsSane b) where
 -- the base stays while the plan, the files and the options do
 base_same : (b new : SeenBook) → HasSamePlan b new → above_each new ≡ above_each b
 base_same b new same =
-    ap (λ (files : List FileLen). 4294967296 * (sum_by (λ file. file.len) files + 3 * new.options.attempts + 2)) same.files
-    ∙ ap (λ (options : Options). 4294967296 * (all_lengths b + 3 * options.attempts + 2)) same.options
+    ap (λ (files : List FileLen). 4294967296 * (sum_by (λ file. file.len) files + 4 * new.options.attempts + 20)) same.files
+    ∙ ap (λ (options : Options). 4294967296 * (all_lengths b + 4 * options.attempts + 20)) same.options
 
 as_many : (b new : SeenBook) → new.plan ≡ b.plan → length (left new) ≡ length (left b)
 as_many b new plan =

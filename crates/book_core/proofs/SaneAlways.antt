@@ -1,8 +1,8 @@
 -- Every book is sane: the opening is, and every step leads from a sane book to a sane one.
-use Rattle.std.proofs.Common.{◌≡◌, ℕ, ◌+◌, ◌<◌, ◌≤◌, List, [], ◌∷◌, ◌++◌, length, get_or, sym, subst, ◌∙◌, arith}
+use Rattle.std.proofs.Common.{ℕ, ◌+◌, ◌≤◌, List, [], ◌++◌, arith}
 use Rattle.std.specs.Prelude.{Option}
-use Rattle.std.specs.List.{All, sum_by}
-use Rattle.std.proofs.lemmas.List.Elements.{All-append, All-weaker}
+use Rattle.std.specs.List.{All}
+use Rattle.std.proofs.lemmas.List.Elements.{All-append}
 use Rattle.std.proofs.lemmas.List.Sums.{sum_by-append}
 use Rattle.beam_values.specs.declared.file_text.FileText.{FileText}
 use Rattle.beam_values.specs.declared.options.Options.{Options}
@@ -10,18 +10,18 @@ use Rattle.beam_values.specs.declared.piece.FileLen.{FileLen}
 use Rattle.beam_values.specs.declared.piece.Piece.{Piece}
 use Rattle.beam_values.specs.declared.plan.Plan.{Plan}
 use Rattle.book_core.specs.Book.{SeenBook, live_batches, live_pieces}
-use Rattle.book_core.specs.Facts.{AreAttemptsCounted, AreHeldOnce, IsStopNoted, IsWellFormed}
+use Rattle.book_core.specs.Facts.{AreAttemptsCounted, AreHeldOnce, AreTurnsKept, IsStopNoted, IsWellFormed}
 use Rattle.book_core.specs.Runs.{IsOpening, Reached, opened}
 use Rattle.book_core.specs.Sane.{AreListed, AreWaitingInOrder, IsSane}
 use Rattle.book_core.specs.Steps.{Action, Answer, Step}
 use Rattle.book_core.specs.declared.live.Batch.{Batch}
-use Rattle.book_core.proofs.Attempts.{IsCounted, MayBeWorked}
+use Rattle.book_core.proofs.Attempts.{IsCounted}
 use Rattle.book_core.proofs.AttemptsKept.{keeps_counted}
 use Rattle.book_core.proofs.Cases.{AreAlways, Anything, Both, always_reached, step_keeps}
 use Rattle.book_core.proofs.Formed.{keeps_formed}
 use Rattle.book_core.proofs.HeldOnce.{keeps_held}
 use Rattle.book_core.proofs.Partitioned.{opening_partitioned, parted_of, partitioned_of, step_partitions}
-use Rattle.book_core.proofs.KeysAlways.{keeps_keys}
+use Rattle.book_core.proofs.KeysAlways.{AreKeysSane, keeps_keys}
 use Rattle.book_core.proofs.KeysKept.{KeysKept}
 use Rattle.book_core.proofs.PiecesListed.{at_most, keeps_listed}
 use Rattle.book_core.proofs.RisingMarks.{IsMarked, kept_marks, keeps_marked, marked_of}
@@ -46,23 +46,27 @@ counted_of b h stop = record {
         pending_most = h.pending_most;
         returned_most = λ k d inside. (h.returned_most k d inside, most k d inside);
       };
+  cells = record { worked = h.worked_keys; below = h.keys; most = h.keys_most };
   stop = stop;
   calls = h.calls;
   reads = h.reads;
 }
 
 tried_of : (b : SeenBook) → AreAttemptsCounted b → IsTried b
-tried_of b h = record { tried = omega (arith, h.pieces, sum_by-append (λ (piece : Piece). piece.attempts) b.pending (live_pieces b)) }
+tried_of b h = record { tried = omega (arith, h.together, sum_by-append (λ (piece : Piece). piece.attempts) b.pending (live_pieces b)) }
 
 attempts_of : (b : SeenBook) → IsCounted b → IsTried b → AreAttemptsCounted b
 attempts_of b h tried = record {
   worked_pieces = h.counts.worked_pieces;
   worked_batches = λ k d inside. (h.counts.worked_batches k d inside).0;
+  worked_keys = h.cells.worked;
   pending = h.counts.pending_below;
   returned = h.counts.returned_below;
+  keys = h.cells.below;
   pending_most = h.counts.pending_most;
   returned_most = λ k d inside. (h.counts.returned_most k d inside).0;
-  pieces = omega (arith, tried.tried, sum_by-append (λ (piece : Piece). piece.attempts) b.pending (live_pieces b));
+  keys_most = h.cells.most;
+  together = omega (arith, tried.tried, sum_by-append (λ (piece : Piece). piece.attempts) b.pending (live_pieces b));
   batches =
       let total = b.calls + b.reads in
       All-append (λ (batch : Batch). batch.attempts ≤ total) b.returned (live_batches b)
@@ -73,7 +77,7 @@ attempts_of b h tried = record {
 
 -- each piece by itself
 pub each_tried : (b : SeenBook) → AreAttemptsCounted b → All (λ piece. piece.attempts ≤ b.calls + b.reads) (b.pending ++ live_pieces b)
-each_tried b h k d inside = omega (arith, h.pieces, at_most (λ (piece : Piece). piece.attempts) (b.pending ++ live_pieces b) k d inside)
+each_tried b h k d inside = omega (arith, h.together, at_most (λ (piece : Piece). piece.attempts) (b.pending ++ live_pieces b) k d inside)
 
 -- ---- the opening
 
@@ -83,6 +87,7 @@ opening_sane b first opening =
     let parted = opening_partitioned first b opening in
     let counted = (keeps_counted none).opens b first opening in
     let results = (keeps_results none).opens b first opening in
+    let keyed = (keeps_keys none).opens b first opening in
     record {
       formed = (keeps_formed none).opens b first opening;
       listed = (keeps_listed none).opens b first opening;
@@ -96,7 +101,8 @@ opening_sane b first opening =
       cells = results.cells;
       panes = results.panes;
       dropped = results.dropped;
-      keys = (keeps_keys none).opens b first opening;
+      keys = keyed.0;
+      turns = keyed.1;
       writes = results.writes;
     }
 
@@ -109,9 +115,10 @@ pub step_sane : (told : Option (List FileText)) (b new : SeenBook) (slot : ℕ) 
 step_sane told b new slot action answer step h =
     let counted = counted_of b h.attempts h.stop in
     let marked = marked_of b h.marks in
-    let now_counted = step_keeps told IsWellFormed IsCounted (keeps_counted told) b new slot action answer step h.formed counted in
+    let now_counted = step_keeps told (Both IsWellFormed AreTurnsKept) IsCounted (keeps_counted told) b new slot action answer step (h.formed, h.turns) counted in
     let now_parted = step_partitions told b new slot action answer step (parted_of b h.partitioned h.attempted) in
     let now_marked = step_keeps told (Both (Both IsWellFormed AreHeldOnce) KeysKept) IsMarked (keeps_marked told) b new slot action answer step ((h.formed, h.held), h.keys) marked in
+    let now_keyed = step_keeps told (Both (Both IsWellFormed AreHeldOnce) IsMarked) AreKeysSane (keeps_keys told) b new slot action answer step ((h.formed, h.held), marked) (h.keys, h.turns) in
     let now_left =
     step_keeps told (Both (Both (Both IsWellFormed AreHeldOnce) KeysKept) IsMarked) AreSaneResults (keeps_results told) b new slot action answer step (((h.formed, h.held), h.keys), marked)
     (record { cells = h.cells; panes = h.panes; dropped = h.dropped; writes = h.writes }) in
@@ -128,7 +135,8 @@ step_sane told b new slot action answer step h =
       cells = now_left.cells;
       panes = now_left.panes;
       dropped = now_left.dropped;
-      keys = step_keeps told (Both (Both IsWellFormed AreHeldOnce) IsMarked) KeysKept (keeps_keys told) b new slot action answer step ((h.formed, h.held), marked) h.keys;
+      keys = now_keyed.0;
+      turns = now_keyed.1;
       writes = now_left.writes;
     }
 

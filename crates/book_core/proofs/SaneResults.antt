@@ -59,6 +59,7 @@ take_stays b slot next is =
     take_cases b (λ (n : Next). StaysCelled b (with_slot n.rest slot (Some n.job)))
     (λ batch among. record { plan = refl; commits = refl; cells = refl; dropped = refl; panes = refl; written = refl })
     (λ batch oldest. record { plan = refl; commits = refl; cells = refl; dropped = refl; panes = refl; written = refl })
+    (λ place cell found. record { plan = refl; commits = refl; cells = refl; dropped = refl; panes = refl; written = refl })
     (λ piece later e. record { plan = refl; commits = refl; cells = refl; dropped = refl; panes = refl; written = refl })
     next is
 
@@ -67,6 +68,8 @@ back_stays b slot (live.Span piece attempted) at Call = record { plan = refl; co
 back_stays b slot (live.Span piece attempted) at Read = record { plan = refl; commits = refl; cells = refl; dropped = refl; panes = refl; written = refl }
 back_stays b slot (live.Batch batch) at Call = record { plan = refl; commits = refl; cells = refl; dropped = refl; panes = refl; written = refl }
 back_stays b slot (live.Batch batch) at Read = record { plan = refl; commits = refl; cells = refl; dropped = refl; panes = refl; written = refl }
+back_stays b slot (live.Key turn) at Call = record { plan = refl; commits = refl; cells = refl; dropped = refl; panes = refl; written = refl }
+back_stays b slot (live.Key turn) at Read = record { plan = refl; commits = refl; cells = refl; dropped = refl; panes = refl; written = refl }
 
 stop_stays : (b x : SeenBook) (spent : Bool) (note : FaultNote) → StaysCelled b x → StaysCelled b (stopped_where spent x note)
 stop_stays b x true note s = record { plan = s.plan; commits = s.commits; cells = s.cells; dropped = s.dropped; panes = s.panes; written = s.written }

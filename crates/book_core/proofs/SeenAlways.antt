@@ -19,7 +19,7 @@ use Rattle.split_core.proofs.Ordered.{All-with_piece}
 use Rattle.book_core.specs.Book.{SeenBook, piece_of, live_pieces}
 use Rattle.book_core.specs.Changes.{with_slot, cut_to, rest_of, split_off, given_back, tried_piece, counted, stopped_where, ends_run, note_of, pending_after, residual_of, with_residual}
 use Rattle.book_core.specs.Facts.{AreSeenBefore, IsAttemptedWithin, IsSeenOf}
-use Rattle.book_core.specs.Jobs.{Next, attempted_of, job_of}
+use Rattle.book_core.specs.Jobs.{Next, attempted_of, job_of, with_key}
 use Rattle.book_core.specs.Runs.{IsOpening, opened, pieces_of}
 use Rattle.book_core.specs.Steps.{IsWorking}
 use Rattle.book_core.specs.Work.{IsGiven, IsWorkOnItem, worked_to}
@@ -107,6 +107,7 @@ module _ (told : List FileText) where
     commit_seen slot (live.Span piece attempted) receipt within works given =
         set_seen (with_residual (residual_of piece attempted receipt) b.pending) slot None (residual_seen slot piece attempted receipt within works given.0) (All-nil (SeenOf b))
     commit_seen slot (live.Batch batch) receipt within works given = set_seen b.pending slot None pending_seen (All-nil (SeenOf b))
+    commit_seen slot (live.Key turn) receipt within works given = set_seen b.pending slot None pending_seen (All-nil (SeenOf b))
 
     back_seen : (slot : ℕ) (job : Live) (at : ℕ) (cause : Cause) → IsWorking b slot job → Seen (counted (given_back (with_slot b slot None) job at cause) cause)
     back_seen slot (live.Span piece attempted) at Call works =
@@ -117,6 +118,8 @@ module _ (told : List FileText) where
         (All-with_piece (SeenOf b) (tried_piece piece) b.pending (seen_cut b (found_in b piece) piece (tried_piece piece) refl refl (omega arith) (worked_seen slot piece attempted works)) pending_seen) (All-nil (SeenOf b))
     back_seen slot (live.Batch batch) at Call works = set_seen b.pending slot None pending_seen (All-nil (SeenOf b))
     back_seen slot (live.Batch batch) at Read works = set_seen b.pending slot None pending_seen (All-nil (SeenOf b))
+    back_seen slot (live.Key turn) at Call works = set_seen b.pending slot None pending_seen (All-nil (SeenOf b))
+    back_seen slot (live.Key turn) at Read works = set_seen b.pending slot None pending_seen (All-nil (SeenOf b))
 
   stop_seen : (spent : Bool) (x : SeenBook) (note : FaultNote) → Seen x → Seen (stopped_where spent x note)
   stop_seen true x note h = h
@@ -142,6 +145,7 @@ module _ (told : List FileText) where
         take_cases b (λ (n : Next). Seen (with_slot n.rest slot (Some n.job)))
         (λ batch among. set_seen b h b.pending slot (Some (live.Batch batch)) (pending_seen b h) (All-nil (SeenOf b)))
         (λ batch oldest. set_seen b h b.pending slot (Some (live.Batch batch)) (pending_seen b h) (All-nil (SeenOf b)))
+        (λ place cell found. set_seen b h b.pending slot (Some (with_key b place.at cell).job) (pending_seen b h) (All-nil (SeenOf b)))
         (λ piece later e. take_pending b h slot piece later e) next is;
     claims = λ b slot p piece attempted known h works may.
         set_seen b h b.pending slot (Some (live.Span piece (Some p))) (pending_seen b h) (one_seen b h piece (worked_seen b h slot piece attempted works));

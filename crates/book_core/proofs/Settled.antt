@@ -5,7 +5,7 @@ use Rattle.std.specs.List.{All}
 use Rattle.std.proofs.lemmas.Bool.Decides.{nat_tests}
 use Rattle.std.proofs.lemmas.List.{get_or_past}
 use Rattle.std.proofs.lemmas.List.Elements.{All-nil, All-cons, All-head, All-tail, All-weaker}
-use Rattle.beam_values.specs.Marks.{least_mark, marks_at, node_marks}
+use Rattle.beam_values.specs.Marks.{marks_at, node_marks}
 use Rattle.beam_values.specs.Nodes.{is_group}
 use Rattle.beam_values.specs.declared.arrival.Arrival.{Arrival}
 use Rattle.beam_values.specs.declared.cell.Cell.{Cell}
@@ -15,17 +15,24 @@ use Rattle.beam_values.specs.declared.marks.StageMarks.{StageMarks}
 use Rattle.beam_values.specs.declared.plan.Node.{Node}
 use Rattle.beam_values.specs.declared.plan.Plan.{Plan}
 use Rattle.beam_model.specs.Holds.{Hold, pane_hold, least_hold}
+use Rattle.bundle_commit.specs.declared.job.Logged.{Logged}
 use Rattle.bundle_commit.specs.declared.job.Receipt.{Receipt}
 use Rattle.group_cells.proofs.KeptSane.{quiet_kept}
 use Rattle.watermarks.proofs.CheckedNodes.{inputs_lower}
 use Rattle.watermarks.proofs.NodeMarks.{final_stage, marks_at-is, node_marks-alike}
 use Rattle.book_core.specs.Book.{SeenBook, last_marks}
-use Rattle.book_core.specs.Changes.{with_slot, committed, keys_after}
+use Rattle.book_core.specs.Changes.{with_slot, committed, key_done_of, keys_after}
 use Rattle.book_core.specs.Committing.{job_holds, node_of, pane_holds, residual_holds, residual_in}
 use Rattle.std.specs.Int.{int_min}
 use Rattle.stateful_core.specs.Cells.{key_holds}
+use Rattle.stateful_core.specs.KeyWork.{numbered_entry}
+use Rattle.stateful_core.specs.Placing.{place}
+use Rattle.stateful_core.specs.declared.key_job.KeyTurn.{KeyTurn}
+use Rattle.stateful_core.proofs.KeyCommit.{least_stays}
+use Rattle.book_core.specs.Facts.{AreTurnsKept}
 use Rattle.book_core.specs.Indexes.{all_holds, own_holds}
 use Rattle.book_core.specs.Sane.{IsSane}
+use Rattle.book_core.specs.Steps.{IsWorking}
 use Rattle.book_core.specs.Work.{worked_to}
 use Rattle.book_core.specs.declared.live.Live.{Live}
 use Rattle.book_core.specs.declared.live.Live.TheVariants as live
@@ -37,6 +44,7 @@ use Rattle.book_core.proofs.HoldBags.{least_of_all, least_of_bag}
 use Rattle.book_core.proofs.KeysKept.{keys_elsewhere}
 use Rattle.book_core.proofs.LeastHolds.{least_without}
 use Rattle.book_core.proofs.Onward.{ArriveBehind, given_arrives}
+use Rattle.book_core.proofs.Turns.{turn_at}
 
 -- ---- holds of other nodes are no matter
 
@@ -50,14 +58,36 @@ job_elsewhere plan (live.Batch batch) m less = each batch.panes
     each : (panes : List WaitingPane) → All (λ (h : Hold). (h.node == m) ≡ false) (pane_holds batch.node panes)
     each [] = All-nil (λ (h : Hold). (h.node == m) ≡ false)
     each (w ∷ ws) = All-cons (λ (h : Hold). (h.node == m) ≡ false) _ (pane_holds batch.node ws) (other_node batch.node m less) (each ws)
+job_elsewhere plan (live.Key turn) m less = All-nil (λ (h : Hold). (h.node == m) ≡ false)
 
 residual_elsewhere : (plan : Plan) (job : Live) (receipt : Receipt) (m : ℕ) → m < node_of job → All (λ (h : Hold). (h.node == m) ≡ false) (residual_holds plan (residual_in job receipt))
 residual_elsewhere plan (live.Batch batch) receipt m less = All-nil (λ (h : Hold). (h.node == m) ≡ false)
+residual_elsewhere plan (live.Key turn) receipt m less = All-nil (λ (h : Hold). (h.node == m) ≡ false)
 residual_elsewhere plan (live.Span piece attempted) receipt m less = by (nat_lt (worked_to piece attempted) piece.range.to)
   where
     by : (t : Bool) → All (λ (h : Hold). (h.node == m) ≡ false) (residual_holds plan (cond t (Some (record piece { range = record { from = worked_to piece attempted; to = piece.range.to }; seen = receipt.seen; attempts = 0 })) None))
     by true = All-cons (λ (h : Hold). (h.node == m) ≡ false) _ [] (other_node piece.node m less) (All-nil (λ (h : Hold). (h.node == m) ≡ false))
     by false = All-nil (λ (h : Hold). (h.node == m) ≡ false)
+
+-- key cells hold a node before the job's as they did
+keys_still : (b : SeenBook) (slot : ℕ) (job : Live) (receipt : Receipt) (m : ℕ) → AreTurnsKept b → IsWorking b slot job → m < node_of job → All (λ (a : Arrival). a.node ≡ m → ⊥) receipt.arrivals
+    → least_hold (key_holds (keys_after b job receipt)) m ≡ least_hold (key_holds b.keys) m
+keys_still b slot (live.Span piece attempted) receipt m turns works less none = keys_elsewhere b.plan (last_marks b) receipt.arrivals b.keys m none
+keys_still b slot (live.Batch batch) receipt m turns works less none = keys_elsewhere b.plan (last_marks b) receipt.arrivals b.keys m none
+keys_still b slot (live.Key turn) receipt m turns works less none = by receipt.logged
+  where
+    differs : (k : ℕ) → turn.node ≡ k → k ≡ m → ⊥
+    differs k is at = omega (arith, is, at, less)
+
+    by : (logged : Option Logged) → least_hold (key_holds (place b.plan (last_marks b) (key_done_of (length b.commits) turn.cell logged) receipt.arrivals b.keys)) m ≡ least_hold (key_holds b.keys) m
+    by None = keys_elsewhere b.plan (last_marks b) receipt.arrivals b.keys m none
+    by (Some logged) =
+        let own = turn_at b slot turn turns works in
+        least_stays b.plan (last_marks b) (record {
+          cell = turn.cell;
+          kept = record { cells = logged.state; timers = logged.timers };
+          entries = map (numbered_entry (length b.commits)) logged.entries;
+        }) receipt.arrivals b.keys own.cell m own.is_at (differs own.cell.log.node (ap (λ (t : KeyTurn). t.node) own.is)) none
 
 -- none of the panes is of this node
 abbrev pub NoneAt : ℕ → List Pane → Type 0
@@ -139,8 +169,8 @@ module _ (told : Option (List FileText)) (b : SeenBook) (slot : ℕ) (job : Live
   same_hold : (m : ℕ) → m < n → NoneAt m fired → least_hold (all_holds b) m ≡ least_hold (all_holds (committed b slot job receipt cells fired marks)) m
   same_hold m less none =
       least_of_all b m
-      ∙ ap (λ (k : ℤ). int_min k (least_hold (own_holds b) m)) (sym (keys_elsewhere b.plan before receipt.arrivals b.keys m (all_elsewhere m less)))
-      ∙ ap (λ (k : ℤ). int_min (least_hold (key_holds (keys_after b receipt)) m) k) (same_own m less none)
+      ∙ ap (λ (k : ℤ). int_min k (least_hold (own_holds b) m)) (sym (keys_still b slot job receipt m sane.turns made.works less (all_elsewhere m less)))
+      ∙ ap (λ (k : ℤ). int_min (least_hold (key_holds (keys_after b job receipt)) m) k) (same_own m less none)
       ∙ sym (least_of_all (committed b slot job receipt cells fired marks) m)
 
   past : (m : ℕ) → length b.plan.nodes ≤ m → marks_at before m ≡ marks_at marks m

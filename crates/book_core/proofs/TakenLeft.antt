@@ -11,18 +11,22 @@ use Rattle.beam_values.specs.declared.piece.Piece.{Piece}
 use Rattle.book_core.specs.Book.{SeenBook, HeldPane, batch_of, held, held_at, live_pieces, queue_at, queued}
 use Rattle.book_core.specs.Changes.{with_slot}
 use Rattle.book_core.specs.Facts.{AreHeldOnce, IsWellFormed}
-use Rattle.book_core.specs.Jobs.{GivenBack, Oldest, Next, next_job, without_due}
-use Rattle.book_core.specs.Left.{IsBelow, attempts_left, left, left_at, left_of_batch, left_of_piece}
+use Rattle.stateful_core.specs.Cells.{KeyCell}
+use Rattle.stateful_core.specs.Taking.{with_job}
+use Rattle.stateful_core.specs.declared.place.Place.{Place}
+use Rattle.book_core.specs.Jobs.{GivenBack, Oldest, Next, next_job, with_key, without_due}
+use Rattle.book_core.specs.Left.{IsBelow, attempts_left, left, left_at, left_of_batch, left_of_cell, left_of_piece}
 use Rattle.book_core.specs.Steps.{IsFree}
 use Rattle.book_core.specs.declared.live.Batch.{Batch}
 use Rattle.book_core.specs.declared.live.Live.TheVariants as live
 use Rattle.book_core.specs.declared.live.WaitingPane.{WaitingPane}
 use Rattle.book_core.proofs.HeldMoves.{rest_of_returned, take_moves}
 use Rattle.book_core.proofs.HoldBags.{piece_set_weighs}
-use Rattle.book_core.proofs.Lowered.{at_node, attempts_weigh, left_at_weighs, lower_last}
+use Rattle.book_core.proofs.KeyChanges.{change_weighs}
+use Rattle.book_core.proofs.Lowered.{at_node, attempts_weigh, cell_left, left_at_weighs, lower_last, taken_left}
 use Rattle.book_core.proofs.Queues.{queue_set_weighs}
 use Rattle.book_core.proofs.Slotted.{flat_set_weighs, one_weighs, sum_ones}
-use Rattle.book_core.proofs.Taking.{IsAmong, IsOldest, take_cases}
+use Rattle.book_core.proofs.Taking.{IsAmong, IsNextCell, IsOldest, take_cases}
 
 -- what a take leaves
 record IsNoMore (b new : SeenBook) : Type 0 where
@@ -54,8 +58,9 @@ module _ (b : SeenBook) (slot : ℕ) (formed : IsWellFormed b) (once : AreHeldOn
   most = b.options.attempts
 
   nodes_by : (new : SeenBook) → ((node : ℕ) → sum_by (at_node node) new.pending + sum_by (at_node node) (live_pieces new) ≡ sum_by (at_node node) b.pending + sum_by (at_node node) (live_pieces b))
-      → ((node : ℕ) → count_by (λ (pane : HeldPane). pane.node == node) (held new) ≡ count_by (λ (pane : HeldPane). pane.node == node) (held b)) → (node : ℕ) → left_at new node ≡ left_at b node
-  nodes_by new pieces panes node = omega (arith, left_at_weighs new node, left_at_weighs b node, pieces node, panes node)
+      → ((node : ℕ) → count_by (λ (pane : HeldPane). pane.node == node) (held new) ≡ count_by (λ (pane : HeldPane). pane.node == node) (held b))
+      → ((node : ℕ) → sum_by (cell_left node) new.keys ≡ sum_by (cell_left node) b.keys) → (node : ℕ) → left_at new node ≡ left_at b node
+  nodes_by new pieces panes keys node = omega (arith, left_at_weighs new node, left_at_weighs b node, pieces node, panes node, keys node)
 
   given_left : (batch : Batch) → IsAmong b.returned batch → attempts_left (with_slot (without_due b (GivenBack batch)).rest slot (Some (live.Batch batch))) ≤ attempts_left b
   given_left batch among =
@@ -113,6 +118,18 @@ module _ (b : SeenBook) (slot : ℕ) (formed : IsWellFormed b) (once : AreHeldOn
         oldest.attempts,
       )
 
+  keyed_left : (place : Place) (cell : KeyCell) → IsNextCell b place cell → attempts_left (with_slot (with_key b place.at cell).rest slot (Some (with_key b place.at cell).job)) ≤ attempts_left b
+  keyed_left place cell found =
+      let job = (with_key b place.at cell).job in
+      omega (
+        arith,
+        attempts_weigh b,
+        attempts_weigh (with_slot (with_key b place.at cell).rest slot (Some job)),
+        piece_set_weighs (left_of_piece most) b slot None (Some job) free,
+        flat_set_weighs batch_of b.slots slot (left_of_batch most) None (Some job) free,
+        change_weighs (left_of_cell most) (with_job b.options.bundle) (λ c. refl) place.at b.keys,
+      )
+
   pending_left : (piece : Piece) (later : List Piece) → b.pending ≡ piece ∷ later → attempts_left (with_slot (record b { pending = later }) slot (Some (live.Span piece None))) ≤ attempts_left b
   pending_left piece later e =
       let new = with_slot (record b { pending = later }) slot (Some (live.Span piece None)) in
@@ -134,6 +151,7 @@ module _ (b : SeenBook) (slot : ℕ) (formed : IsWellFormed b) (once : AreHeldOn
       take_cases b (λ (n : Next). sum_by (at_node node) n.rest.pending + sum_by (at_node node) (live_pieces (with_slot n.rest slot (Some n.job))) ≡ sum_by (at_node node) b.pending + sum_by (at_node node) (live_pieces b))
       (λ batch among. omega (arith, piece_set_weighs (at_node node) b slot None (Some (live.Batch batch)) free))
       (λ batch oldest. omega (arith, piece_set_weighs (at_node node) b slot None (Some (live.Batch batch)) free))
+      (λ place cell found. omega (arith, piece_set_weighs (at_node node) b slot None (Some (with_key b place.at cell).job) free))
       (λ piece later e. omega (
         arith,
         piece_set_weighs (at_node node) b slot None (Some (live.Span piece None)) free,
@@ -143,12 +161,19 @@ module _ (b : SeenBook) (slot : ℕ) (formed : IsWellFormed b) (once : AreHeldOn
       ))
       next is
 
+  -- key cells at each node
+  taken_cells : (next : Next) → next_job b ≡ Some next → (node : ℕ) → sum_by (cell_left node) next.rest.keys ≡ sum_by (cell_left node) b.keys
+  taken_cells next is node =
+      take_cases b (λ (n : Next). sum_by (cell_left node) n.rest.keys ≡ sum_by (cell_left node) b.keys) (λ batch among. refl) (λ batch oldest. refl)
+      (λ place cell found. change_weighs (cell_left node) (with_job b.options.bundle) (taken_left node b.options.bundle) place.at b.keys) (λ piece later e. refl) next is
+
   pub take_no_higher : (next : Next) → next_job b ≡ Some next → IsBelow (left (with_slot next.rest slot (Some next.job))) (left b) ⊎ (left (with_slot next.rest slot (Some next.job)) ≡ left b)
   take_no_higher next is =
       let new = with_slot next.rest slot (Some next.job) in
       no_higher b new (record {
-        plan = take_cases b (λ (n : Next). n.rest.plan ≡ b.plan) (λ batch among. refl) (λ batch oldest. refl) (λ piece later e. refl) next is;
+        plan = take_cases b (λ (n : Next). n.rest.plan ≡ b.plan) (λ batch among. refl) (λ batch oldest. refl) (λ place cell found. refl) (λ piece later e. refl) next is;
         nodes = nodes_by new (taken_pieces next is)
-            (λ node. bag_count (λ (pane : HeldPane). pane.node == node) (held new) (held b) (take_moves b slot free once next is));
-        attempts = take_cases b (λ (n : Next). attempts_left (with_slot n.rest slot (Some n.job)) ≤ attempts_left b) given_left waits_left pending_left next is;
+            (λ node. bag_count (λ (pane : HeldPane). pane.node == node) (held new) (held b) (take_moves b slot free once next is))
+            (taken_cells next is);
+        attempts = take_cases b (λ (n : Next). attempts_left (with_slot n.rest slot (Some n.job)) ≤ attempts_left b) given_left waits_left keyed_left pending_left next is;
       })

@@ -5,7 +5,10 @@ use Rattle.std.specs.List.{filter}
 use Rattle.beam_values.specs.Lines.{offsets}
 use Rattle.beam_values.specs.declared.piece.Piece.{Piece}
 use Rattle.book_core.specs.Book.{SeenBook, queue_at}
-use Rattle.book_core.specs.Jobs.{Due, GivenBack, Oldest, Next, first_due, next_job, due_at, due_or_piece, or_due, oldest, given_back_or, lowest_of, lower_batch, first_pane, without_due, without_first}
+use Rattle.std.specs.Option.{option_map}
+use Rattle.stateful_core.specs.Cells.{KeyCell}
+use Rattle.stateful_core.specs.declared.place.Place.{Place}
+use Rattle.book_core.specs.Jobs.{Due, GivenBack, Oldest, Next, first_due, next_job, due_at, due_or_other, or_due, oldest, given_back_or, lowest_of, lower_batch, first_pane, without_due, without_first, key_or_piece, next_cell, with_key}
 use Rattle.book_core.specs.declared.live.Batch.{Batch}
 use Rattle.book_core.specs.declared.live.Live.TheVariants as live
 use Rattle.book_core.specs.declared.live.WaitingPane.{WaitingPane}
@@ -104,10 +107,16 @@ due_among b (node ∷ nodes) due e = by (due_at b node) refl e (due_among b node
 pub first_is_due : (b : SeenBook) (due : Due) → first_due b ≡ Some due → IsDue b due
 first_is_due b due e = due_among b (offsets 0 (length b.plan.nodes)) due e
 
--- A job that can be taken is one of three.
+-- the first key cell that has a job
+pub record IsNextCell (b : SeenBook) (place : Place) (cell : KeyCell) : Type 0 where
+  pub next : next_cell b ≡ Some place
+  pub is_at : slice_get b.keys place.at ≡ Some cell
+
+-- A job that can be taken is one of four.
 module _ (b : SeenBook) (P : Next → Type 0)
     (given_back : (batch : Batch) → IsAmong b.returned batch → P (without_due b (GivenBack batch)))
     (waits : (batch : Batch) → IsOldest b batch → P (without_due b (Oldest batch)))
+    (keyed : (place : Place) (cell : KeyCell) → IsNextCell b place cell → P (with_key b place.at cell))
     (pending : (piece : Piece) (later : List Piece) → b.pending ≡ piece ∷ later → P (record { job = live.Span piece None; rest = record b { pending = later } })) where
   of_due : (due : Due) → IsDue b due → P (without_due b due)
   of_due (GivenBack batch) h = given_back batch h
@@ -119,9 +128,19 @@ module _ (b : SeenBook) (P : Next → Type 0)
       let is : record { job = live.Span piece None; rest = record b { pending = later } } ≡ next = cc in
       subst P is (pending piece later at)
 
-  by_due : (due : Option Due) (next : Next) → first_due b ≡ due → due_or_piece b due ≡ Some next → P next
+  of_cell : (place : Place) (found : Option KeyCell) (next : Next) → next_cell b ≡ Some place → slice_get b.keys place.at ≡ found → option_map (with_key b place.at) found ≡ Some next → P next
+  of_cell place None next first at e = absurd (cc)
+  of_cell place (Some cell) next first at e =
+      let is : with_key b place.at cell ≡ next = cc in
+      subst P is (keyed place cell (record { next = first; is_at = at }))
+
+  by_cell : (place : Option Place) (next : Next) → next_cell b ≡ place → key_or_piece b place ≡ Some next → P next
+  by_cell (Some place) next first e = of_cell place (slice_get b.keys place.at) next first refl e
+  by_cell None next first e = of_pieces b.pending next refl e
+
+  by_due : (due : Option Due) (next : Next) → first_due b ≡ due → due_or_other b due ≡ Some next → P next
   by_due (Some due) next first e = let is : without_due b due ≡ next = cc in subst P is (of_due due (first_is_due b due first))
-  by_due None next first e = of_pieces b.pending next refl e
+  by_due None next first e = by_cell (next_cell b) next refl e
 
   pub take_cases : (next : Next) → next_job b ≡ Some next → P next
   take_cases next e = by_due (first_due b) next refl e

@@ -26,7 +26,7 @@ use Rattle.book_core.specs.Changes.{with_slot}
 use Rattle.book_core.specs.DueAt.{IsBatchAt, IsDueAs}
 use Rattle.book_core.specs.Facts.{AreHeldOnce, is_held_at}
 use Rattle.book_core.specs.Indexes.{IsIndexed, own_holds}
-use Rattle.book_core.specs.Jobs.{Due, GivenBack, Oldest, Next, first_due, due_at, or_due, due_or_piece, without_due, without_first, next_job, first_pane, lower_batch, lowest_of, job_of}
+use Rattle.book_core.specs.Jobs.{Due, GivenBack, Oldest, Next, first_due, due_at, or_due, due_or_other, without_due, without_first, next_job, first_pane, lower_batch, lowest_of, job_of, key_or_piece, next_cell, with_key}
 use Rattle.book_core.specs.Sane.{IsSane}
 use Rattle.book_core.specs.Steps.{Take, TakenJob, IsRunning, IsFree, Step}
 use Rattle.book_core.specs.declared.due.DueAt.{DueAt}
@@ -42,6 +42,15 @@ use Rattle.book_core.proofs.Holding.{bag_held}
 use Rattle.book_core.proofs.Limits.{pieces_after, batches_after, take_within}
 use Rattle.book_core.proofs.SaneAlways.{step_sane}
 use Rattle.book_core.proofs.Slotted.{All-append_left}
+use Rattle.std.specs.Prelude.{min}
+use Rattle.std.specs.Option.{option_map}
+use Rattle.beam_values.specs.declared.marks.StageMarks.{StageMarks}
+use Rattle.stateful_core.specs.Cells.{KeyCell}
+use Rattle.stateful_core.specs.Taking.{IsTaken, change, turn_of, with_job}
+use Rattle.stateful_core.specs.declared.key_job.KeyTurn.{KeyTurn}
+use Rattle.stateful_core.specs.declared.place.Place.{Place}
+use Rattle.book_core.specs.Book.{last_marks, waiting_in}
+use Rattle.book_core.proofs.KeyChanges.{change_weighs}
 use Rattle.book_core.proofs.Taking.{first_is_due}
 
 -- ---- what is due first
@@ -146,7 +155,7 @@ makes_take b slot next running free is sane = λ told. record {
 }
 
 next_given : (b : SeenBook) (place : ℕ) → (h : IsDueAs b (first_due b) (Some (at.GivenBack place))) → next_job b ≡ Some (without_due b (GivenBack h.0))
-next_given b place h = ap (due_or_piece b) h.2
+next_given b place h = ap (due_or_other b) h.2
 
 -- a batch that was given back is taken
 module _ (b : SeenBook) (slot place : ℕ) (running : IsRunning b) (free : IsFree b slot) (h : IsDueAs b (first_due b) (Some (at.GivenBack place))) (sane : IsSane b) where
@@ -203,7 +212,7 @@ module _ (b : SeenBook) (slot node : ℕ) (running : IsRunning b) (free : IsFree
   after_oldest = with_slot (record b { queues = slice_set b.queues node (drop b.options.bundle (queue_at b node)) }) slot (Some (live.Batch (oldest_batch b node)))
 
   next_oldest : next_job b ≡ Some (without_due b (Oldest (oldest_batch b node)))
-  next_oldest = ap (due_or_piece b) h
+  next_oldest = ap (due_or_other b) h
 
   oldest_as : (queues : List (List WaitingPane)) (slots : List (Option Live)) → queues ≡ slice_set b.queues node (drop b.options.bundle (queue_at b node))
       → slots ≡ slice_set b.slots slot (Some (live.Batch (oldest_batch b node))) → record b { queues = queues; slots = slots } ≡ after_oldest
@@ -234,14 +243,57 @@ module _ (b : SeenBook) (slot node : ℕ) (running : IsRunning b) (free : IsFree
         batches = omega (arith, room, batches_after b.slots slot None (Some (live.Batch (oldest_batch b node))) free, ap (λ (s : List (Option Live)). length (flat_map batch_of s)) g);
       }
 
+-- a job of a key cell is taken: whatever is found twice is one job
+pub one_turn : (marks : List StageMarks) (bundle : ℕ) (cells new other : List KeyCell) (turn again : KeyTurn) → IsTaken marks bundle cells turn new → IsTaken marks bundle cells again other → turn ≡ again
+one_turn marks bundle cells new other turn again h k =
+    let place : h.place ≡ k.place = let next = h.next in let too = k.next in cc in
+    let cell : h.cell ≡ k.cell = let here = sym h.is_at ∙ ap (λ (p : Place). slice_get cells p.at) place ∙ k.is_at in cc in
+    h.handed ∙ ap (λ (p : Place). turn_of p.at h.cell (min bundle (length h.cell.waiting))) place
+    ∙ ap (λ (c : KeyCell). turn_of k.place.at c (min bundle (length c.waiting))) cell ∙ sym k.handed
+
+module _ (b : SeenBook) (slot : ℕ) (turn : KeyTurn) (keys : List KeyCell) (slots : List (Option Live)) (running : IsRunning b) (free : IsFree b slot) (none : first_due b ≡ None)
+    (found : IsTaken (last_marks b) b.options.bundle b.keys turn keys) (g : slots ≡ slice_set b.slots slot (Some (live.Key turn))) (sane : IsSane b) where
+  abbrev cell_next : Next
+  cell_next = with_key b found.place.at found.cell
+
+  next_key : next_job b ≡ Some cell_next
+  next_key = ap (due_or_other b) none ∙ ap (key_or_piece b) found.next ∙ ap (option_map (with_key b found.place.at)) found.is_at
+
+  taken_is : record b { keys = keys; slots = slots } ≡ with_slot cell_next.rest slot (Some cell_next.job)
+  taken_is =
+      ap (λ (l : List KeyCell). record b { keys = l; slots = slots }) found.is
+      ∙ ap (λ (l : List (Option Live)). record b { keys = change (with_job b.options.bundle) found.place.at b.keys; slots = l })
+      (g ∙ ap (λ (t : KeyTurn). slice_set b.slots slot (Some (live.Key t))) found.handed)
+
+  pub makes_key : (handed : Job) → handed ≡ job_of [] (live.Key turn) → Makes b slot Take (TakenJob handed) (record b { keys = keys; slots = slots })
+  makes_key handed e =
+      subst (λ (j : Job). Makes b slot Take (TakenJob j) (record b { keys = keys; slots = slots })) (sym (e ∙ ap (λ (t : KeyTurn). job_of [] (live.Key t)) found.handed))
+      (subst (λ (d : SeenBook). Makes b slot Take (TakenJob (job_of b.panes cell_next.job)) d) (sym taken_is) (makes_take b slot cell_next running free next_key sane))
+
+  pub key_counted : waiting_in keys ≡ waiting_in b.keys
+  key_counted = ap waiting_in found.is ∙ change_weighs (λ (c : KeyCell). length c.waiting) (with_job b.options.bundle) (λ c. refl) found.place.at b.keys
+
+  pub key_indexed : (held_marks : List SeenHolds) (piece_room batch_room : ℕ) → IsIndexed b held_marks piece_room batch_room
+      → IsIndexed (record b { keys = keys; slots = slots }) held_marks piece_room batch_room
+  key_indexed held_marks piece_room batch_room k =
+      let bag = take_holds b slot cell_next k.sane.held free next_key in
+      record {
+        sane = step_sane None b _ slot Take (TakenJob (job_of [] (live.Key turn))) (makes_key (job_of [] (live.Key turn)) refl None) k.sane;
+        sized = k.sized;
+        holds_back = bag_held held_marks (own_holds b) (own_holds (record b { keys = keys; slots = slots }))
+            (bag_sym (own_holds (record b { keys = keys; slots = slots })) (own_holds b) (subst (λ (d : SeenBook). IsSameBag (own_holds d) (own_holds b)) (sym taken_is) bag)) k.holds_back;
+        pieces = omega (arith, k.pieces, pieces_after b.slots slot None (Some (live.Key turn)) free, ap (λ (s : List (Option Live)). length (flat_map piece_of s)) g);
+        batches = omega (arith, k.batches, batches_after b.slots slot None (Some (live.Key turn)) free, ap (λ (s : List (Option Live)). length (flat_map batch_of s)) g);
+      }
+
 -- the lowest piece is taken
 module _ (b : SeenBook) (slot : ℕ) (piece : Piece) (pending : List Piece) (slots : List (Option Live)) (running : IsRunning b) (free : IsFree b slot) (none : first_due b ≡ None)
-    (parts : b.pending ≡ piece ∷ pending) (g : slots ≡ slice_set b.slots slot (Some (live.Span piece None))) (sane : IsSane b) where
+    (no_cell : next_cell b ≡ None) (parts : b.pending ≡ piece ∷ pending) (g : slots ≡ slice_set b.slots slot (Some (live.Span piece None))) (sane : IsSane b) where
   abbrev rest_next : Next
   rest_next = record { job = live.Span piece None; rest = record b { pending = pending } }
 
   next_piece : next_job b ≡ Some rest_next
-  next_piece = ap (due_or_piece b) none ∙ ap (without_first b) parts
+  next_piece = ap (due_or_other b) none ∙ ap (key_or_piece b) no_cell ∙ ap (without_first b) parts
 
   pub makes_piece : Makes b slot Take (TakenJob (job.Span piece)) (record b { pending = pending; slots = slots })
   makes_piece =
@@ -276,12 +328,12 @@ not_idle [] e idle = absurd (cc)
 not_idle (None ∷ slots) e idle = not_idle slots e (All-tail (λ (s : Option Live). s ≡ None) None slots idle)
 not_idle (Some job ∷ slots) e idle = let none = All-head (λ (s : Option Live). s ≡ None) (Some job) slots idle in absurd (cc)
 
-pub makes_nothing : (b : SeenBook) (slot : ℕ) → IsRunning b → IsFree b slot → first_due b ≡ None → b.pending ≡ []
+pub makes_nothing : (b : SeenBook) (slot : ℕ) → IsRunning b → IsFree b slot → first_due b ≡ None → next_cell b ≡ None → b.pending ≡ []
     → Makes b slot Take (answer_of (cond (list_all is_none b.slots) taken.Finished taken.Nothing)) b
-makes_nothing b slot running free none empty told = by (list_all is_none b.slots) refl
+makes_nothing b slot running free none no_cell empty told = by (list_all is_none b.slots) refl
   where
     next_none : next_job b ≡ None
-    next_none = ap (due_or_piece b) none ∙ ap (without_first b) empty
+    next_none = ap (due_or_other b) none ∙ ap (key_or_piece b) no_cell ∙ ap (without_first b) empty
 
     by : (t : Bool) → list_all is_none b.slots ≡ t → Step told b slot Take (answer_of (cond t taken.Finished taken.Nothing)) b
     by true e = (running, free, next_none, idle_if b.slots e, refl)

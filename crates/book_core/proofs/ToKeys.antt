@@ -1,9 +1,10 @@
 -- What a commit brings to key cells: of its arrivals those at Stateful nodes, which the Groups leave.
-use Rattle.std.proofs.Common.{◌≡◌, ℕ, suc, ◌+◌, ◌≤◌, ◌<◌, Bool, true, false, cond, List, [], ◌∷◌, length, refl, sym, ap, subst, ◌∙◌, arith}
-use Rattle.std.specs.Prelude.{Option, Some, None, not, count_by, slice_get, unwrap_or}
-use Rattle.std.specs.List.{filter}
+use Rattle.std.proofs.Common.{◌≡◌, ℕ, zero, suc, ◌+◌, ◌-◌, ◌≤◌, ◌<◌, Bool, true, false, cond, List, [], ◌∷◌, length, refl, sym, ap, subst, ◌∙◌, arith}
+use Rattle.std.specs.Prelude.{Option, Some, None, not, ◌||◌, count_by, slice_get, unwrap_or}
+use Rattle.std.specs.List.{filter, list_any}
 use Rattle.std.specs.Option.{option_map}
 use Rattle.std.proofs.lemmas.Bool.{false≢true}
+use Rattle.std.proofs.lemmas.List.Filters.{length-filter_both}
 use Rattle.std.proofs.lemmas.List.Sums.{sum_by-cons}
 use Rattle.beam_values.specs.Nodes.{is_group, is_group_kind, is_stateful, is_stateful_kind, is_write, is_write_kind}
 use Rattle.beam_values.specs.declared.arrival.Arrival.{Arrival}
@@ -15,10 +16,11 @@ use Rattle.beam_values.specs.declared.plan.Plan.{Plan}
 use Rattle.group_cells.specs.Commits.{is_at_group}
 use Rattle.stateful_core.specs.Cells.{KeyCell}
 use Rattle.stateful_core.specs.Opening.{IsPrepared, SeenKeys}
-use Rattle.stateful_core.specs.Placing.{place}
+use Rattle.stateful_core.specs.Placing.{Done, finish, place, place_all}
 use Rattle.stateful_core.proofs.LeftOver.{placed_left, prepared_left}
 use Rattle.book_core.specs.Book.{waiting_in}
-use Rattle.book_core.specs.KeyCells.{cells_in}
+use Rattle.book_core.specs.KeyCells.{CanPlace, cells_in, has_stateful}
+use Rattle.book_core.proofs.CommitParts.{filter_within}
 use Rattle.book_core.proofs.KeysKept.{all_waiting, few_counted}
 
 -- ---- kinds of nodes
@@ -57,26 +59,38 @@ write_no_stateful plan node e = by (slice_get plan.nodes node) e
     by None e = absurd (cc)
     by (Some n) e = no_stateful n.kind e
 
+-- a plan without Stateful nodes
+pub no_stateful_at : (plan : Plan) → has_stateful plan ≡ false → (n : ℕ) → is_stateful plan n ≡ false
+no_stateful_at plan none n = by plan.nodes n none
+  where
+    found : Option Node → Bool
+    found o = unwrap_or (option_map (λ (n : Node). is_stateful_kind n.kind) o) false
+
+    at : (kind : Bool) (later : Bool) → (kind || later) ≡ false → (kind ≡ false) × (later ≡ false)
+    at true later e = absurd (cc)
+    at false later e = (refl, e)
+
+    by : (nodes : List Node) (n : ℕ) → list_any (λ (node : Node). is_stateful_kind node.kind) nodes ≡ false → found (slice_get nodes n) ≡ false
+    by [] n e = refl
+    by (node ∷ nodes) zero e = (at (is_stateful_kind node.kind) (list_any (λ (node : Node). is_stateful_kind node.kind) nodes) e).0
+    by (node ∷ nodes) (suc n) e = by nodes n (at (is_stateful_kind node.kind) (list_any (λ (node : Node). is_stateful_kind node.kind) nodes) e).1
+
 -- ---- those at Stateful nodes
 
 abbrev pub is_keyed : Plan → Arrival → Bool
 is_keyed plan arrival = is_stateful plan arrival.node
 
+abbrev pub is_other : Plan → Arrival → Bool
+is_other plan arrival = not (is_stateful plan arrival.node)
+
 -- the Groups leave them all
-pub keyed_same : (plan : Plan) (arrivals : List Arrival)
-    → filter (λ a. is_stateful plan a.node) (filter (λ arrival. not (is_at_group plan arrival)) arrivals) ≡ filter (λ a. is_stateful plan a.node) arrivals
-keyed_same plan [] = refl
-keyed_same plan (a ∷ later) = by (is_group plan a.node) (is_stateful plan a.node) refl refl (keyed_same plan later)
+at_groups : (plan : Plan) (arrival : Arrival) → not (is_at_group plan arrival) ≡ false → is_stateful plan arrival.node ≡ false
+at_groups plan arrival e = by (is_group plan arrival.node) (is_stateful plan arrival.node) refl refl e
   where
-    by : (g w : Bool) → is_group plan a.node ≡ g → is_stateful plan a.node ≡ w
-        → filter (is_keyed plan) (filter (λ arrival. not (is_at_group plan arrival)) later) ≡ filter (is_keyed plan) later
-        → filter (is_keyed plan) (cond (not g) (a ∷ filter (λ arrival. not (is_at_group plan arrival)) later) (filter (λ arrival. not (is_at_group plan arrival)) later))
-        ≡ cond w (a ∷ filter (is_keyed plan) later) (filter (is_keyed plan) later)
-    by true true e f behind = let none = stateful_no_group plan a.node f in absurd (false≢true (sym none ∙ e))
-    by true false e f behind = behind
-    by false w e f behind =
-        ap (λ (t : Bool). cond t (a ∷ filter (is_keyed plan) (filter (λ arrival. not (is_at_group plan arrival)) later)) (filter (is_keyed plan) (filter (λ arrival. not (is_at_group plan arrival)) later))) f
-        ∙ ap (λ (l : List Arrival). cond w (a ∷ l) l) behind
+    by : (g w : Bool) → is_group plan arrival.node ≡ g → is_stateful plan arrival.node ≡ w → not g ≡ false → w ≡ false
+    by g false of_group of_stateful e = refl
+    by true true of_group of_stateful e = absurd (false≢true (sym (stateful_no_group plan arrival.node of_stateful) ∙ of_group))
+    by false true of_group of_stateful e = absurd (cc)
 
 pub filtered_many : {X : Type 0} (p : X → Bool) (xs : List X) → length (filter p xs) ≡ count_by p xs
 filtered_many p [] = refl
@@ -86,45 +100,70 @@ filtered_many p (x ∷ xs) = by (p x) (sum_by-cons (λ y. cond (p y) 1 0) x xs) 
     by true e h = omega (arith, e, h)
     by false e h = omega (arith, e, h)
 
--- room for those that come is room for those that are left
-pub keyed_room : (plan : Plan) (arrivals left : List Arrival) (room : ℕ) → left ≡ filter (λ arrival. not (is_at_group plan arrival)) arrivals
-    → count_by (λ a. is_stateful plan a.node) arrivals ≤ room → count_by (λ a. is_stateful plan a.node) left ≤ room
-keyed_room plan arrivals left room e h =
-    omega (
-      arith,
-      h,
-      filtered_many (is_keyed plan) left,
-      filtered_many (is_keyed plan) arrivals,
-      ap (λ (l : List Arrival). length (filter (is_keyed plan) l)) e,
-      ap (λ (l : List Arrival). length l) (keyed_same plan arrivals),
-    )
+-- those that are written are among the others
+pub others_written : (plan : Plan) (arrivals : List Arrival) → filter (λ arrival. is_write plan arrival.node) (filter (is_other plan) arrivals) ≡ filter (λ arrival. is_write plan arrival.node) arrivals
+others_written plan arrivals =
+    filter_within (λ (arrival : Arrival). is_write plan arrival.node) (is_other plan) (λ arrival e. ap not (write_no_stateful plan arrival.node e)) arrivals
 
-module _ (plan : Plan) (arrivals left keyed : List Arrival) (e : left ≡ filter (λ arrival. not (is_at_group plan arrival)) arrivals)
-    (f : keyed ≡ filter (λ a. is_stateful plan a.node) left) where
-  pub keyed_is : keyed ≡ filter (λ a. is_stateful plan a.node) arrivals
-  keyed_is = f ∙ ap (filter (is_keyed plan)) e ∙ keyed_same plan arrivals
+-- so many are left
+pub others_many : (plan : Plan) (arrivals : List Arrival) → length arrivals - length (filter (is_other plan) arrivals) ≡ count_by (is_keyed plan) arrivals
+others_many plan arrivals =
+    omega (arith, length-filter_both (is_keyed plan) (is_other plan) (λ arrival. refl) arrivals, filtered_many (is_keyed plan) arrivals)
 
-  pub keyed_many : length keyed ≡ count_by (λ a. is_stateful plan a.node) arrivals
-  keyed_many = ap (λ (l : List Arrival). length l) keyed_is ∙ filtered_many (is_keyed plan) arrivals
+-- where no node is Stateful, nothing waits
+module _ (plan : Plan) (none : (n : ℕ) → is_stateful plan n ≡ false) where
+  no_keyed : (arrivals : List Arrival) → filter (is_keyed plan) arrivals ≡ []
+  no_keyed [] = refl
+  no_keyed (arrival ∷ arrivals) =
+      ap (λ (t : Bool). cond t (arrival ∷ filter (is_keyed plan) arrivals) (filter (is_keyed plan) arrivals)) (none arrival.node) ∙ no_keyed arrivals
 
-  pub keyed_few : length keyed ≤ length arrivals
-  keyed_few = omega (arith, keyed_many, few_counted (is_keyed plan) arrivals)
+  pub all_other : (arrivals : List Arrival) → filter (is_other plan) arrivals ≡ arrivals
+  all_other [] = refl
+  all_other (arrival ∷ arrivals) =
+      ap (λ (t : Bool). cond (not t) (arrival ∷ filter (is_other plan) arrivals) (filter (is_other plan) arrivals)) (none arrival.node)
+      ∙ ap (λ (l : List Arrival). arrival ∷ l) (all_other arrivals)
 
-  -- they may be placed
-  pub keyed_prepared : (keys : SeenKeys) → IsPrepared plan None arrivals keys → IsPrepared plan None keyed keys
-  keyed_prepared keys h =
-      subst (λ (l : List Arrival). IsPrepared plan None l keys) (sym keyed_is) (prepared_left plan (is_keyed plan) (λ a off. off) None arrivals keys h)
+  pub none_counted : (arrivals : List Arrival) → count_by (is_keyed plan) arrivals ≡ 0
+  none_counted arrivals = sym (filtered_many (is_keyed plan) arrivals) ∙ ap (λ (l : List Arrival). length l) (no_keyed arrivals)
 
-  -- and are, as if all were
-  pub keyed_placed : (b : Plan) (before last : List StageMarks) (cells : List KeyCell) (new old : SeenKeys) → plan ≡ b → before ≡ last → cells_in old ≡ cells
-      → cells_in new ≡ place plan before None keyed (cells_in old) → cells_in new ≡ place b last None arrivals cells
-  keyed_placed b before last cells new old of_plan of_marks of_cells is =
-      is ∙ ap (λ (l : List Arrival). place plan before None l (cells_in old)) keyed_is ∙ placed_left plan (is_keyed plan) (λ a off. off) before arrivals (cells_in old)
-      ∙ ap (place plan before None arrivals) of_cells
-      ∙ ap (λ (p : Plan). place p before None arrivals cells) of_plan ∙ ap (λ (l : List StageMarks). place b l None arrivals cells) of_marks
+  pub none_placed : (before : List StageMarks) (done : Option Done) (arrivals : List Arrival) → place plan before done arrivals [] ≡ []
+  none_placed before done arrivals =
+      sym (placed_left plan (is_keyed plan) (λ a off. off) before arrivals (finish before done []))
+      ∙ ap (λ (l : List Arrival). place_all plan before l (finish before done [])) (no_keyed arrivals) ∙ finished done
+    where
+      finished : (d : Option Done) → finish before d [] ≡ []
+      finished None = refl
+      finished (Some d) = refl
+
+-- what the Groups leave has all that comes to key cells
+module _ (plan : Plan) (arrivals left : List Arrival) (e : left ≡ filter (λ arrival. not (is_at_group plan arrival)) arrivals) where
+  -- it may be placed
+  pub left_prepared : (done : Option Done) (keys : SeenKeys) → CanPlace plan done arrivals keys → CanPlace plan done left keys
+  left_prepared done keys h some =
+      subst (λ (l : List Arrival). IsPrepared plan done l keys) (sym e) (prepared_left plan (λ arrival. not (is_at_group plan arrival)) (at_groups plan) done arrivals keys (h some))
+
+  -- and is, as if all were
+  pub left_placed : (b : Plan) (before last : List StageMarks) (done : Option Done) (cells : List KeyCell) (new old : SeenKeys) → plan ≡ b → before ≡ last → cells_in old ≡ cells
+      → cells_in new ≡ place plan before done left (cells_in old) → cells_in new ≡ place b last done arrivals cells
+  left_placed b before last done cells new old of_plan of_marks of_cells is =
+      is ∙ ap (λ (l : List Arrival). place plan before done l (cells_in old)) e
+      ∙ placed_left plan (λ arrival. not (is_at_group plan arrival)) (at_groups plan) before arrivals (finish before done (cells_in old))
+      ∙ ap (place plan before done arrivals) of_cells
+      ∙ ap (λ (p : Plan). place p before done arrivals cells) of_plan ∙ ap (λ (l : List StageMarks). place b l done arrivals cells) of_marks
+
+  keyed_same : filter (is_keyed plan) left ≡ filter (is_keyed plan) arrivals
+  keyed_same =
+      ap (filter (is_keyed plan)) e
+      ∙ filter_within (is_keyed plan) (λ arrival. not (is_at_group plan arrival)) (λ arrival on. ap not (stateful_no_group plan arrival.node on)) arrivals
+
+  pub left_many : count_by (is_keyed plan) left ≡ count_by (is_keyed plan) arrivals
+  left_many = sym (filtered_many (is_keyed plan) left) ∙ ap (λ (l : List Arrival). length l) keyed_same ∙ filtered_many (is_keyed plan) arrivals
+
+  pub left_few : count_by (is_keyed plan) left ≤ length arrivals
+  left_few = omega (arith, left_many, few_counted (is_keyed plan) arrivals)
 
   -- so many elements wait then
-  pub keyed_counted : (b : Plan) (last : List StageMarks) (cells : List KeyCell) (waiting : ℕ) → plan ≡ b → waiting ≡ waiting_in cells
-      → waiting + length keyed ≡ waiting_in (place b last None arrivals cells)
-  keyed_counted b last cells waiting of_plan counted =
-      omega (arith, counted, keyed_many, all_waiting b last arrivals cells, ap (λ (p : Plan). count_by (is_keyed p) arrivals) of_plan)
+  pub left_counted : (b : Plan) (last : List StageMarks) (done : Option Done) (cells : List KeyCell) → plan ≡ b
+      → waiting_in (place b last done arrivals cells) ≡ waiting_in (finish last done cells) + count_by (is_keyed plan) left
+  left_counted b last done cells of_plan =
+      omega (arith, left_many, all_waiting b last arrivals (finish last done cells), ap (λ (p : Plan). count_by (is_keyed p) arrivals) of_plan)

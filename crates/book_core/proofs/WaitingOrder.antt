@@ -16,7 +16,7 @@ use Rattle.group_cells.proofs.Counting.{All-unmap}
 use Rattle.book_core.specs.Book.{SeenBook, HeldPane, batch_of, held_at, held_in, last_marks, live_batches, queue_at, queued}
 use Rattle.book_core.specs.Changes.{as_waiting, fired_at, with_fired, with_slot, given_back, tried_batch, counted, stopped_where, ends_run, note_of}
 use Rattle.book_core.specs.Facts.{AreHeldOnce, IsHeldPane}
-use Rattle.book_core.specs.Jobs.{Next, first_pane}
+use Rattle.book_core.specs.Jobs.{Next, first_pane, with_key}
 use Rattle.book_core.specs.Runs.{IsOpening}
 use Rattle.book_core.specs.Sane.{AreWaitingInOrder, AscendByPane}
 use Rattle.book_core.specs.Steps.{IsWorking}
@@ -143,6 +143,10 @@ back_order b slot (live.Span piece attempted) at cause h works = record {
   queues = h.queues;
   batches = set_up b h b.returned slot None (returned_up b h) (All-nil IsInOrder);
 }
+back_order b slot (live.Key turn) at cause h works = record {
+  queues = h.queues;
+  batches = set_up b h b.returned slot None (returned_up b h) (All-nil IsInOrder);
+}
 back_order b slot (live.Batch batch) at cause h works =
     let one = All-head IsInOrder batch [] (All-flat_at batch_of b.slots slot IsInOrder (Some (live.Batch batch)) works (live_up b h)) in
     record {
@@ -181,6 +185,7 @@ keeps_order told = record {
         queues = oldest_queues b h batch oldest;
         batches = set_up b h b.returned slot (Some (live.Batch batch)) (returned_up b h) (one_up b h batch (oldest_panes b h batch oldest));
       })
+      (λ place cell found. record { queues = h.queues; batches = set_up b h b.returned slot (Some (with_key b place.at cell).job) (returned_up b h) (All-nil IsInOrder) })
       (λ piece later e. record { queues = h.queues; batches = set_up b h b.returned slot (Some (live.Span piece None)) (returned_up b h) (All-nil IsInOrder) })
       next is;
   claims = λ b slot p piece attempted once h works may. record {

@@ -23,7 +23,7 @@ use Rattle.bundle_commit.specs.declared.job.Receipt.{Receipt}
 use Rattle.group_cells.specs.Commits.{HasGap, HasLength}
 use Rattle.book_core.specs.Book.{SeenBook}
 use Rattle.book_core.specs.Changes.{with_slot}
-use Rattle.book_core.specs.Jobs.{Next, attempted_of, job_of}
+use Rattle.book_core.specs.Jobs.{Next, attempted_of, job_of, with_key}
 use Rattle.book_core.specs.Steps.{CanCommit, IsClaiming, IsCommitting, IsFree, IsTaking, IsWorking}
 use Rattle.book_core.specs.Work.{is_known, worked_to, IsGiven, IsPlausible, IsWorkOnRange}
 use Rattle.book_core.specs.declared.live.Live.{Live}
@@ -48,6 +48,7 @@ module _ (b new : SeenBook) (slot : ℕ) where
       (take_cases b (λ (n : Next). job.Span piece ≡ job_of b.panes n.job → IsWorking (with_slot n.rest slot (Some n.job)) slot (live.Span piece None))
       (λ batch among e. absurd (cc))
       (λ batch oldest e. absurd (cc))
+      (λ place cell found e. absurd (cc))
       (λ first later parts e.
       let same : first ≡ piece = cc in
       set_works b.slots slot None (Some (live.Span first None)) step.free ∙ ap (λ (p : Piece). Some (Some (live.Span p None))) same)
@@ -64,6 +65,7 @@ module _ (b new : SeenBook) (slot : ℕ) where
         (take_cases b (λ (n : Next). IsWorking (with_slot n.rest slot (Some n.job)) slot n.job)
         (λ batch among. set_works b.slots slot None (Some (live.Batch batch)) step.free)
         (λ batch oldest. set_works b.slots slot None (Some (live.Batch batch)) step.free)
+        (λ place cell found. set_works b.slots slot None (Some (with_key b place.at cell).job) step.free)
         (λ first later parts. set_works b.slots slot None (Some (live.Span first None)) step.free)
         step.next step.is_next),
     step.handed ∙ ap (λ (l : List Pane). job_of l step.next.job) (sym (ap (λ (d : SeenBook). d.panes) step.is ∙ (take_stays b slot step.next step.is_next).panes)),
@@ -97,6 +99,7 @@ each_arrives plan node to (pane ∷ panes) h =
 pub batch_given : (b : SeenBook) (node first attempts : ℕ) (panes : List Pane) (works : Live) → job.Batch node first panes attempts ≡ job_of b.panes works
     → (P : Job → Option ℕ → Type 0) → P (job.Batch node first panes attempts) None → P (job_of b.panes works) (attempted_of works)
 batch_given b node first attempts panes (live.Span piece attempted) e P h = absurd (cc)
+batch_given b node first attempts panes (live.Key turn) e P h = absurd (cc)
 batch_given b node first attempts panes (live.Batch batch) e P h = subst (λ (j : Job). P j None) e h
 
 -- ---- receipts that may be placed

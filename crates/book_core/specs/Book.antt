@@ -63,6 +63,11 @@ abbrev pub batch_of : Option Live → List Batch
 batch_of (Some (live.Batch batch)) = batch ∷ []
 batch_of _ = []
 
+-- the number of the key cell whose job it is
+abbrev pub cell_worked : Option Live → List ℕ
+cell_worked (Some (live.Key turn)) = turn.cell ∷ []
+cell_worked _ = []
+
 abbrev pub live_pieces : SeenBook → List Piece
 live_pieces b = flat_map piece_of b.slots
 

@@ -6,6 +6,8 @@ use Rattle.beam_values.specs.Tracking.{MayClaim}
 use Rattle.beam_values.specs.declared.file_text.FileText.{FileText}
 use Rattle.beam_values.specs.declared.outcome.Outcome.{Outcome}
 use Rattle.beam_values.specs.declared.piece.Piece.{Piece}
+use Rattle.beam_model.specs.Rendering.{log_cmp}
+use Rattle.stateful_core.specs.Cells.{logs_of}
 use Rattle.book_core.specs.Book.{SeenBook, slot_at, tracker_of}
 use Rattle.book_core.specs.Steps.{Action, Answer, TakenJob, Nothing, Finished, Stopped, Retried, Spent, Step, MayWorkOn}
 use Rattle.book_core.specs.declared.live.Failure.{Failure}
@@ -48,7 +50,7 @@ piece_in _ = None
 abbrev pub live_piece : SeenBook → ℕ → Option Piece
 live_piece b slot = piece_in (slot_at b slot)
 
--- an outcome is the book's own data; its cells stand in their order
+-- an outcome is the book's own data; its cells stand in their order, and its logs, those of all key cells, by node, key bytes and window
 pub record IsOutcomeOf (b : SeenBook) (o : Outcome) : Type 0 where
   pub plan : o.plan ≡ b.plan
   pub files : o.files ≡ b.files
@@ -58,7 +60,8 @@ pub record IsOutcomeOf (b : SeenBook) (o : Outcome) : Type 0 where
   pub cells_in_order : IsSorted cell_cmp o.cells
   pub panes : o.panes ≡ b.panes
   pub dropped : o.dropped ≡ b.dropped
-  pub logs : o.logs ≡ []
+  pub logs : IsPermutation (logs_of b.keys) o.logs
+  pub logs_in_order : IsSorted log_cmp o.logs
   pub written : o.written ≡ b.written
   pub commits : o.commits ≡ b.commits
   pub stopped : o.stopped ≡ b.stopped

@@ -18,11 +18,14 @@ use Rattle.beam_values.specs.declared.piece.Done.{Done}
 use Rattle.beam_values.specs.declared.piece.Piece.{Piece}
 use Rattle.beam_model.specs.Holds.{pane_hold}
 use Rattle.beam_ports.specs.Counts.{raised}
+use Rattle.bundle_commit.specs.declared.job.Logged.{Logged}
 use Rattle.bundle_commit.specs.declared.job.Receipt.{Receipt}
 use Rattle.group_cells.specs.Commits.{AreRounds, as_commit, dropped_arrival, is_dropped}
 use Rattle.split_core.specs.Order.{with_piece}
 use Rattle.stateful_core.specs.Cells.{KeyCell}
-use Rattle.stateful_core.specs.Placing.{place}
+use Rattle.stateful_core.specs.KeyWork.{numbered_entry}
+use Rattle.stateful_core.specs.Placing.{Done as KeyDone, place}
+use Rattle.stateful_core.specs.Taking.{change, tried}
 use Rattle.book_core.specs.Book.{SeenBook, last_marks, AreMarksOfBook}
 use Rattle.book_core.specs.Jobs.{first_pane}
 use Rattle.book_core.specs.Work.{worked_to}
@@ -65,16 +68,21 @@ tried_batch batch = record batch { attempts = batch.attempts + 1 }
 abbrev pub given_back : SeenBook → Live → ℕ → Cause → SeenBook
 given_back b (live.Span piece attempted) at cause = record b { pending = with_piece (tried_piece piece) b.pending }
 given_back b (live.Batch batch) at cause = record b { returned = b.returned ++ tried_batch batch ∷ [] }
+given_back b (live.Key turn) at cause = record b { keys = change tried turn.cell b.keys }
 
 abbrev pub attempts_of : Live → ℕ
 attempts_of (live.Span piece attempted) = piece.attempts
 attempts_of (live.Batch batch) = batch.attempts
+attempts_of (live.Key turn) = turn.attempts
 
+-- how a fail is noted: of a range by its item, of a batch by its first pane, and of a key job by the number of its cell
 abbrev pub note_of : Live → ℕ → Cause → FaultNote
 note_of (live.Span piece attempted) at cause =
     record { node = piece.node; item = piece.item; at = at; attempt = piece.attempts + 1; cause = cause }
 note_of (live.Batch batch) at cause =
     record { node = batch.node; item = first_pane batch; at = at; attempt = batch.attempts + 1; cause = cause }
+note_of (live.Key turn) at cause =
+    record { node = turn.node; item = turn.cell; at = at; attempt = turn.attempts + 1; cause = cause }
 
 -- one more fail brings a job to the limit of its attempts
 abbrev pub is_at_limit : SeenBook → Live → Bool
@@ -134,10 +142,12 @@ with_residual (Some piece) pending = with_piece piece pending
 abbrev pub done_after : List Done → Live → List Done
 done_after done (live.Span piece attempted) = with_done (done_of piece attempted) done
 done_after done (live.Batch batch) = done
+done_after done (live.Key turn) = done
 
 abbrev pub pending_after : List Piece → Live → Receipt → List Piece
 pending_after pending (live.Span piece attempted) receipt = with_residual (residual_of piece attempted receipt) pending
 pending_after pending (live.Batch batch) receipt = pending
+pending_after pending (live.Key turn) receipt = pending
 
 -- the panes that a commit fired wait, each with its hold: the greater of its time and the mark after its Group before the commit
 abbrev pub as_waiting : List StageMarks → (ℕ × Pane) → WaitingPane
@@ -157,9 +167,25 @@ queues_after b fired = map (with_fired (last_marks b) (enumerate_from (length b.
 abbrev pub written_by : SeenBook → Receipt → List Arrival
 written_by b receipt = filter (λ arrival. is_write b.plan arrival.node) receipt.arrivals
 
--- arrivals at Stateful nodes wait at their key cells, with holds by the marks before the commit
-abbrev pub keys_after : SeenBook → Receipt → List KeyCell
-keys_after b receipt = place b.plan (last_marks b) None receipt.arrivals b.keys
+-- what a key job leaves: the state and timers after its calls, and their entries, under the number of its commit
+abbrev pub key_done_of : ℕ → ℕ → Option Logged → Option KeyDone
+key_done_of commit cell None = None
+key_done_of commit cell (Some logged) = Some (record {
+  cell = cell;
+  kept = record { cells = logged.state; timers = logged.timers };
+  entries = map (numbered_entry commit) logged.entries;
+})
+
+abbrev pub key_done : ℕ → Live → Option Logged → Option KeyDone
+key_done commit (live.Span piece attempted) logged = None
+key_done commit (live.Batch batch) logged = None
+key_done commit (live.Key turn) logged = key_done_of commit turn.cell logged
+
+-- The key job is done, and then arrivals at Stateful nodes wait at their key cells, with holds by the marks before the commit. Where cell 0 has the elements at
+-- 1000, 1200 and 3000 waiting, of which a job has the first two, and commit 4 brings no arrival to a Stateful node, the third is left; two entries with the
+-- commit 4 stand behind those of the cell's log, it is free, and has 0 attempts.
+abbrev pub keys_after : SeenBook → Live → Receipt → List KeyCell
+keys_after b job receipt = place b.plan (last_marks b) (key_done (length b.commits) job receipt.logged) receipt.arrivals b.keys
 
 -- the book after a commit that left these cells, fired these panes and has these marks
 abbrev pub committed : SeenBook → ℕ → Live → Receipt → List Cell → List Pane → List StageMarks → SeenBook
@@ -168,7 +194,7 @@ committed b slot job receipt cells fired marks = record (with_slot b slot None) 
   queues = queues_after b fired;
   cells = cells;
   dropped = b.dropped ++ map (dropped_arrival (length b.commits)) (filter (is_dropped b.plan (last_marks b)) receipt.arrivals);
-  keys = keys_after b receipt;
+  keys = keys_after b job receipt;
   panes = b.panes ++ fired;
   done = done_after b.done job;
   written = b.written ++ written_by b receipt;

@@ -17,14 +17,16 @@ use Rattle.book_core.specs.declared.results.Results.{Results}
 
 -- ---- the job
 
--- the node that a job that is worked holds back, how often, and at which marks
+-- the node that a job that is worked holds back, how often, and at which marks; what a key job is on holds its node back at its cell
 abbrev pub node_of : Live → ℕ
 node_of (live.Span piece attempted) = piece.node
 node_of (live.Batch batch) = batch.node
+node_of (live.Key turn) = turn.node
 
 abbrev pub count_of : Live → ℕ
 count_of (live.Span piece attempted) = 1
 count_of (live.Batch batch) = length batch.panes
+count_of (live.Key turn) = 0
 
 abbrev pub pane_holds : ℕ → List WaitingPane → List Hold
 pane_holds node panes = map (λ waiting. record { node = node; mark = waiting.hold }) panes
@@ -32,11 +34,13 @@ pane_holds node panes = map (λ waiting. record { node = node; mark = waiting.ho
 abbrev pub job_holds : Plan → Live → List Hold
 job_holds plan (live.Span piece attempted) = piece_hold plan piece ∷ []
 job_holds plan (live.Batch batch) = pane_holds batch.node batch.panes
+job_holds plan (live.Key turn) = []
 
 -- what is left of it behind the checkpoint, and how that holds its source back
 abbrev pub residual_in : Live → Receipt → Option Piece
 residual_in (live.Span piece attempted) receipt = residual_of piece attempted receipt
 residual_in (live.Batch batch) receipt = None
+residual_in (live.Key turn) receipt = None
 
 abbrev pub residual_holds : Plan → Option Piece → List Hold
 residual_holds plan None = []
@@ -46,6 +50,7 @@ residual_holds plan (Some piece) = piece_hold plan piece ∷ []
 abbrev pub done_in : Live → Option Done
 done_in (live.Span piece attempted) = Some (done_of piece attempted)
 done_in (live.Batch batch) = None
+done_in (live.Key turn) = None
 
 abbrev pub with_done_in : Option Done → List Done → List Done
 with_done_in None done = done

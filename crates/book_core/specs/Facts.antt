@@ -17,14 +17,18 @@ use Rattle.beam_values.specs.declared.piece.Piece.{Piece}
 use Rattle.beam_model.specs.Account.{arrivals_of}
 use Rattle.beam_model.specs.Chains.{Output, Arrives}
 use Rattle.beam_model.specs.Coverings.{item_at, spread_dones}
-use Rattle.beam_model.specs.Flow.{pane_chains}
+use Rattle.beam_model.specs.Flow.{log_chains, pane_chains}
 use Rattle.beam_model.specs.Estimators.{emission_at, observed_times}
 use Rattle.beam_model.specs.Holds.{estimator_of}
 use Rattle.beam_model.specs.Panes.{Taken, taken_by, ArePanesLegal}
 use Rattle.beam_model.specs.Positions.{SourceItem, items}
 use Rattle.beam_ports.specs.Counts.{greatest_count}
 use Rattle.group_cells.specs.Commits.{HaveGaps, NeverFalls}
-use Rattle.book_core.specs.Book.{SeenBook, HeldPane, held, panes_of, live_pieces, live_batches, last_marks, AreMarksOfBook}
+use Rattle.stateful_core.specs.Cells.{KeyCell, key_arrivals, logs_of}
+use Rattle.stateful_core.specs.Taking.{is_some, turn_of}
+use Rattle.stateful_core.specs.Working.{AreWorkedOnce}
+use Rattle.stateful_core.specs.declared.key_job.KeyTurn.{KeyTurn}
+use Rattle.book_core.specs.Book.{SeenBook, HeldPane, held, panes_of, live_pieces, live_batches, cell_worked, last_marks, AreMarksOfBook}
 use Rattle.book_core.specs.Changes.{done_cmp}
 use Rattle.book_core.specs.Runs.{AreOptions, AreLengthsOf}
 use Rattle.book_core.specs.Steps.{IsRunning, IsWithinLimits}
@@ -70,12 +74,14 @@ pub record AreHeldOnce (b : SeenBook) : Type 0 where
 abbrev pub held_chains : SeenBook → List Output
 held_chains b = flat_map (λ held. pane_chains b.plan (panes_of b.panes (held.waiting ∷ []))) (held b)
 
--- where the files are told: the arrivals and the chains of the panes that aren't through are the outputs of the done ranges and the chains of all panes, and
--- none of them is poison
+-- Where the files are told: the arrivals, those that wait at key cells or are worked there counted in, and the chains of the panes that aren't through are the
+-- outputs of the done ranges, the chains of all panes and those of all logged outputs; and none of them is poison. After a source brought ("a", "x") to a cell
+-- at node 2 it waits there; once its job is committed it is in the log instead, the arrival at node 3 that the call brought is new on this side, and the chain
+-- of the logged output on that.
 abbrev pub IsBalanced : List FileText → SeenBook → Type 0
 IsBalanced told b =
-    IsSameBag (spread_dones b.plan (items_told (Some told) b.plan) b.done ++ pane_chains b.plan b.panes)
-    (map Arrives (arrivals_of b.cells b.dropped [] b.written) ++ held_chains b)
+    IsSameBag (spread_dones b.plan (items_told (Some told) b.plan) b.done ++ (pane_chains b.plan b.panes ++ log_chains b.plan (logs_of b.keys)))
+    (map Arrives (arrivals_of b.cells b.dropped [] b.written ++ key_arrivals b.keys) ++ held_chains b)
 
 -- written elements are at Writes
 pub record AreAtWrites (b : SeenBook) : Type 0 where
@@ -96,19 +102,22 @@ AreSeenBefore told b =
     All (λ piece. IsSeenOf b (item_at (items_told (Some told) b.plan) piece.node piece.item) piece) (b.pending ++ live_pieces b)
 
 -- A job that is worked has failed less often than it may, and so has one that isn't worked, unless the book is stopped: then it may have failed as often. All
--- pieces together have failed no more often than jobs failed at all, and so has each batch. After two calls and a read failed, pieces with 2 and 1 attempts may be
--- there, or one with 3, but none beside it with 1.
+-- pieces and key cells together have failed no more often than jobs failed at all, and so has each batch. After two calls and a read failed, pieces with 2 and 1
+-- attempts may be there, or a piece with 1 and a key cell with 2, or one piece with 3, but nothing beside it with 1.
 abbrev pub IsBelowLimit : SeenBook → ℕ → Type 0
 IsBelowLimit b attempts = attempts < b.options.attempts
 
 pub record AreAttemptsCounted (b : SeenBook) : Type 0 where
   pub worked_pieces : All (λ piece. IsBelowLimit b piece.attempts) (live_pieces b)
   pub worked_batches : All (λ batch. IsBelowLimit b batch.attempts) (live_batches b)
+  pub worked_keys : All (λ cell. is_some cell.live ≡ true → IsBelowLimit b cell.attempts) b.keys
   pub pending : IsRunning b → All (λ piece. IsBelowLimit b piece.attempts) b.pending
   pub returned : IsRunning b → All (λ batch. IsBelowLimit b batch.attempts) b.returned
+  pub keys : IsRunning b → All (λ cell. IsBelowLimit b cell.attempts) b.keys
   pub pending_most : All (λ piece. piece.attempts ≤ b.options.attempts) b.pending
   pub returned_most : All (λ batch. batch.attempts ≤ b.options.attempts) b.returned
-  pub pieces : sum_by (λ piece. piece.attempts) (b.pending ++ live_pieces b) ≤ b.calls + b.reads
+  pub keys_most : All (λ cell. cell.attempts ≤ b.options.attempts) b.keys
+  pub together : sum_by (λ piece. piece.attempts) (b.pending ++ live_pieces b) + sum_by (λ cell. cell.attempts) b.keys ≤ b.calls + b.reads
   pub batches : All (λ batch. batch.attempts ≤ b.calls + b.reads) (b.returned ++ live_batches b)
   pub calls : b.calls ≤ greatest_count
   pub reads : b.reads ≤ greatest_count
@@ -116,6 +125,24 @@ pub record AreAttemptsCounted (b : SeenBook) : Type 0 where
 abbrev pub IsStopNoted : SeenBook → Option StopCause → Type 0
 IsStopNoted b (Some (cause.Spent note)) = note.attempt ≡ b.options.attempts
 IsStopNoted b _ = Unit {0}
+
+-- A slot works the job of a key cell as the cell has it: it was handed out so, and stays so while it is worked, since what waits at the cell stays in front.
+pub record IsTurnOf (keys : List KeyCell) (turn : KeyTurn) : Type 0 where
+  pub cell : KeyCell
+  pub count : ℕ
+  pub is_at : slice_get keys turn.cell ≡ Some cell
+  pub works : cell.live ≡ Some count
+  pub is : turn ≡ turn_of turn.cell cell count
+
+abbrev pub HasTurn : List KeyCell → Option Live → Type 0
+HasTurn keys (Some (live.Key turn)) = IsTurnOf keys turn
+HasTurn keys _ = Unit {0}
+
+-- Each key cell that is worked is worked by one slot, and no other is. With the cells 0 and 1 live, slots that work cell 1, a piece and cell 0 are right; two
+-- slots that work cell 1 are not, and neither is a slot that works a cell which is free.
+pub record AreTurnsKept (b : SeenBook) : Type 0 where
+  pub once : AreWorkedOnce cell_worked b.slots b.keys
+  pub turns : All (HasTurn b.keys) b.slots
 
 -- what doesn't change while a run goes on, and the lists that are kept in order
 pub record IsWellFormed (b : SeenBook) : Type 0 where
@@ -141,9 +168,15 @@ IsEarly e = (e.time ≤ℤ greatest_time) × (e.span.end ≤ℤ greatest_end)
 abbrev pub IsEarlyPane : Pane → Type 0
 IsEarlyPane pane = IsEarly pane.element
 
+-- What waits at a key cell, and its window. This rests on no checked plan having a Stateful node: where one has, the elements of untold files have to be early too.
+pub record IsEarlyCell (cell : KeyCell) : Type 0 where
+  pub span : cell.log.span.end ≤ℤ greatest_end
+  pub waiting : All (λ waiting. waiting.element.time ≤ℤ greatest_time) cell.waiting
+
 pub record IsEarlyBook (b : SeenBook) : Type 0 where
   pub taken : All EndsEarly (taken_by b.cells)
   pub panes : All IsEarlyPane b.panes
+  pub keys : All IsEarlyCell b.keys
 
 -- ---- together
 

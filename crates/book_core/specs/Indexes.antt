@@ -1,5 +1,5 @@
 -- How the book's own indexes agree with its data: the marks that hold each node back, and the room that is kept for what is worked.
-use Rattle.std.specs.Prelude.{◌≡◌, Bool, true, false, ℕ, ◌≤◌, ℤ, List, [], ◌∷◌, ◌++◌, length, map, slice_get, unwrap_or, Option, None}
+use Rattle.std.specs.Prelude.{◌≡◌, Bool, true, false, ℕ, ◌<◌, ◌≤◌, ℤ, List, [], ◌∷◌, ◌++◌, length, map, slice_get, unwrap_or, Option, None}
 use Rattle.std.specs.Int.{int_min}
 use Rattle.std.specs.Option.{option_map}
 use Rattle.beam_values.specs.Bags.{IsSameBag}
@@ -9,11 +9,14 @@ use Rattle.beam_values.specs.declared.fault.FaultNote.{FaultNote}
 use Rattle.beam_values.specs.declared.outcome.StopCause.{StopCause}
 use Rattle.beam_values.specs.declared.outcome.StopCause.TheVariants as stop
 use Rattle.beam_values.specs.declared.piece.Piece.{Piece}
+use Rattle.beam_values.specs.declared.plan.Plan.{Plan}
 use Rattle.beam_model.specs.Holds.{Hold, piece_hold, least_hold, marks_held}
 use Rattle.retry_core.specs.declared.attempt.Next.{Next}
 use Rattle.retry_core.specs.declared.attempt.Next.TheVariants.{Retry, Spent}
 use Rattle.split_core.specs.Order.{with_piece}
-use Rattle.watermarks.specs.Holds.{SeenHolds}
+use Rattle.stateful_core.specs.Cells.{KeyCell}
+use Rattle.stateful_core.specs.Taking.{change, tried}
+use Rattle.watermarks.specs.Holds.{SeenHolds, hold_at}
 use Rattle.book_core.specs.Book.{SeenBook, live_pieces, live_batches, held, hold_of, holds, places_kept}
 use Rattle.book_core.specs.Changes.{tried_piece, tried_batch, or_stopped}
 use Rattle.book_core.specs.Sane.{IsSane}
@@ -45,6 +48,10 @@ all_holds b = map (piece_hold b.plan) (b.pending ++ live_pieces b) ++ holds b
 abbrev pub least_with : List SeenHolds → List Hold → ℕ → ℤ
 least_with held others node = int_min (least_in held node) (least_hold others node)
 
+-- of each node of the plan the least of both
+abbrev pub AreLeastWith : Plan → List SeenHolds → List Hold → List ℤ → Type 0
+AreLeastWith plan held others least = (n : ℕ) → n < length plan.nodes → hold_at least n ≡ least_with held others n
+
 -- a sane book, with the marks at which its pieces and panes hold nodes back, and a place kept for each piece and each batch that is worked
 pub record IsIndexed (b : SeenBook) (held : List SeenHolds) (piece_room batch_room : ℕ) : Type 0 where
   pub sane : IsSane b
@@ -57,14 +64,21 @@ pub record IsIndexed (b : SeenBook) (held : List SeenHolds) (piece_room batch_ro
 abbrev pub room_in : List SeenHolds → ℕ → ℕ
 room_in held node = unwrap_or (option_map (λ h. h.room) (slice_get held node)) 0
 
--- the pending pieces, the batches and the cause of a stop after a fail
+-- the pending pieces, the batches, the key cells and the cause of a stop after a fail
 abbrev pub pieces_back : List Piece → Live → ℕ → Cause → List Piece
 pieces_back pending (live.Span piece attempted) at cause = with_piece (tried_piece piece) pending
 pieces_back pending (live.Batch batch) at cause = pending
+pieces_back pending (live.Key turn) at cause = pending
 
 abbrev pub batches_back : List Batch → Live → List Batch
 batches_back returned (live.Span piece attempted) = returned
 batches_back returned (live.Batch batch) = returned ++ tried_batch batch ∷ []
+batches_back returned (live.Key turn) = returned
+
+abbrev pub keys_back : List KeyCell → Live → List KeyCell
+keys_back cells (live.Span piece attempted) = cells
+keys_back cells (live.Batch batch) = cells
+keys_back cells (live.Key turn) = change tried turn.cell cells
 
 -- the retry rule gave the job up
 abbrev pub is_spent : Next → Bool

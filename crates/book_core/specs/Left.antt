@@ -1,11 +1,17 @@
 -- What is left of a run, as a list of numbers that are compared from the front. A take and a commit lower it where a position was attempted, the range was empty or
--- panes went on; a take and a fail lower it always. Marks move behind the job's node alone, so no pane fires at that node or before it, under any trigger.
+-- panes went on, or a key job was done; a take and a fail lower it always. Marks move behind the job's node alone, so no pane fires at that node or before it, under any trigger.
 --
 -- Of a source 0, a Group 1 with early 2 and a Write 2, over one file of 27 bytes and with 3 attempts: 28, 0, 0, 3 is left at the opening and after the take of
 -- `[0, 27)`. A commit behind the position 9 that fires a pane leaves 18, 1, 0, 6; the pane is taken, and a fail leaves 18, 1, 0, 5; its commit leaves 18, 0, 0, 3.
+--
+-- With a node 1 that gives the values of a window by two, in place of the Group, that commit brings two elements of one key to it and leaves 18, 18, 0, 6: nine for
+-- each, and the attempts of the piece and of the key cell. A fail of the job of both leaves 18, 18, 0, 5. Its commit takes nine for each off, sets no timer, since
+-- the batch is full, and the cell has all its attempts again: 18, 0, 0, 6 is left.
 use Rattle.std.specs.Prelude.{◌≡◌, ◌⊎◌, ℕ, ◌+◌, ◌*◌, ◌-◌, ◌<◌, ◌≤◌, ◌==◌, List, [], ◌∷◌, ◌++◌, length, map, fold, sum_by, filter, Some, None}
 use Rattle.beam_values.specs.Lines.{offsets}
 use Rattle.beam_values.specs.declared.piece.Piece.{Piece}
+use Rattle.stateful_core.specs.Cells.{KeyCell}
+use Rattle.stateful_core.specs.Lasting.{left_of}
 use Rattle.book_core.specs.Book.{SeenBook, live_pieces, live_batches, held, queued}
 use Rattle.book_core.specs.Steps.{IsWorking}
 use Rattle.book_core.specs.declared.live.Batch.{Batch}
@@ -16,11 +22,12 @@ use Rattle.book_core.specs.declared.live.Live.TheVariants as live
 abbrev pub offsets_and_one : Piece → ℕ
 offsets_and_one piece = piece.range.to - piece.range.from + 1
 
--- of a node: the offsets and pieces of a source, the panes of a Group
+-- of a node: the offsets and pieces of a source, the panes of a Group, and the elements and timers of key cells, nine for each element and one for each timer
 abbrev pub left_at : SeenBook → ℕ → ℕ
 left_at b node =
     sum_by offsets_and_one (filter (λ piece. piece.node == node) (b.pending ++ live_pieces b))
     + length (filter (λ pane. pane.node == node) (held b))
+    + sum_by left_of (filter (λ cell. cell.log.node == node) b.keys)
 
 abbrev pub left_of_piece : ℕ → Piece → ℕ
 left_of_piece limit piece = limit - piece.attempts
@@ -28,12 +35,16 @@ left_of_piece limit piece = limit - piece.attempts
 abbrev pub left_of_batch : ℕ → Batch → ℕ
 left_of_batch limit batch = limit - batch.attempts
 
--- the attempts that remain of pieces and batches, and of each pane that is in no batch all that are allowed
+abbrev pub left_of_cell : ℕ → KeyCell → ℕ
+left_of_cell limit cell = limit - cell.attempts
+
+-- the attempts that remain of pieces, batches and key cells, and of each pane that is in no batch all that are allowed
 abbrev pub attempts_left : SeenBook → ℕ
 attempts_left b =
     sum_by (left_of_piece b.options.attempts) (b.pending ++ live_pieces b)
     + sum_by (left_of_batch b.options.attempts) (b.returned ++ live_batches b)
     + b.options.attempts * length (queued b)
+    + sum_by (left_of_cell b.options.attempts) b.keys
 
 -- node after node, and then the attempts
 abbrev pub left : SeenBook → List ℕ
@@ -47,11 +58,12 @@ IsBelow _ _ = ⊥
 
 -- ---- which commits lower it
 
--- a job goes on when it is committed: a position of its range was attempted, or there is none, or it is a batch
+-- a job goes on when it is committed: a position of its range was attempted, or there is none, or it is a batch or a key job
 abbrev pub GoesOn : Live → Type 0
 GoesOn (live.Span piece None) = piece.range.to ≤ piece.range.from
 GoesOn (live.Span piece (Some p)) = Unit {0}
 GoesOn (live.Batch batch) = Unit {0}
+GoesOn (live.Key turn) = Unit {0}
 
 abbrev pub GoesOnAt : SeenBook → ℕ → Type 0
 GoesOnAt b slot = (job : Live) → IsWorking b slot job → GoesOn job
@@ -61,9 +73,10 @@ GoesOnAt b slot = (job : Live) → IsWorking b slot job → GoesOn job
 abbrev pub all_lengths : SeenBook → ℕ
 all_lengths b = sum_by (λ file. file.len) b.files
 
--- No number of what is left comes near, since pieces and panes are numbered with 32 bits. It stays through a run.
+-- No number of what is left comes near, since pieces, panes, key cells and what waits there are numbered with 32 bits, and a key cell has at most eight timers.
+-- It stays through a run.
 abbrev pub above_each : SeenBook → ℕ
-above_each b = 4294967296 * (all_lengths b + 3 * b.options.attempts + 2)
+above_each b = 4294967296 * (all_lengths b + 4 * b.options.attempts + 20)
 
 -- So many rounds of a take and a commit, or a take and a fail, are left at most: what is left, read as the digits of one number.
 abbrev pub rounds_left : SeenBook → ℕ

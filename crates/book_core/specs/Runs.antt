@@ -13,6 +13,7 @@ use Rattle.beam_values.specs.declared.plan.Plan.{Plan}
 use Rattle.beam_model.specs.Positions.{SourceItem, items, item_len, len_of}
 use Rattle.group_cells.specs.Commits.{as_commit}
 use Rattle.split_core.specs.Order.{first_pieces, with_pieces}
+use Rattle.stateful_core.specs.Facts.{IsCellThrough}
 use Rattle.book_core.specs.Book.{SeenBook, AreMarksOfBook, held, last_marks}
 use Rattle.book_core.specs.Jobs.{job_of, attempted_of}
 use Rattle.book_core.specs.Steps.{Action, Fail, Answer, Step, IsWorking, IsIdle, IsRunning, IsWithinLimits}
@@ -116,11 +117,12 @@ pub record HonestlyReached (known : Surroundings) (b : SeenBook) : Type 0 where
 abbrev pub AreAllShown : Cell → Type 0
 AreAllShown cell = All (λ entry. entry.shown ≡ true) cell.entries
 
--- Nothing is left to do: nothing is pending, worked or waiting, every entry is shown, and every mark is FINAL.
+-- Nothing is left to do: nothing is pending, worked or waiting, no timer is set, every entry is shown, and every mark is FINAL.
 pub record IsThrough (b : SeenBook) : Type 0 where
   pub pending : b.pending ≡ []
   pub idle : IsIdle b
   pub held : held b ≡ []
+  pub keyed : All IsCellThrough b.keys
   pub shown : All AreAllShown b.cells
   pub final : All (λ marks. (marks.mark_in ≡ final_mark) × (marks.mark_out ≡ final_mark)) (last_marks b)
 

@@ -12,7 +12,7 @@ use Rattle.group_cells.specs.Sane.{ArePanesCounted, AreSaneCells}
 use Rattle.split_core.specs.Partition.{IsListed}
 use Rattle.stateful_core.specs.Facts.{AreKeysKept}
 use Rattle.book_core.specs.Book.{SeenBook, last_marks, live_batches, live_pieces}
-use Rattle.book_core.specs.Facts.{AreAtWrites, AreAttemptsCounted, AreHeldOnce, AreKept, AreMarksKept, ArePartitioned, IsAttemptedWithin, IsEarlyBook, IsStopNoted, IsWellFormed}
+use Rattle.book_core.specs.Facts.{AreAtWrites, AreAttemptsCounted, AreHeldOnce, AreKept, AreMarksKept, ArePartitioned, AreTurnsKept, IsAttemptedWithin, IsEarlyBook, IsStopNoted, IsWellFormed}
 use Rattle.book_core.specs.declared.live.WaitingPane.{WaitingPane}
 
 -- Each piece and each done range is of a listed item. A piece that isn't empty lies in its item, since no other offset is pending; an empty one may lie anywhere.
@@ -58,6 +58,7 @@ pub record IsSane (b : SeenBook) : Type 0 where
   pub dropped : AreDroppedAtGroups b
   -- each key cell's log leads from the fresh state to the cell's, and each key and window has one cell at most
   pub keys : AreKeysKept b.plan b.commits b.keys
+  pub turns : AreTurnsKept b
   pub writes : AreAtWrites b
 
 -- What holds besides of every book that a run reached, whatever the files are: what came to the Groups is legal, and windows end early.

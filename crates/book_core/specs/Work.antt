@@ -1,6 +1,7 @@
 -- What work on a job brings, whether it is poison, and when it may be said to have failed.
 use Rattle.std.specs.Prelude.{◌≡◌, ◌⊎◌, ℕ, ◌+◌, ◌<◌, ◌≤◌, min, ℤ, ◌≤ℤ◌, ◌+ℤ◌, ◌-◌, Bool, true, false, not, ◌||◌, List, [], map, fold, unwrap_or, Option, Some, None}
 use Rattle.std.specs.List.{All, list_any}
+use Rattle.std.specs.Option.{option_map}
 use Rattle.beam_values.specs.Checked.{reads_file}
 use Rattle.beam_values.specs.Lines.{offsets}
 use Rattle.beam_values.specs.Nodes.{has_kind}
@@ -25,8 +26,11 @@ use Rattle.beam_model.specs.Reach.{reaches_barrier}
 use Rattle.beam_model.specs.Spread.{spread_range, is_poison, first_poison}
 use Rattle.bundle_commit.specs.declared.job.Job.{Job}
 use Rattle.bundle_commit.specs.declared.job.Job.TheVariants as job
+use Rattle.bundle_commit.specs.declared.job.Logged.{Logged}
 use Rattle.bundle_commit.specs.declared.job.Receipt.{Receipt}
 use Rattle.group_cells.specs.Commits.{HasGap}
+use Rattle.stateful_core.specs.Facts.{Folded}
+use Rattle.stateful_core.specs.KeyWork.{IsGivenOfKey, key_outputs}
 
 -- The surroundings of a book: the files, where the stores tell them, and whether every shelf fails on poison alone.
 pub record Surroundings : Type 0 where
@@ -89,13 +93,20 @@ abbrev pub IsWorkOnRange : Bool → Option (List FileText) → Plan → Piece �
 IsWorkOnRange true told plan piece upto receipt = IsWorkOnItem plan piece upto (item_at (items_told told plan) piece.node piece.item) receipt
 IsWorkOnRange false told plan piece upto receipt = IsPlausible plan piece receipt
 
--- A receipt is what the plan gives for a job, of a range up to its last attempted position. It has no log.
+-- what calls left and logged, as definitions see it
+abbrev pub folded_by : Logged → Folded
+folded_by logged = record { kept = record { cells = logged.state; timers = logged.timers }; entries = logged.entries }
+
+-- A receipt is what the plan gives for a job, of a range up to its last attempted position. Only of a key job it has a log: the fold of the node's function over
+-- the inputs, with entries under commit 0, since no worker knows which commit it will be. Of a node that takes each value once, a job on "x", "x" and "y" of
+-- key "a" from the fresh state brings the chains of ("a", "x") and ("a", "y"), leaves the bag "x", "y", and logs three entries, the second without outputs.
 abbrev pub IsGiven : Option (List FileText) → Plan → Job → Option ℕ → Receipt → Type 0
 IsGiven told plan (job.Span piece) attempted receipt =
     IsWorkOnRange (is_known told plan piece.node) told plan piece (worked_to piece attempted) receipt × (receipt.logged ≡ None)
 IsGiven told plan (job.Batch node first panes attempts) attempted receipt =
     (map Arrives receipt.arrivals ≡ batch_outputs plan node panes) × (receipt.logged ≡ None)
-IsGiven told plan (job.Key node cell key span inputs state timers attempts) attempted receipt = ⊥
+IsGiven told plan (job.Key node cell key span inputs state timers attempts) attempted receipt =
+    IsGivenOfKey plan node key span inputs (record { cells = state; timers = timers }) receipt.arrivals (option_map folded_by receipt.logged)
 
 -- ---- poison and faults
 
@@ -103,7 +114,7 @@ IsGiven told plan (job.Key node cell key span inputs state timers attempts) atte
 abbrev pub job_outputs : Option (List FileText) → Plan → Job → List Output
 job_outputs told plan (job.Span piece) = spread_of plan piece.range (item_at (items_told told plan) piece.node piece.item)
 job_outputs told plan (job.Batch node first panes attempts) = batch_outputs plan node panes
-job_outputs told plan (job.Key node cell key span inputs state timers attempts) = []
+job_outputs told plan (job.Key node cell key span inputs state timers attempts) = key_outputs plan node key span inputs (record { cells = state; timers = timers })
 
 -- where the files are told, a job that is poison
 abbrev pub IsPoisonJob : Option (List FileText) → Plan → Job → Type 0
@@ -122,7 +133,8 @@ abbrev pub IsHonestCall : Surroundings → Plan → Job → Option ℕ → ℕ �
 IsHonestCall known plan (job.Span piece) attempted at =
     (is_known known.told plan piece.node ≡ false) ⊎ IsPoisonAttempt known.told plan piece attempted at
 IsHonestCall known plan (job.Batch node first panes attempts) attempted at = first_poison (batch_outputs plan node panes) ≡ Some at
-IsHonestCall known plan (job.Key node cell key span inputs state timers attempts) attempted at = ⊥
+IsHonestCall known plan (job.Key node cell key span inputs state timers attempts) attempted at =
+    first_poison (key_outputs plan node key span inputs (record { cells = state; timers = timers })) ≡ Some at
 
 abbrev pub IsHonestRead : Plan → Job → ℕ → Type 0
 IsHonestRead plan (job.Span piece) at = (is_file_source plan piece.node ≡ true) × (at ≡ piece.node)

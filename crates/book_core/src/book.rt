@@ -6,7 +6,7 @@ ghost use Rattle.book_core.specs.Book.{SeenBook};
 ghost use Rattle.book_core.specs.Calls.{Makes, CanClaim, CanFail, answer_of, failure_of};
 ghost use Rattle.book_core.specs.Calls.{live_piece, IsOutcomeOf};
 ghost use Rattle.book_core.specs.DueAt.{IsDueAs};
-ghost use Rattle.book_core.specs.Jobs.{first_due};
+ghost use Rattle.book_core.specs.Jobs.{first_due, next_cell};
 ghost use Rattle.book_core.specs.Runs.{AreOptions, AreLengthsOf, IsOpening};
 ghost use Rattle.book_core.specs.Sane.{IsSane};
 ghost use Rattle.book_core.specs.Steps.{Enroll, Take, Claim, Split, Fail, Stop, Enrolled, Claimed};
@@ -20,12 +20,13 @@ use crate::committing::{
 use crate::due::{DueAt, batch_job, first_due, piece_job, started};
 use crate::failing::{attempts_of, failure_of, give_back, note_of, stopped_after, take_out};
 use crate::held::{NodeHolds, mark_of_piece};
-use crate::keyed::{have_numbers, place, room_for_keyed};
+use crate::key_job::{elements_of, key_done, key_job, logged_of};
+use crate::keyed::{have_numbers, place};
 use crate::live::{Batch, Failure, Live, Taken, Unplaced};
 use crate::opening::{cut_files, empty_queues, hold_pieces, mark_nodes};
-use crate::outcome::in_order;
+use crate::outcome::{in_order, logs_in_order};
 use crate::queue::Queue;
-use crate::results::{Results, put_left};
+use crate::results::Results;
 use crate::working::{
     count_batches, count_pieces, idle_answer, most_left, piece_at, span_at, tracker_of,
 };
@@ -35,7 +36,9 @@ use beam_values::{
 use bundle_commit::{Job, Receipt};
 use group_cells::Groups;
 use pipeline_graph::Graph;
-use pipeline_graph::laws::{nodes_take_elements_of_their_strategy, strategies_follow_kinds};
+use pipeline_graph::laws::{
+    no_node_is_stateful, nodes_take_elements_of_their_strategy, strategies_follow_kinds,
+};
 use retry_core::{FaultShare, next_attempt};
 use split_core::Pieces;
 use stateful_core::Keys;
@@ -205,7 +208,7 @@ impl Book {
         match first_due(self.returned.as_slice(), self.queues.as_slice()) {
             Some(DueAt::GivenBack(at)) => self.take_returned(slot, at),
             Some(DueAt::Oldest(node)) => self.take_oldest(slot, node),
-            None => Ok(self.take_piece(slot)),
+            None => self.take_key(slot),
         }
     }
 
@@ -247,10 +250,31 @@ impl Book {
         Ok(Taken::Job(job))
     }
 
+    // The job that is handed out and the one that the slot keeps are two copies.
+    fn take_key(&mut self, slot: u32) -> Result<Taken, NoMemory>
+        requires running { IsRunning self.old }
+        requires free { IsFree self.old slot }
+        requires none { first_due self.old ≡ None }
+        ensures ok { IfOk result (λ taken. Makes self.old slot Take (answer_of taken) self.new) }
+        ensures err { OnErr result (self.new ≡ self.old) }
+    {
+        let bundle = self.options.bundle;
+        let marks = self.results.last_marks();
+        let Some(turn) = self.keys.next_job(marks, bundle)? else {
+            return Ok(self.take_piece(slot));
+        };
+        let Some(worked) = self.keys.take_job(marks, bundle)? else {
+            unreachable!()
+        };
+        self.slots[slot as usize] = Some(Live::Key(worked));
+        Ok(Taken::Job(key_job(turn)))
+    }
+
     fn take_piece(&mut self, slot: u32) -> Taken
         requires running { IsRunning self.old }
         requires free { IsFree self.old slot }
         requires none { first_due self.old ≡ None }
+        requires no_cell { next_cell self.old ≡ None }
         ensures { Makes self.old slot Take (answer_of result) self.new }
     {
         match self.pieces.take() {
@@ -326,6 +350,7 @@ impl Book {
         ensures err { IfErr result
             (λ unplaced. (unplaced.receipt ≡ receipt) × (self.new ≡ self.old)) }
     {
+        no_node_is_stateful();
         nodes_take_elements_of_their_strategy();
         strategies_follow_kinds();
         let count = receipt.arrivals.len();
@@ -349,10 +374,6 @@ impl Book {
         ) else {
             return Err(Unplaced { receipt });
         };
-        let arrivals = receipt.arrivals.as_slice();
-        let Ok(mut keyed) = room_for_keyed(self.alloc, plan, arrivals) else {
-            return Err(Unplaced { receipt });
-        };
         let Some(job) = take_out(&mut self.slots, slot) else {
             unreachable!()
         };
@@ -365,6 +386,7 @@ impl Book {
             logged,
         } = receipt;
         let number = self.results.commits.len() as u32;
+        let done = key_done(&job, logged, number);
         let first = self.results.panes.len() as u32;
         let before = self.results.last_marks();
         let fired = fire(
@@ -372,6 +394,7 @@ impl Book {
             plan,
             &mut self.groups,
             &mut self.keys,
+            done.as_ref(),
             &mut arrivals,
             &self.held,
             before,
@@ -385,13 +408,11 @@ impl Book {
                 receipt: Receipt {
                     arrivals,
                     seen,
-                    logged,
+                    logged: logged_of(done),
                 },
             });
         };
         let Fired { panes, marks } = fired;
-        put_left(plan, &mut self.results.written, &mut keyed, arrivals);
-        let before = self.results.last_marks();
         wait_all(
             &mut self.queues,
             &mut self.held,
@@ -400,9 +421,11 @@ impl Book {
             panes.as_slice(),
         );
         put_back(&mut self.pieces, residual);
-        self.waiting += keyed.len();
-        place(&mut self.keys, plan, keyed.into_list(), before);
-        self.results.add(done_of(&job), panes, marks);
+        let waiting = place(&mut self.keys, plan, done, &mut arrivals, before);
+        self.waiting += waiting;
+        self.waiting -= elements_of(&job);
+        self.results
+            .add(plan, done_of(&job), panes, arrivals, marks);
         Ok(())
     }
 
@@ -424,7 +447,14 @@ impl Book {
         };
         let note = note_of(&job, at, cause);
         let next = next_attempt(attempts_of(&job), self.options.attempts);
-        give_back(&mut self.pieces, &mut self.returned, job, at, cause);
+        give_back(
+            &mut self.pieces,
+            &mut self.returned,
+            &mut self.keys,
+            job,
+            at,
+            cause,
+        );
         self.faults.rise(cause, 1);
         self.stopped = stopped_after(self.stopped, next, note);
         failure_of(next, note)
@@ -437,7 +467,7 @@ impl Book {
         self.stopped = self.stopped.or(Some(StopCause::NoMemory));
     }
 
-    /// The book's own data, with its cells by node, key bytes and window.
+    /// The book's own data, with its cells, and the logs of its key cells, by node, key bytes and window.
     pub fn outcome(self) -> Result<Outcome, NoMemory>
         ensures { IfOk result (IsOutcomeOf self) }
     {
@@ -445,6 +475,7 @@ impl Book {
             graph,
             files,
             groups,
+            keys,
             results,
             stopped,
             alloc,
@@ -465,7 +496,7 @@ impl Book {
             cells: in_order(cells)?,
             panes: panes.into_list(),
             dropped,
-            logs: List::new(alloc),
+            logs: logs_in_order(keys.into_logs()?)?,
             written: written.into_list(),
             commits: commits.into_list(),
             stopped,

@@ -1,18 +1,18 @@
-ghost use Rattle.std.specs.Prelude.{◌≡◌, ℕ, true, ◌+◌, ◌<◌, ◌≤◌, ◌==◌, if◌then◌else◌, [], ◌∷◌};
+ghost use Rattle.std.specs.Prelude.{◌≡◌, ℕ, true, false, ◌+◌, ◌<◌, ◌≤◌, ◌==◌, if◌then◌else◌, [], ◌∷◌};
 ghost use Rattle.std.specs.Prelude.{◌++◌, List, length, map, slice_get, Some, None, IfOk, OnOk, OnErr};
 ghost use Rattle.std.specs.List.{All, enumerate_from};
 ghost use Rattle.std.specs.Int.{int_max};
-ghost use Rattle.std.specs.Option.{ForSome, option_to_list};
+ghost use Rattle.std.specs.Option.{ForSome, option_copied, option_map, option_to_list};
 ghost use Rattle.beam_model.specs.Holds.{Hold, pane_hold, piece_hold};
 ghost use Rattle.beam_values.specs.Checked.{IsChecked};
 ghost use Rattle.beam_values.specs.Nodes.{is_group, is_group_kind};
 ghost use Rattle.beam_values.specs.declared.plan.Node.{Node};
 ghost use Rattle.stateful_core.specs.Cells.{key_holds};
-ghost use Rattle.stateful_core.specs.Opening.{IsPrepared};
-ghost use Rattle.book_core.specs.KeyCells.{cells_in};
+ghost use Rattle.book_core.specs.KeyCells.{CanPlace, cells_in, has_stateful};
+ghost use Rattle.stateful_core.specs.Opening.{IsStanding, done_of};
 ghost use Rattle.stateful_core.specs.Placing.{place};
 ghost use Rattle.group_cells.specs.Commits.{AreRounds, HasGap, IsCommitted, RisesFrom};
-ghost use Rattle.book_core.specs.Changes.{as_waiting, done_of, residual_of, with_fired};
+ghost use Rattle.book_core.specs.Changes.{as_waiting, done_of as range_done, residual_of, with_fired};
 ghost use Rattle.book_core.specs.Changes.{with_residual};
 ghost use Rattle.book_core.specs.Committing.{node_of, count_of, pane_holds, job_holds, residual_in};
 ghost use Rattle.book_core.specs.Committing.{residual_holds, done_in, list_at, HasRoom, HasRoomFor};
@@ -33,7 +33,7 @@ use beam_values::{
 use bundle_commit::Receipt;
 use group_cells::Groups;
 use split_core::Pieces;
-use stateful_core::Keys;
+use stateful_core::{KeyDone, Keys};
 use std::alloc::Global;
 
 /// Lists whose places are numbered with 32 bits are shorter than this.
@@ -92,6 +92,10 @@ fn own_of(job: &Live) -> Own
             node: batch.node,
             count: batch.panes.len(),
         },
+        Live::Key(turn) => Own {
+            node: turn.node,
+            count: 0,
+        },
     }
 }
 
@@ -140,6 +144,7 @@ pub fn residual_of(job: &Live, receipt: &Receipt) -> Option<Piece>
     match job {
         Live::Span { piece, attempted } => residual_piece(piece, *attempted, receipt),
         Live::Batch(_) => None,
+        Live::Key(_) => None,
     }
 }
 
@@ -165,12 +170,13 @@ pub fn done_of(job: &Live) -> Option<Done>
     match job {
         Live::Span { piece, attempted } => Some(done_range(piece, *attempted)),
         Live::Batch(_) => None,
+        Live::Key(_) => None,
     }
 }
 
 fn done_range(piece: &Piece, attempted: Option<u64>) -> Done
     requires { IsAttemptedWithin (Some (live.Span piece.now attempted)) }
-    ensures { result ≡ done_of piece.now attempted }
+    ensures { result ≡ range_done piece.now attempted }
 {
     let mut tracker = tracker_of(piece, attempted);
     let _ = tracker.checkpoint();
@@ -194,6 +200,7 @@ pub fn free_job(held: &mut NodeHolds, plan: &Plan, job: &Live)
     match job {
         Live::Span { piece, .. } => free_piece(held, plan, piece),
         Live::Batch(batch) => free_panes(held, batch.node, batch.panes.as_slice()),
+        Live::Key(_) => {}
     }
 }
 
@@ -233,6 +240,7 @@ pub fn hold_job(held: &mut NodeHolds, plan: &Plan, job: &Live)
     match job {
         Live::Span { piece, .. } => held.add_kept(piece.node, mark_of_piece(plan, piece)),
         Live::Batch(batch) => hold_panes(held, batch.node, batch.panes.as_slice()),
+        Live::Key(_) => {}
     }
 }
 
@@ -364,13 +372,14 @@ pub struct Fired {
     pub marks: List<StageMarks>,
 }
 
-/// The Groups take the arrivals at them, and fire, and those at Stateful nodes can be placed without
-/// memory from then on. After a refusal nothing is changed.
+/// The Groups take the arrivals at them, and fire; the key job, and the arrivals at Stateful nodes, can be
+/// placed without memory from then on. After a refusal nothing is changed.
 pub fn fire(
     alloc: Global,
     plan: &Plan,
     groups: &mut Groups,
     keys: &mut Keys,
+    done: Option<&KeyDone>,
     arrivals: &mut List<Arrival>,
     held: &NodeHolds,
     before: &[StageMarks],
@@ -381,15 +390,18 @@ pub fn fire(
     requires held { length held.now ≡ length plan.now.nodes }
     requires marks { length before.now ≡ length plan.now.nodes }
     requires gaps { All (HasGap plan.now) arrivals.old }
-    requires rises { RisesFrom plan.now (least_with held.now (key_holds
-        (place plan.now before.now None arrivals.old (cells_in keys.old)))) before.now }
+    requires none { has_stateful plan.now ≡ false → cells_in keys.old ≡ [] }
+    requires stands { IsStanding (cells_in keys.old) (option_map done_of (option_copied done)) }
+    requires rises { RisesFrom plan.now (least_with held.now (key_holds (place plan.now before.now
+        (option_map done_of (option_copied done)) arrivals.old (cells_in keys.old)))) before.now }
     ensures keys { cells_in keys.new ≡ cells_in keys.old }
-    ensures prepared { IfOk result (λ _. IsPrepared plan.now None arrivals.old keys.new) }
+    ensures prepared { OnOk result (CanPlace plan.now (option_map done_of (option_copied done.entry))
+        arrivals.old keys.new) }
     ensures rounds { IfOk result (λ fired. AreRounds plan.now commit before.now fired.marks
         arrivals.old groups.old.cells groups.new.cells fired.panes) }
     ensures committed { IfOk result (λ fired. IsCommitted plan.now commit before.now fired.marks
-        (least_with held.now (key_holds
-        (place plan.now before.now None arrivals.old (cells_in keys.old))))
+        (least_with held.now (key_holds (place plan.now before.now
+        (option_map done_of (option_copied done.entry)) arrivals.old (cells_in keys.old))))
         arrivals.old arrivals.new groups.old groups.new fired.panes) }
     ensures few { IfOk result
         (λ fired. length fired.panes ≤ length groups.old.cells + length arrivals.old) }
@@ -397,8 +409,7 @@ pub fn fire(
         (length groups.new.cells ≤ length groups.old.cells + length arrivals.old) }
     ensures err { OnErr result ((groups.new ≡ groups.old) × (arrivals.new ≡ arrivals.old)) }
 {
-    let least = prepare(keys, plan, arrivals, before)?;
-    let holds = held.least_with(alloc, least.as_slice())?;
+    let holds = prepare(alloc, plan, keys, done, arrivals, held, before)?;
     let mut marks = Vec::from_slice(alloc, before)?;
     let panes = groups.commit(
         plan,

@@ -2,13 +2,17 @@ ghost use Rattle.std.specs.Prelude.{◌≡◌, ◌<◌, ◌≤◌, ◌+◌, ◌+
 ghost use Rattle.std.specs.Prelude.{length, Some, None, slice_get, slice_set};
 ghost use Rattle.book_core.specs.Book.{piece_of, batch_of};
 ghost use Rattle.book_core.specs.Changes.{attempts_of, note_of};
-ghost use Rattle.book_core.specs.Indexes.{pieces_back, batches_back, is_spent, stopped_after};
+ghost use Rattle.book_core.specs.Facts.{HasTurn};
+ghost use Rattle.book_core.specs.Indexes.{pieces_back, batches_back, keys_back, is_spent};
+ghost use Rattle.book_core.specs.Indexes.{stopped_after};
+ghost use Rattle.book_core.specs.KeyCells.{cells_in};
 ghost use Rattle.book_core.specs.Jobs.{first_pane};
 
 use crate::live::{Batch, Failure, Live};
 use beam_values::{Cause, FaultNote, Piece, RoomyList, StopCause};
 use retry_core::Next;
 use split_core::Pieces;
+use stateful_core::Keys;
 
 /// Takes what a slot works, and leaves it free.
 pub fn take_out(slots: &mut Vec<Option<Live>>, slot: u32) -> Option<Live>
@@ -50,6 +54,13 @@ pub fn note_of(job: &Live, at: u32, cause: Cause) -> FaultNote
             attempt: batch.attempts + 1,
             cause,
         },
+        Live::Key(turn) => FaultNote {
+            node: turn.node,
+            item: turn.cell,
+            at,
+            attempt: turn.attempts + 1,
+            cause,
+        },
     }
 }
 
@@ -60,6 +71,7 @@ pub fn attempts_of(job: &Live) -> u32
     match job {
         Live::Span { piece, .. } => piece.attempts,
         Live::Batch(batch) => batch.attempts,
+        Live::Key(turn) => turn.attempts,
     }
 }
 
@@ -67,6 +79,7 @@ pub fn attempts_of(job: &Live) -> u32
 pub fn give_back(
     pieces: &mut Pieces,
     returned: &mut RoomyList<Batch>,
+    keys: &mut Keys,
     job: Live,
     at: u32,
     cause: Cause,
@@ -74,8 +87,10 @@ pub fn give_back(
     requires attempts { attempts_of job < 4294967295 }
     requires pieces { length (piece_of (Some job)) ≤ pieces.old.room }
     requires batches { length (batch_of (Some job)) ≤ returned.old.room }
+    requires turn { HasTurn (cells_in keys.old) (Some job) }
     ensures pending { pieces.new.pending ≡ pieces_back pieces.old.pending job at cause }
     ensures returned { returned.new.items ≡ batches_back returned.old.items job }
+    ensures keys { cells_in keys.new ≡ keys_back (cells_in keys.old) job }
     ensures pieces_room { pieces.old.room ≤ pieces.new.room + length (piece_of (Some job)) }
     ensures batches_room { returned.old.room ≤ returned.new.room + length (batch_of (Some job)) }
 {
@@ -99,6 +114,7 @@ pub fn give_back(
                 },
             );
         }
+        Live::Key(turn) => keys.give_back(turn.cell),
     }
 }
 

@@ -1,15 +1,18 @@
-ghost use Rattle.std.specs.Prelude.{◌≡◌, ◌+◌, ◌<◌, ◌≤◌, [], true, All, IfOk, OnErr, length};
+ghost use Rattle.std.specs.Prelude.{◌≡◌, ℕ, ◌+◌, ◌<◌, ◌≤◌, [], true, false, not, IfOk, OnOk, length};
 ghost use Rattle.std.specs.Prelude.{count_by, None};
+ghost use Rattle.std.specs.List.{filter, list_any};
+ghost use Rattle.std.specs.Option.{option_copied, option_map};
 ghost use Rattle.beam_values.specs.Nodes.{is_stateful, is_stateful_kind};
 ghost use Rattle.stateful_core.specs.Cells.{key_holds};
-ghost use Rattle.stateful_core.specs.Least.{AreLeast};
-ghost use Rattle.stateful_core.specs.Opening.{IsPrepared};
-ghost use Rattle.book_core.specs.KeyCells.{cells_in};
+ghost use Rattle.stateful_core.specs.Opening.{IsStanding, done_of};
 ghost use Rattle.stateful_core.specs.Placing.{place};
+ghost use Rattle.book_core.specs.Indexes.{AreLeastWith};
+ghost use Rattle.book_core.specs.KeyCells.{CanPlace, cells_in, has_stateful};
 
 use crate::committing::GREATEST_COUNT;
-use beam_values::{Arrival, List, Mark, NoMemory, NodeKind, Plan, RoomyList, StageMarks};
-use stateful_core::Keys;
+use crate::held::NodeHolds;
+use beam_values::{Arrival, List, Mark, NoMemory, Node, NodeKind, Plan, StageMarks};
+use stateful_core::{KeyDone, Keys};
 use std::alloc::Global;
 
 /// Whether all key cells, and all elements that wait there, have numbers of 32 bits after a commit of so
@@ -26,14 +29,17 @@ pub fn have_numbers(keys: &Keys, waiting: usize, arrivals: usize) -> bool
         && waiting + arrivals < GREATEST_COUNT
 }
 
-/// Whether the node is a Stateful node of the plan.
-pub fn is_stateful(plan: &Plan, node: u32) -> bool
-    ensures { result ≡ is_stateful plan.now node }
+/// Whether the plan has a Stateful node. Where it has none, no commit looks at key cells.
+fn has_stateful(plan: &Plan) -> bool
+    ensures { result ≡ has_stateful plan.now }
 {
-    match plan.nodes.get(node as usize) {
-        Some(node) => is_stateful_kind(&node.kind),
-        None => false,
-    }
+    is_any_stateful(plan.nodes.as_slice())
+}
+
+fn is_any_stateful(nodes: &[Node]) -> bool
+    ensures { result ≡ list_any (λ node. is_stateful_kind node.kind) nodes.now }
+{
+    nodes.iter().any(|node| is_stateful_kind(&node.kind))
 }
 
 fn is_stateful_kind(kind: &NodeKind) -> bool
@@ -42,56 +48,57 @@ fn is_stateful_kind(kind: &NodeKind) -> bool
     matches!(kind, NodeKind::Stateful { .. })
 }
 
-/// An empty list with room for the arrivals at Stateful nodes.
-pub fn room_for_keyed(
+/// Makes all room that placing the key job and these arrivals needs, and answers the least mark of each node after that, of
+/// what is held and of the key cells. No key cell changes.
+pub fn prepare(
     alloc: Global,
     plan: &Plan,
-    arrivals: &[Arrival],
-) -> Result<RoomyList<Arrival>, NoMemory>
-    ensures none { IfOk result (λ keyed. keyed.items ≡ []) }
-    ensures room { IfOk result
-        (λ keyed. count_by (λ a. is_stateful plan.now a.node) arrivals.now ≤ keyed.room) }
+    keys: &mut Keys,
+    done: Option<&KeyDone>,
+    arrivals: &List<Arrival>,
+    held: &NodeHolds,
+    before: &[StageMarks],
+) -> Result<Vec<Mark>, NoMemory>
+    requires held { length held.now ≡ length plan.now.nodes }
+    requires none { has_stateful plan.now ≡ false → cells_in keys.old ≡ [] }
+    requires stands { IsStanding (cells_in keys.old) (option_map done_of (option_copied done)) }
+    ensures cells { cells_in keys.new ≡ cells_in keys.old }
+    ensures ok { OnOk result (CanPlace plan.now (option_map done_of (option_copied done.entry))
+        arrivals.now keys.new) }
+    ensures sized { IfOk result (λ least. length least.items ≡ length held.now) }
+    ensures least { IfOk result (λ least. AreLeastWith plan.now held.now
+        (key_holds (place plan.now before.now (option_map done_of (option_copied done.entry))
+        arrivals.now (cells_in keys.old)))
+        least.items) }
 {
-    let mut keyed = RoomyList::new(alloc);
-    keyed.reserve(count_keyed(plan, arrivals))?;
-    Ok(keyed)
-}
-
-fn count_keyed(plan: &Plan, arrivals: &[Arrival]) -> usize
-    ensures exact { result ≡ count_by (λ a. is_stateful plan.now a.node) arrivals.now }
-    ensures within { result ≤ length arrivals.now }
-{
-    let mut count = 0;
-    for arrival in arrivals {
-        if is_stateful(plan, arrival.node) {
-            count += 1;
-        }
+    if !has_stateful(plan) {
+        return held.least_with(alloc, &[]);
     }
-    count
+    let keyed = keys.prepare(plan, done, arrivals, before)?;
+    held.least_with(alloc, keyed.as_slice())
 }
 
-/// Makes all room that placing these arrivals needs, and answers the least hold of each node after that.
-/// No key cell changes.
-pub fn prepare(
+/// The key job is done, and then each arrival at a Stateful node waits at its key cell, and the others stay
+/// in the list. Answers how many wait. Takes no memory.
+pub fn place(
     keys: &mut Keys,
     plan: &Plan,
-    arrivals: &List<Arrival>,
+    done: Option<KeyDone>,
+    arrivals: &mut List<Arrival>,
     before: &[StageMarks],
-) -> Result<List<Mark>, NoMemory>
-    ensures cells { cells_in keys.new ≡ cells_in keys.old }
-    ensures ok { IfOk result (λ _. IsPrepared plan.now None arrivals.now keys.new) }
-    ensures sized { IfOk result (λ least. length least ≡ length plan.now.nodes) }
-    ensures least { IfOk result (λ least. AreLeast least
-        (key_holds (place plan.now before.now None arrivals.now (cells_in keys.old)))) }
+) -> usize
+    requires can { CanPlace plan.now (option_map done_of done) arrivals.old keys.old }
+    requires none { has_stateful plan.now ≡ false → cells_in keys.old ≡ [] }
+    ensures cells { cells_in keys.new
+        ≡ place plan.now before.now (option_map done_of done) arrivals.old (cells_in keys.old) }
+    ensures left { arrivals.new
+        ≡ filter (λ arrival. not (is_stateful plan.now arrival.node)) arrivals.old }
+    ensures many { result ≡ count_by (λ a. is_stateful plan.now a.node) arrivals.old }
 {
-    keys.prepare(plan, None, arrivals, before)
-}
-
-/// Each arrival waits at its key cell. Takes no memory.
-pub fn place(keys: &mut Keys, plan: &Plan, arrivals: List<Arrival>, before: &[StageMarks])
-    requires { IsPrepared plan.now None arrivals keys.old }
-    ensures { cells_in keys.new ≡ place plan.now before.now None arrivals (cells_in keys.old) }
-{
-    let mut arrivals = arrivals;
-    keys.place(plan, None, &mut arrivals, before);
+    if !has_stateful(plan) {
+        return 0;
+    }
+    let came = arrivals.len();
+    keys.place(plan, done, arrivals, before);
+    came - arrivals.len()
 }

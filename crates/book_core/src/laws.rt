@@ -49,6 +49,7 @@ pub fn books_are_kept()
     ensures reached { (told : Option (List FileText)) (b : SeenBook)
         → Reached told b → AreKeptWith b }
 {
+    no_node_is_stateful();
     nodes_take_elements_of_their_strategy();
     strategies_follow_kinds();
     nodes_have_inputs_and_settings_of_their_kind();
@@ -56,8 +57,8 @@ pub fn books_are_kept()
 }
 
 /// And what holds of it where the files are told: the arrivals and the chains of the panes that aren't
-/// through are the outputs of the done ranges and the chains of all panes; and each time that a piece's
-/// estimator has seen stands at a position below the piece.
+/// through are the outputs of the done ranges, the chains of all panes and those of what calls logged; and
+/// each time that a piece's estimator has seen stands at a position below the piece.
 pub fn told_books_are_kept()
     ensures opening { (told : List FileText) (plan : Plan) (files : List FileLen)
         (options : Options) (b : SeenBook)

@@ -13,6 +13,7 @@ mod committing;
 mod due;
 mod failing;
 mod held;
+mod key_job;
 mod keyed;
 pub mod laws;
 mod live;

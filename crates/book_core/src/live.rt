@@ -1,5 +1,6 @@
 use beam_values::{FaultNote, List, Mark, Piece};
 use bundle_commit::{Job, Receipt};
+use stateful_core::KeyTurn;
 
 /// A pane that waits to go on, by its place in the run's list of panes, and the mark at which it holds
 /// its Group back.
@@ -27,6 +28,8 @@ pub enum Live {
         attempted: Option<u64>,
     },
     Batch(Batch),
+    /// The job of a key cell, as it was handed out.
+    Key(KeyTurn),
 }
 
 /// What a slot that asks for work gets.

@@ -1,8 +1,12 @@
-ghost use Rattle.std.specs.Prelude.{IfOk};
+ghost use Rattle.std.specs.Prelude.{◌≡◌, IfOk};
 ghost use Rattle.std.specs.List.Sorted.{IsPermutation, IsSorted};
-ghost use Rattle.beam_values.specs.Cells.{cell_cmp};
+ghost use Rattle.std.specs.Ordering.{ordering_then};
+ghost use Rattle.beam_model.specs.Rendering.{log_cmp};
+ghost use Rattle.beam_values.specs.Cells.{cell_cmp, span_cmp};
+ghost use Rattle.beam_values.specs.Orders.{value_cmp};
 
-use beam_values::{Cell, KeyRank, List, NoMemory, cmp_cells};
+use beam_values::{Cell, KeyLog, KeyRank, List, NoMemory, cmp_cells, cmp_spans, cmp_values};
+use std::cmp::Ordering;
 
 /// Puts cells into the order of an outcome.
 pub fn in_order(cells: List<Cell>) -> Result<List<Cell>, NoMemory>
@@ -36,5 +40,33 @@ fn rank_of(cell: &Cell) -> Rank {
         node: cell.node,
         key: KeyRank::of(&cell.key),
         start: cell.span.start(),
+    }
+}
+
+/// Puts logs into the order of an outcome: by node, key bytes and window.
+pub fn logs_in_order(logs: List<KeyLog>) -> Result<List<KeyLog>, NoMemory>
+    ensures ascending { IfOk result (IsSorted log_cmp) }
+    ensures same { IfOk result (IsPermutation logs) }
+{
+    let mut logs = logs.into_vec();
+    logs.sort_by(|a, b| cmp_logs(a, b))?;
+    Ok(List::from_vec(logs))
+}
+
+fn cmp_logs(a: &KeyLog, b: &KeyLog) -> Ordering
+    ensures { result ≡ log_cmp a.now b.now }
+{
+    match a.node.cmp(&b.node) {
+        Ordering::Equal => cmp_logs_of_node(a, b),
+        decided => decided,
+    }
+}
+
+fn cmp_logs_of_node(a: &KeyLog, b: &KeyLog) -> Ordering
+    ensures { result ≡ ordering_then (value_cmp a.now.key b.now.key) (span_cmp a.now.span b.now.span) }
+{
+    match cmp_values(&a.key, &b.key) {
+        Ordering::Equal => cmp_spans(a.span, b.span),
+        decided => decided,
     }
 }

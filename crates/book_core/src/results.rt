@@ -1,14 +1,13 @@
 ghost use Rattle.std.specs.Prelude.{◌≡◌, ◌+◌, ◌-◌, ◌<◌, ◌≤◌, [], ◌∷◌, ◌++◌, length, slice_get};
-ghost use Rattle.std.specs.Prelude.{count_by, insert, true, unwrap_or, IfOk, OnOk};
+ghost use Rattle.std.specs.Prelude.{insert, unwrap_or, IfOk, OnOk};
 ghost use Rattle.std.specs.List.{filter};
 ghost use Rattle.std.specs.List.Sorted.{IsSorted};
 ghost use Rattle.std.specs.Option.{option_map};
-ghost use Rattle.beam_values.specs.Nodes.{is_stateful, is_write};
+ghost use Rattle.beam_values.specs.Nodes.{is_write};
 ghost use Rattle.group_cells.specs.Commits.{as_commit};
 ghost use Rattle.book_core.specs.Changes.{done_cmp, with_done};
 ghost use Rattle.book_core.specs.Committing.{with_done_in, HasRoomFor};
 
-use crate::keyed::is_stateful;
 use beam_values::{Arrival, CommitMarks, Done, List, NoMemory, Pane, Plan, RoomyList, StageMarks};
 use std::alloc::Global;
 use std::cmp::Ordering;
@@ -65,17 +64,26 @@ impl Results {
         self.commits.reserve(1)
     }
 
-    /// Adds the results of a commit.
-    pub fn add(&mut self, done: Option<Done>, fired: List<Pane>, marks: List<StageMarks>)
+    /// Adds the results of a commit. Of the arrivals that are left those at Writes are written.
+    pub fn add(
+        &mut self,
+        plan: &Plan,
+        done: Option<Done>,
+        fired: List<Pane>,
+        left: List<Arrival>,
+        marks: List<StageMarks>,
+    )
         requires sorted { IsSorted done_cmp self.old.done.items }
-        requires room { HasRoomFor self.old (length fired) 0 }
+        requires room { HasRoomFor self.old (length fired) (length left) }
         ensures panes { self.new.panes.items ≡ self.old.panes.items ++ fired }
         ensures done { self.new.done.items ≡ with_done_in done self.old.done.items }
-        ensures written { self.new.written.items ≡ self.old.written.items }
+        ensures written { self.new.written.items
+            ≡ self.old.written.items ++ filter (λ arrival. is_write plan.now arrival.node) left }
         ensures commits { self.new.commits.items ≡ self.old.commits.items ++ as_commit marks ∷ [] }
     {
         put_done(&mut self.done, done);
         put_panes(&mut self.panes, fired);
+        put_written(plan, &mut self.written, left);
         put_last(&mut self.commits, CommitMarks { marks });
     }
 }
@@ -105,46 +113,25 @@ fn put_panes(panes: &mut RoomyList<Pane>, fired: List<Pane>)
     }
 }
 
-/// Of the arrivals that the Groups left, those at Writes are written, and those at Stateful nodes are
-/// put into a list of their own, where room is kept for them.
-pub fn put_left(
-    plan: &Plan,
-    written: &mut RoomyList<Arrival>,
-    keyed: &mut RoomyList<Arrival>,
-    left: List<Arrival>,
-)
-    requires written { length left ≤ written.old.room }
-    requires keyed { count_by (λ arrival. is_stateful plan.now arrival.node) left ≤ keyed.old.room }
-    ensures written { written.new.items
+// Of the arrivals that are left those at Writes are written.
+fn put_written(plan: &Plan, written: &mut RoomyList<Arrival>, left: List<Arrival>)
+    requires { length left ≤ written.old.room }
+    ensures { written.new.items
         ≡ written.old.items ++ filter (λ arrival. is_write plan.now arrival.node) left }
-    ensures keyed { keyed.new.items
-        ≡ keyed.old.items ++ filter (λ arrival. is_stateful plan.now arrival.node) left }
 {
     for arrival in left.into_vec() {
-        put_one(plan, written, keyed, arrival);
+        put_if_written(plan, written, arrival);
     }
 }
 
-fn put_one(
-    plan: &Plan,
-    written: &mut RoomyList<Arrival>,
-    keyed: &mut RoomyList<Arrival>,
-    arrival: Arrival,
-)
-    requires written { 0 < written.old.room }
-    requires keyed { is_stateful plan.now arrival.node ≡ true → 0 < keyed.old.room }
-    ensures written { written.new.items
+fn put_if_written(plan: &Plan, written: &mut RoomyList<Arrival>, arrival: Arrival)
+    requires { 0 < written.old.room }
+    ensures items { written.new.items
         ≡ written.old.items ++ filter (λ a. is_write plan.now a.node) (arrival ∷ []) }
-    ensures keyed { keyed.new.items
-        ≡ keyed.old.items ++ filter (λ a. is_stateful plan.now a.node) (arrival ∷ []) }
     ensures used { written.old.room ≤ written.new.room + 1 }
-    ensures used_keyed { keyed.old.room
-        ≤ keyed.new.room + count_by (λ a. is_stateful plan.now a.node) (arrival ∷ []) }
 {
     if is_write(plan, arrival.node) {
         put_last(written, arrival);
-    } else if is_stateful(plan, arrival.node) {
-        put_last(keyed, arrival);
     }
 }
 

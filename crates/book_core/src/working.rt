@@ -68,6 +68,7 @@ fn works_piece(slot: &Option<Live>) -> bool
     match slot {
         Some(Live::Span { .. }) => true,
         Some(Live::Batch(_)) => false,
+        Some(Live::Key(_)) => false,
         None => false,
     }
 }
@@ -93,6 +94,7 @@ fn works_batch(slot: &Option<Live>) -> bool
     match slot {
         Some(Live::Batch(_)) => true,
         Some(Live::Span { .. }) => false,
+        Some(Live::Key(_)) => false,
         None => false,
     }
 }

@@ -27,7 +27,6 @@ use Rattle.beam_model.specs.Functions.{emits}
 use Rattle.beam_model.specs.Premises.{IsForward, KeepsPlace}
 use Rattle.pipeline_graph.specs.Rules.{HasOwnStrategy, HasSettings, is_window_into_kind}
 use Rattle.watermarks.proofs.Rising.{below_hold, below_inputs}
-use Rattle.book_core.proofs.BalancedAlways.{NoStateful}
 use Rattle.book_core.proofs.Ended.{SettingsOfPlans}
 use Rattle.book_core.proofs.CellsAlways.{StrategiesOfPlans}
 use Rattle.book_core.proofs.EarlyEnds.{WindowsOfKind}
@@ -53,7 +52,6 @@ pub record KnownLaws : Type 0 where
   pub windows : WindowsOfKind
   pub settings : SettingsOfPlans
   pub strategies : StrategiesOfPlans
-  pub stateless : NoStateful
   pub forward : (work : FnKind) (args : Args) → is_function_allowed work args ≡ true → IsForward work args
 
 up : (a b c : ℤ) → a ≤ℤ b → b ≤ℤ c → a ≤ℤ c

@@ -3,7 +3,6 @@ use Rattle.std.proofs.Common.{◌≡◌, ℕ, pos, Bool, true, false, cond, List
 use Rattle.std.specs.Prelude.{bytes_eq, codes, Option, Some, None}
 use Rattle.std.specs.List.{list_any}
 use Rattle.std.proofs.lemmas.Bool.{true≢false}
-use Rattle.std.proofs.lemmas.Int.{ints}
 use Rattle.std.proofs.lemmas.List.Elements.{All-from_recursion}
 use Rattle.std.proofs.lemmas.List.Sorted.{IsPermutation-refl}
 use Rattle.beam_values.specs.Checked.{IsChecked}
@@ -26,20 +25,17 @@ use Rattle.beam_values.specs.declared.plan.Estimator.TheVariants as estimator
 use Rattle.beam_values.specs.declared.plan.Plan.{Plan}
 use Rattle.beam_values.specs.declared.value.Value.{Value}
 use Rattle.beam_values.specs.declared.value.Value.TheViews.{out-roll-Value}
-use Rattle.beam_values.proofs.Bags.{bag_from_same}
 use Rattle.beam_model.specs.Flow.{elements_at}
-use Rattle.beam_model.specs.Panes.{ArePanesLegal, IsKeyed, taken_entry}
 use Rattle.beam_model.specs.Plain.{IsPlainAt, NothingIsDroppedAbove}
 use Rattle.beam_model.specs.Plans.{default_trigger}
 use Rattle.beam_model.specs.Positions.{items}
-use Rattle.beam_model.specs.Sessions.{is_keyed}
 use Rattle.bundle_commit.specs.declared.job.Job.TheVariants as job
 use Rattle.bundle_commit.specs.declared.job.Receipt.{Receipt}
 use Rattle.group_cells.specs.Cells.{FiresIts, is_fired_by}
-use Rattle.group_cells.specs.Commits.{AreRounds, NeverFalls, as_commit}
+use Rattle.group_cells.specs.Commits.{AreRounds, as_commit}
 use Rattle.group_cells.specs.Placing.{Opening, is_same_key}
 use Rattle.group_cells.specs.Rounds.{IsRound}
-use Rattle.group_cells.proofs.FirstCommit.{never_longer, nothing_legal}
+use Rattle.stateful_core.specs.Facts.{IsCellThrough}
 use Rattle.book_core.specs.Book.{SeenBook}
 use Rattle.book_core.specs.Calls.{IsOutcomeOf}
 use Rattle.book_core.specs.Runs.{AreAllShown, IsEnded, IsOpening, Reached}
@@ -51,8 +47,8 @@ use Rattle.book_core.specs.declared.live.WaitingPane.{WaitingPane}
 use Rattle.book_core.proofs.Reaching.{reached_more}
 use Rattle.ended_runs.specs.EndedRuns.{IsEndedRun}
 use Rattle.ended_runs.proofs.Pipeline.{told, key, at, no_stateful_above, one_part_storable}
-use Rattle.ended_runs.proofs.OneKeyRun.{SoFar, allowed, are_marks, book_of, done_to, marks_of, all_rounds, none_falls, nothing_round, opening_never_falls, options, quiet_round, rest, rules, shows_one, whole, none, one}
-use Rattle.ended_runs.proofs.LateLine.{lagging, file, lines, minute, first, second, first_pane, same_key, spread_first, spread_second, one_pane_is_not_plain}
+use Rattle.ended_runs.proofs.OneKeyRun.{SoFar, allowed, are_marks, book_of, done_to, marks_of, all_rounds, nothing_round, options, quiet_round, rest, rules, shows_one, whole, none, one}
+use Rattle.ended_runs.proofs.LateLine.{lagging, file, lines, minute, first, second, first_pane, spread_first, spread_second, one_pane_is_not_plain}
 use Rattle.ended_runs.proofs.SoFarAlways.{committed_reached}
 
 abbrev plan : Plan
@@ -372,6 +368,7 @@ ended = record {
     pending = refl;
     idle = one (λ (s : Option Live). s ≡ None) None refl;
     held = refl;
+    keyed = none IsCellThrough;
     shown = one AreAllShown fired_cell (one (λ (e : Entry). e.shown ≡ true) (record { element = first; commit = 1; shown = true }) refl);
     final = All-from_recursion (λ (m : StageMarks). (m.mark_in ≡ final_mark) × (m.mark_out ≡ final_mark)) last_marks
         ((refl, refl), ((refl, refl), ((refl, refl), ((refl, refl), ((refl, refl), tt)))));
@@ -388,7 +385,8 @@ is_outcome = record {
   cells_in_order = λ j d from within. absurd (omega arith);
   panes = refl;
   dropped = refl;
-  logs = refl;
+  logs = IsPermutation-refl [];
+  logs_in_order = λ j d from within. absurd (omega arith);
   written = refl;
   commits = refl;
   stopped = refl;

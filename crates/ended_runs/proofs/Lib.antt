@@ -5,6 +5,7 @@ pub mod Poisons
 pub mod Unpoisoned
 mod TakesUnpoisoned
 mod Ending
+mod LegalLogs
 mod Passing
 mod Bounds
 mod Forward
@@ -12,6 +13,7 @@ mod Above
 mod ToCome
 mod SeenTimes
 mod PanesWell
+mod MarksAbove
 mod SoFar
 mod SoFarAlways
 mod Grouped

@@ -1,10 +1,9 @@
 -- Runs of the pipeline over one file by one worker: the books, the marks of a commit, and what keeps panes legal where all that the Group takes has the key `a`.
-use Rattle.std.proofs.Common.{◌≡◌, ℕ, zero, suc, ◌+◌, ◌≤◌, ℤ, Bool, true, false, List, [], ◌∷◌, ◌++◌, length, map, get_or, cond, refl, sym, ap, subst, arith}
+use Rattle.std.proofs.Common.{◌≡◌, ℕ, zero, suc, ◌≤◌, ℤ, Bool, true, false, List, [], ◌∷◌, length, map, cond, refl, sym, ap, subst, arith}
 use Rattle.std.specs.Prelude.{◌≤ℤ◌, bytes_eq, slice_get, Option, Some, None}
-use Rattle.std.specs.List.{All, filter}
+use Rattle.std.specs.List.{All}
 use Rattle.std.proofs.lemmas.Int.{ints}
 use Rattle.std.proofs.lemmas.List.Elements.{All-nil, All-cons}
-use Rattle.beam_values.specs.Checked.{IsChecked}
 use Rattle.beam_values.specs.Grouping.{pane_as, part_of}
 use Rattle.beam_values.specs.Intervals.{Interval}
 use Rattle.beam_values.specs.Marks.{AreMarks, marks_at, node_marks}
@@ -29,12 +28,11 @@ use Rattle.beam_values.specs.Spelling.{spelling}
 use Rattle.beam_values.specs.declared.element.Timing.{Timing}
 use Rattle.beam_values.specs.declared.value.Value.TheViews.{out-roll-Value}
 use Rattle.beam_values.proofs.Bags.{bag_from_same}
-use Rattle.beam_model.specs.Panes.{ArePanesLegal, GroupRules, IsFiredAs, IsKeyed, IsPaneOf, Taken, panes_at, rules_of, taken_by, taken_entry}
+use Rattle.beam_model.specs.Panes.{GroupRules, IsFiredAs, IsPaneOf, Taken, panes_at, rules_of, taken_entry}
 use Rattle.beam_model.specs.Values.{blob}
 use Rattle.group_cells.specs.Cells.{FiresIts, entries_held, firing_of, once_fired}
-use Rattle.group_cells.specs.Commits.{HasLength, NeverFalls, NoneFalls, AreRounds, as_commit, cells_keyed, dropped_arrival, elements_keyed, is_dropped}
+use Rattle.group_cells.specs.Commits.{HasLength, NeverFalls, NoneFalls, AreRounds, cells_keyed, elements_keyed}
 use Rattle.group_cells.specs.Rounds.{IsRound}
-use Rattle.group_cells.proofs.AllKeys.{keep_legal}
 use Rattle.book_core.specs.Book.{SeenBook}
 use Rattle.book_core.specs.Runs.{AreOptions}
 use Rattle.book_core.specs.declared.live.Live.{Live}

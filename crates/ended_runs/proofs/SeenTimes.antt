@@ -24,7 +24,7 @@ use Rattle.split_core.specs.Order.{with_piece}
 use Rattle.split_core.proofs.Ordered.{All-with_piece}
 use Rattle.book_core.specs.Book.{SeenBook, piece_of, live_pieces}
 use Rattle.book_core.specs.Changes.{with_slot, cut_to, rest_of, given_back, tried_piece, counted, stopped_where, ends_run, note_of, pending_after, residual_of, with_residual}
-use Rattle.book_core.specs.Jobs.{Next, attempted_of, job_of}
+use Rattle.book_core.specs.Jobs.{Next, attempted_of, job_of, with_key}
 use Rattle.book_core.specs.Runs.{Reached, IsOpening, pieces_of}
 use Rattle.book_core.specs.Steps.{IsWorking}
 use Rattle.book_core.specs.Work.{IsGiven, IsWorkOnItem, worked_to}
@@ -142,6 +142,8 @@ module _ (b : SeenBook) (h : AreSeenTimes b) where
       set_times (with_piece (tried_piece piece) b.pending) slot None (All-with_piece IsSeenTime (tried_piece piece) b.pending (worked_time slot piece attempted works) pending_times) (All-nil IsSeenTime)
   back_times slot (live.Batch batch) at Call works = set_times b.pending slot None pending_times (All-nil IsSeenTime)
   back_times slot (live.Batch batch) at Read works = set_times b.pending slot None pending_times (All-nil IsSeenTime)
+  back_times slot (live.Key turn) at Call works = set_times b.pending slot None pending_times (All-nil IsSeenTime)
+  back_times slot (live.Key turn) at Read works = set_times b.pending slot None pending_times (All-nil IsSeenTime)
 
 stop_times : (spent : Bool) (x : SeenBook) (note : FaultNote) → AreSeenTimes x → AreSeenTimes (stopped_where spent x note)
 stop_times true x note h = h
@@ -170,6 +172,7 @@ module _ (laws : KnownLaws) (told : List FileText) where
       (residual_times b h piece attempted receipt
       (receipt_time b reached piece (worked_to piece attempted) receipt (worked_time b h slot piece attempted works) (item_at (items told b.plan) piece.node piece.item) refl given.0)) (All-nil IsSeenTime)
   commit_times b slot (live.Batch batch) receipt reached h works given = set_times b h b.pending slot None (pending_times b h) (All-nil IsSeenTime)
+  commit_times b slot (live.Key turn) receipt reached h works given = set_times b h b.pending slot None (pending_times b h) (All-nil IsSeenTime)
 
   keeps_times : Keeps (Some told) (Reached (Some told)) AreSeenTimes
   keeps_times = record {
@@ -179,6 +182,7 @@ module _ (laws : KnownLaws) (told : List FileText) where
         take_cases b (λ (n : Next). AreSeenTimes (with_slot n.rest slot (Some n.job)))
         (λ batch among. set_times b h b.pending slot (Some (live.Batch batch)) (pending_times b h) (All-nil IsSeenTime))
         (λ batch oldest. set_times b h b.pending slot (Some (live.Batch batch)) (pending_times b h) (All-nil IsSeenTime))
+        (λ place cell found. set_times b h b.pending slot (Some (with_key b place.at cell).job) (pending_times b h) (All-nil IsSeenTime))
         (λ piece later e. take_times b h slot piece later e) next is;
     claims = λ b slot p piece attempted known h works may.
         set_times b h b.pending slot (Some (live.Span piece (Some p))) (pending_times b h) (one_time b h piece (worked_time b h slot piece attempted works));

@@ -1,4 +1,5 @@
 -- What a run keeps of the Groups above a barrier with sound estimators and default triggers: nothing is dropped, what is taken began in time, and panes are held
+use Rattle.ended_runs.proofs.Ordered.{filter_has}
 -- no later than their times.
 use Rattle.std.proofs.Common.{◌≡◌, ◌⊎◌, inl, inr, ℕ, ◌+◌, ◌-◌, ◌<◌, ℤ, pos, Bool, true, false, cond, List, [], ◌∷◌, ◌++◌, length, map, get_or, refl, sym, ap, subst, ◌∙◌, append_assoc, length-append, arith}
 use Rattle.std.specs.Prelude.{Option, Some, None, ◌==◌, ◌&&◌, ◌||◌, ◌≤ℤ◌, ◌<ℤ◌, ◌-ℤ◌, not, nat_lt, int_le, int_lt, slice_get, unwrap_or}
@@ -7,7 +8,7 @@ use Rattle.std.specs.List.{All, enumerate_from, filter}
 use Rattle.std.proofs.lemmas.Bool.{and_parts, and_from}
 use Rattle.std.proofs.lemmas.Bool.Decides.{nat_tests}
 use Rattle.std.proofs.lemmas.Int.{by_lt_z, ints, clamps, fold-int_min_reached}
-use Rattle.std.proofs.lemmas.List.Elements.{All-nil, All-cons, All-head, All-tail, All-contains, All-filter, All-map, All-weaker}
+use Rattle.std.proofs.lemmas.List.Elements.{All-nil, All-cons, All-head, All-tail, All-contains, All-map, All-weaker}
 use Rattle.std.specs.Option.{option_map}
 use Rattle.std.proofs.lemmas.Option.{slice_get-get_or}
 use Rattle.beam_values.specs.Bags.{IsSameBag}
@@ -206,16 +207,17 @@ module _ (to : ℕ) (plan : Plan) where
   time_or hold (Some p) = p.element.time
 
   pub record IsHeldSo (panes : List Pane) (h : HeldPane) : Type 0 where
-    pub mark : IsMark h.waiting.hold
+    pub mark : is_above plan h.node to ≡ true → IsMark h.waiting.hold
     pub within : is_above plan h.node to ≡ true → (p : Pane) → slice_get panes h.waiting.pane ≡ Some p → h.waiting.hold ≤ℤ p.element.time
 
   held_test : List Pane → HeldPane → Bool
-  held_test panes h = mark_test h.waiting.hold && (not (is_above plan h.node to) || int_le h.waiting.hold (time_or h.waiting.hold (slice_get panes h.waiting.pane)))
+  held_test panes h = (not (is_above plan h.node to) || mark_test h.waiting.hold) && (not (is_above plan h.node to) || int_le h.waiting.hold (time_or h.waiting.hold (slice_get panes h.waiting.pane)))
 
   held_tested : (panes : List Pane) (h : HeldPane) → IsHeldSo panes h → held_test panes h ≡ true
   unfolding held_test
   held_tested panes h so =
-      and_from (mark_test h.waiting.hold) _ (mark_tested h.waiting.hold so.mark)
+      and_from (not (is_above plan h.node to) || mark_test h.waiting.hold) _
+      (implied (is_above plan h.node to) (mark_test h.waiting.hold) (λ above. mark_tested h.waiting.hold (so.mark above)))
       (implied (is_above plan h.node to) _ (λ above. by (slice_get panes h.waiting.pane) refl (so.within above)))
     where
       itself : (z : ℤ) → int_le z z ≡ true
@@ -232,9 +234,9 @@ module _ (to : ℕ) (plan : Plan) where
   tested_held : (panes : List Pane) (h : HeldPane) → held_test panes h ≡ true → IsHeldSo panes h
   unfolding held_test
   tested_held panes h e =
-      let parts = and_parts (mark_test h.waiting.hold) _ e in
+      let parts = and_parts (not (is_above plan h.node to) || mark_test h.waiting.hold) _ e in
       record {
-        mark = test_mark h.waiting.hold parts.0;
+        mark = λ above. test_mark h.waiting.hold (either (is_above plan h.node to) (mark_test h.waiting.hold) parts.0 above);
         within = λ above p at.
             test h.waiting.hold p.element.time
             (subst (λ (found : Option Pane). int_le h.waiting.hold (time_or h.waiting.hold found) ≡ true) at (either (is_above plan h.node to) _ parts.1 above));
@@ -259,7 +261,7 @@ module _ (to : ℕ) (plan : Plan) where
 
   -- panes that fired now: each at its last time, and above the barrier not passed before
   pub record IsFiredNow (before : List StageMarks) (p : Pane) : Type 0 where
-    pub mark : IsMark (marks_at before p.node).mark_out
+    pub mark : is_above plan p.node to ≡ true → IsMark (marks_at before p.node).mark_out
     pub time : p.element.time ≡ last_time p.element.span
     pub past : is_above plan p.node to ≡ true → least_time <ℤ p.element.span.end
     pub ends : p.element.span.end ≤ℤ final_mark
@@ -294,14 +296,14 @@ module _ (to : ℕ) (plan : Plan) where
       let now = All-head (IsFiredNow before) p ps all in
       All-cons (IsHeldSo (panes ++ p ∷ ps)) (held_fired before (n, p)) (map (held_fired before) (enumerate_from (n + 1) ps))
       (record {
-        mark = greater_mark p.element.time (marks_at before p.node).mark_out (subst IsTime (sym now.time) (last_is_time p.element.span)) now.mark;
+        mark = λ above. greater_mark p.element.time (marks_at before p.node).mark_out (subst IsTime (sym now.time) (last_is_time p.element.span)) (now.mark above);
         within = λ above q found.
             let there : Some p ≡ Some q = sym here ∙ found in
             let same : p ≡ q = cc in
             subst (λ (x : Pane). int_max p.element.time (marks_at before p.node).mark_out ≤ℤ x.element.time) same
             (most p.element.time (marks_at before p.node).mark_out
             (subst (λ (z : ℤ). (marks_at before p.node).mark_out ≤ℤ z) (sym now.time)
-            (held_by_time p.element.span (marks_at before p.node).mark_out now.mark (now.past above) now.ends (now.out above))));
+            (held_by_time p.element.span (marks_at before p.node).mark_out (now.mark above) (now.past above) now.ends (now.out above))));
       })
       (subst (λ (l : List Pane). All (IsHeldSo l) (map (held_fired before) (enumerate_from (n + 1) ps))) (append_assoc panes (p ∷ []) ps)
       (held_now before (panes ++ p ∷ []) ps (n + 1) next (All-tail (IsFiredNow before) p ps all)))
@@ -311,11 +313,11 @@ module _ (to : ℕ) (plan : Plan) where
 
 -- ---- marks of holds
 
--- the least of holds at marks is a mark
-pub least_is_mark : (hs : List Hold) → All (λ h. IsMark h.mark) hs → (n : ℕ) → IsMark (least_hold hs n)
-least_is_mark hs all n = elim (fold-int_min_reached final_mark (marks_held hs n) (least_hold hs n) refl) [
+-- the least hold of a node is a mark, if each is that holds it back
+pub least_is_mark : (hs : List Hold) (n : ℕ) → All (λ h. (h.node == n) ≡ true → IsMark h.mark) hs → IsMark (least_hold hs n)
+least_is_mark hs n all = elim (fold-int_min_reached final_mark (marks_held hs n) (least_hold hs n) refl) [
   | inl final ↦ subst IsMark (sym final) (omega (arith, ints), λ above. refl)
   | inr among ↦
       All-contains IsMark (marks_held hs n) (least_hold hs n)
-      (All-map IsMark (λ (h : Hold). h.mark) (filter (λ h. h.node == n) hs) (All-filter (λ h. h.node == n) (λ h. IsMark h.mark) hs all)) among
+      (All-map IsMark (λ (h : Hold). h.mark) (filter (λ h. h.node == n) hs) (filter_has (λ h. h.node == n) (λ h. IsMark h.mark) hs all)) among
 ]

@@ -1,16 +1,16 @@
 -- Every step keeps it: above a barrier with sound estimators and default triggers nothing is dropped.
-use Rattle.std.proofs.Common.{◌≡◌, ℕ, ◌-◌, ◌≤◌, ℤ, pos, Bool, true, false, List, [], ◌∷◌, ◌++◌, length, get_or, map, refl, sym, ap, subst, ◌∙◌, length-append, arith}
+use Rattle.std.proofs.Common.{◌≡◌, ℕ, suc, ◌-◌, ◌≤◌, ℤ, pos, Bool, true, false, List, [], ◌∷◌, ◌++◌, length, get_or, map, refl, sym, ap, subst, ◌∙◌, length-append, arith}
 use Rattle.std.specs.Prelude.{Option, Some, None, ◌==◌, ◌||◌, ◌≤ℤ◌, ◌<ℤ◌, ◌+ℤ◌, not, int_le, slice_get, unwrap_or}
 use Rattle.std.specs.List.{All, filter, flat_map}
 use Rattle.std.specs.Option.{option_map}
-use Rattle.std.proofs.lemmas.Bool.{and_parts}
+use Rattle.std.proofs.lemmas.Bool.{and_parts, eqb-true, false≢true}
 use Rattle.std.proofs.lemmas.Int.{ints}
 use Rattle.std.proofs.lemmas.List.Elements.{All-nil, All-append, All-filter, All-map, All-weaker, filter_passes}
 use Rattle.beam_values.specs.Bags.{IsSameBag}
 use Rattle.beam_values.specs.Firing.{is_expired}
 use Rattle.beam_values.specs.Grouping.{last_time}
 use Rattle.beam_values.specs.Marks.{marks_at}
-use Rattle.beam_values.specs.Nodes.{is_above, is_group, is_group_kind, is_write, strategy_of}
+use Rattle.beam_values.specs.Nodes.{is_above, is_group, is_group_kind, is_write, strategy_of, HasNoStatefulAbove, is_stateful}
 use Rattle.beam_values.specs.Sessions.{IsNonEmpty}
 use Rattle.beam_values.specs.Times.{IsMark, IsTime}
 use Rattle.beam_values.specs.declared.arrival.Arrival.{Arrival}
@@ -35,7 +35,8 @@ use Rattle.beam_model.specs.Plans.{default_trigger}
 use Rattle.beam_model.specs.Positions.{items}
 use Rattle.bundle_commit.specs.declared.job.Receipt.{Receipt}
 use Rattle.group_cells.specs.Commits.{as_commit, dropped_arrival, is_at_group, is_dropped, is_taken, taken_arrival}
-use Rattle.watermarks.proofs.Rising.{below_hold, marks_are_marks}
+use Rattle.watermarks.proofs.Rising.{below_hold}
+use Rattle.stateful_core.specs.Facts.{IsCellKept}
 use Rattle.book_core.specs.Book.{SeenBook, HeldPane, AreMarksOfBook, batch_of, held, held_in, hold_of, holds, last_marks, live_pieces}
 use Rattle.book_core.specs.Changes.{with_slot, cut_to, split_off, committed, failed, given_back, counted, stopped_where, ends_run, note_of, written_by}
 use Rattle.book_core.specs.Facts.{AreHeldOnce, IsEarlyPane, IsWellFormed}
@@ -48,15 +49,16 @@ use Rattle.book_core.proofs.AllKept.{reached_kept_with, reached_seen}
 use Rattle.book_core.proofs.CellsAlways.{commit_entries}
 use Rattle.book_core.proofs.HeldMoves.{back_moves, enroll_moves, fired_held, set_moves, take_moves}
 use Rattle.book_core.proofs.HeldOnce.{commit_bag, none_held}
-use Rattle.stateful_core.specs.Cells.{KeyCell, key_holds}
+use Rattle.stateful_core.specs.Cells.{key_holds}
 use Rattle.book_core.specs.Indexes.{all_holds}
-use Rattle.book_core.proofs.KeysKept.{none_keyed}
+use Rattle.book_core.proofs.KeysKept.{cell_stateful, holds_at}
 use Rattle.book_core.proofs.Reaching.{reached_more}
 use Rattle.book_core.proofs.SaneAlways.{reached_sane}
 use Rattle.book_core.proofs.SaneResults.{StaysCelled, fail_stays, take_stays}
 use Rattle.book_core.proofs.Slotted.{All-append_left, All-append_right}
 use Rattle.ended_runs.proofs.Above.{IsAbove, KnownLaws, StartsAbove}
 use Rattle.ended_runs.proofs.PanesWell.{IsSpanWell, pane_times, panes_early, panes_well}
+use Rattle.ended_runs.proofs.MarksAbove.{marks_above}
 use Rattle.ended_runs.proofs.SeenTimes.{reached_always, reached_seen_times}
 use Rattle.ended_runs.proofs.SoFar.{IsFiredNow, IsHeldSo, IsTakenAbove, held_later, held_now, held_of_bag, least_is_mark, mark_front, taken_later, taken_of_bag}
 use Rattle.ended_runs.proofs.ToCome.{IsPaneWell, arrivals_above, lag_of, mark_time}
@@ -100,6 +102,7 @@ module _ (laws : KnownLaws) (told : List FileText) (to : ℕ) where
   pub record IsSoundFor (plan : Plan) : Type 0 where
     pub sound : AreSoundAbove plan (items told plan) to
     pub triggers : HasDefaultTriggersAbove plan to
+    pub stateless : HasNoStatefulAbove plan to
 
   pub record IsSoFarOf (plan : Plan) (commits : List CommitMarks) (cells : List Cell) (dropped : List Dropped) (panes : List Pane) (written : List Arrival) (holding : List HeldPane) : Type 0 where
     pub none_dropped : All (λ d. is_above plan d.node to ≡ false) dropped
@@ -162,7 +165,7 @@ module _ (laws : KnownLaws) (told : List FileText) (to : ℕ) where
         (All-weaker (IsTakenAbove to b.plan b.commits) (λ t. is_above b.plan t.node to ≡ true → IsSpanWell t.element.span) (λ t h above. ((h above).past, (h above).some)) (taken_by b.cells) was.taken))
         (All-weaker (IsHeldSo to b.plan b.panes) (λ h. is_above b.plan h.node to ≡ true → (p : Pane) → slice_get b.panes h.waiting.pane ≡ Some p → h.waiting.hold ≤ℤ p.element.time)
         (λ h so. so.within) (held b) was.held)
-        celled.legal.panes_at slot job receipt made.works made.given
+        celled.legal.panes_at sound.stateless slot job receipt made.works made.given
 
     or_second : (t u : Bool) → u ≡ true → (t || u) ≡ true
     or_second true u e = refl
@@ -220,23 +223,28 @@ module _ (laws : KnownLaws) (told : List FileText) (to : ℕ) where
                   (sym (mark_front b.commits (as_commit marks ∷ []) a.node (length b.commits - 1) (omega (arith, first)))) is.starts;
             }
 
-    -- all marks are marks
-    all_marks : (n : ℕ) → IsMark (marks_at before n).mark_in × IsMark (marks_at before n).mark_out
-    all_marks n =
+    -- the marks of the nodes above are marks
+    all_marks : (n : ℕ) → is_above b.plan n to ≡ true → IsMark (marks_at before n).mark_in × IsMark (marks_at before n).mark_out
+    all_marks n above =
         let sane = reached_sane (Some told) b reached in
         let checked = sane.formed.checked in
-        let no_keys : b.keys ≡ [] = none_keyed b.plan b.commits b.keys (λ m. laws.stateless b.plan m checked) sane.keys in
         let settings = λ (m : ℕ) (node : Node) (here : slice_get b.plan.nodes m ≡ Some node). laws.settings b.plan m node checked here in
-        marks_are_marks b.plan (least_hold (all_holds b)) before checked (reached_sane (Some told) b reached).marks.last
-        (λ m inside. least_is_mark (all_holds b)
-        (All-append (λ h. IsMark h.mark) (map (piece_hold b.plan) (b.pending ++ live_pieces b)) (holds b)
-        (All-map (λ h. IsMark h.mark) (piece_hold b.plan) (b.pending ++ live_pieces b)
-        (λ k d here.
+        marks_above b.plan (least_hold (all_holds b)) before to checked sane.marks.last
+        (λ m upper. least_is_mark (all_holds b) m
+        (All-append (λ h. (h.node == m) ≡ true → IsMark h.mark) (map (piece_hold b.plan) (b.pending ++ live_pieces b)) (holds b)
+        (All-map (λ h. (h.node == m) ≡ true → IsMark h.mark) (piece_hold b.plan) (b.pending ++ live_pieces b)
+        (λ k d here at.
         let piece = get_or (b.pending ++ live_pieces b) k d in
         of_time (mark_time (estimator_of b.plan piece.node) piece.seen (lag_of b.plan settings piece.node) (reached_seen_times laws told b reached k d here))))
-        (All-append (λ h. IsMark h.mark) (map hold_of (held b)) (key_holds b.keys)
-        (All-map (λ h. IsMark h.mark) hold_of (held b) (λ k d here. (was.held k d here).mark))
-        (subst (λ (l : List KeyCell). All (λ h. IsMark h.mark) (key_holds l)) (sym no_keys) (All-nil (λ (h : Hold). IsMark h.mark))))) m) n
+        (All-append (λ h. (h.node == m) ≡ true → IsMark h.mark) (map hold_of (held b)) (key_holds b.keys)
+        (All-map (λ h. (h.node == m) ≡ true → IsMark h.mark) hold_of (held b)
+        (λ k d here at. (was.held k d here).mark (subst (λ (i : ℕ). is_above b.plan i to ≡ true) (sym (eqb-true (get_or (held b) k d).node m at)) upper)))
+        (All-weaker (λ (h : Hold). is_stateful b.plan h.node ≡ true) (λ h. (h.node == m) ≡ true → IsMark h.mark)
+        (λ h stateful at. absurd (false≢true (sym (sound.stateless m upper) ∙ subst (λ (i : ℕ). is_stateful b.plan i ≡ true) (eqb-true h.node m at) stateful)))
+        (key_holds b.keys)
+        (holds_at (λ i. is_stateful b.plan i ≡ true) b.keys
+        (All-weaker (IsCellKept b.plan b.commits) (λ cell. is_stateful b.plan cell.log.node ≡ true) (cell_stateful b.plan b.commits) b.keys sane.keys.each))))))
+        (suc n) n (omega arith) above
       where
         of_time : {z : ℤ} → IsTime z → IsMark z
         of_time is = let high = is.1 in (is.0, λ above. absurd (omega (arith, ints, high, above)))
@@ -256,7 +264,7 @@ module _ (laws : KnownLaws) (told : List FileText) (to : ℕ) where
         let group = All-append_right (λ (x : Pane). is_group b.plan x.node ≡ true) b.panes fired legal.panes_at k d inside in
         let there = group_there p.node group in
         record {
-          mark = (all_marks p.node).1;
+          mark = λ above. (all_marks p.node above).1;
           time = time;
           past = λ above. (well above).past;
           ends = omega (arith, ints, ends);

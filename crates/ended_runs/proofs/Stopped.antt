@@ -6,16 +6,16 @@ use Rattle.beam_values.specs.declared.fault.Cause.TheVariants.{Call, Read}
 use Rattle.beam_values.specs.declared.fault.FaultNote.{FaultNote}
 use Rattle.beam_values.specs.declared.outcome.StopCause.{StopCause}
 use Rattle.beam_values.specs.declared.outcome.StopCause.TheVariants as stop
-use Rattle.beam_values.specs.declared.piece.Piece.{Piece}
 use Rattle.book_core.specs.Book.{SeenBook}
 use Rattle.book_core.specs.Changes.{counted, ends_run, given_back, note_of, or_stopped, stopped_where, with_slot}
 use Rattle.book_core.specs.Facts.{IsStopNoted}
-use Rattle.book_core.specs.Jobs.{Due, GivenBack, Oldest, Next, attempted_of, due_or_piece, first_due, job_of, without_due, without_first}
+use Rattle.book_core.specs.Jobs.{Next, attempted_of, job_of, next_job}
 use Rattle.book_core.specs.Runs.{HonestRun, HonestlyReached, IsHonestAction, IsOpening, MadeStep}
 use Rattle.book_core.specs.Steps.{Action, Enroll, Take, Claim, Split, Commit, Fail, Stop, Answer, Enrolled, TakenJob, Nothing, Finished, Stopped, Claimed, SplitAt, Committed, Noted, NoMemory, IsWorking, Step}
 use Rattle.book_core.specs.Work.{IsHonest, Surroundings}
 use Rattle.book_core.specs.declared.live.Live.{Live}
 use Rattle.book_core.specs.declared.live.Live.TheVariants as live
+use Rattle.book_core.proofs.Taking.{take_cases}
 use Rattle.book_core.proofs.Reaching.{HasSamePlan, opening_of, step_same}
 use Rattle.ended_runs.specs.Stops.{IsHonestStop}
 
@@ -69,22 +69,17 @@ StopsBy known b slot new = (note : FaultNote) → new.stopped ≡ Some (stop.Spe
 stops_same : (known : Surroundings) (b : SeenBook) (slot : ℕ) (new : SeenBook) → new.stopped ≡ b.stopped → StopsBy known b slot new
 stops_same known b slot new same note is = inl (sym same ∙ is)
 
-take_stopped : (b : SeenBook) (due : Option Due) (pieces : List Piece) (next : Next) → b.pending ≡ pieces → due_or_piece b due ≡ Some next → next.rest.stopped ≡ b.stopped
-take_stopped b (Some (GivenBack batch)) pieces next is h = let e : without_due b (GivenBack batch) ≡ next = cc in sym (ap (λ (n : Next). n.rest.stopped) e)
-take_stopped b (Some (Oldest batch)) pieces next is h = let e : without_due b (Oldest batch) ≡ next = cc in sym (ap (λ (n : Next). n.rest.stopped) e)
-take_stopped b None pieces next is h = by pieces (sym (ap (without_first b) is) ∙ h)
-  where
-    by : (ps : List Piece) → without_first b ps ≡ Some next → next.rest.stopped ≡ b.stopped
-    by [] g = absurd (cc)
-    by (piece ∷ later) g =
-        let e : record { job = live.Span piece None; rest = record b { pending = later } } ≡ next = cc in
-        sym (ap (λ (n : Next). n.rest.stopped) e)
+take_stopped : (b : SeenBook) (next : Next) → next_job b ≡ Some next → next.rest.stopped ≡ b.stopped
+take_stopped b next is =
+    take_cases b (λ (n : Next). n.rest.stopped ≡ b.stopped) (λ batch among. refl) (λ batch oldest. refl) (λ place cell found. refl) (λ piece later e. refl) next is
 
 back_stopped : (b : SeenBook) (slot : ℕ) (job : Live) (at : ℕ) (cause : Cause) → (counted (given_back (with_slot b slot None) job at cause) cause).stopped ≡ b.stopped
 back_stopped b slot (live.Span piece attempted) at Call = refl
 back_stopped b slot (live.Span piece attempted) at Read = refl
 back_stopped b slot (live.Batch batch) at Call = refl
 back_stopped b slot (live.Batch batch) at Read = refl
+back_stopped b slot (live.Key turn) at Call = refl
+back_stopped b slot (live.Key turn) at Read = refl
 
 pub none_by_memory : (kept : Option StopCause) (note : FaultNote) → or_stopped kept stop.NoMemory ≡ Some (stop.Spent note) → kept ≡ Some (stop.Spent note)
 none_by_memory None note e = absurd (cc)
@@ -101,6 +96,7 @@ module _ (known : Surroundings) (b : SeenBook) (slot at : ℕ) (cause : Cause) (
       by : (j : Live) → (note_of j at cause).at ≡ at
       by (live.Span piece attempted) = refl
       by (live.Batch batch) = refl
+      by (live.Key turn) = refl
 
   own_cause : (note_of job at cause).cause ≡ cause
   own_cause = by job
@@ -108,6 +104,7 @@ module _ (known : Surroundings) (b : SeenBook) (slot at : ℕ) (cause : Cause) (
       by : (j : Live) → (note_of j at cause).cause ≡ cause
       by (live.Span piece attempted) = refl
       by (live.Batch batch) = refl
+      by (live.Key turn) = refl
 
   own_gives : GivesNote known b slot own_note
   own_gives = record {
@@ -132,7 +129,7 @@ step_stops : (known : Surroundings) (b new : SeenBook) (slot : ℕ) (action : Ac
 step_stops known b new slot Enroll (Enrolled number) step honest = stops_same known b slot new (ap (λ (x : SeenBook). x.stopped) step.2)
 step_stops known b new slot Enroll NoMemory step honest = stops_same known b slot new (ap (λ (x : SeenBook). x.stopped) step)
 step_stops known b new slot Take (TakenJob job) step honest =
-    stops_same known b slot new (ap (λ (x : SeenBook). x.stopped) step.is ∙ take_stopped b (first_due b) b.pending step.next refl step.is_next)
+    stops_same known b slot new (ap (λ (x : SeenBook). x.stopped) step.is ∙ take_stopped b step.next step.is_next)
 step_stops known b new slot Take Nothing step honest = stops_same known b slot new (ap (λ (x : SeenBook). x.stopped) step.4)
 step_stops known b new slot Take Finished step honest = stops_same known b slot new (ap (λ (x : SeenBook). x.stopped) step.4)
 step_stops known b new slot Take Stopped step honest = stops_same known b slot new (ap (λ (x : SeenBook). x.stopped) step.2)

@@ -20,7 +20,7 @@ use Rattle.bundle_commit.specs.declared.job.Job.{Job}
 use Rattle.book_core.specs.Book.{SeenBook, batch_of, held_at, held_in, live_batches, pane_at, panes_of, queued}
 use Rattle.book_core.specs.Changes.{counted, cut_to, ends_run, given_back, note_of, stopped_where, with_slot}
 use Rattle.book_core.specs.Facts.{AreKept, IsHeldPane}
-use Rattle.book_core.specs.Jobs.{Due, GivenBack, Oldest, first_due, job_of, without_due}
+use Rattle.book_core.specs.Jobs.{Due, GivenBack, Oldest, job_of, without_due}
 use Rattle.book_core.specs.Runs.{AreTold, HonestRun, HonestlyReached, MadeStep}
 use Rattle.book_core.specs.Steps.{Action, Enroll, Take, Claim, Split, Commit, Fail, Stop, Answer, Enrolled, TakenJob, Nothing, Finished, Stopped, Claimed, SplitAt, Committed, Noted, NoMemory, IsTaking, IsWorking, Step}
 use Rattle.book_core.specs.Work.{IsPoisonJob, Surroundings, items_told}
@@ -58,6 +58,8 @@ counted_shape b slot (live.Span piece attempted) at Call = refl
 counted_shape b slot (live.Span piece attempted) at Read = refl
 counted_shape b slot (live.Batch batch) at Call = refl
 counted_shape b slot (live.Batch batch) at Read = refl
+counted_shape b slot (live.Key turn) at Call = refl
+counted_shape b slot (live.Key turn) at Read = refl
 
 stopped_shape : (spent : Bool) (b : SeenBook) (note : FaultNote) → shape_of (stopped_where spent b note) ≡ shape_of b
 stopped_shape true b note = refl
@@ -105,6 +107,7 @@ module _ (known : Surroundings) (told : List FileText) (tells : known.told ≡ S
     slot_stays : (job : Option Live) → All (λ (batch : Batch). All (IsHeldPane b) (held_in batch)) (batch_of job) → IsClean b.plan b.panes job → IsClean b.plan (b.panes ++ fired) job
     slot_stays None held clean = tt
     slot_stays (Some (live.Span piece attempted)) held clean = clean
+    slot_stays (Some (live.Key turn)) held clean = clean
     slot_stays (Some (live.Batch batch)) held clean = λ poison.
         let same = panes_stay batch.panes batch.node (All-head (λ (x : Batch). All (IsHeldPane b) (held_in x)) batch [] held) in
         clean (subst (λ (panes : List Pane). list_any is_poison (batch_outputs b.plan batch.node panes) ≡ true) same poison)
@@ -133,7 +136,7 @@ module _ (known : Surroundings) (told : List FileText) (tells : known.told ≡ S
       shaped new (b.plan, (b.panes, b.slots ++ None ∷ [])) (ap shape_of step.2) (All-push (IsClean b.plan b.panes) b.slots None clean tt)
   step_clean b new slot Enroll NoMemory step kept takes clean = shaped new (shape_of b) (ap shape_of step) clean
   step_clean b new slot Take (TakenJob job) step kept takes clean =
-      let rest = take_keeps shape_of b (λ ps. refl) (due_shape b) (first_due b) b.pending step.next refl step.is_next in
+      let rest = take_keeps shape_of b (λ ps. refl) (due_shape b) (λ cells. refl) step.next step.is_next in
       let one : IsCleanJob b.plan b.panes step.next.job = λ poison. takes new slot job step (subst (IsPoisonJob known.told b.plan) (sym step.handed) poison) in
       shaped new (b.plan, (b.panes, slice_set b.slots slot (Some step.next.job)))
       (ap shape_of step.is ∙ ap (λ (shape : Shape). (shape.0, (shape.1.0, slice_set shape.1.1 slot (Some step.next.job)))) rest)

@@ -3,6 +3,7 @@ use Rattle.std.proofs.Common.{◌≡◌, ◌⊎◌, inl, inr, ℕ, zero, suc, �
 use Rattle.std.specs.Prelude.{Option, Some, None, ◌==◌, ◌||◌, ◌≤ℤ◌, ◌<ℤ◌, ◌-ℤ◌, Contains, nat_lt, int_lt, slice_get, unwrap_or}
 use Rattle.std.specs.List.{All, filter, flat_map}
 use Rattle.std.specs.Option.{option_map}
+use Rattle.std.proofs.lemmas.Bool.{false≢true}
 use Rattle.std.proofs.lemmas.Bool.{and_parts, eq-eqb, eqb-true}
 use Rattle.std.proofs.lemmas.Bool.Decides.{nat_tests}
 use Rattle.std.proofs.lemmas.Int.{ints, clamps, fold-int_min_bounds}
@@ -12,7 +13,7 @@ use Rattle.beam_values.specs.Grouping.{last_time}
 use Rattle.beam_values.specs.Intervals.{Interval}
 use Rattle.beam_values.specs.Lines.{offsets}
 use Rattle.beam_values.specs.Marks.{mark_of, marks_at}
-use Rattle.beam_values.specs.Nodes.{below_group, is_above, is_group, is_group_kind, is_source_kind, onward_of, strategy_of}
+use Rattle.beam_values.specs.Nodes.{HasNoStatefulAbove, below_group, is_above, is_group, is_group_kind, is_source_kind, onward_of, strategy_of}
 use Rattle.beam_values.specs.Times.{IsTime, final_mark, greatest_time, least_time}
 use Rattle.beam_values.specs.declared.arrival.Arrival.{Arrival}
 use Rattle.beam_values.specs.declared.cell.Pane.{Pane}
@@ -41,6 +42,8 @@ use Rattle.bundle_commit.specs.declared.job.Receipt.{Receipt}
 use Rattle.group_cells.proofs.Counting.{All-unmap}
 use Rattle.pipeline_graph.specs.Rules.{HasLag, HasOwnStrategy, HasSettings}
 use Rattle.watermarks.proofs.Rising.{below_hold}
+use Rattle.beam_values.specs.States.{KeptState}
+use Rattle.stateful_core.specs.KeyWork.{key_outputs}
 use Rattle.book_core.specs.Book.{SeenBook, HeldPane, AreMarksOfBook, held, held_in, hold_of, holds, last_marks, live_batches, live_pieces, batch_of, panes_of, piece_of, queued}
 use Rattle.book_core.specs.Facts.{AreHeldOnce, AreSeenBefore, IsHeldPane, IsSeenOf}
 use Rattle.book_core.specs.Jobs.{attempted_of, job_of}
@@ -50,6 +53,7 @@ use Rattle.book_core.specs.declared.live.Batch.{Batch}
 use Rattle.book_core.specs.declared.live.Live.{Live}
 use Rattle.book_core.specs.declared.live.Live.TheVariants as live
 use Rattle.book_core.specs.declared.live.WaitingPane.{WaitingPane}
+use Rattle.book_core.proofs.KeyOutputs.{outputs_all}
 use Rattle.book_core.proofs.CellsKept.{IsOfSource, batch_at_group, found_has, items_of_sources}
 use Rattle.book_core.proofs.EarlyEnds.{items_set}
 use Rattle.stateful_core.specs.Cells.{key_holds}
@@ -434,16 +438,20 @@ module _ (laws : KnownLaws) (told : List FileText) (to : ℕ) (b : SeenBook) (ch
     of_outputs arrivals outputs same all = All-unmap MetToCome Arrives arrivals (subst (All MetToCome) (sym same) all)
 
     -- what a job brings
-    pub arrivals_above : (slot : ℕ) (job : Live) (receipt : Receipt) → IsWorking b slot job → IsGiven (Some told) b.plan (job_of b.panes job) (attempted_of job) receipt
+    pub arrivals_above : HasNoStatefulAbove b.plan to → (slot : ℕ) (job : Live) (receipt : Receipt) → IsWorking b slot job → IsGiven (Some told) b.plan (job_of b.panes job) (attempted_of job) receipt
         → All ArrivesAbove receipt.arrivals
-    arrivals_above slot (live.Span piece attempted) receipt works given = by (item_at (items told b.plan) piece.node piece.item) refl given.0
+    arrivals_above stateless slot (live.Span piece attempted) receipt works given = by (item_at (items told b.plan) piece.node piece.item) refl given.0
       where
         by : (found : Option SourceItem) → item_at (items told b.plan) piece.node piece.item ≡ found → IsWorkOnItem b.plan piece (worked_to piece attempted) found receipt
             → All ArrivesAbove receipt.arrivals
         by None at work = subst (All ArrivesAbove) (sym work.0) (All-nil ArrivesAbove)
         by (Some item) at work =
             of_outputs receipt.arrivals (spread_range b.plan item piece.range.from (worked_to piece attempted)) work.arrivals (range_met slot piece attempted item works at (worked_to piece attempted))
-    arrivals_above slot (live.Batch batch) receipt works given =
+    arrivals_above stateless slot (live.Batch batch) receipt works given =
         of_outputs receipt.arrivals (batch_outputs b.plan batch.node (panes_of b.panes batch.panes)) given.0
         (waiting_met well batch.node (batch_at_group b slot batch once groups works) batch.panes
         (batch_has IsLowHeld held_low slot batch works) (batch_has IsHeldWell holding slot batch works) (batch_has (IsHeldPane b) once.panes slot batch works))
+    arrivals_above stateless slot (live.Key turn) receipt works given =
+        let kept : KeptState = record { cells = turn.state; timers = turn.timers } in
+        of_outputs receipt.arrivals (key_outputs b.plan turn.node turn.key turn.span turn.inputs kept) given.arrives
+        (outputs_all MetToCome b.plan turn.node (λ met. tt) (λ on e. chain_met turn.node e (λ above. absurd (false≢true (sym (stateless turn.node above) ∙ on)))) turn.key turn.span turn.inputs kept)

@@ -18,16 +18,20 @@ use Rattle.beam_model.specs.Positions.{SourceItem}
 use Rattle.beam_model.specs.Spread.{is_poison, outputs_at, first_poison}
 use Rattle.beam_model.specs.Flow.{batch_outputs}
 use Rattle.beam_ports.specs.Counts.{raised}
-use Rattle.book_core.specs.Book.{SeenBook, batch_of, panes_of, piece_of}
+use Rattle.stateful_core.specs.Cells.{KeyCell}
+use Rattle.stateful_core.specs.KeyWork.{key_outputs}
+use Rattle.stateful_core.specs.Taking.{change, with_job}
+use Rattle.book_core.specs.Book.{SeenBook, panes_of, piece_of}
 use Rattle.book_core.specs.Changes.{attempts_of, counted, ends_run, given_back, note_of, or_stopped, stopped_where, with_slot}
 use Rattle.book_core.specs.Facts.{AreAttemptsCounted, AreKept, IsBelowLimit, IsStopNoted}
-use Rattle.book_core.specs.Jobs.{Due, GivenBack, Oldest, Next, attempted_of, due_or_piece, first_due, job_of, without_due, without_first}
+use Rattle.book_core.specs.Jobs.{Due, GivenBack, Oldest, Next, attempted_of, job_of, next_job, without_due}
 use Rattle.book_core.specs.Runs.{HonestRun, HonestlyReached, IsHonestAction, MadeStep}
 use Rattle.book_core.specs.Steps.{Action, Enroll, Take, Claim, Split, Commit, Fail, Stop, Answer, Enrolled, TakenJob, Nothing, Finished, Stopped, Claimed, SplitAt, Committed, Noted, NoMemory, IsWorking, Step}
-use Rattle.book_core.specs.Work.{IsHonestCall, IsPoisonAttempt, IsPoisonJob, Surroundings, is_known, items_told}
+use Rattle.book_core.specs.Work.{IsHonestCall, IsHonestRead, IsPoisonAttempt, IsPoisonJob, Surroundings, is_known, items_told}
 use Rattle.book_core.specs.declared.live.Batch.{Batch}
 use Rattle.book_core.specs.declared.live.Live.{Live}
 use Rattle.book_core.specs.declared.live.Live.TheVariants as live
+use Rattle.book_core.proofs.Taking.{take_cases}
 use Rattle.book_core.proofs.Reaching.{HasSamePlan, step_same}
 use Rattle.book_core.proofs.SaneAlways.{each_tried}
 use Rattle.book_core.proofs.Slotted.{All-append_right, All-flat_at}
@@ -55,6 +59,8 @@ module _ (known : Surroundings) (told : List FileText) (tells : known.told ≡ S
       of None attempt = absurd attempt
       of (Some p) attempt = attempt_poison piece p at (item_at (items_told known.told plan) piece.node piece.item) attempt.0 attempt.1 attempt.2
   call_is_poison (live.Batch batch) at honest = first_is_poison (batch_outputs plan batch.node (panes_of panes batch.panes)) at honest
+  call_is_poison (live.Key turn) at honest =
+      first_is_poison (key_outputs plan turn.node turn.key turn.span turn.inputs (record { cells = turn.state; timers = turn.timers })) at honest
 
 -- ---- the counts of a book
 
@@ -70,16 +76,11 @@ AreReads (calls, (reads, stopped)) = (calls ≡ 0) × ((note : FaultNote) → st
 
 -- a take changes nothing of the rest but what waits
 module _ {X : Type 0} (of : SeenBook → X) (b : SeenBook) (pending : (ps : List Piece) → of (record b { pending = ps }) ≡ of b)
-    (due : (d : Due) → of (without_due b d).rest ≡ of b) where
-  pub take_keeps : (d : Option Due) (pieces : List Piece) (next : Next) → b.pending ≡ pieces → due_or_piece b d ≡ Some next → of next.rest ≡ of b
-  take_keeps (Some d) pieces next is h = let e : without_due b d ≡ next = cc in sym (ap (λ (n : Next). of n.rest) e) ∙ due d
-  take_keeps None pieces next is h = by pieces (sym (ap (without_first b) is) ∙ h)
-    where
-      by : (ps : List Piece) → without_first b ps ≡ Some next → of next.rest ≡ of b
-      by [] g = absurd (cc)
-      by (piece ∷ later) g =
-          let e : record { job = live.Span piece None; rest = record b { pending = later } } ≡ next = cc in
-          sym (ap (λ (n : Next). of n.rest) e) ∙ pending later
+    (due : (d : Due) → of (without_due b d).rest ≡ of b) (keyed : (cells : List KeyCell) → of (record b { keys = cells }) ≡ of b) where
+  pub take_keeps : (next : Next) → next_job b ≡ Some next → of next.rest ≡ of b
+  take_keeps next is =
+      take_cases b (λ (n : Next). of n.rest ≡ of b) (λ batch among. due (GivenBack batch)) (λ batch oldest. due (Oldest batch))
+      (λ place cell found. keyed (change (with_job b.options.bundle) place.at b.keys)) (λ piece later e. pending later) next is
 
 due_counts : (b : SeenBook) (d : Due) → counts_of (without_due b d).rest ≡ counts_of b
 due_counts b (GivenBack batch) = refl
@@ -88,6 +89,7 @@ due_counts b (Oldest batch) = refl
 read_counts : (b : SeenBook) (slot : ℕ) (job : Live) (at : ℕ) → counts_of (counted (given_back (with_slot b slot None) job at Read) Read) ≡ (b.calls, (raised b.reads, b.stopped))
 read_counts b slot (live.Span piece attempted) at = refl
 read_counts b slot (live.Batch batch) at = refl
+read_counts b slot (live.Key turn) at = refl
 
 same_counts : (b new : SeenBook) → counts_of new ≡ counts_of b → AreReads (counts_of b) → AreReads (counts_of new)
 same_counts b new same reads = subst AreReads (sym same) reads
@@ -100,26 +102,22 @@ once_more attempts reads most few = omega arith
 kept_under : (attempt reads : ℕ) → attempt ≤ reads → attempt ≤ 1000 → attempt ≤ raised reads
 kept_under attempt reads most few = omega arith
 
-module _ (b : SeenBook) (slot at : ℕ) (job : Live) (works : IsWorking b slot job) (kept : AreKept b) (h : AreReads (counts_of b)) where
+module _ (b : SeenBook) (slot at : ℕ) (job : Live) (works : IsWorking b slot job) (honest : IsHonestRead b.plan (job_of b.panes job) at) (kept : AreKept b) (h : AreReads (counts_of b)) where
   job_tried : (attempts_of job < b.options.attempts) × (attempts_of job ≤ b.calls + b.reads)
-  job_tried = by job works
+  job_tried = by job works honest
     where
       counts : AreAttemptsCounted b
       counts = kept.attempts
 
-      by : (j : Live) → IsWorking b slot j → (attempts_of j < b.options.attempts) × (attempts_of j ≤ b.calls + b.reads)
-      by (live.Span piece attempted) is = (
+      by : (j : Live) → IsWorking b slot j → IsHonestRead b.plan (job_of b.panes j) at → (attempts_of j < b.options.attempts) × (attempts_of j ≤ b.calls + b.reads)
+      by (live.Span piece attempted) is reads = (
         All-head (λ (x : Piece). IsBelowLimit b x.attempts) piece [] (All-flat_at piece_of b.slots slot (λ (x : Piece). IsBelowLimit b x.attempts) (Some (live.Span piece attempted)) is counts.worked_pieces),
         All-head (λ (x : Piece). x.attempts ≤ b.calls + b.reads) piece []
             (All-flat_at piece_of b.slots slot (λ (x : Piece). x.attempts ≤ b.calls + b.reads) (Some (live.Span piece attempted)) is
             (All-append_right (λ (x : Piece). x.attempts ≤ b.calls + b.reads) b.pending (flat_map piece_of b.slots) (each_tried b counts))),
       )
-      by (live.Batch batch) is = (
-        All-head (λ (x : Batch). IsBelowLimit b x.attempts) batch [] (All-flat_at batch_of b.slots slot (λ (x : Batch). IsBelowLimit b x.attempts) (Some (live.Batch batch)) is counts.worked_batches),
-        All-head (λ (x : Batch). x.attempts ≤ b.calls + b.reads) batch []
-            (All-flat_at batch_of b.slots slot (λ (x : Batch). x.attempts ≤ b.calls + b.reads) (Some (live.Batch batch)) is
-            (All-append_right (λ (x : Batch). x.attempts ≤ b.calls + b.reads) b.returned (flat_map batch_of b.slots) counts.batches)),
-      )
+      by (live.Batch batch) is reads = absurd reads
+      by (live.Key turn) is reads = absurd reads
 
   own_attempt : (note_of job at Read).attempt ≡ attempts_of job + 1
   own_attempt = by job
@@ -127,6 +125,7 @@ module _ (b : SeenBook) (slot at : ℕ) (job : Live) (works : IsWorking b slot j
       by : (j : Live) → (note_of j at Read).attempt ≡ attempts_of j + 1
       by (live.Span piece attempted) = refl
       by (live.Batch batch) = refl
+      by (live.Key turn) = refl
 
   few_tries : attempts_of job < 1000
   few_tries = omega (arith, job_tried.0, kept.formed.allowed.attempts.1)
@@ -163,7 +162,7 @@ module _ (known : Surroundings) (told : List FileText) (tells : known.told ≡ S
   step_reads b new slot Enroll (Enrolled number) step honest kept never h = same_counts b new (ap counts_of step.2) h
   step_reads b new slot Enroll NoMemory step honest kept never h = same_counts b new (ap counts_of step) h
   step_reads b new slot Take (TakenJob job) step honest kept never h =
-      same_counts b new (ap counts_of step.is ∙ take_keeps counts_of b (λ ps. refl) (due_counts b) (first_due b) b.pending step.next refl step.is_next) h
+      same_counts b new (ap counts_of step.is ∙ take_keeps counts_of b (λ ps. refl) (due_counts b) (λ cells. refl) step.next step.is_next) h
   step_reads b new slot Take Nothing step honest kept never h = same_counts b new (ap counts_of step.4) h
   step_reads b new slot Take Finished step honest kept never h = same_counts b new (ap counts_of step.4) h
   step_reads b new slot Take Stopped step honest kept never h = same_counts b new (ap counts_of step.2) h
@@ -180,7 +179,7 @@ module _ (known : Surroundings) (told : List FileText) (tells : known.told ≡ S
   ])
   step_reads b new slot (Fail at Read) answer step honest kept never h =
       subst (λ (x : SeenBook). AreReads (counts_of x)) (sym step.is)
-      (read_fails b slot at step.job step.works kept h (ends_run b step.job Read) (counted (given_back (with_slot b slot None) step.job at Read) Read) (read_counts b slot step.job at))
+      (read_fails b slot at step.job step.works (honest step.job step.works) kept h (ends_run b step.job Read) (counted (given_back (with_slot b slot None) step.job at Read) Read) (read_counts b slot step.job at))
   step_reads b new slot Stop Noted step honest kept never h =
       subst (λ (x : SeenBook). AreReads (counts_of x)) (sym step) (h.0, λ note is. h.1 note (none_by_memory b.stopped note is))
   step_reads b new slot _ _ step honest kept never h = absurd step

@@ -3,13 +3,14 @@ use Rattle.std.proofs.Common.{◌≡◌, ℕ, ◌-◌, ◌≤◌, ℤ, Bool, tru
 use Rattle.std.specs.Prelude.{Option, Some, None, ◌==◌, ◌||◌, ◌≤ℤ◌, slice_get, unwrap_or}
 use Rattle.std.specs.List.{All, filter, flat_map, sum_by}
 use Rattle.std.specs.Option.{option_map}
+use Rattle.std.proofs.lemmas.Bool.{false≢true}
 use Rattle.std.proofs.lemmas.Bool.{eqb-true, ne_eqb}
 use Rattle.std.proofs.lemmas.Int.{ints}
 use Rattle.std.proofs.lemmas.List.{map-append}
 use Rattle.std.proofs.lemmas.List.Elements.{All-append, All-filter, All-head, All-map, All-tail, All-weaker, filter-append, filter_passes}
 use Rattle.std.proofs.lemmas.List.Sums.{sum_by-append, sum_by-cons}
 use Rattle.beam_values.specs.Grouping.{IsPlainGrouping}
-use Rattle.beam_values.specs.Nodes.{HasNoStatefulAbove, has_kind, is_above, is_barrier_kind, is_group, is_group_kind, is_write, is_write_kind, strategy_of}
+use Rattle.beam_values.specs.Nodes.{HasNoStatefulAbove, has_kind, is_above, is_barrier_kind, is_group, is_group_kind, is_stateful, is_stateful_kind, is_write, is_write_kind, strategy_of}
 use Rattle.beam_values.specs.Sessions.{IsNonEmpty}
 use Rattle.beam_values.specs.Storable.{IsStorable}
 use Rattle.beam_values.specs.Times.{final_mark}
@@ -30,10 +31,10 @@ use Rattle.beam_values.specs.declared.plan.Strategy.{Strategy}
 use Rattle.beam_values.specs.declared.plan.Strategy.TheVariants as strategy
 use Rattle.beam_values.specs.declared.value.Value.{Value}
 use Rattle.beam_values.proofs.Bags.{bag_from_same, sum_by-filter, sum_by-flat_map, sum_by-map}
-use Rattle.beam_model.specs.Account.{arrivals_of, cell_arrivals, dropped_arrival}
+use Rattle.beam_model.specs.Account.{arrivals_of, cell_arrivals, dropped_arrival, input_arrival, log_arrivals}
 use Rattle.beam_model.specs.Chains.{Output, Arrives, chain}
 use Rattle.beam_model.specs.Estimators.{AreSoundAbove}
-use Rattle.beam_model.specs.Flow.{elements_at, is_at, pane_chains}
+use Rattle.beam_model.specs.Flow.{elements_at, is_at, log_chains, pane_chains}
 use Rattle.beam_model.specs.Panes.{IsLegalHistory, Taken, is_sessions, mark_after, panes_at, taken_at, taken_by, taken_drop, taken_entry}
 use Rattle.beam_model.specs.Plain.{ArePlainlyWrittenWhere, HasDefaultTriggersAbove, IsGroupAbove, IsGroupedBy, IsPlainAt, IsPlainRun, NothingIsDroppedAbove, is_met, node_of, plain_flow}
 use Rattle.beam_model.specs.Plans.{default_trigger}
@@ -43,18 +44,22 @@ use Rattle.beam_model.specs.Spread.{spread_all}
 use Rattle.beam_model.proofs.Above.{above_above, checked_inputs_lower}
 use Rattle.beam_model.proofs.Barriers.{outputs_below}
 use Rattle.group_cells.proofs.Counting.{filter_none}
+use Rattle.beam_values.specs.declared.log.KeyLog.{KeyLog}
+use Rattle.beam_values.specs.declared.log.LogEntry.{LogEntry}
+use Rattle.beam_values.specs.declared.log.LogInput.{LogInput}
+use Rattle.beam_values.specs.declared.log.LogInput.TheVariants.{Arrived, Fired}
+use Rattle.stateful_core.specs.Cells.{logs_of}
 use Rattle.book_core.specs.Book.{SeenBook, held, last_marks}
 use Rattle.book_core.specs.Calls.{IsOutcomeOf}
 use Rattle.book_core.specs.Runs.{AreTold, IsThrough, Reached}
 use Rattle.book_core.specs.Facts.{EndsEarly}
 use Rattle.book_core.proofs.AllKept.{reached_kept_of, reached_kept_with}
-use Rattle.book_core.proofs.BalancedAlways.{NoStateful}
 use Rattle.book_core.proofs.SaneAlways.{reached_sane}
 use Rattle.book_core.proofs.Slots.{All-slice_get}
 use Rattle.book_core.proofs.Slotted.{All-flat_map}
 use Rattle.ended_runs.specs.Storable.{ArePanesStorable}
 use Rattle.ended_runs.proofs.Above.{KnownLaws, StartsAbove}
-use Rattle.ended_runs.proofs.Ending.{book_flow, nothing_left_out}
+use Rattle.ended_runs.proofs.Ending.{book_flow, logs_at_nodes, nothing_left_out}
 use Rattle.ended_runs.proofs.Grouped.{pane_elements, plainly_grouped, sum_alike, taken_elements}
 use Rattle.ended_runs.proofs.PanesWell.{default_history, marks_rise}
 use Rattle.ended_runs.proofs.SessionsGrouped.{merged_of, merging, placed, sessions_grouped}
@@ -64,6 +69,22 @@ use Rattle.ended_runs.proofs.SoFarAlways.{IsSoFarOf, IsSoundFor, reached_so_far,
 -- ---- nodes
 
 -- a node isn't of two kinds
+stateful_or_write : (plan : Plan) (n : ℕ) → is_stateful plan n ≡ true → is_write plan n ≡ true → ⊥
+stateful_or_write plan n stateful write = by (slice_get plan.nodes n) stateful write
+  where
+    of_kind : (kind : NodeKind) → is_stateful_kind kind ≡ true → is_write_kind kind ≡ true → ⊥
+    of_kind (Group trigger) s w = absurd (cc)
+    of_kind (Source work args files estimator) s w = absurd (cc)
+    of_kind (ParDo work args) s w = absurd (cc)
+    of_kind Flatten s w = absurd (cc)
+    of_kind (WindowInto strategy) s w = absurd (cc)
+    of_kind (Stateful work args log) s w = absurd (cc)
+    of_kind (Write label) s w = absurd (cc)
+
+    by : (found : Option Node) → unwrap_or (option_map (λ x. is_stateful_kind x.kind) found) false ≡ true → unwrap_or (option_map (λ x. is_write_kind x.kind) found) false ≡ true → ⊥
+    by None s w = absurd (cc)
+    by (Some node) s w = of_kind node.kind s w
+
 group_or_write : (plan : Plan) (n : ℕ) → is_group plan n ≡ true → is_write plan n ≡ true → ⊥
 group_or_write plan n group write = by (slice_get plan.nodes n) group write
   where
@@ -174,7 +195,7 @@ sum_zero f P none (x ∷ xs) all = omega (arith, sum_by-cons f x xs, none x (All
 
 -- ---- a book that is through
 
-module _ (laws : KnownLaws) (no_stateful : NoStateful) (told : List FileText) (b : SeenBook) (reached : Reached (Some told) b) (lengths : AreTold told b) (through : IsThrough b)
+module _ (laws : KnownLaws) (told : List FileText) (b : SeenBook) (reached : Reached (Some told) b) (lengths : AreTold told b) (through : IsThrough b)
     (storable : All (λ p. IsStorable p.element.value) b.panes) (to : ℕ) (write : is_write b.plan to ≡ true) (stateless : HasNoStatefulAbove b.plan to)
     (sound : IsSoundFor laws told to b.plan) where
   abbrev is_met_at : Arrival → Bool
@@ -201,6 +222,9 @@ module _ (laws : KnownLaws) (no_stateful : NoStateful) (told : List FileText) (b
 
   not_write : (n : ℕ) → is_group b.plan n ≡ true → (n == to) ≡ false
   not_write n group = ne_eqb n to (λ same. group_or_write b.plan to (subst (λ (m : ℕ). is_group b.plan m ≡ true) same group) write)
+
+  logs_stateful : All (λ log. is_stateful b.plan log.node ≡ true) (logs_of b.keys)
+  logs_stateful = logs_at_nodes b (reached_sane (Some told) b reached).keys
 
   -- ---- sums over what is met
 
@@ -254,13 +278,67 @@ module _ (laws : KnownLaws) (no_stateful : NoStateful) (told : List FileText) (b
         neither true u e f = absurd (cc)
         neither false u e f = f
 
-    arrivals_weigh : sum_by arrival_weight (arrivals_of b.cells b.dropped [] b.written) ≡ sum_by arrival_weight all_arrivals
+    -- what comes of Stateful nodes isn't met
+    log_beside : (log : KeyLog) → is_stateful b.plan log.node ≡ true → is_above b.plan log.node to ≡ false
+    log_beside log is = by (is_above b.plan log.node to) refl
+      where
+        by : (t : Bool) → is_above b.plan log.node to ≡ t → t ≡ false
+        by true above = absurd (false≢true (sym (stateless log.node above) ∙ is))
+        by false away = refl
+
+    outputs_weigh : (n : ℕ) → is_above b.plan n to ≡ false → (entry : LogEntry) → sum_by met_weight (flat_map (chain b.plan n) entry.outputs) ≡ 0
+    outputs_weigh n away entry =
+        sum_by-flat_map met_weight (chain b.plan n) entry.outputs
+        ∙ sum_zero (λ e. sum_by met_weight (chain b.plan n e)) (λ e. Unit {0}) (λ e known. none_beside n e away) entry.outputs (λ k d inside. tt)
+
+    logs_weigh : sum_by met_weight (log_chains b.plan (logs_of b.keys)) ≡ 0
+    logs_weigh =
+        sum_by-flat_map met_weight (λ (log : KeyLog). flat_map (λ (entry : LogEntry). flat_map (chain b.plan log.node) entry.outputs) log.entries) (logs_of b.keys)
+        ∙ sum_zero (λ (log : KeyLog). sum_by met_weight (flat_map (λ (entry : LogEntry). flat_map (chain b.plan log.node) entry.outputs) log.entries))
+        (λ log. is_stateful b.plan log.node ≡ true)
+        (λ log is.
+        sum_by-flat_map met_weight (λ (entry : LogEntry). flat_map (chain b.plan log.node) entry.outputs) log.entries
+        ∙ sum_zero (λ (entry : LogEntry). sum_by met_weight (flat_map (chain b.plan log.node) entry.outputs)) (λ entry. Unit {0})
+        (λ entry known. outputs_weigh log.node (log_beside log is) entry) log.entries (λ k d inside. tt))
+        (logs_of b.keys) logs_stateful
+
+    -- nor is what came to them
+    input_weighs : (n : ℕ) → (n == to || is_above b.plan n to) ≡ false → (input : LogInput) → sum_by arrival_weight (input_arrival n input) ≡ 0
+    input_weighs n away (Arrived e) =
+        let one = sum_by-cons arrival_weight (record { node = n; element = e }) [] in
+        let none : cond (n == to || is_above b.plan n to) (w (Arrives (record { node = n; element = e }))) 0 ≡ 0 =
+        ap (λ (t : Bool). cond t (w (Arrives (record { node = n; element = e }))) 0) away in
+        omega (arith, one, none)
+    input_weighs n away (Fired timer) = refl
+
+    log_away : (log : KeyLog) → is_stateful b.plan log.node ≡ true → (log.node == to || is_above b.plan log.node to) ≡ false
+    log_away log is =
+        neither_of (log.node == to) (is_above b.plan log.node to)
+        (ne_eqb log.node to (λ same. stateful_or_write b.plan to (subst (λ (m : ℕ). is_stateful b.plan m ≡ true) same is) write)) (log_beside log is)
+      where
+        neither_of : (t u : Bool) → t ≡ false → u ≡ false → (t || u) ≡ false
+        neither_of true u e f = absurd (cc)
+        neither_of false u e f = f
+
+    keyed_weigh : sum_by arrival_weight (flat_map log_arrivals (logs_of b.keys)) ≡ 0
+    keyed_weigh =
+        sum_by-flat_map arrival_weight log_arrivals (logs_of b.keys)
+        ∙ sum_zero (λ (log : KeyLog). sum_by arrival_weight (log_arrivals log)) (λ log. is_stateful b.plan log.node ≡ true)
+        (λ log is.
+        sum_by-flat_map arrival_weight (λ (entry : LogEntry). input_arrival log.node entry.input) log.entries
+        ∙ sum_zero (λ (entry : LogEntry). sum_by arrival_weight (input_arrival log.node entry.input)) (λ entry. Unit {0})
+        (λ entry known. input_weighs log.node (log_away log is) entry.input) log.entries (λ k d inside. tt))
+        (logs_of b.keys) logs_stateful
+
+    arrivals_weigh : sum_by arrival_weight (arrivals_of b.cells b.dropped (logs_of b.keys) b.written) ≡ sum_by arrival_weight all_arrivals
     arrivals_weigh =
-        let one = sum_by-append arrival_weight (flat_map cell_arrivals b.cells) (map dropped_arrival b.dropped ++ b.written) in
-        let two = sum_by-append arrival_weight (map dropped_arrival b.dropped) b.written in
+        let keyed = flat_map log_arrivals (logs_of b.keys) in
+        let one = sum_by-append arrival_weight (flat_map cell_arrivals b.cells) (map dropped_arrival b.dropped ++ (keyed ++ b.written)) in
+        let two = sum_by-append arrival_weight (map dropped_arrival b.dropped) (keyed ++ b.written) in
+        let last = sum_by-append arrival_weight keyed b.written in
         let three = sum_by-append arrival_weight (map taken_as (taken_by b.cells)) b.written in
         let four = ap (sum_by arrival_weight) (cells_taken b.cells) in
-        omega (arith, one, two, three, four, dropped_weigh)
+        omega (arith, one, two, last, three, four, dropped_weigh, keyed_weigh)
 
     met_weighs : sum_by w (filter (is_met b.plan to) (plain_flow b.plan (items told b.plan) fired)) ≡ sum_by w (map Arrives met)
     met_weighs =
@@ -268,13 +346,13 @@ module _ (laws : KnownLaws) (no_stateful : NoStateful) (told : List FileText) (b
         let chains = flat_map (λ (pane : Arrival). chain b.plan pane.node pane.element) fired in
         let first = sum_by-filter w (is_met b.plan to) (spread ++ chains) in
         let second = sum_by-append met_weight spread chains in
-        let flows = (book_flow told b lengths (reached_sane (Some told) b reached).partitioned (reached_sane (Some told) b reached).formed through (reached_kept_of laws.strategies laws.settings laws.windows no_stateful told b reached).balanced).weighs met_weight in
-        let third = sum_by-append met_weight spread (pane_chains b.plan b.panes ++ []) in
-        let fourth = ap (sum_by met_weight) (append-nil (pane_chains b.plan b.panes)) in
-        let fifth = sum_by-map met_weight Arrives (arrivals_of b.cells b.dropped [] b.written) in
+        let flows = (book_flow told b lengths (reached_sane (Some told) b reached).partitioned (reached_sane (Some told) b reached).formed through (reached_kept_of laws.strategies laws.settings laws.windows told b reached).balanced).weighs met_weight in
+        let third = sum_by-append met_weight spread (pane_chains b.plan b.panes ++ log_chains b.plan (logs_of b.keys)) in
+        let fourth = sum_by-append met_weight (pane_chains b.plan b.panes) (log_chains b.plan (logs_of b.keys)) in
+        let fifth = sum_by-map met_weight Arrives (arrivals_of b.cells b.dropped (logs_of b.keys) b.written) in
         let sixth = sum_by-map w Arrives met in
         let seventh = sum_by-filter (λ (a : Arrival). w (Arrives a)) is_met_at all_arrivals in
-        omega (arith, first, second, panes_weigh, flows, third, fourth, fifth, sixth, seventh, arrivals_weigh)
+        omega (arith, first, second, panes_weigh, flows, third, fourth, fifth, sixth, seventh, arrivals_weigh, logs_weigh)
 
   -- ---- at the nodes
 
@@ -410,15 +488,16 @@ module _ (laws : KnownLaws) (no_stateful : NoStateful) (told : List FileText) (b
   book_plain = ((met, fired, plain_run, bag_from_same (elements_at to b.written) (elements_at to met) (sym met_here)), so_far.none_dropped)
 
 -- what an outcome has written
-pub outcome_plain : KnownLaws → NoStateful → (told : List FileText) (b : SeenBook) (o : Outcome) → Reached (Some told) b → AreTold told b → IsThrough b → IsOutcomeOf b o → ArePanesStorable o
+pub outcome_plain : KnownLaws → (told : List FileText) (b : SeenBook) (o : Outcome) → Reached (Some told) b → AreTold told b → IsThrough b → IsOutcomeOf b o → ArePanesStorable o
     → ArePlainlyWrittenWhere (items told b.plan) o
-outcome_plain laws no_stateful told b o reached lengths through of storable to write stateless triggers sound =
+outcome_plain laws told b o reached lengths through of storable to write stateless triggers sound =
     let same = of.plan in
-    let found = book_plain laws no_stateful told b reached lengths through (subst (λ (l : List Pane). All (λ p. IsStorable p.element.value) l) of.panes storable) to
+    let found = book_plain laws told b reached lengths through (subst (λ (l : List Pane). All (λ p. IsStorable p.element.value) l) of.panes storable) to
     (subst (λ (p : Plan). is_write p to ≡ true) same write) (subst (λ (p : Plan). HasNoStatefulAbove p to) same stateless)
     (record {
       sound = subst (λ (p : Plan). AreSoundAbove p (items told b.plan) to) same sound;
       triggers = subst (λ (p : Plan). HasDefaultTriggersAbove p to) same triggers;
+      stateless = subst (λ (p : Plan). HasNoStatefulAbove p to) same stateless;
     }) in
     record {
       plain = subst (λ (l : List SourceItem). IsPlainAt o.plan l to (elements_at to o.written)) (sym (nothing_left_out b o of (items told b.plan)))
@@ -428,12 +507,13 @@ outcome_plain laws no_stateful told b o reached lengths through of storable to w
     }
 
 -- where nothing is asked of the end of a run: nothing is dropped
-pub outcome_undropped : KnownLaws → (told : List FileText) (b : SeenBook) (o : Outcome) (to : ℕ) → Reached (Some told) b → IsOutcomeOf b o → HasDefaultTriggersAbove o.plan to
+pub outcome_undropped : KnownLaws → (told : List FileText) (b : SeenBook) (o : Outcome) (to : ℕ) → Reached (Some told) b → IsOutcomeOf b o → HasNoStatefulAbove b.plan to → HasDefaultTriggersAbove o.plan to
     → AreSoundAbove o.plan (items told b.plan) to → NothingIsDroppedAbove o.plan to o.dropped
-outcome_undropped laws told b o to reached of triggers sound =
+outcome_undropped laws told b o to reached of stateless triggers sound =
     let same = of.plan in
     let kept = reached_so_far laws told to b reached (record {
       sound = subst (λ (p : Plan). AreSoundAbove p (items told b.plan) to) same sound;
       triggers = subst (λ (p : Plan). HasDefaultTriggersAbove p to) same triggers;
+      stateless = stateless;
     }) in
     subst (λ (p : Plan). NothingIsDroppedAbove p to o.dropped) (sym same) (subst (NothingIsDroppedAbove b.plan to) (sym of.dropped) kept.none_dropped)

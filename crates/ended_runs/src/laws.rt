@@ -12,10 +12,12 @@ ghost use Rattle.beam_model.specs.Account.{IsAccounted};
 ghost use Rattle.beam_model.specs.Covers.{IsCovered};
 ghost use Rattle.beam_model.specs.Estimators.{AreSoundAbove};
 ghost use Rattle.beam_model.specs.Flow.{elements_at};
+ghost use Rattle.beam_model.specs.Logs.{AreLogsLegal};
 ghost use Rattle.beam_model.specs.Panes.{ArePanesLegal};
 ghost use Rattle.beam_model.specs.Plain.{ArePlainlyWrittenWhere, HasDefaultTriggersAbove};
 ghost use Rattle.beam_model.specs.Plain.{IsPlainAt, NothingIsDroppedAbove};
 ghost use Rattle.beam_model.specs.Positions.{items};
+ghost use Rattle.beam_model.specs.Rendering.{log_cmp};
 ghost use Rattle.book_core.specs.Book.{SeenBook};
 ghost use Rattle.book_core.specs.Calls.{IsOutcomeOf};
 ghost use Rattle.book_core.specs.Changes.{done_cmp};
@@ -53,8 +55,8 @@ pub fn nothing_is_set_aside()
     ensures { (b : SeenBook) (o : Outcome) → IsOutcomeOf b o → o.dead ≡ [] }
 {}
 
-/// Where the files are told, every position's outputs and every pane came to each barrier that they
-/// reach exactly once, and nothing else did.
+/// Where the files are told, every position's outputs, every pane and every logged output came to each
+/// barrier that they reach exactly once, and nothing else did.
 pub fn outcomes_are_accounted()
     ensures { (told : List FileText) (b : SeenBook) (o : Outcome)
         → Reached (Some told) b → AreTold told b → IsThrough b → IsOutcomeOf b o
@@ -76,13 +78,25 @@ pub fn outcomes_have_legal_panes()
     cells_are_kept();
 }
 
-/// The lists of an outcome are in order: done ranges by node, item and range, cells by node, key and
+/// Where nothing is left to do, the logs of an outcome are legal, whatever the plan and the files are: they
+/// have the calls of a Stateful node for each key and window once, in one order, each on an element of that
+/// key and window or on its first timer that was due, with the outputs that the function gives; and no
+/// timer is set at their end. Of a run that was given up a log may end while timers are set.
+pub fn outcomes_have_legal_logs()
+    ensures { (told : Option (List FileText)) (b : SeenBook) (o : Outcome)
+        → Reached told b → IsThrough b → IsOutcomeOf b o
+        → AreLogsLegal o.plan o.commits o.logs }
+{}
+
+/// The lists of an outcome are in order: done ranges by node, item and range, cells and logs by node, key and
 /// window, and panes by commit, node, key and window.
 pub fn outcomes_are_in_order()
     ensures done { (told : Option (List FileText)) (b : SeenBook) (o : Outcome)
         → Reached told b → IsOutcomeOf b o → IsSorted done_cmp o.done }
     ensures cells { (told : Option (List FileText)) (b : SeenBook) (o : Outcome)
         → Reached told b → IsOutcomeOf b o → IsSorted cell_cmp o.cells }
+    ensures logs { (told : Option (List FileText)) (b : SeenBook) (o : Outcome)
+        → Reached told b → IsOutcomeOf b o → IsSorted log_cmp o.logs }
     ensures panes { (told : Option (List FileText)) (b : SeenBook) (o : Outcome)
         → Reached told b → IsOutcomeOf b o → IsSorted pane_cmp o.panes }
 {

@@ -1,3 +1,4 @@
 pub mod Opens
 pub mod Stopped
+pub mod SameLengths
 pub mod PlanRuns

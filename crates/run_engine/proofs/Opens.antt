@@ -15,10 +15,10 @@ use Rattle.beam_ports.specs.Counts.{Rose, greatest_count, rise}
 use Rattle.beam_ports.specs.Files.{KeepsOpenings, Opening}
 use Rattle.beam_ports.specs.Observed.{ObservedStore, WhereTold, observed_store}
 use Rattle.beam_ports.specs.declared.store.Opened.{Opened}
-use Rattle.worker_loop.specs.Kits.{EachBecomes}
-use Rattle.worker_loop.specs.Openings.{AreOpened, IsOpenedAs, file_names, names_in}
-use Rattle.worker_loop.specs.Outside.{IsStoreKept}
-use Rattle.worker_loop.specs.declared.kit.Kit.{Kit}
+use Rattle.bundle_work.specs.Kits.{EachBecomes}
+use Rattle.bundle_work.specs.Openings.{AreOpened, IsOpenedAs, file_names, names_in}
+use Rattle.bundle_work.specs.Outside.{IsStoreKept}
+use Rattle.bundle_work.specs.declared.kit.Kit.{Kit}
 use Rattle.run_engine.specs.Kits.{observed_each}
 use Rattle.run_engine.specs.Openings.{AgreeInLength, AreCounted, AreNamesRefused, HasFailed, HasLength, HasSameLength, IsChanged, IsFileRefused, IsNameRefused, IsOpeningRefused, IsOtherRefused}
 use Rattle.command_ends.specs.declared.status.Status.{Status}

@@ -25,19 +25,23 @@ use Rattle.book_core.specs.Runs.{HonestlyReached, IsEnded, IsOpening, Reached}
 use Rattle.book_core.specs.Work.{Surroundings}
 use Rattle.worker_table.specs.Ends.{IsEnded as IsPassEnded}
 use Rattle.worker_table.specs.Fits.{IsBookOf}
-use Rattle.worker_table.specs.Notes.{Entry, IsStopped, Setting}
-use Rattle.worker_loop.specs.Bundles.{IsCountedAs}
-use Rattle.worker_loop.specs.Kits.{IsKitFor, told_by}
-use Rattle.worker_loop.specs.Openings.{AreOpened, file_names}
+use Rattle.worker_table.specs.Notes.{Entry, IsStopped}
+use Rattle.known_jobs.specs.Jobs.{Setting}
+use Rattle.bundle_work.specs.Bundles.{IsCountedAs}
+use Rattle.bundle_work.specs.Kits.{IsKitFor, told_by}
+use Rattle.bundle_work.specs.Openings.{AreOpened, file_names}
 use Rattle.worker_loop.specs.Workers.{EachEndsAs, EndsAs}
-use Rattle.worker_loop.specs.declared.kit.Kit.{Kit}
+use Rattle.bundle_work.specs.declared.kit.Kit.{Kit}
 use Rattle.worker_loop.specs.declared.workers.WorkerEnd.{WorkerEnd}
 use Rattle.worker_loop.specs.declared.workers.WorkerEnd.TheVariants as end
-use Rattle.worker_loop.proofs.Told.{told_by_each}
+use Rattle.bundle_work.proofs.Told.{told_by_each}
 use Rattle.run_engine.specs.Kits.{ObservedKits}
-use Rattle.run_engine.specs.PlanRun.{AreFirstLengths, lengths_of_first, opened_lengths, IsEndOfBook, IsOutcomeWhere, IsPlanEnd, IsSpent, IsStatusAfter, IsStoppedBy, surroundings_of}
+use Rattle.run_engine.specs.Openings.{AreOpenedByAll}
+use Rattle.run_engine.specs.PlanRun.{AreFirstLengths, lengths_of_first, IsEndOfBook, IsOutcomeWhere, IsPlanEnd, IsSpent, IsStatusAfter, IsStoppedBy, surroundings_of}
+use Rattle.bundle_work.specs.Reading.{opened_lengths}
 use Rattle.run_engine.specs.declared.run_end.RunEnd.{RunEnd}
 use Rattle.command_ends.specs.declared.status.Status.{Status}
+use Rattle.run_engine.proofs.SameLengths.{all_same}
 use Rattle.run_engine.proofs.Stopped.{count_by, counts_low, stop_counted}
 
 -- ---- what is known of a result
@@ -56,9 +60,10 @@ all_mapped : {A B : Type 0} (f : A → B) (P : B → Type 0) (xs : List A) → A
 all_mapped f P [] h = tt
 all_mapped f P (x ∷ xs) h = (h.0, all_mapped f P xs h.1)
 
-all_three : {A : Type 0} (P Q R T : A → Type 0) → ((x : A) → P x → Q x → R x → T x) → (xs : List A) → AllByRecursion P xs → AllByRecursion Q xs → AllByRecursion R xs → AllByRecursion T xs
-all_three P Q R T each [] p q r = tt
-all_three P Q R T each (x ∷ xs) p q r = (each x p.0 q.0 r.0, all_three P Q R T each xs p.1 q.1 r.1)
+all_four : {A : Type 0} (P Q R S T : A → Type 0) → ((x : A) → P x → Q x → R x → S x → T x) → (xs : List A) → AllByRecursion P xs → AllByRecursion Q xs → AllByRecursion R xs → AllByRecursion S xs
+    → AllByRecursion T xs
+all_four P Q R S T each [] p q r s = tt
+all_four P Q R S T each (x ∷ xs) p q r s = (each x p.0 q.0 r.0 s.0, all_four P Q R S T each xs p.1 q.1 r.1 s.1)
 
 -- what is so of all is so of each
 all_each : {A : Type 0} (test : A → Bool) (P : Type 0) (xs : List A) → (P → list_all test xs ≡ true) → AllByRecursion (λ x. P → test x ≡ true) xs
@@ -88,18 +93,20 @@ module _ {F S : Type 0} (is_strict : F → Bool) (files_of : S → Option (List 
       all_mapped (λ (kit : Kit F S). files_of kit.store) (λ told. (told_of kits ≡ None) ⊎ (told_of kits ≡ told)) kits (told_by_each (map (λ kit. files_of kit.store) kits))
 
   pub kits_fit : (setting : Setting) (kits : List (Kit F S)) → setting.known ≡ record { told = told_of kits; strict = list_all (λ kit. is_strict kit.shelf) kits }
-      → AllByRecursion (λ kit. AreOpened (files_of kit.store) (opened_by kit.store) (file_names setting.plan) kit.files) kits → AllByRecursion (IsKitFor is_strict files_of opened_by setting) kits
-  kits_fit setting kits known opened =
+      → AreOpenedByAll files_of opened_by setting.plan kits → lengths_of_first setting.plan kits ≡ setting.files → AllByRecursion (IsKitFor is_strict files_of opened_by setting) kits
+  kits_fit setting kits known opened lengths =
       let told : setting.known.told ≡ told_of kits = ap (λ (s : Surroundings). s.told) known in
       let strict : setting.known.strict ≡ list_all (λ (kit : Kit F S). is_strict kit.shelf) kits = ap (λ (s : Surroundings). s.strict) known in
-      all_three (λ kit. AreOpened (files_of kit.store) (opened_by kit.store) (file_names setting.plan) kit.files) (λ kit. (told_of kits ≡ None) ⊎ (told_of kits ≡ files_of kit.store))
-      (λ kit. setting.known.strict ≡ true → is_strict kit.shelf ≡ true) (IsKitFor is_strict files_of opened_by setting)
-      (λ kit are tells is. record {
+      all_four (λ kit. AreOpened (files_of kit.store) (opened_by kit.store) (file_names setting.plan) kit.files) (λ kit. opened_lengths setting.plan kit.files ≡ lengths_of_first setting.plan kits)
+      (λ kit. (told_of kits ≡ None) ⊎ (told_of kits ≡ files_of kit.store)) (λ kit. setting.known.strict ≡ true → is_strict kit.shelf ≡ true) (IsKitFor is_strict files_of opened_by setting)
+      (λ kit are met tells is. record {
         opened = are;
+        lengths = met ∙ lengths;
         told = inr (elim tells as (λ _. (setting.known.told ≡ None) ⊎ (setting.known.told ≡ files_of kit.store)) [ inl none ↦ inl (told ∙ none) | inr same ↦ inr (told ∙ same) ]);
         strict = is;
       })
-      kits opened (told_each kits) (all_each (λ (kit : Kit F S). is_strict kit.shelf) (setting.known.strict ≡ true) kits (λ is. sym strict ∙ is))
+      kits opened.each (all_same files_of opened_by setting.plan kits opened) (told_each kits)
+      (all_each (λ (kit : Kit F S). is_strict kit.shelf) (setting.known.strict ≡ true) kits (λ is. sym strict ∙ is))
 
 -- lengths of files that one store tells are those of the files that all tell
 pub lengths_of_all : (known told : Option (List FileText)) (plan : Plan) (lengths : List FileLen) → (known ≡ None) ⊎ (known ≡ told) → AreFirstLengths told plan lengths → AreFirstLengths known plan lengths

@@ -1,8 +1,6 @@
 -- What stopped a run by a fault: the book counts at least as many fails as the note says, and one with its cause.
-use Rattle.std.proofs.Common.{◌≡◌, ℕ, ◌+◌, ◌<◌, ◌≤◌, Bool, true, false, cond, List, [], ◌∷◌, ◌++◌, refl, sym, ap, subst, ◌∙◌, arith}
+use Rattle.std.proofs.Common.{◌≡◌, ℕ, ◌+◌, ◌<◌, ◌≤◌, Bool, true, false, List, refl, sym, ap, subst, ◌∙◌, arith}
 use Rattle.std.specs.Prelude.{Option, Some, None}
-use Rattle.std.specs.List.{All}
-use Rattle.std.proofs.lemmas.List.Elements.{All-head}
 use Rattle.beam_ports.specs.Counts.{greatest_count, raised}
 use Rattle.beam_values.specs.declared.fault.Cause.{Cause}
 use Rattle.beam_values.specs.declared.fault.Cause.TheVariants.{Call, Read}
@@ -10,20 +8,18 @@ use Rattle.beam_values.specs.declared.fault.FaultNote.{FaultNote}
 use Rattle.beam_values.specs.declared.file_text.FileText.{FileText}
 use Rattle.beam_values.specs.declared.outcome.StopCause.{StopCause}
 use Rattle.beam_values.specs.declared.outcome.StopCause.TheVariants as stop
-use Rattle.beam_values.specs.declared.piece.Piece.{Piece}
-use Rattle.book_core.specs.Book.{SeenBook, batch_of, live_batches, live_pieces, piece_of}
+use Rattle.book_core.specs.Book.{SeenBook}
 use Rattle.book_core.specs.Changes.{attempts_of, counted, ends_run, given_back, note_of, or_stopped, stopped_where, with_slot}
-use Rattle.book_core.specs.Facts.{AreAttemptsCounted}
-use Rattle.book_core.specs.Jobs.{Due, GivenBack, Oldest, Next, due_or_piece, first_due, without_due, without_first}
+use Rattle.book_core.specs.Jobs.{Next, next_job}
 use Rattle.book_core.specs.Runs.{Reached}
 use Rattle.book_core.specs.Sane.{IsSane}
-use Rattle.book_core.specs.Steps.{IsWorking}
 use Rattle.book_core.specs.declared.live.Batch.{Batch}
 use Rattle.book_core.specs.declared.live.Live.{Live}
 use Rattle.book_core.specs.declared.live.Live.TheVariants as live
 use Rattle.book_core.proofs.Cases.{Both, Keeps, always_reached, kept_with}
-use Rattle.book_core.proofs.SaneAlways.{each_tried, reached_sane, sane_always}
-use Rattle.book_core.proofs.Slotted.{All-append_right, All-flat_at}
+use Rattle.book_core.proofs.Failures.{below_limit, tried_at_most}
+use Rattle.book_core.proofs.SaneAlways.{reached_sane, sane_always}
+use Rattle.book_core.proofs.Taking.{take_cases}
 
 -- how many fails with this cause were counted
 abbrev pub count_by : Cause → ℕ → ℕ → ℕ
@@ -46,21 +42,6 @@ still_counted : (note : FaultNote) (calls reads more_calls more_reads : ℕ) →
 still_counted note calls reads more_calls more_reads low low' h = (omega (arith, low, low', h.0), more_by note.cause calls reads more_calls more_reads low low' h.1)
 
 -- ---- a fail
-
--- a job that is worked was tried seldom
-tried_seldom : (b : SeenBook) (slot : ℕ) (job : Live) → AreAttemptsCounted b → IsWorking b slot job → (attempts_of job < b.options.attempts) × (attempts_of job ≤ b.calls + b.reads)
-tried_seldom b slot (live.Span piece attempted) counts works = (
-  All-head (λ (p : Piece). p.attempts < b.options.attempts) piece [] (All-flat_at piece_of b.slots slot (λ (p : Piece). p.attempts < b.options.attempts) (Some (live.Span piece attempted)) works counts.worked_pieces),
-  All-head (λ (p : Piece). p.attempts ≤ b.calls + b.reads) piece []
-      (All-flat_at piece_of b.slots slot (λ (p : Piece). p.attempts ≤ b.calls + b.reads) (Some (live.Span piece attempted)) works
-      (All-append_right (λ (p : Piece). p.attempts ≤ b.calls + b.reads) b.pending (live_pieces b) (each_tried b counts))),
-)
-tried_seldom b slot (live.Batch batch) counts works = (
-  All-head (λ (x : Batch). x.attempts < b.options.attempts) batch [] (All-flat_at batch_of b.slots slot (λ (x : Batch). x.attempts < b.options.attempts) (Some (live.Batch batch)) works counts.worked_batches),
-  All-head (λ (x : Batch). x.attempts ≤ b.calls + b.reads) batch []
-      (All-flat_at batch_of b.slots slot (λ (x : Batch). x.attempts ≤ b.calls + b.reads) (Some (live.Batch batch)) works
-      (All-append_right (λ (x : Batch). x.attempts ≤ b.calls + b.reads) b.returned (live_batches b) counts.batches)),
-)
 
 -- the first stop stays, and else the fail's own note stops the run
 stops_by : (spent : Bool) (b : SeenBook) (own : FaultNote) → ((note : FaultNote) → b.stopped ≡ Some (stop.Spent note) → IsNoteCounted note b.calls b.reads) → IsNoteCounted own b.calls b.reads
@@ -88,6 +69,12 @@ failed_to b slot at (live.Batch batch) Call spent low low' tried few known =
 failed_to b slot at (live.Batch batch) Read spent low low' tried few known =
     stops_by spent (counted (given_back (with_slot b slot None) (live.Batch batch) at Read) Read) (note_of (live.Batch batch) at Read)
     (λ note is. still_counted note b.calls b.reads b.calls (raised b.reads) (omega arith) (omega (arith, low')) (known note is)) (omega (arith, low', tried, few), omega arith)
+failed_to b slot at (live.Key turn) Call spent low low' tried few known =
+    stops_by spent (counted (given_back (with_slot b slot None) (live.Key turn) at Call) Call) (note_of (live.Key turn) at Call)
+    (λ note is. still_counted note b.calls b.reads (raised b.calls) b.reads (omega (arith, low)) (omega arith) (known note is)) (omega (arith, low, tried, few), omega arith)
+failed_to b slot at (live.Key turn) Read spent low low' tried few known =
+    stops_by spent (counted (given_back (with_slot b slot None) (live.Key turn) at Read) Read) (note_of (live.Key turn) at Read)
+    (λ note is. still_counted note b.calls b.reads b.calls (raised b.reads) (omega arith) (omega (arith, low')) (known note is)) (omega (arith, low', tried, few), omega arith)
 
 -- ---- a take, and a stop for want of memory
 
@@ -96,18 +83,10 @@ record Rests (b : SeenBook) (next : Next) : Type 0 where
   reads : next.rest.reads ≡ b.reads
   stopped : next.rest.stopped ≡ b.stopped
 
-rests_due : (b : SeenBook) (due : Due) → Rests b (without_due b due)
-rests_due b (GivenBack batch) = record { calls = refl; reads = refl; stopped = refl }
-rests_due b (Oldest batch) = record { calls = refl; reads = refl; stopped = refl }
-
-rests_first : (b : SeenBook) (pieces : List Piece) (next : Next) → without_first b pieces ≡ Some next → Rests b next
-rests_first b [] next is = absurd (cc)
-rests_first b (piece ∷ later) next is =
-    let same : record { job = live.Span piece None; rest = record b { pending = later } } ≡ next = cc in subst (Rests b) same (record { calls = refl; reads = refl; stopped = refl })
-
-rests_next : (b : SeenBook) (due : Option Due) (next : Next) → due_or_piece b due ≡ Some next → Rests b next
-rests_next b (Some due) next is = let same : without_due b due ≡ next = cc in subst (Rests b) same (rests_due b due)
-rests_next b None next is = rests_first b b.pending next is
+rests_next : (b : SeenBook) (next : Next) → next_job b ≡ Some next → Rests b next
+rests_next b next is =
+    take_cases b (Rests b) (λ batch among. record { calls = refl; reads = refl; stopped = refl }) (λ batch oldest. record { calls = refl; reads = refl; stopped = refl })
+    (λ place cell found. record { calls = refl; reads = refl; stopped = refl }) (λ piece later e. record { calls = refl; reads = refl; stopped = refl }) next is
 
 taken_counted : (b : SeenBook) (next : Next) → Rests b next → ((note : FaultNote) → b.stopped ≡ Some (stop.Spent note) → IsNoteCounted note b.calls b.reads)
     → (note : FaultNote) → next.rest.stopped ≡ Some (stop.Spent note) → IsNoteCounted note next.rest.calls next.rest.reads
@@ -125,13 +104,13 @@ keeps_stops : (told : Option (List FileText)) → Keeps told IsSane IsStopCounte
 keeps_stops told = record {
   opens = λ b first opening. record { stop = λ note is. let none : first.stopped ≡ None = ap (λ (x : SeenBook). x.stopped) opening.is in absurd (cc) };
   enrolls = λ b known h within. record { stop = h.stop };
-  takes = λ b slot next known h running free is within. record { stop = taken_counted b next (rests_next b (first_due b) next is) h.stop };
+  takes = λ b slot next known h running free is within. record { stop = taken_counted b next (rests_next b next is) h.stop };
   claims = λ b slot p piece attempted known h works may. record { stop = h.stop };
   splits = λ b slot at piece attempted known h works inside behind within. record { stop = h.stop };
   commits = λ b slot job receipt cells fired marks known h made. record { stop = h.stop };
   fails = λ b slot at job cause known h works.
-      let tried = tried_seldom b slot job known.attempts works in
-      failed_to b slot at job cause (ends_run b job cause) known.attempts.calls known.attempts.reads tried.1 (omega (arith, tried.0, known.formed.allowed.attempts.1)) h.stop;
+      failed_to b slot at job cause (ends_run b job cause) known.attempts.calls known.attempts.reads (tried_at_most b slot job known works)
+      (omega (arith, below_limit b slot job known works, known.formed.allowed.attempts.1)) h.stop;
   stops = λ b known h. record { stop = stopped_counted b b.stopped refl h.stop };
 }
 

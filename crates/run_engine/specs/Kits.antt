@@ -5,9 +5,9 @@ use Rattle.beam_ports.specs.declared.store.Store.{Ghosts as StoreGhosts}
 use Rattle.beam_values.specs.declared.file_text.FileText.{FileText}
 use Rattle.chain_exec.specs.Causes.{ObservedShelf}
 use Rattle.dofn_traits.specs.declared.shelf.Shelf.{Ghosts as ShelfGhosts}
-use Rattle.worker_loop.specs.Kits.{observed_shelves, observed_stores}
-use Rattle.worker_loop.specs.Outside.{IsKitKept, IsStoreKept}
-use Rattle.worker_loop.specs.declared.kit.Kit.{Kit}
+use Rattle.bundle_work.specs.Kits.{observed_shelves, observed_stores}
+use Rattle.bundle_work.specs.Outside.{IsKitKept, IsStoreKept}
+use Rattle.bundle_work.specs.declared.kit.Kit.{Kit}
 
 -- ---- what is observed
 

@@ -8,8 +8,8 @@ use Rattle.beam_ports.specs.Counts.{rise}
 use Rattle.beam_ports.specs.Files.{Opening}
 use Rattle.beam_ports.specs.Observed.{ObservedStore, WhereTold}
 use Rattle.beam_ports.specs.declared.store.Opened.{Opened}
-use Rattle.worker_loop.specs.Openings.{AreOpened, file_names}
-use Rattle.worker_loop.specs.declared.kit.Kit.{Kit}
+use Rattle.bundle_work.specs.Openings.{AreOpened, file_names}
+use Rattle.bundle_work.specs.declared.kit.Kit.{Kit}
 use Rattle.command_ends.specs.declared.status.Status.{Status}
 use Rattle.command_ends.specs.declared.status.Status.TheVariants as status
 

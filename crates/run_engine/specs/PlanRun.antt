@@ -17,10 +17,9 @@ use Rattle.book_core.specs.Book.{SeenBook}
 use Rattle.book_core.specs.Calls.{IsOutcomeOf}
 use Rattle.book_core.specs.Runs.{AreLengthsOf, AreTold, HonestlyReached, IsEnded}
 use Rattle.book_core.specs.Work.{Surroundings}
-use Rattle.beam_ports.specs.declared.store.Opened.{Opened}
-use Rattle.worker_loop.specs.Bundles.{IsCountedAs}
-use Rattle.worker_loop.specs.Reading.{length_in, readers_from}
-use Rattle.worker_loop.specs.declared.kit.Kit.{Kit}
+use Rattle.bundle_work.specs.Bundles.{IsCountedAs}
+use Rattle.bundle_work.specs.Reading.{opened_lengths}
+use Rattle.bundle_work.specs.declared.kit.Kit.{Kit}
 use Rattle.run_engine.specs.Kits.{ObservedKits}
 use Rattle.run_engine.specs.declared.run_end.RunEnd.{RunEnd}
 use Rattle.command_ends.specs.declared.status.Status.{Status}
@@ -66,11 +65,7 @@ IsPlanEnd kits plan options _ outcome = ⊥
 
 -- ---- the lengths that a run works with
 
--- of the items of a plan, as these files were opened
-abbrev pub opened_lengths : Plan → List Opened → List FileLen
-opened_lengths plan files = map length_in (readers_from 0 plan.nodes files)
-
--- as the first of these kits has opened them
+-- of the items of a plan, as the first of these kits has opened them
 abbrev pub lengths_of_first : {F S : Type 0} → Plan → List (Kit F S) → List FileLen
 lengths_of_first plan [] = []
 lengths_of_first plan (first ∷ others) = opened_lengths plan first.files

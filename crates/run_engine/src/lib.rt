@@ -13,8 +13,8 @@ mod plan_run;
 mod run_end;
 mod storable;
 
+pub use bundle_work::Kit;
 pub use command_ends::{Status, put};
 pub use opening::open_sources;
 pub use plan_run::run_plan;
 pub use run_end::RunEnd;
-pub use worker_loop::Kit;

@@ -1,9 +1,9 @@
 ghost use Rattle.std.specs.Prelude.{◌≡◌, ◌<◌, ◌≤◌, ◌++◌, ℕ, List as ListOf, [], length, OnOk, IfOk};
 ghost use Rattle.std.specs.Prelude.{IfErr, IsErr};
 ghost use Rattle.std.specs.List.{AllByRecursion, flat_map};
-ghost use Rattle.worker_loop.specs.Kits.{EachBecomes};
-ghost use Rattle.worker_loop.specs.Openings.{AreOpened, IsOpenedAs, file_names, names_in};
-ghost use Rattle.worker_loop.specs.Outside.{IsStoreKept};
+ghost use Rattle.bundle_work.specs.Kits.{EachBecomes};
+ghost use Rattle.bundle_work.specs.Openings.{AreOpened, IsOpenedAs, file_names, names_in};
+ghost use Rattle.bundle_work.specs.Outside.{IsStoreKept};
 ghost use Rattle.run_engine.specs.Kits.{OpensKit, observed_each};
 ghost use Rattle.run_engine.specs.Openings.{AgreeInLength, AreCounted, AreNamesRefused};
 ghost use Rattle.run_engine.specs.Openings.{AreOpenedByAll, HasSameLength, IsFileRefused};
@@ -11,11 +11,11 @@ ghost use Rattle.run_engine.specs.Openings.{IsNameRefused, IsOpeningRefused, IsO
 
 use beam_ports::{OpenRefusal, Opened, Store};
 use beam_values::{Bytes, List, Node, Options};
+use bundle_work::{Kit, names_in};
 use command_ends::{Status, no_source};
 use dofn_traits::Shelf;
 use pipeline_graph::Graph;
 use std::alloc::Global;
-use worker_loop::{Kit, names_in};
 
 /// Opens every file of the plan with each kit, one kit after another, in node and item order. A call that
 /// fails is tried again until that kit's store has failed `attempts` times, at the first kit with `failed`

@@ -5,13 +5,15 @@ ghost use Rattle.beam_values.specs.declared.file_text.FileText.{FileText};
 ghost use Rattle.book_core.specs.Runs.{AreOptions, Reached};
 ghost use Rattle.book_core.specs.Work.{Surroundings};
 ghost use Rattle.turn_desk.specs.Notes.{opening_note};
-ghost use Rattle.worker_table.specs.Notes.{fresh, setting_for};
+ghost use Rattle.worker_table.specs.Notes.{fresh};
+ghost use Rattle.known_jobs.specs.Jobs.{setting_for};
 ghost use Rattle.worker_table.specs.Passes.{IsOf, note_of_pass, setting_of};
-ghost use Rattle.worker_loop.specs.Kits.{EachBecomes};
-ghost use Rattle.worker_loop.specs.Openings.{AreOpened, file_names};
+ghost use Rattle.bundle_work.specs.Kits.{EachBecomes};
+ghost use Rattle.bundle_work.specs.Openings.{AreOpened, file_names};
 ghost use Rattle.run_engine.specs.Kits.{RunsKit, observed_kits};
 ghost use Rattle.run_engine.specs.Openings.{AreOpenedByAll};
-ghost use Rattle.run_engine.specs.PlanRun.{AreFirstLengths, IsEndOfBook, opened_lengths};
+ghost use Rattle.run_engine.specs.PlanRun.{AreFirstLengths, IsEndOfBook};
+ghost use Rattle.bundle_work.specs.Reading.{opened_lengths};
 ghost use Rattle.run_engine.specs.PlanRun.{lengths_of_first, IsPlanEnd, IsStatusAfter};
 
 use crate::run_end::RunEnd;
@@ -20,6 +22,7 @@ use beam_ports::{Gate, Opened, Store};
 use beam_values::{FileLen, List, NoMemory, Options, StopCause};
 use book_core::Book;
 use book_core::laws::{attempts_are_counted, honest_runs_are_runs};
+use bundle_work::{Kit, lengths_of, readers_of};
 use command_ends::Status;
 use dofn_traits::Shelf;
 use pipeline_graph::Graph;
@@ -29,7 +32,7 @@ use pipeline_graph::laws::{
 use std::alloc::Global;
 use std::sync::Wait;
 use std::thread::Threads;
-use worker_loop::{Kit, lengths_of, readers_of, work_all};
+use worker_loop::work_all;
 use worker_table::{Table, WorkerPass};
 
 /// Runs a checked plan with one worker for each kit, in threads of their own. The kits' files are those of

@@ -117,7 +117,7 @@ unset_holds node [] h = refl
 unset_holds node (None ∷ holds) h = unset_holds node holds (λ name. h (suc name))
 unset_holds node (Some mark ∷ holds) h = absurd (let e = h 0 in cc)
 
-no_holds : (cell : KeyCell) → ((name : ℕ) → is_some (timer_of cell.timer_holds name) ≡ is_some (timer_of cell.kept.timers name)) → IsCellThrough cell → cell_holds cell ≡ []
+pub no_holds : (cell : KeyCell) → ((name : ℕ) → is_some (timer_of cell.timer_holds name) ≡ is_some (timer_of cell.kept.timers name)) → IsCellThrough cell → cell_holds cell ≡ []
 no_holds cell same h =
     ap (λ (ws : List Waiting). map (element_hold cell.log.node) ws ++ flat_map (timer_hold cell.log.node) cell.timer_holds) h.0
     ∙ unset_holds cell.log.node cell.timer_holds (λ name. same name ∙ ap is_some (h.1 name))

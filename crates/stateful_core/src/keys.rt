@@ -106,6 +106,19 @@ impl Keys {
         Ok(Some(turn))
     }
 
+    /// What [`Keys::take_job`] would give, which no slot works yet.
+    pub fn next_job(&self, marks: &[StageMarks], bundle: u32) -> Result<Option<KeyTurn>, NoMemory>
+        requires { 1 ≤ bundle }
+        ensures { IfOk result (λ turn. (new : ListOf KeyCell)
+            × IsTakenOrNone marks.now bundle self.now.cells turn new) }
+    {
+        let Some(place) = next_place(self.trees.as_slice(), marks) else {
+            return Ok(None);
+        };
+        let turn = turn_at(self.alloc, self.slots.as_slice(), marks, place, bundle)?;
+        Ok(Some(turn))
+    }
+
     /// The job of a cell failed. Takes no memory.
     pub fn give_back(&mut self, cell: u32)
         requires stands { cell < length self.old.cells }

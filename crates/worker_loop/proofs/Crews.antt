@@ -1,23 +1,20 @@
 -- Over all workers: what is so at each place is so of the sums and of the lists.
-use Rattle.std.proofs.Common.{◌≡◌, ◌⊎◌, ℕ, ◌+◌, ◌≤◌, min, List, [], ◌∷◌, ◌++◌, length, map, take, drop, refl, sym, subst, ap, ◌∙◌, arith}
+use Rattle.std.proofs.Common.{◌≡◌, ℕ, ◌+◌, ◌≤◌, List, [], ◌∷◌, ◌++◌, length, map, take, refl, subst, ap, ◌∙◌, arith}
 use Rattle.std.specs.List.{AllByRecursion, sum_by}
 use Rattle.std.proofs.lemmas.List.Sums.{sum_by-cons}
 use Rattle.std.specs.Prelude.{Bool, Option}
 use Rattle.beam_values.specs.declared.file_text.FileText.{FileText}
 use Rattle.beam_ports.specs.Counts.{rise}
 use Rattle.beam_ports.specs.Files.{Opening}
-use Rattle.beam_ports.specs.Observed.{ObservedStore}
-use Rattle.chain_exec.specs.Causes.{ObservedShelf}
 use Rattle.retry_core.specs.Shares.{risen}
-use Rattle.retry_core.specs.declared.share.FaultShare.{FaultShare}
-use Rattle.worker_table.specs.Notes.{Entry, Setting}
-use Rattle.worker_table.specs.Passes.{entry_of, note_of_pass, setting_of}
+use Rattle.worker_table.specs.Notes.{Entry}
+use Rattle.worker_table.specs.Passes.{entry_of, setting_of}
 use Rattle.worker_table.specs.Turns.{entry_in}
 use Rattle.worker_table.specs.declared.pass.Table.{Table}
-use Rattle.worker_loop.specs.Kits.{EachBecomes, sum_rises}
-use Rattle.worker_loop.specs.Pairs.{AreBoth, EachPairBecomes}
+use Rattle.bundle_work.specs.Kits.{EachBecomes, sum_rises}
+use Rattle.bundle_work.specs.Pairs.{AreBoth, EachPairBecomes}
 use Rattle.worker_loop.specs.Workers.{EachEndsAs, HasSat, IsKitDone, no_faults, share_with}
-use Rattle.worker_loop.specs.declared.kit.Kit.{Kit}
+use Rattle.bundle_work.specs.declared.kit.Kit.{Kit}
 use Rattle.worker_loop.specs.declared.crew.Seat.{Seat}
 
 -- ---- places

@@ -1,11 +1,12 @@
 -- How the workers of a book ended that is given back: where it runs on all of them have finished, and then it is through.
-use Rattle.std.proofs.Common.{◌≡◌, ℕ, ◌<◌, List, [], ◌∷◌, ◌++◌, length, refl, subst, arith}
+use Rattle.std.proofs.Common.{◌≡◌, ◌<◌, List, [], ◌∷◌, ◌++◌, length, refl, subst, arith}
 use Rattle.std.specs.List.{AllByRecursion}
 use Rattle.book_core.specs.Book.{SeenBook}
 use Rattle.book_core.specs.Runs.{IsThrough}
 use Rattle.book_core.specs.Steps.{IsRunning}
 use Rattle.worker_table.specs.Ends.{IsEnded}
-use Rattle.worker_table.specs.Notes.{Ending, Entry, Setting, HasFinished, IsStopped}
+use Rattle.worker_table.specs.Notes.{Entry}
+use Rattle.known_jobs.specs.Jobs.{Setting}
 use Rattle.worker_loop.specs.Workers.{EachEndsAs, EndsAs}
 use Rattle.worker_loop.specs.declared.workers.WorkerEnd.{WorkerEnd}
 use Rattle.worker_loop.specs.declared.workers.WorkerEnd.TheVariants as end

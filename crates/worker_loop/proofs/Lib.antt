@@ -1,14 +1,4 @@
-pub mod Answered
-pub mod Working
-pub mod PieceWork
-pub mod Claiming
-pub mod Stretching
-pub mod PieceReads
-pub mod Told
-pub mod Readers
-pub mod Jobs
 pub mod Rounds
-pub mod Halves
 pub mod Crews
 pub mod Ended
 pub mod Crossing

@@ -1,23 +1,23 @@
 -- From job to job of a worker: what stays noted, and how its fails are counted.
-use Rattle.std.proofs.Common.{◌≡◌, ◌⊎◌, inl, inr, ℕ, ◌+◌, ◌-◌, ◌<◌, ◌≤◌, min, Bool, true, false, cond, List, refl, sym, ap, subst, ◌∙◌, arith}
+use Rattle.std.proofs.Common.{◌≡◌, inl, inr, ℕ, ◌+◌, ◌≤◌, Bool, true, false, List, refl, sym, ap, subst, ◌∙◌, arith}
 use Rattle.std.specs.Prelude.{Option, Some, None, IsSomeAnd, nat_le, unwrap_or}
 use Rattle.std.proofs.lemmas.Bool.Decides.{nat_tests}
 use Rattle.beam_values.specs.declared.fault.Cause.{Cause}
 use Rattle.beam_values.specs.declared.fault.Cause.TheVariants.{Call, Read}
-use Rattle.beam_values.specs.declared.file_text.FileText.{FileText}
-use Rattle.beam_ports.specs.Counts.{Rose, greatest_count, rise}
+use Rattle.beam_ports.specs.Counts.{greatest_count, rise}
 use Rattle.beam_ports.specs.Observed.{ObservedStore}
-use Rattle.book_core.specs.Book.{SeenBook}
 use Rattle.book_core.specs.Steps.{Action, Answer, Fail, Noted, Step, Stop}
 use Rattle.chain_exec.specs.Causes.{ObservedShelf}
 use Rattle.retry_core.specs.Shares.{risen, share_after}
 use Rattle.retry_core.specs.declared.share.FaultShare.{FaultShare}
 use Rattle.turn_desk.specs.declared.held.Note.{Note}
-use Rattle.worker_table.specs.Calls.{GoesOnAs, KeepsSlot}
-use Rattle.worker_table.specs.Moves.{Deed, Steps, Stops, calls_after, entry_after, made_in, reads_after}
-use Rattle.worker_table.specs.Notes.{Entry, Setting}
-use Rattle.worker_table.specs.Turns.{HasStepped, HasStopped, KeepsOthers, Turned, first_entry}
-use Rattle.worker_loop.specs.Bundles.{IsCountedAs, OnlyClaims}
+use Rattle.worker_table.specs.Calls.{KeepsSlot}
+use Rattle.known_jobs.specs.Calls.{calls_after, reads_after}
+use Rattle.worker_table.specs.Moves.{made_in}
+use Rattle.worker_table.specs.Notes.{Entry}
+use Rattle.known_jobs.specs.Jobs.{Setting}
+use Rattle.worker_table.specs.Turns.{HasStepped, HasStopped, first_entry}
+use Rattle.bundle_work.specs.Bundles.{IsCountedAs}
 use Rattle.worker_loop.specs.Workers.{CountsOn, FailsOnce, HasMadeLast, RisesWith, share_with}
 
 -- ---- the last turn

@@ -1,10 +1,14 @@
--- Claims of a pass follow on one another.
+-- Claims of a pass: what they leave of its note, and that they follow on one another.
 use Rattle.std.proofs.Common.{List, refl, ◌∙◌}
 use Rattle.turn_desk.specs.declared.held.Note.{Note}
-use Rattle.worker_table.specs.Calls.{KeepsSlot}
+use Rattle.worker_table.specs.Calls.{GoesOnAs, KeepsSlot}
 use Rattle.worker_table.specs.Notes.{Entry}
 use Rattle.worker_table.specs.Turns.{KeepsOthers, first_entry}
-use Rattle.worker_loop.specs.Bundles.{OnlyClaims}
+
+-- claims change nothing of what is noted but the job of the pass
+pub record OnlyClaims (m n : Note (List Entry)) : Type 0 where
+  pub stays : GoesOnAs (first_entry m) (first_entry n)
+  pub others : KeepsOthers m n
 
 pub others_same : (m : Note (List Entry)) → KeepsOthers m m
 others_same m = record { numbers = refl; free = refl; others = refl; count = refl }

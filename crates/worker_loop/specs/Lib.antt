@@ -1,10 +1,2 @@
-pub mod Openings
-pub mod Outside
-pub mod Bundles
 pub mod Laws
-pub mod Reading
-pub mod Kits
-pub mod Trails
-pub mod Stretches
 pub mod Workers
-pub mod Pairs

@@ -16,11 +16,12 @@ use Rattle.turn_desk.specs.declared.held.Note.{Note}
 use Rattle.turn_desk.specs.Notes.{size_of}
 use Rattle.worker_table.specs.Fits.{IsBookOf}
 use Rattle.worker_table.specs.Moves.{made_in}
-use Rattle.worker_table.specs.Notes.{Entry, Setting, HasFinished, IsStopped}
+use Rattle.worker_table.specs.Notes.{Entry, HasFinished, IsStopped}
+use Rattle.known_jobs.specs.Jobs.{Setting}
 use Rattle.worker_table.specs.Passes.{IsOf, entry_of, note_of_pass, setting_of, slot_of}
 use Rattle.worker_table.specs.declared.pass.Table.{Table}
-use Rattle.worker_loop.specs.Outside.{IsKitKept}
-use Rattle.worker_loop.specs.declared.kit.Kit.{Kit}
+use Rattle.bundle_work.specs.Outside.{IsKitKept}
+use Rattle.bundle_work.specs.declared.kit.Kit.{Kit}
 use Rattle.worker_loop.specs.declared.workers.WorkerEnd.{WorkerEnd}
 use Rattle.worker_loop.specs.declared.workers.WorkerEnd.TheVariants as end
 use Rattle.worker_loop.specs.declared.crew.AllEnd.{AllEnd}

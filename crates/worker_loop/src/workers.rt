@@ -1,29 +1,29 @@
 //! One worker, with a kit of its own.
-ghost use Rattle.std.specs.Prelude.{◌≡◌, ◌≤◌, None, Some, IsSome, true, false};
+ghost use Rattle.std.specs.Prelude.{◌≡◌, ◌≤◌, map, None, Some, IsSome, true, false};
 ghost use Rattle.beam_ports.specs.Counts.{greatest_count};
 ghost use Rattle.beam_ports.specs.Observed.{observed_store};
 ghost use Rattle.book_core.specs.Steps.{Fail};
 ghost use Rattle.chain_exec.specs.Causes.{observed_shelf};
 ghost use Rattle.retry_core.specs.Shares.{share_after};
-ghost use Rattle.worker_table.specs.Calls.{CanCommitAs, CanFailAs, IsJobOfPlan, KeepsSlot};
-ghost use Rattle.worker_table.specs.Moves.{calls_after, reads_after};
+ghost use Rattle.known_jobs.specs.Calls.{CanCommitAs, CanFailAs, IsJobIn};
+ghost use Rattle.worker_table.specs.Calls.{KeepsSlot};
+ghost use Rattle.known_jobs.specs.Calls.{calls_after, reads_after};
 ghost use Rattle.worker_table.specs.Passes.{IsOf, entry_of, job_known, note_of_pass, setting_of};
 ghost use Rattle.worker_table.specs.Passes.{slot_of};
 ghost use Rattle.worker_table.specs.Turns.{KeepsOthers};
-ghost use Rattle.worker_loop.specs.Kits.{IsKitFor};
-ghost use Rattle.worker_loop.specs.Outside.{IsKitKept};
-ghost use Rattle.worker_loop.specs.Reading.{IsReading};
+ghost use Rattle.bundle_work.specs.Kits.{IsKitFor};
+ghost use Rattle.bundle_work.specs.Outside.{IsKitKept};
+ghost use Rattle.bundle_work.specs.Reading.{IsReading, length_in};
 ghost use Rattle.worker_loop.specs.Workers.{AreFailsCounted, CountsOn, EndsAs, FailsOnce};
 ghost use Rattle.worker_loop.specs.Workers.{GoesOnOrEnds, share_with};
 
-use crate::bundles::Worker;
-use crate::claims::Turns;
-use crate::kit::Kit;
 use crate::shop::Shop;
+use crate::turns::Turns;
 use beam_ports::{Gate, GatePoint, Store};
 use beam_values::{Cause, NoMemory, Options};
 use book_core::{Failure, Taken};
 use bundle_commit::{Job, Receipt};
+use bundle_work::{Kit, Worker};
 use chain_exec::ExecRefusal;
 use dofn_traits::Shelf;
 use pipeline_graph::Graph;
@@ -154,6 +154,8 @@ impl<'a, R: Wait, G: Gate> Turns<'a, R, G> {
         requires reading { IsReading (setting_of self.now.table.now).known.told
             (S.opened kit.old.store) graph.now worker.old.readers.items
             worker.old.place worker.old.bench.pager }
+        requires lengths { map length_in worker.old.readers.items
+            ≡ (setting_of self.now.table.now).files }
         ensures table { IsOf self.now.table.now pass.new }
         ensures end { GoesOnOrEnds (setting_of self.now.table.now) result (entry_of pass.new) }
         ensures others { KeepsOthers (note_of_pass pass.old) (note_of_pass pass.new) }
@@ -165,6 +167,7 @@ impl<'a, R: Wait, G: Gate> Turns<'a, R, G> {
         ensures reading { IsReading (setting_of self.now.table.now).known.told
             (S.opened kit.new.store) graph.now worker.new.readers.items
             worker.new.place worker.new.bench.pager }
+        ensures readers { worker.new.readers.items ≡ worker.old.readers.items }
         ensures kept { IsKitKept F.faults F.strict S.faults S.files S.opened
             kit.old.shelf kit.new.shelf kit.old.store kit.new.store }
         ensures files { kit.new.files ≡ kit.old.files }
@@ -192,7 +195,7 @@ impl<'a, R: Wait, G: Gate> Turns<'a, R, G> {
         requires table { IsOf self.now.table.now pass.old }
         requires slot { IsSome (slot_of pass.old) }
         requires taken { job_known pass.old ≡ Some (record { job = job.now; attempted = None }) }
-        requires of_plan { IsJobOfPlan (setting_of self.now.table.now).plan job.now }
+        requires inside { IsJobIn (setting_of self.now.table.now) job.now }
         requires owes { (entry_of pass.old).owes_split ≡ false }
         requires plan { graph.now ≡ (setting_of self.now.table.now).plan }
         requires strict { (setting_of self.now.table.now).known.strict ≡ true
@@ -200,6 +203,8 @@ impl<'a, R: Wait, G: Gate> Turns<'a, R, G> {
         requires reading { IsReading (setting_of self.now.table.now).known.told
             (S.opened kit.old.store) graph.now worker.old.readers.items
             worker.old.place worker.old.bench.pager }
+        requires lengths { map length_in worker.old.readers.items
+            ≡ (setting_of self.now.table.now).files }
         ensures table { IsOf self.now.table.now pass.new }
         ensures end { GoesOnOrEnds (setting_of self.now.table.now) result (entry_of pass.new) }
         ensures others { KeepsOthers (note_of_pass pass.old) (note_of_pass pass.new) }
@@ -211,6 +216,7 @@ impl<'a, R: Wait, G: Gate> Turns<'a, R, G> {
         ensures reading { IsReading (setting_of self.now.table.now).known.told
             (S.opened kit.new.store) graph.now worker.new.readers.items
             worker.new.place worker.new.bench.pager }
+        ensures readers { worker.new.readers.items ≡ worker.old.readers.items }
         ensures kept { IsKitKept F.faults F.strict S.faults S.files S.opened
             kit.old.shelf kit.new.shelf kit.old.store kit.new.store }
         ensures files { kit.new.files ≡ kit.old.files }

@@ -10,7 +10,8 @@ use Rattle.book_core.specs.Book.{SeenBook}
 use Rattle.book_core.specs.Runs.{IsThrough}
 use Rattle.worker_table.specs.Ends.{IsEnded}
 use Rattle.worker_table.specs.Fits.{Fits, FitEntries, FitsEntry, HasNoJobLeft, IsEndingOf, IsSlotOf}
-use Rattle.worker_table.specs.Notes.{Setting, Ending, GoesOn, HasFinished, IsStopped, Entry, Owner, owner_of}
+use Rattle.known_jobs.specs.Jobs.{Setting}
+use Rattle.worker_table.specs.Notes.{Ending, GoesOn, HasFinished, IsStopped, Entry, Owner, owner_of}
 use Rattle.worker_table.specs.Places.{is_or_not}
 
 -- ---- how many numbers of a list are below a bound

@@ -6,9 +6,10 @@ use Rattle.std.proofs.Crossing.{crosses}
 use Rattle.turn_desk.proofs.desk.Desk.TheSendSync as desk
 use Rattle.turn_desk.proofs.desk.Pass.TheSendSync as pass
 use Rattle.std.proofs.MapsCrossing.{crosses as maps}
-use Rattle.beam_values.proofs.Crossing.{Arrival-send, Boxed-send, Bytes-send, Cell-send, CommitMarks-send, Dropped-send, Element-send, Entry-send, List-send, List-sync, LogEntry-send, Pane-send, Plan-send, Plan-sync, Trigger-send, Value-send, Value-sync}
+use Rattle.beam_values.proofs.Crossing.{Arrival-send, Boxed-send, Bytes-send, Cell-send, CommitMarks-send, Dropped-send, Element-send, Entry-send, List-send, List-sync, LogEntry-send, LogInput-send, Pane-send, Plan-send, Plan-sync, Trigger-send, Value-send, Value-sync}
 use Rattle.beam_containers.specs.contracts.roomy.RoomyList as RoomyList
 use Rattle.beam_values.specs.contracts.piece.Done as Done
+use Rattle.beam_values.specs.contracts.piece.Piece as Piece
 use Rattle.windowing.specs.contracts.facts.NodeFacts as NodeFacts
 use Rattle.pipeline_graph.specs.contracts.graph.Graph as Graph
 use Rattle.pipeline_graph.specs.contracts.graph.Graph.TheInside as GraphInside
@@ -16,7 +17,7 @@ use Rattle.split_core.specs.contracts.pieces.Pieces as Pieces
 use Rattle.group_cells.specs.contracts.groups.Groups as Groups
 use Rattle.group_cells.specs.contracts.groups.Groups.TheInside as GroupsInside
 use Rattle.group_cells.specs.contracts.groups.draft.Change as Change
-use Rattle.group_cells.specs.contracts.groups.draft.Draft as Draft
+use Rattle.group_cells.specs.contracts.groups.draft.Tracked as Tracked
 use Rattle.group_cells.specs.contracts.groups.due.DueCells as DueCells
 use Rattle.group_cells.specs.contracts.groups.fired.Unfired as Unfired
 use Rattle.group_cells.specs.contracts.groups.group_plan.GroupPlan as GroupPlan
@@ -43,6 +44,7 @@ use Rattle.keyed_state.specs.contracts.state.KeyState as KeyState
 use Rattle.keyed_state.specs.contracts.state.KeyState.TheInside as KeyStateInside
 use Rattle.timer_core.specs.contracts.timers.Timers as Timers
 use Rattle.stateful_core.specs.contracts.key_index.KeyIndex as KeyIndex
+use Rattle.stateful_core.specs.contracts.key_job.KeyTurn as KeyTurn
 use Rattle.stateful_core.specs.contracts.keys.Keys as Keys
 use Rattle.stateful_core.specs.contracts.keys.Keys.TheInside as KeysInside
 use Rattle.mark_trees.specs.contracts.least_tree.LeastTree as LeastTree
@@ -108,8 +110,8 @@ DueCells-send = declared_send DueCells.the_type (search (as_row_send, sendable, 
 CellIndex-send : IsSend CellIndex.the_row
 CellIndex-send = declared_send CellIndex.the_type (search (IndexKey-send, as_row_send, sendable, crosses, maps) depth 40)
 
-Draft-send : IsSend Draft.the_row
-Draft-send = declared_send Draft.the_type (search (Cell-send, Dropped-send, CellIndex-send, DueCells-send, Change-send, as_row_send, sendable, crosses) depth 40)
+Tracked-send : IsSend Tracked.the_row
+Tracked-send = declared_send Tracked.the_type (search (Cell-send, CellIndex-send, DueCells-send, Change-send, as_row_send, sendable, crosses) depth 40)
 
 Rules-send : IsSend Rules.the_row
 Rules-send = search (sendable, crosses) depth 40
@@ -127,7 +129,7 @@ Known-send : IsSend Known.the_row
 Known-send = variants_send Known.enum (search (Listed-send, as_row_send, sendable) depth 40)
 
 Groups-send : IsSend Groups.the_row
-Groups-send = view_send _ _ _ _ _ (declared_send GroupsInside.the_type (search (GroupPlan-send, Draft-send, GroupKey-send, Known-send, List-send, as_row_send, sendable, crosses, maps) depth 40))
+Groups-send = view_send _ _ _ _ _ (declared_send GroupsInside.the_type (search (GroupPlan-send, Tracked-send, Dropped-send, GroupKey-send, Known-send, List-send, as_row_send, sendable, crosses, maps) depth 40))
 
 -- ---- the key cells
 
@@ -194,11 +196,17 @@ Queue-send = search (sendable, crosses) depth 40
 NodeHolds-send : IsSend NodeHolds.the_row
 NodeHolds-send = search (sendable, crosses, maps) depth 40
 
-Live-send : IsSend Live.the_row
-Live-send = search (sendable, crosses) depth 40
+KeyTurn-send : IsSend KeyTurn.the_row
+KeyTurn-send = declared_send KeyTurn.the_type (search (Value-send, LogInput-send, List-send, KeyState-send, Timers-send, as_row_send, sendable, crosses) depth 40)
+
+Piece-send : IsSend Piece.the_row
+Piece-send = search (sendable, crosses) depth 40
 
 Batch-send : IsSend Batch.the_row
 Batch-send = search (sendable, crosses) depth 40
+
+Live-send : IsSend Live.the_row
+Live-send = variants_send Live.enum (search (KeyTurn-send, Piece-send, Batch-send, as_row_send, sendable, crosses) depth 40)
 
 Done-send : IsSend Done.the_row
 Done-send = search sendable depth 40

@@ -3,5 +3,4 @@ pub mod Turning
 pub mod Tells
 pub mod Opened
 pub mod Counting
-pub mod Batches
 pub mod Crossing

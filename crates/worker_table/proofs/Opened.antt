@@ -13,7 +13,8 @@ use Rattle.book_core.specs.Work.{Surroundings}
 use Rattle.worker_table.specs.Fits.{Fits}
 use Rattle.worker_table.specs.Frames.{step_fails, step_slots}
 use Rattle.worker_table.specs.Laws.{opening_fits}
-use Rattle.worker_table.specs.Notes.{fresh, setting_for}
+use Rattle.worker_table.specs.Notes.{fresh}
+use Rattle.known_jobs.specs.Jobs.{setting_for}
 
 -- no step takes a slot away
 step_grows : (told : Option (List FileText)) (b new : SeenBook) (slot : ℕ) (action : Action) (answer : Answer) → Step told b slot action answer new → length b.slots ≤ length new.slots

@@ -1,17 +1,14 @@
 -- What the book's own calls say of the step that an act makes.
-use Rattle.std.proofs.Common.{◌≡◌, ℕ, Bool, List, sym, ap, ◌∙◌, subst, arith}
-use Rattle.std.specs.Prelude.{Option, Some, None, Result, Ok, Err, IfErr, IfOk, OnOk, OnErr, nat_lt}
+use Rattle.std.proofs.Common.{◌≡◌, ℕ, List, subst, arith}
+use Rattle.std.specs.Prelude.{Option, None, Result, Ok, Err, IfErr, IfOk, OnOk, OnErr}
 use Rattle.beam_values.specs.declared.file_text.FileText.{FileText}
-use Rattle.beam_values.specs.declared.piece.Piece.{Piece}
 use Rattle.bundle_commit.specs.declared.job.Receipt.{Receipt}
 use Rattle.book_core.specs.Book.{SeenBook}
-use Rattle.book_core.specs.Calls.{Makes, answer_of, live_piece, piece_in}
-use Rattle.book_core.specs.Steps.{CanCommit, Claim, Claimed, Enroll, Enrolled, IsClaiming, IsCommitting, IsFree, IsMostLeft, IsWithinLimits, Split, SplitAt, Step, Take}
-use Rattle.book_core.specs.declared.live.Live.TheVariants as live
+use Rattle.book_core.specs.Calls.{Makes, answer_of}
+use Rattle.book_core.specs.Steps.{CanCommit, Enroll, Enrolled, IsCommitting, IsFree, IsMostLeft, IsWithinLimits, Split, SplitAt, Step, Take}
 use Rattle.book_core.specs.declared.live.Taken.{Taken}
 use Rattle.book_core.specs.declared.live.Unplaced.{Unplaced}
 use Rattle.worker_table.specs.Calls.{Placing, enroll_answer, enrolled_slot, take_answer}
-use Rattle.worker_table.specs.Places.{set_here}
 
 pub enrolled_step : {E : Type 0} (b new : SeenBook) (answer : Result ℕ E) → IfOk answer (λ i. Makes b i Enroll (Enrolled i) new) → OnErr answer (new ≡ b)
     → Makes b (enrolled_slot answer) Enroll (enroll_answer answer) new
@@ -36,30 +33,3 @@ always_cut b new slot other found most makes none =
     let low = step.0 most.piece most.attempted most.would.works in
     let high = most.would.splits in
     omega arith
-
--- after a claim the slot works the range
-claim_stays : (b new : SeenBook) (slot p : ℕ) (granted : Bool) (step : IsClaiming b slot p granted new) → live_piece new slot ≡ Some step.piece
-claim_stays b new slot p granted step =
-    ap (λ (x : SeenBook). live_piece x slot) step.is
-    ∙ ap piece_in (set_here b.slots slot (Some (live.Span step.piece step.attempted)) (Some (live.Span step.piece (Some p))) step.works)
-
-pub claimed_live : (b new : SeenBook) (slot p : ℕ) (granted : Bool) → Makes b slot (Claim p) (Claimed granted) new → live_piece new slot ≡ None → ⊥
-claimed_live b new slot p granted makes none =
-    let there = claim_stays b new slot p granted (makes None) in
-    cc
-
--- it is granted below the end of that range
-pub claimed_step : (b new : SeenBook) (slot p : ℕ) (granted : Bool) (piece : Piece) (end : ℕ) → Makes b slot (Claim p) (Claimed granted) new → live_piece new slot ≡ Some piece
-    → end ≡ piece.range.to → Makes b slot (Claim p) (Claimed (nat_lt p end)) new
-claimed_step b new slot p granted piece end makes found ends = λ told.
-    let step : Step told b slot (Claim p) (Claimed granted) new = makes told in
-    let one : Some step.piece ≡ Some piece = sym (claim_stays b new slot p granted step) ∙ found in
-    let is : step.piece ≡ piece = cc in
-    record {
-      piece = step.piece;
-      attempted = step.attempted;
-      works = step.works;
-      may = step.may;
-      answer = ap (nat_lt p) (ends ∙ ap (λ (x : Piece). x.range.to) (sym is));
-      is = step.is;
-    }

@@ -1,63 +1,44 @@
 -- What each call tells its pass, from the turn that it made.
-use Rattle.std.proofs.Common.{◌≡◌, ℕ, List, [], ◌∷◌, Bool, false, refl, sym, ap, ◌∙◌, subst}
-use Rattle.std.specs.Prelude.{Option, Some, None, Result, Ok, Err, IfOk, IfErr, IsSomeAnd, slice_get}
+use Rattle.std.proofs.Common.{◌≡◌, ℕ, List, [], Bool, false, refl, sym, ap, ◌∙◌, subst}
+use Rattle.std.specs.Prelude.{Option, Some, None, Result, Ok, Err, IfErr, IsSomeAnd, slice_get}
 use Rattle.beam_values.specs.declared.cell.Pane.{Pane}
 use Rattle.beam_values.specs.declared.fault.Cause.{Cause}
 use Rattle.beam_values.specs.declared.file_text.FileText.{FileText}
-use Rattle.beam_values.specs.declared.piece.Piece.{Piece}
 use Rattle.beam_values.specs.declared.plan.Plan.{Plan}
-use Rattle.bundle_commit.specs.declared.job.Job.TheVariants as job
+use Rattle.bundle_commit.specs.declared.job.Job.{Job}
 use Rattle.bundle_commit.specs.declared.job.Receipt.{Receipt}
 use Rattle.turn_desk.specs.declared.held.Note.{Note}
 use Rattle.book_core.specs.Book.{SeenBook, slot_at}
-use Rattle.book_core.specs.Calls.{failure_of, live_piece, piece_in}
-use Rattle.book_core.specs.Jobs.{Due, GivenBack, Oldest, Next, attempted_of, due_or_piece, first_due, job_of, without_due, without_first}
-use Rattle.book_core.specs.Steps.{Action, Answer, CanCommit, Claim, Claimed, Commit, Fail, Take}
-use Rattle.book_core.specs.Work.{IsGiven}
+use Rattle.book_core.specs.Calls.{failure_of, live_piece}
+use Rattle.book_core.specs.Jobs.{attempted_of, job_of}
+use Rattle.book_core.specs.Sane.{IsSane}
+use Rattle.book_core.specs.Steps.{Action, Answer, CanCommit, Claim, Claimed, Commit, Fail, IsTaking, Take}
+use Rattle.book_core.specs.Work.{IsGiven, Surroundings}
 use Rattle.book_core.specs.declared.live.Failure.{Failure}
 use Rattle.book_core.specs.declared.live.Failure.TheVariants as failure
 use Rattle.book_core.specs.declared.live.Live.{Live}
-use Rattle.book_core.specs.declared.live.Live.TheVariants as live
 use Rattle.book_core.specs.declared.live.Taken.{Taken}
 use Rattle.book_core.specs.declared.live.Taken.TheVariants as taken
 use Rattle.book_core.specs.declared.live.Unplaced.{Unplaced}
-use Rattle.worker_table.specs.Calls.{AfterClaim, AfterCommit, AfterEnroll, AfterFail, AfterHelp, AfterStop, AfterTake, CanCommitAs, EndsAt, GoesOnAs, HasGot, IsTakenOfPlan, KeepsSlot, Placing, commit_answer, enroll_answer, enrolled_slot, take_answer}
-use Rattle.worker_table.specs.Carried.{can_commit}
-use Rattle.worker_table.specs.Fits.{IsJobOf, IsSlotOf}
-use Rattle.worker_table.specs.Frames.{next_keep, fail_leaves}
-use Rattle.worker_table.specs.Moves.{Steps, calls_after, known_at, known_in, reads_after, slot_after}
-use Rattle.worker_table.specs.Notes.{Setting, Owner, Entry, KnownJob, LastTurn}
+use Rattle.known_jobs.specs.Calls.{AfterClaim, CanCommitAs, EndsAt, IsJobIn, calls_after, reads_after}
+use Rattle.worker_table.specs.Calls.{AfterCommit, AfterEnroll, AfterFail, AfterHelp, AfterStop, AfterTake, GoesOnAs, HasGot, KeepsSlot, Placing, commit_answer, enroll_answer, enrolled_slot, take_answer}
+use Rattle.known_jobs.specs.Carried.{can_commit}
+use Rattle.known_jobs.specs.Jobs.{KnownJob, Setting, known_at, known_in, setting_for}
+use Rattle.worker_table.specs.Fits.{IsBookOf, IsSlotOf}
+use Rattle.known_jobs.specs.Kept.{fail_leaves}
+use Rattle.worker_table.specs.Moves.{Steps, slot_after}
+use Rattle.worker_table.specs.Notes.{Owner, Entry, LastTurn}
 use Rattle.worker_table.specs.Places.{set_here}
 use Rattle.worker_table.specs.Turns.{HasCommitted, HasEnrolled, HasHelped, HasStepped, HasStopped, Turned, first_entry, number_in}
+use Rattle.known_jobs.proofs.Claims.{claim_ends as ends_at, claim_told}
 use Rattle.worker_table.proofs.Turning.{known_turned}
 
--- ---- a job that is taken
-
-pieces_fresh : (b : SeenBook) (pieces : List Piece) (next : Next) → without_first b pieces ≡ Some next → attempted_of next.job ≡ None
-pieces_fresh b [] next h = absurd (cc)
-pieces_fresh b (piece ∷ later) next h =
-    let is : record { job = live.Span piece None; rest = record b { pending = later } } ≡ next = cc in
-    subst (λ (n : Next). attempted_of n.job ≡ None) is refl
-
-due_fresh : (b : SeenBook) (due : Due) → attempted_of (without_due b due).job ≡ None
-due_fresh b (GivenBack batch) = refl
-due_fresh b (Oldest batch) = refl
-
--- nothing of it was attempted
-next_fresh : (b : SeenBook) (due : Option Due) (next : Next) → due_or_piece b due ≡ Some next → attempted_of next.job ≡ None
-next_fresh b (Some due) next h = let is : without_due b due ≡ next = cc in subst (λ (n : Next). attempted_of n.job ≡ None) is (due_fresh b due)
-next_fresh b None next h = pieces_fresh b b.pending next h
+-- ---- a job that is known as the book has it
 
 none_known : (panes : List Pane) (slot : Option (Option Live)) → slot ≡ Some None → known_in panes slot ≡ None
 none_known panes slot e = ap (known_in panes) e
 
-ends_in : (panes : List Pane) (slot : Option (Option Live)) (end : ℕ) → IsSomeAnd (piece_in slot) (λ piece. piece.range.to ≡ end) → EndsAt (known_in panes slot) end
-ends_in panes (Some (Some (live.Span piece attempted))) end is = is
-ends_in panes (Some (Some (live.Batch batch))) end is = absurd is
-ends_in panes (Some None) end is = absurd is
-ends_in panes None end is = absurd is
-
--- of a job that is known as the book has it
+-- a receipt that can be placed can be placed as the job is known then
 known_again : (setting : Setting) (b : SeenBook) (i : ℕ) (receipt : Receipt) → b.plan ≡ setting.plan → CanCommit None b i receipt → CanCommit setting.known.told b i receipt → CanCommitAs setting (known_at b i) receipt
 known_again setting b i receipt plan any told = by (slot_at b i) refl
   where
@@ -95,62 +76,46 @@ module _ (setting : Setting) (m n : Note (List Entry)) (i : ℕ) where
     ending = ap (λ (e : Entry). e.ending) first;
   }
 
-  pub take_tells : {E : Type 0} (answer : Result Taken E) → IfOk answer (IsTakenOfPlan setting.plan) → HasStepped setting m n i Take (take_answer answer) → AfterTake setting answer (first_entry m) (first_entry n)
-  take_tells {E} (Ok (taken.Job job)) of_plan turn =
-      let step = turn.made in
-      let keeps = next_keep turn.lent (first_due turn.lent) step.next step.is_next in
-      let free : slice_get step.next.rest.slots i ≡ Some None = ap (λ (s : List (Option Live)). slice_get s i) keeps.slots ∙ step.free in
-      let there : slot_at turn.back i ≡ Some (Some step.next.job) = ap (λ (b : SeenBook). slot_at b i) step.is ∙ set_here step.next.rest.slots i None (Some step.next.job) free in
-      let panes : turn.back.panes ≡ turn.lent.panes = ap (λ (b : SeenBook). b.panes) step.is ∙ keeps.panes in
-      let is : Some (record { job = job_of turn.back.panes step.next.job; attempted = attempted_of step.next.job }) ≡ Some (record { job = job; attempted = None }) =
-      (λ k. Some (record { job = job_of (panes k) step.next.job; attempted = next_fresh turn.lent (first_due turn.lent) step.next step.is_next k }))
-      ∙ (λ k. Some (record { job = sym step.handed k; attempted = None })) in (
-        told_by Take (take_answer {E = E} (Ok (taken.Job job))) turn ∙ ap (known_in turn.back.panes) there ∙ is,
-        of_plan,
-        ap (λ (e : Entry). e.owes_split) turn.first,
-        ap (λ (e : Entry). e.ending) turn.first,
-      )
-  take_tells {E} (Ok taken.Nothing) of_plan turn = (
-    job_none Take (take_answer {E = E} (Ok taken.Nothing)) turn (ap (λ (b : SeenBook). slot_at b i) turn.made.4 ∙ turn.made.1),
-    ap (λ (e : Entry). e.owes_split) turn.first,
-    ap (λ (e : Entry). e.ending) turn.first,
-  )
-  take_tells {E} (Ok taken.Finished) of_plan turn = (
-    job_none Take (take_answer {E = E} (Ok taken.Finished)) turn (ap (λ (b : SeenBook). slot_at b i) turn.made.4 ∙ turn.made.1),
-    ap (λ (e : Entry). e.owes_split) turn.first,
-    ap (λ (e : Entry). e.ending) turn.first,
-  )
-  take_tells {E} (Ok taken.Stopped) of_plan turn = (
-    job_none Take (take_answer {E = E} (Ok taken.Stopped)) turn (ap (λ (b : SeenBook). slot_at b i) turn.made.2 ∙ turn.made.1),
-    ap (λ (e : Entry). e.owes_split) turn.first,
-    ap (λ (e : Entry). e.ending) turn.first,
-  )
-  take_tells {E} (Err e) of_plan turn = (
-    job_none Take (take_answer {E = E} (Err e)) turn (ap (λ (b : SeenBook). slot_at b i) turn.made.1 ∙ turn.made.0),
-    ap (λ (e : Entry). e.owes_split) turn.first,
-    ap (λ (e : Entry). e.ending) turn.first,
-  )
+  -- a book of the setting has the setting's plan and items
+  same_setting : (b : SeenBook) → IsBookOf setting b → setting_for setting.known b ≡ setting
+  same_setting b book = λ k. record { known = setting.known; plan = book.plan k; files = book.files k; options = book.options k }
+
+  module _ (knows : (b new : SeenBook) (slot : ℕ) (job : Job) → IsTaking b slot job new → known_at new slot ≡ Some (record { job = job; attempted = None }))
+      (inside : (known : Surroundings) (b new : SeenBook) (slot : ℕ) (job : Job) → IsSane b → IsTaking b slot job new → IsJobIn (setting_for known b) job)
+      (sane : (b : SeenBook) → IsBookOf setting b → IsSane b) where
+    pub take_tells : {E : Type 0} (answer : Result Taken E) → HasStepped setting m n i Take (take_answer answer) → AfterTake setting answer (first_entry m) (first_entry n)
+    take_tells {E} (Ok (taken.Job job)) turn = (
+      told_by Take (take_answer {E = E} (Ok (taken.Job job))) turn ∙ knows turn.lent turn.back i job turn.made,
+      subst (λ (s : Setting). IsJobIn s job) (same_setting turn.lent turn.book) (inside setting.known turn.lent turn.back i job (sane turn.lent turn.book) turn.made),
+      ap (λ (e : Entry). e.owes_split) turn.first,
+      ap (λ (e : Entry). e.ending) turn.first,
+    )
+    take_tells {E} (Ok taken.Nothing) turn = (
+      job_none Take (take_answer {E = E} (Ok taken.Nothing)) turn (ap (λ (b : SeenBook). slot_at b i) turn.made.4 ∙ turn.made.1),
+      ap (λ (e : Entry). e.owes_split) turn.first,
+      ap (λ (e : Entry). e.ending) turn.first,
+    )
+    take_tells {E} (Ok taken.Finished) turn = (
+      job_none Take (take_answer {E = E} (Ok taken.Finished)) turn (ap (λ (b : SeenBook). slot_at b i) turn.made.4 ∙ turn.made.1),
+      ap (λ (e : Entry). e.owes_split) turn.first,
+      ap (λ (e : Entry). e.ending) turn.first,
+    )
+    take_tells {E} (Ok taken.Stopped) turn = (
+      job_none Take (take_answer {E = E} (Ok taken.Stopped)) turn (ap (λ (b : SeenBook). slot_at b i) turn.made.2 ∙ turn.made.1),
+      ap (λ (e : Entry). e.owes_split) turn.first,
+      ap (λ (e : Entry). e.ending) turn.first,
+    )
+    take_tells {E} (Err e) turn = (
+      job_none Take (take_answer {E = E} (Err e)) turn (ap (λ (b : SeenBook). slot_at b i) turn.made.1 ∙ turn.made.0),
+      ap (λ (e : Entry). e.owes_split) turn.first,
+      ap (λ (e : Entry). e.ending) turn.first,
+    )
 
   pub claim_tells : (p : ℕ) (granted : Bool) → (first_entry m).slot ≡ Some i → HasStepped setting m n i (Claim p) (Claimed granted) → AfterClaim (first_entry m).job p granted (first_entry n).job
   claim_tells p granted slot turn =
-      let step = turn.made in
       let fit = subst (IsSlotOf turn.lent turn.owners (number_in m.numbers) (first_entry m).job (first_entry m).calls (first_entry m).reads) slot turn.fit.slot in
-      let there : slot_at turn.back i ≡ Some (Some (live.Span step.piece (Some p))) =
-      ap (λ (b : SeenBook). slot_at b i) step.is ∙ set_here turn.lent.slots i (Some (live.Span step.piece step.attempted)) (Some (live.Span step.piece (Some p))) step.works in
-      by (first_entry m).job (subst (IsJobOf turn.lent.panes (first_entry m).job) step.works fit.1) (told_by (Claim p) (Claimed granted) turn ∙ ap (known_in turn.back.panes) there)
-    where
-      by : (known : Option KnownJob) → IsJobOf turn.lent.panes known (Some (Some (live.Span turn.made.piece turn.made.attempted)))
-          → (first_entry n).job ≡ Some (record { job = job.Span turn.made.piece; attempted = Some p }) → AfterClaim known p granted (first_entry n).job
-      by (Some known) fit is = record {
-        noted = fit.0;
-        attempted = turn.made.attempted;
-        was = ap Some fit.1;
-        now = turn.made.piece;
-        short = fit.2;
-        is = is;
-        answer = turn.made.answer;
-      }
-      by None fit is = absurd fit
+      subst (λ (known : Option KnownJob). AfterClaim (first_entry m).job p granted known) (sym (told_by (Claim p) (Claimed granted) turn))
+      (claim_told turn.lent turn.back i p granted (first_entry m).job fit.1 turn.made)
 
   pub claim_goes : (p : ℕ) (granted : Bool) → HasStepped setting m n i (Claim p) (Claimed granted) → GoesOnAs (first_entry m) (first_entry n)
   claim_goes p granted turn = goes turn.first
@@ -158,7 +123,7 @@ module _ (setting : Setting) (m n : Note (List Entry)) (i : ℕ) where
   -- the pass then knows the range that the slot works
   pub claim_ends : (p : ℕ) (granted : Bool) (end : ℕ) (makes : SeenBook → SeenBook → Type 0) (turn : Turned setting m n (Steps i (Claim p) (Claimed granted)) makes)
       → IsSomeAnd (live_piece turn.back i) (λ piece. piece.range.to ≡ end) → EndsAt (first_entry n).job end
-  claim_ends p granted end makes turn is = subst (λ (known : Option KnownJob). EndsAt known end) (sym (ap (λ (e : Entry). e.job) turn.first)) (ends_in turn.back.panes (slot_at turn.back i) end is)
+  claim_ends p granted end makes turn is = subst (λ (known : Option KnownJob). EndsAt known end) (sym (ap (λ (e : Entry). e.job) turn.first)) (ends_at turn.back i end is)
 
   pub commit_tells : {U E : Type 0} (receipt : Receipt) (answer : Result U E) → HasCommitted setting m n i receipt answer → AfterCommit answer (first_entry n)
   commit_tells {U} {E} receipt (Ok u) turn =
@@ -181,7 +146,7 @@ module _ (setting : Setting) (m n : Note (List Entry)) (i : ℕ) where
       → IfErr answer (λ unplaced. unplaced.receipt ≡ receipt) → IfErr answer (λ unplaced. CanCommitAs setting (first_entry n).job unplaced.receipt)
   commit_again {U} receipt (Ok u) slot given turn back = tt
   commit_again {U} receipt (Err unplaced) slot given turn back =
-      let can = can_commit setting turn.lent i (first_entry m) (known_turned setting m n _ _ turn) slot receipt given in
+      let can = can_commit setting turn.lent i (first_entry m).job turn.book.plan ((known_turned setting m n _ _ turn).job i slot) receipt given in
       let there : CanCommitAs setting (known_at turn.lent i) receipt = known_again setting turn.lent i receipt turn.book.plan can.0 can.1 in
       let job : (first_entry n).job ≡ known_at turn.lent i = ap (λ (e : Entry). e.job) turn.first ∙ ap (λ (b : SeenBook). known_at b i) turn.made.1 in
       subst (λ (z : Option KnownJob × Receipt). CanCommitAs setting z.0 z.1) (λ k. (sym job k, sym back k)) there

@@ -11,12 +11,14 @@ use Rattle.book_core.specs.Book.{SeenBook}
 use Rattle.book_core.specs.Steps.{Commit}
 use Rattle.book_core.specs.Work.{Surroundings}
 use Rattle.book_core.specs.declared.live.Unplaced.{Unplaced}
-use Rattle.worker_table.specs.Calls.{CanCommitAs, Helping, IsHelpAnswer, Placing, commit_answer, help_deed}
-use Rattle.worker_table.specs.Carried.{can_commit}
+use Rattle.known_jobs.specs.Calls.{CanCommitAs}
+use Rattle.worker_table.specs.Calls.{Helping, IsHelpAnswer, Placing, commit_answer, help_deed}
+use Rattle.known_jobs.specs.Carried.{can_commit}
 use Rattle.worker_table.specs.Fits.{Fits, FitEntries, FitsEntry, IsBookOf, IsKnownIn, IsSlotOf}
 use Rattle.worker_table.specs.Laws.{first_fits}
 use Rattle.worker_table.specs.Moves.{Deed, Steps, Does, Moves, entry_after, entry_in, first_after, note_after, number_in, owners_after}
-use Rattle.worker_table.specs.Notes.{Setting, Owner, Entry}
+use Rattle.known_jobs.specs.Jobs.{Setting}
+use Rattle.worker_table.specs.Notes.{Owner, Entry}
 use Rattle.worker_table.specs.Passes.{IsOf, IsSeatOf, note_in, slot_of}
 use Rattle.worker_table.specs.Turns.{HasCommitted, HasHelped, KeepsOthers, Turned, first_entry, later_of}
 use Rattle.worker_table.specs.declared.help.Help.{Help}
@@ -80,9 +82,9 @@ module _ (setting : Setting) (m n : Note (List Entry)) where
   pub commit_turn : {U : Type 0} (i : ℕ) (receipt : Receipt) (answer : Result U Unplaced) → (first_entry m).slot ≡ Some i → CanCommitAs setting (first_entry m).job receipt
       → Turned setting m n (Steps i Commit (commit_answer answer)) (λ b new. Placing b i receipt answer new) → HasCommitted setting m n i receipt answer
   commit_turn {U} i receipt (Ok u) slot given turn =
-      retold _ _ _ turn (turn.made setting.known.told (can_commit setting turn.lent i (first_entry m) (known_turned _ _ turn) slot receipt given).1)
+      retold _ _ _ turn (turn.made setting.known.told (can_commit setting turn.lent i (first_entry m).job turn.book.plan ((known_turned _ _ turn).job i slot) receipt given).1)
   commit_turn {U} i receipt (Err unplaced) slot given turn =
-      retold _ _ _ turn ((can_commit setting turn.lent i (first_entry m) (known_turned _ _ turn) slot receipt given).1, turn.made.1)
+      retold _ _ _ turn ((can_commit setting turn.lent i (first_entry m).job turn.book.plan ((known_turned _ _ turn).job i slot) receipt given).1, turn.made.1)
 
   pub help_turn : {E : Type 0} (i : ℕ) (found : Help) (answer : Result (Option ℕ) E) → IsHelpAnswer found answer → Turned setting m n (help_deed found) (λ b new. Helping b i found new) → HasHelped setting m n i answer
   help_turn {E} i help.Nobody (Ok None) same turn = turn

@@ -1,49 +1,24 @@
 -- What the calls of a table ask of a pass, and what they tell it.
-use Rattle.std.specs.Prelude.{◌≡◌, ℕ, ◌<◌, Bool, true, false, List, length, Option, Some, None, Result, Ok, Err}
-use Rattle.beam_values.specs.Tracking.{MayClaim, is_granted}
+use Rattle.std.specs.Prelude.{◌≡◌, ℕ, true, false, List, Option, Some, None, Result, Ok, Err}
 use Rattle.beam_values.specs.declared.fault.Cause.{Cause}
 use Rattle.beam_values.specs.declared.file_text.FileText.{FileText}
-use Rattle.beam_values.specs.declared.piece.Piece.{Piece}
-use Rattle.beam_values.specs.declared.plan.Plan.{Plan}
 use Rattle.bundle_commit.specs.declared.job.Job.{Job}
 use Rattle.bundle_commit.specs.declared.job.Job.TheVariants as job
 use Rattle.bundle_commit.specs.declared.job.Receipt.{Receipt}
-use Rattle.book_core.specs.Book.{SeenBook, tracker_of}
+use Rattle.book_core.specs.Book.{SeenBook}
 use Rattle.book_core.specs.Calls.{Makes, answer_of}
 use Rattle.book_core.specs.Steps.{Answer, CanCommit, Committed, Enrolled, Fail, IsCommitting, IsNextFor, IsWithinLimits, NoMemory, Split, SplitAt}
-use Rattle.book_core.specs.Work.{IsGiven, IsHonest}
 use Rattle.book_core.specs.declared.live.Failure.{Failure}
 use Rattle.book_core.specs.declared.live.Failure.TheVariants as failure
 use Rattle.book_core.specs.declared.live.Taken.{Taken}
 use Rattle.book_core.specs.declared.live.Taken.TheVariants as taken
 use Rattle.book_core.specs.declared.live.Unplaced.{Unplaced}
-use Rattle.worker_table.specs.Fits.{IsShortened}
-use Rattle.worker_table.specs.Moves.{Deed, Enrolls, FindsNone, Helps, calls_after, reads_after}
-use Rattle.worker_table.specs.Notes.{Setting, KnownJob, Ending, HasFinished, IsStopped, Entry}
+use Rattle.known_jobs.specs.Calls.{IsJobIn, calls_after, reads_after}
+use Rattle.known_jobs.specs.Jobs.{Setting}
+use Rattle.worker_table.specs.Moves.{Deed, Enrolls, FindsNone, Helps}
+use Rattle.worker_table.specs.Notes.{Ending, HasFinished, IsStopped, Entry}
 use Rattle.worker_table.specs.declared.help.Help.{Help}
 use Rattle.worker_table.specs.declared.help.Help.TheVariants as help
-
--- ---- what is asked of the job as the pass knows it
-
-abbrev pub MayClaimIn : Job → Option ℕ → ℕ → Type 0
-MayClaimIn (job.Span piece) attempted p = MayClaim (tracker_of piece attempted) p
-MayClaimIn _ attempted p = ⊥
-
--- a range whose tracker may claim the position
-abbrev pub CanClaimAs : Option KnownJob → ℕ → Type 0
-CanClaimAs None p = ⊥
-CanClaimAs (Some known) p = MayClaimIn known.job known.attempted p
-
--- the receipt is what the plan gives for the job, of whatever the files are and of the files that are told
-abbrev pub CanCommitAs : Setting → Option KnownJob → Receipt → Type 0
-CanCommitAs setting None receipt = ⊥
-CanCommitAs setting (Some known) receipt =
-    IsGiven None setting.plan known.job known.attempted receipt × IsGiven setting.known.told setting.plan known.job known.attempted receipt
-
--- the fail is honest of the job
-abbrev pub CanFailAs : Setting → Option KnownJob → ℕ → Cause → Type 0
-CanFailAs setting None at cause = ⊥
-CanFailAs setting (Some known) at cause = IsHonest setting.known setting.plan known.job known.attempted at cause
 
 -- ---- what is answered, as a step says it
 
@@ -66,16 +41,6 @@ enroll_answer (Err e) = NoMemory
 
 -- ---- what the pass knows then
 
--- a batch is of a node of the plan; no job is of a key
-abbrev pub IsJobOfPlan : Plan → Job → Type 0
-IsJobOfPlan plan (job.Span piece) = Unit {0}
-IsJobOfPlan plan (job.Batch node first panes attempts) = node < length plan.nodes
-IsJobOfPlan plan _ = ⊥
-
-abbrev pub IsTakenOfPlan : Plan → Taken → Type 0
-IsTakenOfPlan plan (taken.Job job) = IsJobOfPlan plan job
-IsTakenOfPlan plan _ = Unit {0}
-
 -- the slot is the same, and no job failed
 pub record KeepsSlot (e e' : Entry) : Type 0 where
   pub slot : e'.slot ≡ e.slot
@@ -88,33 +53,14 @@ pub record GoesOnAs (e e' : Entry) : Type 0 where
   pub owes : e'.owes_split ≡ e.owes_split
   pub ending : e'.ending ≡ e.ending
 
--- The job that is handed out is the pass's, and nothing of it was attempted. Where no job was left the pass has finished, and where the book is stopped, it is.
+-- The job that is handed out is the pass's, nothing of it was attempted, and it lies in the plan and its items. Where no job was left the pass has finished, and where the book is stopped, it is.
 abbrev pub AfterTake : {E : Type 0} → Setting → Result Taken E → Entry → Entry → Type 0
 AfterTake setting (Ok (taken.Job job)) e e' =
-    (e'.job ≡ Some (record { job = job; attempted = None })) × IsJobOfPlan setting.plan job × (e'.owes_split ≡ e.owes_split) × (e'.ending ≡ e.ending)
+    (e'.job ≡ Some (record { job = job; attempted = None })) × IsJobIn setting job × (e'.owes_split ≡ e.owes_split) × (e'.ending ≡ e.ending)
 AfterTake setting (Ok taken.Nothing) e e' = (e'.job ≡ None) × (e'.owes_split ≡ true) × (e'.ending ≡ e.ending)
 AfterTake setting (Ok taken.Finished) e e' = (e'.job ≡ None) × (e'.owes_split ≡ e.owes_split) × (e'.ending ≡ HasFinished)
 AfterTake setting (Ok taken.Stopped) e e' = (e'.job ≡ None) × (e'.owes_split ≡ e.owes_split) × (e'.ending ≡ IsStopped)
 AfterTake setting (Err none) e e' = (e'.job ≡ None) × (e'.owes_split ≡ e.owes_split) × (e'.ending ≡ e.ending)
-
--- The range attempted the position, which was granted where it lies in it. Others may have shortened it, behind what was attempted before.
-pub record AfterClaim (known : Option KnownJob) (p : ℕ) (granted : Bool) (after : Option KnownJob) : Type 0 where
-  pub noted : Piece
-  pub attempted : Option ℕ
-  pub was : known ≡ Some (record { job = job.Span noted; attempted = attempted })
-  pub now : Piece
-  pub short : IsShortened noted attempted now
-  pub is : after ≡ Some (record { job = job.Span now; attempted = Some p })
-  pub answer : granted ≡ is_granted (tracker_of now attempted) p
-
-abbrev pub IsRangeTo : Job → ℕ → Type 0
-IsRangeTo (job.Span piece) end = piece.range.to ≡ end
-IsRangeTo _ end = ⊥
-
--- the pass knows a range that ends here
-abbrev pub EndsAt : Option KnownJob → ℕ → Type 0
-EndsAt None end = ⊥
-EndsAt (Some known) end = IsRangeTo known.job end
 
 abbrev pub AfterCommit : {U E : Type 0} → Result U E → Entry → Type 0
 AfterCommit (Ok u) e' = e'.job ≡ None

@@ -1,47 +1,14 @@
 -- When the book and the owners of its slots are what a note says of them.
 use Rattle.std.specs.Prelude.{◌≡◌, ◌≢◌, ℕ, ◌<◌, ◌≤◌, List, [], ◌∷◌, length, slice_get, Option, Some, None}
-use Rattle.std.specs.List.{All, AllByRecursion, sum_by}
-use Rattle.beam_values.specs.Tracking.{first_unattempted}
-use Rattle.beam_values.specs.declared.cell.Pane.{Pane}
-use Rattle.beam_values.specs.declared.piece.Piece.{Piece}
+use Rattle.std.specs.List.{AllByRecursion, sum_by}
 use Rattle.bundle_commit.specs.declared.job.Job.TheVariants as job
 use Rattle.turn_desk.specs.declared.held.Note.{Note}
 use Rattle.book_core.specs.Book.{SeenBook, last_commit, slot_at}
-use Rattle.book_core.specs.Changes.{cut_to}
-use Rattle.book_core.specs.Jobs.{job_of, next_job}
+use Rattle.book_core.specs.Jobs.{next_job}
 use Rattle.book_core.specs.Runs.{HonestlyReached}
 use Rattle.book_core.specs.Steps.{IsIdle, IsRunning}
-use Rattle.book_core.specs.declared.live.Batch.{Batch}
-use Rattle.book_core.specs.declared.live.Live.{Live}
-use Rattle.book_core.specs.declared.live.Live.TheVariants as live
-use Rattle.worker_table.specs.Notes.{Setting, Owner, owner_of, KnownJob, Ending, GoesOn, HasFinished, IsStopped, Entry}
-
--- ---- a job that others may have shortened
-
--- A range that a pass knows, and the same range now: others may have split it, behind what was attempted. Of `[0, 100)` with 49 attempted, that is a range
--- `[0, to)` with `to` from 50 to 100; with 100 attempted it is `[0, 100)`.
-pub record IsShortened (noted : Piece) (attempted : Option ℕ) (now : Piece) : Type 0 where
-  pub same : now ≡ cut_to noted (record { from = noted.range.from; to = now.range.to })
-  pub below : now.range.to ≤ noted.range.to
-  pub above : first_unattempted noted.range.from attempted ≤ noted.range.to → first_unattempted noted.range.from attempted ≤ now.range.to
-  pub past : noted.range.to < first_unattempted noted.range.from attempted → now.range.to ≡ noted.range.to
-
--- each pane of the batch is in the list
-abbrev pub AreAllFired : List Pane → Batch → Type 0
-AreAllFired panes batch = All (λ waiting. waiting.pane < length panes) batch.panes
-
--- what a slot works is the job that its pass knows
-abbrev pub IsKnownAs : List Pane → KnownJob → Live → Type 0
-IsKnownAs panes known (live.Span now attempted) =
-    (noted : Piece) × (known ≡ record { job = job.Span noted; attempted = attempted }) × IsShortened noted attempted now
-IsKnownAs panes known (live.Batch batch) =
-    (known ≡ record { job = job_of panes (live.Batch batch); attempted = None }) × AreAllFired panes batch
-
--- the pass knows a job where its slot works one
-abbrev pub IsJobOf : List Pane → Option KnownJob → Option (Option Live) → Type 0
-IsJobOf panes None (Some None) = Unit {0}
-IsJobOf panes (Some known) (Some (Some now)) = IsKnownAs panes known now
-IsJobOf panes _ _ = ⊥
+use Rattle.known_jobs.specs.Jobs.{IsJobOf, KnownJob, Setting}
+use Rattle.worker_table.specs.Notes.{Owner, owner_of, Ending, GoesOn, HasFinished, IsStopped, Entry}
 
 -- ---- how a pass ended
 

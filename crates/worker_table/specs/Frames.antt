@@ -1,46 +1,55 @@
 -- What a step of one slot leaves of the rest of the book.
-use Rattle.std.proofs.Common.{◌≡◌, ◌≢◌, ℕ, zero, suc, ◌≤◌, List, [], ◌∷◌, ◌++◌, length, length-append, append-nil, true, false, Bool, refl, sym, ap, ◌∙◌, subst, arith}
+use Rattle.std.proofs.Common.{◌≡◌, ◌≢◌, ℕ, zero, suc, ◌≤◌, List, [], ◌∷◌, ◌++◌, length, length-append, append-nil, refl, sym, ap, ◌∙◌, subst, arith}
 use Rattle.std.specs.Prelude.{Option, Some, None, slice_get, slice_set}
 use Rattle.std.specs.List.{All}
+use Rattle.std.specs.Option.{option_map}
 use Rattle.std.proofs.lemmas.List.Elements.{All-nil, All-cons, All-head, All-tail}
 use Rattle.beam_values.specs.declared.cell.Pane.{Pane}
 use Rattle.beam_values.specs.declared.fault.Cause.{Cause}
-use Rattle.beam_values.specs.declared.fault.Cause.TheVariants.{Call, Read}
 use Rattle.beam_values.specs.declared.fault.FaultNote.{FaultNote}
 use Rattle.beam_values.specs.declared.file_text.FileText.{FileText}
 use Rattle.beam_values.specs.declared.outcome.StopCause.{StopCause}
 use Rattle.beam_values.specs.declared.outcome.StopCause.TheVariants as stop
 use Rattle.beam_values.specs.declared.piece.Piece.{Piece}
 use Rattle.group_cells.specs.Commits.{as_commit}
+use Rattle.stateful_core.specs.Cells.{KeyCell}
+use Rattle.stateful_core.specs.declared.place.Place.{Place}
 use Rattle.book_core.specs.Book.{SeenBook, last_commit, slot_at}
-use Rattle.book_core.specs.Changes.{with_slot, counted, ends_run, failed, given_back, note_of, or_stopped, stopped_where}
-use Rattle.book_core.specs.Jobs.{Due, GivenBack, Oldest, Next, due_or_piece, first_due, next_job, without_due, without_first}
+use Rattle.book_core.specs.Changes.{with_slot, failed, or_stopped}
+use Rattle.book_core.specs.Jobs.{Due, Next, due_or_other, first_due, key_or_piece, next_cell, next_job, with_key, without_first}
 use Rattle.book_core.specs.Steps.{Action, Enroll, Take, Claim, Split, Commit, Fail, Stop, Answer, Enrolled, TakenJob, Nothing, Finished, Stopped, Claimed, SplitAt, Committed, Spent, Noted, NoMemory, Step, IsWorking, IsIdle, IsRunning}
 use Rattle.book_core.specs.declared.live.Live.{Live}
 use Rattle.book_core.specs.declared.live.Live.TheVariants as live
 use Rattle.worker_table.specs.Fits.{HasNoJobLeft, IsEndingOf}
-use Rattle.worker_table.specs.Moves.{IsOwnAction, calls_after, reads_after, ending_after}
+use Rattle.known_jobs.specs.Kept.{fail_leaves, next_keep, none_some, or_some}
+use Rattle.worker_table.specs.Moves.{IsOwnAction, ending_after}
+use Rattle.known_jobs.specs.Calls.{calls_after, reads_after}
 use Rattle.worker_table.specs.Notes.{Ending, GoesOn, HasFinished, IsStopped}
 use Rattle.worker_table.specs.Places.{set_elsewhere, set_length, end_elsewhere}
 
 -- ---- no job is left
 
-none_some : {X : Type 0} (x : X) → Some x ≡ None → ⊥
-none_some x e = cc
-
 none_first : (b : SeenBook) (pieces : List Piece) → without_first b pieces ≡ None → pieces ≡ []
 none_first b [] e = refl
 none_first b (piece ∷ later) e = absurd (none_some _ e)
 
-none_due : (b : SeenBook) → next_job b ≡ None → (first_due b ≡ None) × (b.pending ≡ [])
-none_due b e = by (first_due b) refl e
-  where
-    by : (due : Option Due) → first_due b ≡ due → due_or_piece b due ≡ None → (first_due b ≡ None) × (b.pending ≡ [])
-    by None first h = (first, none_first b b.pending h)
-    by (Some due) first h = absurd (none_some _ h)
+none_mapped : {X Y : Type 0} (f g : X → Y) (found : Option X) → option_map f found ≡ None → option_map g found ≡ None
+none_mapped f g None e = refl
+none_mapped f g (Some x) e = absurd (none_some _ e)
 
-none_next : (b : SeenBook) → first_due b ≡ None → b.pending ≡ [] → next_job b ≡ None
-none_next b first pending = ap (due_or_piece b) first ∙ ap (without_first b) pending
+-- a book with the same panes, key cells and pieces has no job either
+module _ (b c : SeenBook) (due : first_due c ≡ first_due b) (cell : next_cell c ≡ next_cell b) (keys : c.keys ≡ b.keys) (pending : c.pending ≡ b.pending) where
+  none_keyed : (place : Option Place) → key_or_piece b place ≡ None → key_or_piece c place ≡ None
+  none_keyed (Some place) e =
+      ap (λ (l : List KeyCell). option_map (with_key c place.at) (slice_get l place.at)) keys ∙ none_mapped (with_key b place.at) (with_key c place.at) (slice_get b.keys place.at) e
+  none_keyed None e = ap (without_first c) (pending ∙ none_first b b.pending e)
+
+  none_due : (d : Option Due) → due_or_other b d ≡ None → due_or_other c d ≡ None
+  none_due (Some d) e = absurd (none_some _ e)
+  none_due None e = ap (key_or_piece c) cell ∙ none_keyed (next_cell b) e
+
+  none_next : next_job b ≡ None → next_job c ≡ None
+  none_next e = ap (due_or_other c) due ∙ none_due (first_due b) e
 
 -- the slot works, so the book is not idle
 pub working_busy : (b : SeenBook) (i : ℕ) (job : Live) → IsWorking b i job → IsIdle b → ⊥
@@ -58,97 +67,10 @@ idle_behind (s ∷ ss) idle =
     All-cons (λ slot. slot ≡ None) s (ss ++ None ∷ []) (All-head (λ slot. slot ≡ None) s ss idle) (idle_behind ss (All-tail (λ slot. slot ≡ None) s ss idle))
 
 enrolled_left : (b : SeenBook) → HasNoJobLeft b → HasNoJobLeft (record b { slots = b.slots ++ None ∷ [] })
-enrolled_left b left =
-    let due = none_due b left.0 in
-    (none_next (record b { slots = b.slots ++ None ∷ [] }) due.0 due.1, idle_behind b.slots left.1)
+enrolled_left b left = (none_next b (record b { slots = b.slots ++ None ∷ [] }) refl refl refl refl left.0, idle_behind b.slots left.1)
 
 stopped_left : (b : SeenBook) (stopped : Option StopCause) → HasNoJobLeft b → HasNoJobLeft (record b { stopped = stopped })
-stopped_left b stopped left = let due = none_due b left.0 in (none_next (record b { stopped = stopped }) due.0 due.1, left.1)
-
--- ---- changes that leave the lists by which others know the book
-
-pub record KeepsLists (b c : SeenBook) : Type 0 where
-  pub slots : c.slots ≡ b.slots
-  pub commits : c.commits ≡ b.commits
-  pub panes : c.panes ≡ b.panes
-  pub stopped : c.stopped ≡ b.stopped
-  pub calls : c.calls ≡ b.calls
-  pub reads : c.reads ≡ b.reads
-
-pieces_keep : (b : SeenBook) (pieces : List Piece) (next : Next) → without_first b pieces ≡ Some next → KeepsLists b next.rest
-pieces_keep b [] next h = absurd (cc)
-pieces_keep b (piece ∷ later) next h =
-    let is : record { job = live.Span piece None; rest = record b { pending = later } } ≡ next = cc in
-    subst (λ (n : Next). KeepsLists b n.rest) is (record { slots = refl; commits = refl; panes = refl; stopped = refl; calls = refl; reads = refl })
-
-due_keep : (b : SeenBook) (due : Due) → KeepsLists b (without_due b due).rest
-due_keep b (GivenBack batch) = record { slots = refl; commits = refl; panes = refl; stopped = refl; calls = refl; reads = refl }
-due_keep b (Oldest batch) = record { slots = refl; commits = refl; panes = refl; stopped = refl; calls = refl; reads = refl }
-
-pub next_keep : (b : SeenBook) (due : Option Due) (next : Next) → due_or_piece b due ≡ Some next → KeepsLists b next.rest
-next_keep b (Some due) next h = let is : without_due b due ≡ next = cc in subst (λ (n : Next). KeepsLists b n.rest) is (due_keep b due)
-next_keep b None next h = pieces_keep b b.pending next h
-
-back_keeps : (b : SeenBook) (job : Live) (at : ℕ) (cause : Cause) → KeepsLists b (given_back b job at cause)
-back_keeps b (live.Span piece attempted) at cause = record { slots = refl; commits = refl; panes = refl; stopped = refl; calls = refl; reads = refl }
-back_keeps b (live.Batch batch) at cause = record { slots = refl; commits = refl; panes = refl; stopped = refl; calls = refl; reads = refl }
-
--- ---- a fail
-
-pub record LeavesAtFail (b : SeenBook) (slot at : ℕ) (cause : Cause) (spent : Bool) (new : SeenBook) : Type 0 where
-  pub slots : new.slots ≡ slice_set b.slots slot None
-  pub commits : new.commits ≡ b.commits
-  pub panes : new.panes ≡ b.panes
-  pub stopped : (IsRunning b → ⊥) → IsRunning new → ⊥
-  pub spent_stops : spent ≡ true → IsRunning new → ⊥
-  pub calls : new.calls ≤ calls_after (Fail at cause) b.calls
-  pub reads : new.reads ≤ reads_after (Fail at cause) b.reads
-
-or_some : (kept : Option StopCause) (new : StopCause) → or_stopped kept new ≡ None → ⊥
-or_some None new e = none_some new e
-or_some (Some kept) new e = none_some kept e
-
-cause_leaves : (b back : SeenBook) (slot at : ℕ) (cause : Cause) (spent : Bool) (note : FaultNote) → KeepsLists (with_slot b slot None) back
-    → LeavesAtFail b slot at cause spent (stopped_where spent (counted back cause) note)
-cause_leaves b back slot at Call true note keeps = record {
-  slots = keeps.slots;
-  commits = keeps.commits;
-  panes = keeps.panes;
-  stopped = λ h running. or_some back.stopped (stop.Spent note) running;
-  spent_stops = λ e running. or_some back.stopped (stop.Spent note) running;
-  calls = let k = keeps.calls in omega (arith, k);
-  reads = let k = keeps.reads in omega (arith, k);
-}
-cause_leaves b back slot at Read true note keeps = record {
-  slots = keeps.slots;
-  commits = keeps.commits;
-  panes = keeps.panes;
-  stopped = λ h running. or_some back.stopped (stop.Spent note) running;
-  spent_stops = λ e running. or_some back.stopped (stop.Spent note) running;
-  calls = let k = keeps.calls in omega (arith, k);
-  reads = let k = keeps.reads in omega (arith, k);
-}
-cause_leaves b back slot at Call false note keeps = record {
-  slots = keeps.slots;
-  commits = keeps.commits;
-  panes = keeps.panes;
-  stopped = λ h running. h (sym keeps.stopped ∙ running);
-  spent_stops = λ e running. cc;
-  calls = let k = keeps.calls in omega (arith, k);
-  reads = let k = keeps.reads in omega (arith, k);
-}
-cause_leaves b back slot at Read false note keeps = record {
-  slots = keeps.slots;
-  commits = keeps.commits;
-  panes = keeps.panes;
-  stopped = λ h running. h (sym keeps.stopped ∙ running);
-  spent_stops = λ e running. cc;
-  calls = let k = keeps.calls in omega (arith, k);
-  reads = let k = keeps.reads in omega (arith, k);
-}
-
-pub fail_leaves : (b : SeenBook) (slot at : ℕ) (job : Live) (cause : Cause) → LeavesAtFail b slot at cause (ends_run b job cause) (failed b slot job at cause)
-fail_leaves b slot at job cause = cause_leaves b (given_back (with_slot b slot None) job at cause) slot at cause (ends_run b job cause) (note_of job at cause) (back_keeps (with_slot b slot None) job at cause)
+stopped_left b stopped left = (none_next b (record b { stopped = stopped }) refl refl refl refl left.0, left.1)
 
 -- ---- what a step leaves
 
@@ -180,7 +102,7 @@ frame_busy b b' i job slot works slots commits panes stopped = record {
 
 take_frame : (b : SeenBook) (i : ℕ) (next : Next) → next_job b ≡ Some next → Frame b i (with_slot next.rest i (Some next.job))
 take_frame b i next is_next =
-    let keeps = next_keep b (first_due b) next is_next in record {
+    let keeps = next_keep b next is_next in record {
       others = λ j d. set_elsewhere next.rest.slots i j (Some next.job) d ∙ ap (λ (s : List (Option Live)). slice_get s j) keeps.slots;
       commits = let k = ap length keeps.commits in omega (arith, k);
       panes = same_panes b next.rest.panes keeps.panes;
@@ -253,7 +175,7 @@ ending_made told b b' i action answer ending step fit = let frame = step_frame t
 -- no step but an enroll makes a slot
 pub step_slots : (told : Option (List FileText)) (b b' : SeenBook) (i : ℕ) (action : Action) (answer : Answer) → IsOwnAction action → Step told b i action answer b' → length b'.slots ≡ length b.slots
 step_slots told b b' i Take (TakenJob job) own step =
-    ap (λ (x : SeenBook). length x.slots) step.is ∙ set_length step.next.rest.slots i (Some step.next.job) ∙ ap length (next_keep b (first_due b) step.next step.is_next).slots
+    ap (λ (x : SeenBook). length x.slots) step.is ∙ set_length step.next.rest.slots i (Some step.next.job) ∙ ap length (next_keep b step.next step.is_next).slots
 step_slots told b b' i Take Nothing own step = ap (λ (x : SeenBook). length x.slots) step.4
 step_slots told b b' i Take Finished own step = ap (λ (x : SeenBook). length x.slots) step.4
 step_slots told b b' i Take Stopped own step = ap (λ (x : SeenBook). length x.slots) step.2
@@ -282,7 +204,7 @@ pub step_fails : (told : Option (List FileText)) (b b' : SeenBook) (i : ℕ) (ac
 step_fails told b b' i Enroll (Enrolled number) step = adds_none b Enroll b' (ap (λ (x : SeenBook). x.calls) step.2) (ap (λ (x : SeenBook). x.reads) step.2) refl refl
 step_fails told b b' i Enroll NoMemory step = adds_none b Enroll b' (ap (λ (x : SeenBook). x.calls) step) (ap (λ (x : SeenBook). x.reads) step) refl refl
 step_fails told b b' i Take (TakenJob job) step =
-    let keeps = next_keep b (first_due b) step.next step.is_next in
+    let keeps = next_keep b step.next step.is_next in
     adds_none b Take b' (ap (λ (x : SeenBook). x.calls) step.is ∙ keeps.calls) (ap (λ (x : SeenBook). x.reads) step.is ∙ keeps.reads) refl refl
 step_fails told b b' i Take Nothing step = adds_none b Take b' (ap (λ (x : SeenBook). x.calls) step.4) (ap (λ (x : SeenBook). x.reads) step.4) refl refl
 step_fails told b b' i Take Finished step = adds_none b Take b' (ap (λ (x : SeenBook). x.calls) step.4) (ap (λ (x : SeenBook). x.reads) step.4) refl refl

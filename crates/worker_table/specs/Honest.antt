@@ -1,23 +1,17 @@
 -- One more step leads from a book that honest fails reached to another, and a batch that is worked is of panes that fired.
-use Rattle.std.proofs.Common.{ℕ, ◌<◌, List, [], ◌∷◌, ◌++◌, length, refl, subst, ◌∙◌}
-use Rattle.std.specs.Prelude.{Some}
-use Rattle.std.specs.List.{All, flat_map}
-use Rattle.std.proofs.lemmas.List.Elements.{All-nil, All-cons, All-head, All-tail}
-use Rattle.std.proofs.lemmas.Option.{slice_get_within}
-use Rattle.book_core.specs.Book.{SeenBook, batch_of, held_at, held_in, live_batches, queued}
-use Rattle.book_core.specs.Facts.{AreHeldOnce, IsHeldPane}
+use Rattle.std.proofs.Common.{ℕ, List, [], ◌∷◌, ◌++◌, refl, subst, ◌∙◌}
+use Rattle.book_core.specs.Book.{SeenBook}
 use Rattle.book_core.specs.Runs.{HonestRun, HonestlyReached, IsHonestAction, MadeStep}
 use Rattle.book_core.specs.Steps.{Action, Answer, IsWorking, Step}
 use Rattle.book_core.specs.Work.{Surroundings}
 use Rattle.book_core.specs.declared.live.Batch.{Batch}
 use Rattle.book_core.specs.declared.live.Live.TheVariants as live
-use Rattle.book_core.specs.declared.live.WaitingPane.{WaitingPane}
 use Rattle.book_core.proofs.AllKept.{honest_reached}
 use Rattle.book_core.proofs.Reaching.{opening_of, step_same}
 use Rattle.book_core.proofs.SaneAlways.{reached_sane}
-use Rattle.book_core.proofs.Slotted.{All-append_right, All-flat_at, All-of_flat_map}
-use Rattle.worker_table.specs.Fits.{AreAllFired, IsBookOf}
-use Rattle.worker_table.specs.Notes.{Setting}
+use Rattle.known_jobs.specs.Jobs.{AreAllFired, Setting}
+use Rattle.known_jobs.specs.Known.{live_fired}
+use Rattle.worker_table.specs.Fits.{IsBookOf}
 
 module _ (known : Surroundings) where
   run_more : (steps : List MadeStep) (b mid end : SeenBook) (made : MadeStep) → HonestRun known b steps mid → Step known.told mid made.slot made.action made.answer end
@@ -51,22 +45,6 @@ book_more setting b new slot action answer step honest book =
     }
 
 -- ---- panes that are worked have fired
-
-all_fired : (b : SeenBook) (node : ℕ) (panes : List WaitingPane) → All (IsHeldPane b) (held_at node panes) → All (λ waiting. waiting.pane < length b.panes) panes
-all_fired b node [] h = All-nil (λ waiting. waiting.pane < length b.panes)
-all_fired b node (w ∷ ws) h =
-    let one : IsHeldPane b (record { node = node; waiting = w }) = All-head (IsHeldPane b) (record { node = node; waiting = w }) (held_at node ws) h in
-    All-cons (λ waiting. waiting.pane < length b.panes) w ws (slice_get_within b.panes w.pane one.0 one.1)
-    (all_fired b node ws (All-tail (IsHeldPane b) (record { node = node; waiting = w }) (held_at node ws) h))
-
-live_fired : (b : SeenBook) (i : ℕ) (batch : Batch) → AreHeldOnce b → IsWorking b i (live.Batch batch) → AreAllFired b.panes batch
-live_fired b i batch kept works =
-    let worked : All (IsHeldPane b) (flat_map held_in (live_batches b)) =
-    All-append_right (IsHeldPane b) (flat_map held_in b.returned) (flat_map held_in (live_batches b))
-    (All-append_right (IsHeldPane b) (queued b) (flat_map held_in b.returned ++ flat_map held_in (live_batches b)) kept.panes) in
-    let each = All-of_flat_map (IsHeldPane b) held_in (live_batches b) worked in
-    let here : All (λ x. All (IsHeldPane b) (held_in x)) (batch ∷ []) = All-flat_at batch_of b.slots i (λ x. All (IsHeldPane b) (held_in x)) (Some (live.Batch batch)) works each in
-    all_fired b batch.node batch.panes (All-head (λ x. All (IsHeldPane b) (held_in x)) batch [] here)
 
 pub worked_fired : (setting : Setting) (b : SeenBook) → IsBookOf setting b → (i : ℕ) (batch : Batch) → IsWorking b i (live.Batch batch) → AreAllFired b.panes batch
 worked_fired setting b book i batch works = live_fired b i batch (reached_sane setting.known.told b (honest_reached setting.known b book.reached)).held works

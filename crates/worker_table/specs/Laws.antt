@@ -14,12 +14,14 @@ use Rattle.book_core.specs.Runs.{IsHonestAction}
 use Rattle.book_core.specs.Steps.{Action, Answer, Enroll, Enrolled, Fail, IsRunning, NoMemory, Noted, Split, SplitAt, Step, Stop}
 use Rattle.book_core.specs.declared.live.Live.{Live}
 use Rattle.book_core.specs.declared.live.Live.TheVariants as live
-use Rattle.worker_table.specs.Fits.{AreOwners, Fits, FitEntries, FitsEntry, IsBookOf, IsJobOf, IsSlotOf, OwnsNone}
+use Rattle.worker_table.specs.Fits.{AreOwners, Fits, FitEntries, FitsEntry, IsBookOf, IsSlotOf, OwnsNone}
+use Rattle.known_jobs.specs.Jobs.{IsJobOf, known_at, Setting, KnownJob}
 use Rattle.worker_table.specs.Frames.{Frame, ending_made, ending_stays, step_fails, step_frame, step_slots}
 use Rattle.worker_table.specs.Honest.{book_more, worked_fired}
-use Rattle.worker_table.specs.Known.{known_later, known_now, known_split, split_behind}
-use Rattle.worker_table.specs.Moves.{Deed, Steps, Stops, Enrolls, FindsNone, Helps, Does, IsOwnAction, Moves, calls_after, entry_after, entry_in, first_after, known_at, number_in, owners_after, reads_after}
-use Rattle.worker_table.specs.Notes.{Setting, Owner, owner_of, KnownJob, Entry, LastTurn, fresh}
+use Rattle.known_jobs.specs.Known.{known_later, known_now, known_split, split_behind}
+use Rattle.worker_table.specs.Moves.{Deed, Steps, Stops, Enrolls, FindsNone, Helps, Does, IsOwnAction, Moves, entry_after, entry_in, first_after, number_in, owners_after}
+use Rattle.known_jobs.specs.Calls.{calls_after, reads_after}
+use Rattle.worker_table.specs.Notes.{Owner, owner_of, Entry, LastTurn, fresh}
 use Rattle.worker_table.specs.Places.{each_behind, each_set, end_elsewhere, end_here, is_or_not, set_elsewhere, set_here, set_length, set_only, sum_set}
 
 -- ---- passes that don't move

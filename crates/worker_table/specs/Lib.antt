@@ -4,9 +4,8 @@ pub mod Moves
 pub mod Places
 pub mod Frames
 pub mod Honest
-pub mod Known
 pub mod Laws
-pub mod Carried
+pub mod Made
 pub mod Turns
 pub mod Calls
 pub mod Passes

@@ -1,15 +1,13 @@
 -- What a pass may do in a turn: one deed, from which the change of the book and the new note follow.
 use Rattle.std.specs.Prelude.{◌≡◌, ℕ, ◌+◌, Bool, true, false, List, [], ◌∷◌, ◌++◌, slice_set, unwrap_or, Option, Some, None}
-use Rattle.beam_values.specs.declared.cell.Pane.{Pane}
-use Rattle.beam_values.specs.declared.fault.Cause.TheVariants.{Call, Read}
 use Rattle.turn_desk.specs.declared.held.Note.{Note}
-use Rattle.book_core.specs.Book.{SeenBook, last_commit, slot_at}
-use Rattle.book_core.specs.Jobs.{attempted_of, job_of}
+use Rattle.book_core.specs.Book.{SeenBook, last_commit}
 use Rattle.book_core.specs.Runs.{IsHonestAction}
 use Rattle.book_core.specs.Steps.{Action, Answer, Enroll, Enrolled, Fail, Finished, IsNextFor, Noted, Nothing, Spent, Split, Step, Stop, Stopped, Take}
 use Rattle.book_core.specs.Work.{Surroundings}
-use Rattle.book_core.specs.declared.live.Live.{Live}
-use Rattle.worker_table.specs.Notes.{Owner, owner_of, KnownJob, Ending, HasFinished, IsStopped, LastTurn, Entry, fresh}
+use Rattle.known_jobs.specs.Calls.{calls_after, reads_after}
+use Rattle.known_jobs.specs.Jobs.{known_at}
+use Rattle.worker_table.specs.Notes.{Owner, owner_of, Ending, HasFinished, IsStopped, LastTurn, Entry, fresh}
 
 pub data Deed : Type 0 where
   -- a step of the pass's own slot
@@ -29,14 +27,6 @@ IsOwnAction _ = Unit {0}
 
 -- ---- what a step leaves of what is noted
 
-abbrev pub calls_after : Action → ℕ → ℕ
-calls_after (Fail at Call) n = n + 1
-calls_after _ n = n
-
-abbrev pub reads_after : Action → ℕ → ℕ
-reads_after (Fail at Read) n = n + 1
-reads_after _ n = n
-
 abbrev pub ending_after : Action → Answer → Ending → Ending
 ending_after Take Finished ending = HasFinished
 ending_after Take Stopped ending = IsStopped
@@ -52,14 +42,6 @@ owes_after _ _ owes = owes
 abbrev pub slot_after : ℕ → Answer → Option ℕ → Option ℕ
 slot_after i (Enrolled number) slot = Some i
 slot_after i _ slot = slot
-
--- the job as the book has it
-abbrev pub known_in : List Pane → Option (Option Live) → Option KnownJob
-known_in panes (Some (Some live)) = Some (record { job = job_of panes live; attempted = attempted_of live })
-known_in panes _ = None
-
-abbrev pub known_at : SeenBook → ℕ → Option KnownJob
-known_at b slot = known_in b.panes (slot_at b slot)
 
 abbrev pub made_in : SeenBook → ℕ → Action → Answer → Option LastTurn
 made_in b slot action answer = Some (record { book = b; made = Some (record { slot = slot; action = action; answer = answer }) })

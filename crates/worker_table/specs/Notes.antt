@@ -1,19 +1,8 @@
--- What a note says of each of its passes, and what stays as it is for as long as a table stands.
-use Rattle.std.specs.Prelude.{ℕ, List, [], Bool, false, Option, None}
-use Rattle.beam_values.specs.declared.options.Options.{Options}
-use Rattle.beam_values.specs.declared.piece.FileLen.{FileLen}
-use Rattle.beam_values.specs.declared.plan.Plan.{Plan}
-use Rattle.bundle_commit.specs.declared.job.Job.{Job}
+-- What a note says of each of its passes.
+use Rattle.std.specs.Prelude.{ℕ, [], Bool, false, Option, None}
 use Rattle.book_core.specs.Book.{SeenBook}
 use Rattle.book_core.specs.Runs.{MadeStep}
-use Rattle.book_core.specs.Work.{Surroundings}
-
--- what is known outside the book, and what the book was opened with
-pub record Setting : Type 0 where
-  pub known : Surroundings
-  pub plan : Plan
-  pub files : List FileLen
-  pub options : Options
+use Rattle.known_jobs.specs.Jobs.{KnownJob, Setting}
 
 -- which pass owns a slot, and how many jobs failed through it, by the cause of the fault
 pub record Owner : Type 0 where
@@ -23,11 +12,6 @@ pub record Owner : Type 0 where
 
 abbrev pub owner_of : ℕ → ℕ → ℕ → Owner
 owner_of number calls reads = record { number = number; calls = calls; reads = reads }
-
--- A job as its pass knows it, of a range the end that it had at the pass's last turn with it; and the last position that was attempted.
-pub record KnownJob : Type 0 where
-  pub job : Job
-  pub attempted : Option ℕ
 
 -- how the work of a pass ended, if it did
 pub data Ending : Type 0 where
@@ -66,7 +50,3 @@ no_setting = record {
   files = [];
   options = record { workers = 0; bundle = 0; chunk = 0; attempts = 0 };
 }
-
--- of a table with this book
-abbrev pub setting_for : Surroundings → SeenBook → Setting
-setting_for known b = record { known = known; plan = b.plan; files = b.files; options = b.options }

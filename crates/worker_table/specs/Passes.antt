@@ -5,7 +5,8 @@ use Rattle.turn_desk.specs.declared.held.Note.{Note}
 use Rattle.turn_desk.specs.declared.desk.Desk.{Desk}
 use Rattle.turn_desk.specs.declared.desk.Pass.{Pass}
 use Rattle.turn_desk.specs.Seen.{constant_of, note_of, IsPassOf}
-use Rattle.worker_table.specs.Notes.{Setting, Entry, KnownJob}
+use Rattle.known_jobs.specs.Jobs.{Setting, KnownJob}
+use Rattle.worker_table.specs.Notes.{Entry}
 use Rattle.worker_table.specs.Turns.{first_entry}
 use Rattle.worker_table.specs.declared.pass.Table.{Table}
 use Rattle.worker_table.specs.declared.pass.WorkerPass.{WorkerPass}

@@ -1,5 +1,5 @@
 -- One place of a list is set, or one more is put behind it: what the list has then.
-use Rattle.std.proofs.Common.{◌≡◌, ◌≢◌, ◌⊎◌, inl, inr, ℕ, zero, suc, ◌+◌, ◌<◌, List, [], ◌∷◌, ◌++◌, length, refl, sym, ap, ◌∙◌, arith}
+use Rattle.std.proofs.Common.{◌≡◌, ◌≢◌, ◌⊎◌, inl, inr, ℕ, zero, suc, ◌+◌, List, [], ◌∷◌, ◌++◌, length, refl, sym, ap, ◌∙◌, arith}
 use Rattle.std.specs.Prelude.{Some, slice_get, slice_set}
 use Rattle.std.specs.List.{AllByRecursion, sum_by}
 use Rattle.std.proofs.lemmas.List.Sums.{sum_by-set}
@@ -49,11 +49,6 @@ end_elsewhere [] y zero d = absurd (d refl)
 end_elsewhere [] y (suc j) d = refl
 end_elsewhere (z ∷ zs) y zero d = refl
 end_elsewhere (z ∷ zs) y (suc j) d = end_elsewhere zs y j (λ e. d (omega (arith, e)))
-
-pub front_stays : {X : Type 0} (xs ys : List X) (j : ℕ) → j < length xs → slice_get (xs ++ ys) j ≡ slice_get xs j
-front_stays [] ys j h = absurd (omega arith)
-front_stays (z ∷ zs) ys zero h = refl
-front_stays (z ∷ zs) ys (suc j) h = front_stays zs ys j (omega arith)
 
 -- what holds of each, where one is set or put behind
 pub each_set : {X : Type 0} (P : X → Type 0) (xs : List X) (i : ℕ) (y : X) → P y → AllByRecursion P xs → AllByRecursion P (slice_set xs i y)

@@ -8,7 +8,8 @@ use Rattle.worker_table.specs.Calls.{enroll_answer, enroll_deed, enrolled_slot}
 use Rattle.worker_table.specs.Fits.{Fits, FitsEntry, IsBookOf}
 use Rattle.worker_table.specs.Moves.{Deed, Steps, Stops, FindsNone, Helps, entry_after, note_after}
 pub use Rattle.worker_table.specs.Moves.{entry_in, number_in}
-use Rattle.worker_table.specs.Notes.{Setting, Owner, Entry}
+use Rattle.known_jobs.specs.Jobs.{Setting}
+use Rattle.worker_table.specs.Notes.{Owner, Entry}
 
 -- what a note says of its own pass
 abbrev pub first_entry : Note (List Entry) → Entry

@@ -2,7 +2,8 @@
 ghost use Rattle.book_core.specs.Book.{SeenBook};
 ghost use Rattle.worker_table.specs.Fits.{IsKnownIn};
 ghost use Rattle.worker_table.specs.Moves.{Deed, Does};
-ghost use Rattle.worker_table.specs.Notes.{Entry, Setting};
+ghost use Rattle.worker_table.specs.Notes.{Entry};
+ghost use Rattle.known_jobs.specs.Jobs.{Setting};
 
 use crate::stance::Stance;
 use book_core::Book;

@@ -3,11 +3,14 @@ ghost use Rattle.std.specs.Prelude.{◌≡◌, None, Some, IsSomeAnd, nat_lt};
 ghost use Rattle.book_core.specs.Calls.{CanClaim, CanFail, Makes, failure_of, live_piece};
 ghost use Rattle.book_core.specs.Steps.{CanCommit, Claim, Claimed, Commit, Enroll};
 ghost use Rattle.book_core.specs.Steps.{Fail, IsFree, Noted, Stop, Take};
-ghost use Rattle.worker_table.specs.Calls.{CanClaimAs, CanCommitAs, CanFailAs, Helping, Placing};
+ghost use Rattle.known_jobs.specs.Calls.{CanClaimAs, CanCommitAs, CanFailAs};
+ghost use Rattle.worker_table.specs.Calls.{Helping, Placing};
 ghost use Rattle.worker_table.specs.Calls.{commit_answer, enroll_answer, enroll_deed};
 ghost use Rattle.worker_table.specs.Calls.{enrolled_slot, help_deed, take_answer};
-ghost use Rattle.worker_table.specs.Carried.{can_claim, can_commit, can_fail, commits};
-ghost use Rattle.worker_table.specs.Carried.{fails_honestly, free_slot, helps};
+ghost use Rattle.known_jobs.specs.Carried.{can_claim, can_commit, can_fail};
+ghost use Rattle.worker_table.specs.Made.{commits};
+ghost use Rattle.known_jobs.specs.Carried.{fails_honestly, free_slot};
+ghost use Rattle.worker_table.specs.Made.{helps};
 ghost use Rattle.worker_table.specs.Moves.{Steps, Stops};
 
 use crate::act::Act;
@@ -16,6 +19,7 @@ use crate::stance::Stance;
 use beam_values::{Cause, NoMemory};
 use book_core::{Book, Failure, Taken, Unplaced};
 use bundle_commit::{Job, Receipt};
+use known_jobs::claim_end;
 
 /// There is one slot more, which is the pass's.
 #[derive(Drop)]
@@ -68,7 +72,7 @@ impl Act for Taking {
     ghost deed = { λ act answer. Steps act.slot Take (take_answer answer) };
 
     ghost carries = { λ act setting e b known asked.
-        free_slot setting b act.slot e known asked.0 asked.1 };
+        free_slot setting b act.slot e.job known.plan (known.job act.slot asked.0) asked.1 };
 
     ghost does = { λ act answer setting e b new known asked made.
         (asked.0, tt, made setting.known.told, tt) };
@@ -110,17 +114,13 @@ impl Act for Claiming {
     ghost deed = { λ act end. Steps act.slot (Claim act.p) (Claimed (nat_lt act.p end)) };
 
     ghost carries = { λ act setting e b known asked.
-        can_claim setting b act.slot e known asked.0 act.p asked.1 };
+        can_claim setting b act.slot e.job known.plan (known.job act.slot asked.0) act.p asked.1 };
 
     ghost does = { λ act end setting e b new known asked made.
         (asked.0, tt, made.0 setting.known.told, tt) };
 
     fn act(self, book: &mut Book) -> u64 {
-        let _granted = book.claim(self.slot, self.p);
-        let Some(piece) = book.live(self.slot) else {
-            unreachable!();
-        };
-        piece.range.to()
+        claim_end(book, self.slot, self.p)
     }
 }
 
@@ -185,13 +185,15 @@ impl Act for Committing {
     ghost deed = { λ act answer. Steps act.slot Commit (commit_answer answer) };
 
     ghost carries = { λ act setting e b known asked.
-        (can_commit setting b act.slot e known asked.0 act.receipt asked.1).0 };
+        (can_commit setting b act.slot e.job known.plan (known.job act.slot asked.0)
+        act.receipt asked.1).0 };
 
     ghost does = { λ act answer setting e b new known asked made. (
       asked.0,
       tt,
       commits setting.known.told b new act.slot act.receipt answer
-          (can_commit setting b act.slot e known asked.0 act.receipt asked.1).1 made,
+          (can_commit setting b act.slot e.job known.plan (known.job act.slot asked.0)
+          act.receipt asked.1).1 made,
       tt,
     ) };
 
@@ -222,13 +224,15 @@ impl Act for Failing {
     ghost deed = { λ act failure. Steps act.slot (Fail act.at act.cause) (failure_of failure) };
 
     ghost carries = { λ act setting e b known asked.
-        can_fail setting b act.slot e known asked.0 act.at act.cause asked.1 };
+        can_fail setting b act.slot e.job known.plan (known.job act.slot asked.0)
+        act.at act.cause asked.1 };
 
     ghost does = { λ act failure setting e b new known asked made. (
       asked.0,
       tt,
       made setting.known.told,
-      fails_honestly setting b act.slot e known asked.0 act.at act.cause asked.1,
+      fails_honestly setting b act.slot e.job known.plan (known.job act.slot asked.0)
+          act.at act.cause asked.1,
     ) };
 
     fn act(self, book: &mut Book) -> Failure {

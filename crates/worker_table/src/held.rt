@@ -43,7 +43,8 @@ pub struct TableSetting {
 impl Model for TableSetting {
     ghost use Rattle.std.specs.Coded.{codes};
     ghost use Rattle.beam_values.specs.contracts.value.Value as value;
-    ghost use Rattle.worker_table.specs.Notes.{Setting, no_setting};
+    ghost use Rattle.known_jobs.specs.Jobs.{Setting};
+    ghost use Rattle.worker_table.specs.Notes.{no_setting};
 
     ghost Value = { Setting };
 

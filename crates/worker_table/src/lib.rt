@@ -10,8 +10,8 @@
 //! [`Table::close`] gives a book that honest fails reached from the opening of its plan, and that fits what each pass
 //! noted: it has no slot but theirs. No call takes a shelf or a store, so elements are worked between turns.
 //!
-//! Read `specs/Notes.antt` first, for what is noted; then `specs/Fits.antt` and `specs/Moves.antt`, for when it is
-//! true and for what a pass may do; then `act.rt` and `acts.rt`, for what it does; and then `turns.rt` and `table.rt`.
+//! Read `specs/Notes.antt` first, for what is noted (of a job what `known_jobs` says); then `specs/Fits.antt` and
+//! `specs/Moves.antt`, for when it is true and for what a pass may do; then `act.rt` and `acts.rt`, for what it does; and then `turns.rt` and `table.rt`.
 #![tactic(auto)]
 
 mod act;

@@ -7,7 +7,8 @@ ghost use Rattle.book_core.specs.Runs.{Reached};
 ghost use Rattle.book_core.specs.Work.{Surroundings};
 ghost use Rattle.worker_table.specs.Ends.{IsEnded};
 ghost use Rattle.worker_table.specs.Fits.{Fits, IsBookOf};
-ghost use Rattle.worker_table.specs.Notes.{Owner, Setting, fresh, setting_for};
+ghost use Rattle.worker_table.specs.Notes.{Owner, fresh};
+ghost use Rattle.known_jobs.specs.Jobs.{Setting, setting_for};
 ghost use Rattle.worker_table.specs.Passes.{IsOf, note_of_pass, setting_of, slot_of};
 
 use crate::did::nobody;

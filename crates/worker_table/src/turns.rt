@@ -2,9 +2,12 @@
 ghost use Rattle.std.specs.Prelude.{◌≡◌, None, Some, IsSome, IsSomeAnd, IfErr, false, nat_lt};
 ghost use Rattle.book_core.specs.Calls.{failure_of};
 ghost use Rattle.book_core.specs.Steps.{Claim, Claimed, Fail, Take};
-ghost use Rattle.worker_table.specs.Calls.{AfterClaim, AfterCommit, AfterEnroll, AfterFail};
-ghost use Rattle.worker_table.specs.Calls.{AfterHelp, AfterStop, AfterTake, CanClaimAs};
-ghost use Rattle.worker_table.specs.Calls.{CanCommitAs, CanFailAs, EndsAt, GoesOnAs, KeepsSlot};
+ghost use Rattle.known_jobs.specs.Calls.{AfterClaim};
+ghost use Rattle.worker_table.specs.Calls.{AfterCommit, AfterEnroll, AfterFail};
+ghost use Rattle.worker_table.specs.Calls.{AfterHelp, AfterStop, AfterTake};
+ghost use Rattle.known_jobs.specs.Calls.{CanClaimAs};
+ghost use Rattle.known_jobs.specs.Calls.{CanCommitAs, CanFailAs, EndsAt};
+ghost use Rattle.worker_table.specs.Calls.{GoesOnAs, KeepsSlot};
 ghost use Rattle.worker_table.specs.Calls.{take_answer};
 ghost use Rattle.worker_table.specs.Passes.{IsOf, IsSeatOf, entry_of, job_known, note_of_pass};
 ghost use Rattle.worker_table.specs.Passes.{setting_of, slot_of};
@@ -16,9 +19,10 @@ use crate::acts::{Claiming, Committing, Enrolling, Failing, HelpingOther, Stoppi
 use crate::did::{Did, owned_by};
 use crate::pass::{Table, WorkerPass};
 use beam_values::{Cause, NoMemory};
-use book_core::laws::{cells_are_kept, panes_are_held_once};
+use book_core::laws::{books_are_sane, honest_runs_are_runs};
 use book_core::{Failure, Taken, Unplaced};
 use bundle_commit::Receipt;
+use known_jobs::laws::jobs_are_known_as_they_are_taken;
 use std::snapshot::Snapshot;
 use std::sync::Wait;
 
@@ -95,8 +99,9 @@ impl Table {
         ensures stays { KeepsSlot (entry_of pass.old) (entry_of pass.new) }
         ensures others { KeepsOthers (note_of_pass pass.old) (note_of_pass pass.new) }
     {
-        panes_are_held_once();
-        cells_are_kept();
+        honest_runs_are_runs();
+        books_are_sane();
+        jobs_are_known_as_they_are_taken();
         let slot = self.slot(pass);
         self.turn(rt, pass, Taking { slot })
     }

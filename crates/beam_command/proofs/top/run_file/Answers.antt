@@ -3,7 +3,7 @@ use Rattle.std.specs.Prelude.{Option, List}
 use Rattle.beam_values.specs.declared.file_text.FileText.{FileText}
 use Rattle.beam_values.specs.declared.plan.Plan.{Plan}
 use Rattle.command_words.specs.Commands.{Run}
-use Rattle.worker_loop.specs.declared.kit.Kit.{Kit}
+use Rattle.bundle_work.specs.declared.kit.Kit.{Kit}
 use Rattle.run_engine.proofs.Opens.{become_onward}
 use Rattle.run_engine.specs.Kits.{KeepsKit}
 use Rattle.run_engine.specs.declared.run_end.RunEnd.{RunEnd}

@@ -11,5 +11,6 @@ pub returns : goal.returns
 returns c = record {
   done = λ told b o reached of. subst (λ (l : List Done). IsSorted done_cmp l) (sym of.done) (c.reached_books_are_well_formed.ensures told b reached).done;
   cells = λ told b o reached of. of.cells_in_order;
+  logs = λ told b o reached of. of.logs_in_order;
   panes = λ told b o reached of. subst (λ (l : List Pane). IsSorted pane_cmp l) (sym of.panes) (c.cells_are_kept.ensures.cells told b reached).legal.ordered;
 }

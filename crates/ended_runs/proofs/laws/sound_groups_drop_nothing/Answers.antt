@@ -1,3 +1,6 @@
+use Rattle.std.proofs.Common.{◌≡◌, true, false, sym, ◌∙◌}
+use Rattle.std.specs.Prelude.{Some}
+use Rattle.book_core.proofs.SaneAlways.{reached_sane}
 use Rattle.ended_runs.proofs.Written.{outcome_undropped}
 use Rattle.ended_runs.proofs.laws.sound_groups_drop_nothing.Goals as goal
 
@@ -10,7 +13,7 @@ returns c told b o node reached of triggers sound =
         inputs = λ n node at. c.nodes_take_elements_of_their_strategy.ensures.inputs plan n node checked at;
         own = c.strategies_follow_kinds.ensures.own plan;
         onward = c.strategies_follow_kinds.ensures.onward plan;
+        keyed = λ n span is. absurd (let no = c.no_node_is_stateful.ensures.none plan n checked in let e : true ≡ false = sym is ∙ no in cc);
       };
-      stateless = λ plan n checked. c.no_node_is_stateful.ensures.none plan n checked;
       forward = c.allowed_functions_go_forward.ensures;
-    }) told b o node reached of triggers sound
+    }) told b o node reached of (λ upper above. c.no_node_is_stateful.ensures.none b.plan upper (reached_sane (Some told) b reached).formed.checked) triggers sound

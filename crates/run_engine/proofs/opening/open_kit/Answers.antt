@@ -1,7 +1,7 @@
 use Rattle.std.proofs.Common.{List, ap, ◌∙◌, subst}
 use Rattle.beam_values.specs.declared.plan.Node.{Node}
 use Rattle.beam_values.specs.declared.plan.Plan.{Plan}
-use Rattle.worker_loop.specs.Openings.{AreOpened}
+use Rattle.bundle_work.specs.Openings.{AreOpened}
 use Rattle.run_engine.specs.Openings.{AreNamesRefused}
 use Rattle.run_engine.proofs.Opens.{names_of}
 use Rattle.run_engine.proofs.opening.open_kit.Goals as goal

@@ -1,5 +1,5 @@
 use Rattle.std.proofs.Common.{◌-◌}
-use Rattle.worker_loop.specs.Outside.{IsStoreKept}
+use Rattle.bundle_work.specs.Outside.{IsStoreKept}
 use Rattle.run_engine.specs.Openings.{AreCounted}
 use Rattle.run_engine.proofs.opening.open_named.Given as goal
 

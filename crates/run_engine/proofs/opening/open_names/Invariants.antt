@@ -1,6 +1,6 @@
 use Rattle.std.proofs.Common.{ℕ, List, ◌++◌, take}
-use Rattle.worker_loop.specs.Openings.{AreOpened}
-use Rattle.worker_loop.specs.Outside.{IsStoreKept}
+use Rattle.bundle_work.specs.Openings.{AreOpened}
+use Rattle.bundle_work.specs.Outside.{IsStoreKept}
 use Rattle.run_engine.specs.Openings.{AgreeInLength, AreCounted}
 use Rattle.run_engine.proofs.opening.open_names.Given as goal
 

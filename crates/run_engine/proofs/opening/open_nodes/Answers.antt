@@ -1,5 +1,5 @@
 use Rattle.std.proofs.Common.{List, [], ℕ, ◌+◌, sym, ap, ◌∙◌, subst, ◌++◌, take, drop}
-use Rattle.worker_loop.specs.Openings.{AreOpened}
+use Rattle.bundle_work.specs.Openings.{AreOpened}
 use Rattle.beam_ports.specs.declared.store.Opened.{Opened}
 use Rattle.run_engine.specs.Openings.{AgreeInLength, AreNamesRefused}
 use Rattle.run_engine.proofs.Opens.{agree_none, counted_more, counted_none, names_more, names_of, names_whole, store_onward, store_same}

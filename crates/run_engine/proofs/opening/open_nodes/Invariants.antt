@@ -1,7 +1,7 @@
 use Rattle.std.proofs.Common.{take}
 use Rattle.std.specs.List.{flat_map}
-use Rattle.worker_loop.specs.Openings.{AreOpened, names_in}
-use Rattle.worker_loop.specs.Outside.{IsStoreKept}
+use Rattle.bundle_work.specs.Openings.{AreOpened, names_in}
+use Rattle.bundle_work.specs.Outside.{IsStoreKept}
 use Rattle.run_engine.specs.Openings.{AgreeInLength, AreCounted}
 use Rattle.run_engine.proofs.opening.open_nodes.Given as goal
 

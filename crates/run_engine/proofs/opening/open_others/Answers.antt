@@ -1,7 +1,7 @@
 use Rattle.std.proofs.Common.{◌+◌, ◌≤◌, get_or, arith}
 use Rattle.beam_ports.specs.Counts.{rise}
 use Rattle.beam_ports.specs.Observed.{observed_store}
-use Rattle.worker_loop.specs.Openings.{AreOpened, file_names}
+use Rattle.bundle_work.specs.Openings.{AreOpened, file_names}
 use Rattle.run_engine.specs.Openings.{AgreeInLength}
 use Rattle.run_engine.proofs.Opens.{HasOpened, IsOnward, become_all, each_and_one, each_becomes, more_become, next_is, observed_set, onward_same, whole_becomes}
 use Rattle.run_engine.proofs.opening.open_others.Goals as goal

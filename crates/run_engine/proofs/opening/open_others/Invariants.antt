@@ -1,4 +1,4 @@
-use Rattle.worker_loop.specs.Openings.{file_names}
+use Rattle.bundle_work.specs.Openings.{file_names}
 use Rattle.run_engine.proofs.Opens.{BecomesUpTo, HasOpened}
 use Rattle.run_engine.proofs.opening.open_others.Given as goal
 

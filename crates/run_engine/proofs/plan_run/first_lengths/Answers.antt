@@ -6,9 +6,9 @@ use Rattle.beam_values.specs.declared.piece.FileLen.{FileLen}
 use Rattle.beam_values.specs.declared.plan.Node.{Node}
 use Rattle.beam_values.specs.declared.plan.Plan.{Plan}
 use Rattle.book_core.specs.Runs.{AreLengthsOf}
-use Rattle.worker_loop.specs.Reading.{AreToldReaders, length_in, readers_from}
-use Rattle.worker_loop.specs.declared.reading.Reader.{Reader}
-use Rattle.worker_loop.proofs.Readers.{lengths_of_items, lengths_told, plan_readers}
+use Rattle.bundle_work.specs.Reading.{AreToldReaders, length_in, readers_from}
+use Rattle.bundle_work.specs.declared.reading.Reader.{Reader}
+use Rattle.bundle_work.proofs.Readers.{lengths_of_items, lengths_told, plan_readers}
 use Rattle.run_engine.proofs.PlanRuns.{if_ok}
 use Rattle.run_engine.proofs.plan_run.first_lengths.Goals as goal
 

@@ -6,15 +6,18 @@ use Rattle.beam_values.specs.declared.plan.Plan.{Plan}
 use Rattle.book_core.specs.Book.{SeenBook}
 use Rattle.turn_desk.specs.declared.held.Note.{Note}
 use Rattle.worker_table.specs.Ends.{IsEnded}
-use Rattle.worker_table.specs.Notes.{Entry, Setting, fresh}
+use Rattle.worker_table.specs.Notes.{Entry, fresh}
+use Rattle.known_jobs.specs.Jobs.{Setting}
 use Rattle.worker_table.specs.Passes.{note_of_pass, setting_of}
-use Rattle.worker_loop.specs.Openings.{AreOpened, file_names}
+use Rattle.bundle_work.specs.Openings.{AreOpened, file_names}
 use Rattle.worker_loop.specs.Workers.{sum_calls, sum_reads}
-use Rattle.worker_loop.specs.declared.kit.Kit.{Kit}
-use Rattle.worker_loop.proofs.Answered.{kit_same}
+use Rattle.bundle_work.specs.declared.kit.Kit.{Kit}
+use Rattle.bundle_work.proofs.Answered.{kit_same}
 use Rattle.worker_loop.proofs.Crews.{each_same}
 use Rattle.run_engine.specs.Kits.{observed_kits}
-use Rattle.run_engine.specs.PlanRun.{lengths_of_first, opened_lengths}
+use Rattle.run_engine.specs.Openings.{AreOpenedByAll}
+use Rattle.run_engine.specs.PlanRun.{lengths_of_first}
+use Rattle.bundle_work.specs.Reading.{opened_lengths}
 use Rattle.run_engine.proofs.PlanRuns.{first_is, first_lengths_are, if_ok, if_outcome, kits_fit, lengths_of_all, of_first, opening_reached, plan_ends, some_ended, told_each}
 use Rattle.run_engine.proofs.plan_run.run_book.Goals as goal
 
@@ -51,10 +54,16 @@ table_for-requires g c κs within = (
 
 pub work_all-requires-clause-kits : goal.work_all-requires-clause-kits
 work_all-requires-clause-kits g c κs within =
+    let kits = c.args.kits.now in
+    let plan = c.args.graph in
     let setting = setting_of c.in_ok-table.table in
-    let of_plan : setting.plan ≡ c.args.graph = ap (λ (s : Setting). s.plan) c.in_ok-table.ensures.setting ∙ ap (λ (b : SeenBook). b.plan) c.in_ok-book.ensures.is in
-    kits_fit g.F.Shelf.strict g.S.Store.files g.S.Store.opened setting c.args.kits.now (ap (λ (s : Setting). s.known) c.in_ok-table.ensures.setting)
-    (subst (λ (p : Plan). AllByRecursion (λ kit. AreOpened (g.S.Store.files kit.store) (g.S.Store.opened kit.store) (file_names p) kit.files) c.args.kits.now) (sym of_plan) c.requires.opened.each)
+    let first = c.index-kits-0.result in
+    let of_plan : setting.plan ≡ plan = ap (λ (s : Setting). s.plan) c.in_ok-table.ensures.setting ∙ ap (λ (b : SeenBook). b.plan) c.in_ok-book.ensures.is in
+    let of_files = ap (λ (s : Setting). s.files) c.in_ok-table.ensures.setting ∙ ap (λ (b : SeenBook). b.files) c.in_ok-book.ensures.is in
+    let shown = c.as_slice.ensures ∙ ap (λ (k : Kit _ _). k.files) (sym c.index-kits-0.is) in
+    let lengths = of_files ∙ c.in_ok-lengths.ensures.exact ∙ ap (opened_lengths plan) shown ∙ first_is plan kits first c.requires.some c.index-kits-0.is in
+    kits_fit g.F.Shelf.strict g.S.Store.files g.S.Store.opened setting kits (ap (λ (s : Setting). s.known) c.in_ok-table.ensures.setting)
+    (subst (λ (p : Plan). AreOpenedByAll g.S.Store.files g.S.Store.opened p kits) (sym of_plan) c.requires.opened) (ap (λ (p : Plan). lengths_of_first p kits) of_plan ∙ sym lengths)
 
 pub returns-clause-ended : goal.returns-clause-ended
 returns-clause-ended g c =

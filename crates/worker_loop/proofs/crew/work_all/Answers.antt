@@ -1,16 +1,14 @@
-use Rattle.std.proofs.Common.{rules, ◌≡◌, ◌+◌, ◌++◌, length, map, take, drop, refl, sym, ap, subst, ◌∙◌, List, arith}
+use Rattle.std.proofs.Common.{rules, ◌+◌, ◌++◌, length, map, take, drop, refl, sym, ap, subst, ◌∙◌, List, arith}
 use denote.Param.Send.{sendable}
 use Rattle.std.specs.List.{AllByRecursion, sum_by}
-use Rattle.turn_desk.specs.Notes.{size_of}
 use Rattle.worker_table.specs.Notes.{Entry}
 use Rattle.worker_loop.proofs.Crossing.{Seat-send, call_sync}
 use Rattle.worker_table.specs.Passes.{entry_of, note_of_pass, setting_of}
-use Rattle.worker_loop.specs.Kits.{IsKitFor}
-use Rattle.worker_loop.specs.Outside.{IsKitKept}
+use Rattle.bundle_work.specs.Kits.{IsKitFor}
 use Rattle.worker_loop.specs.Workers.{EachEndsAs, HasSat, IsReady, no_faults, share_with}
 use Rattle.worker_loop.specs.declared.crew.Seat.{Seat}
 use Rattle.worker_loop.specs.declared.workers.WorkerEnd.{WorkerEnd}
-use Rattle.worker_loop.proofs.Answered.{kit_same}
+use Rattle.bundle_work.proofs.Answered.{kit_same}
 use Rattle.worker_loop.proofs.Crews.{all_after, both_of, done_as, each_same, ends_of, kits_after, seats_length, sum_below, sum_mapped, take_front}
 use Rattle.worker_loop.proofs.crew.work_all.Goals as goal
 

@@ -29,8 +29,8 @@ take_oldest-requires-clause-due c =
     (subst (λ (p : DueAt). IsDueAs (data_of c.self.inside) (first_due (data_of c.self.inside)) (Some p)) c.in-Some-Oldest.field-0-is
     (c.in-Some-Oldest.ensures (data_of c.self.inside) (sym c.as_slice.ensures) (sym (ap lists_of c.as_slice-2.ensures.value)) (sym formed.queues ∙ lists_length c.self.inside.queues.items ∙ sym (ap length c.as_slice-2.ensures.value))))
 
-pub take_piece-requires-clause-none : goal.take_piece-requires-clause-none
-take_piece-requires-clause-none c =
+pub take_key-requires-clause-none : goal.take_key-requires-clause-none
+take_key-requires-clause-none c =
     let formed = c.self.invariant.indexed.sane.formed in
     subst (λ (b : SeenBook). first_due b ≡ None) c.self.view_is
     (c.in-None.ensures (data_of c.self.inside) (sym c.as_slice.ensures) (sym (ap lists_of c.as_slice-2.ensures.value)) (sym formed.queues ∙ lists_length c.self.inside.queues.items ∙ sym (ap length c.as_slice-2.ensures.value)))

@@ -5,7 +5,7 @@ use Rattle.beam_values.specs.declared.piece.Piece.{Piece}
 use Rattle.book_core.specs.Book.{SeenBook}
 use Rattle.book_core.specs.Calls.{Makes, answer_of}
 use Rattle.book_core.specs.Inside.{data_of}
-use Rattle.book_core.specs.Jobs.{first_due}
+use Rattle.book_core.specs.Jobs.{first_due, next_cell}
 use Rattle.book_core.specs.Steps.{IsRunning, IsFree, Take, TakenJob}
 use Rattle.book_core.specs.declared.live.Live.{Live}
 use Rattle.book_core.specs.declared.live.Taken.TheVariants as taken
@@ -18,7 +18,8 @@ invariant_of-self c = record {
   indexed =
       piece_indexed (data_of c.self.inside) c.args.slot c.in-Some.piece c.take.new.self.pending _ (subst IsRunning (sym c.self.view_is) c.requires.running)
       (subst (λ (b : SeenBook). IsFree b c.args.slot) (sym c.self.view_is) c.requires.free)
-      (subst (λ (b : SeenBook). first_due b ≡ None) (sym c.self.view_is) c.requires.none) c.in-Some.ensures.first
+      (subst (λ (b : SeenBook). first_due b ≡ None) (sym c.self.view_is) c.requires.none)
+      (subst (λ (b : SeenBook). next_cell b ≡ None) (sym c.self.view_is) c.requires.no_cell) c.in-Some.ensures.first
       (ap (λ j. slice_set c.self.inside.slots.items c.args.slot (Some j)) c.started.ensures) c.self.invariant.indexed.sane
       c.self.inside.held c.self.inside.pieces.room c.self.inside.returned.room c.take.new.self.room c.in-Some.ensures.kept c.self.invariant.indexed;
   grouped = c.self.invariant.grouped;
@@ -30,7 +31,8 @@ returns-in-Some c =
     makes_seen (data_of c.self.inside) _ _ c.args.slot Take (TakenJob c.piece_job.result) c.self.view_is
     (takes_piece (data_of c.self.inside) c.args.slot c.in-Some.piece c.take.new.self.pending _ (subst IsRunning (sym c.self.view_is) c.requires.running)
     (subst (λ (b : SeenBook). IsFree b c.args.slot) (sym c.self.view_is) c.requires.free)
-    (subst (λ (b : SeenBook). first_due b ≡ None) (sym c.self.view_is) c.requires.none) c.in-Some.ensures.first
+    (subst (λ (b : SeenBook). first_due b ≡ None) (sym c.self.view_is) c.requires.none)
+    (subst (λ (b : SeenBook). next_cell b ≡ None) (sym c.self.view_is) c.requires.no_cell) c.in-Some.ensures.first
     (ap (λ j. slice_set c.self.inside.slots.items c.args.slot (Some j)) c.started.ensures) c.self.invariant.indexed.sane c.piece_job.result c.piece_job.ensures)
 
 -- where no piece is left, `c.take.new.self` is what was there
@@ -41,4 +43,5 @@ returns-in-None c =
     (subst (λ (l : List Piece). Makes b c.args.slot Take (answer_of c.idle_answer.result) (record b { pending = l })) (sym (ap (λ p. p.pending) c.in-None.ensures.none))
     (subst (λ t. Makes b c.args.slot Take (answer_of t) b) (sym (c.idle_answer.ensures ∙ ap (λ (l : List (Option Live)). cond (list_all is_none l) taken.Finished taken.Nothing) c.as_slice.ensures.value))
     (makes_nothing b c.args.slot (subst IsRunning (sym c.self.view_is) c.requires.running) (subst (λ (x : SeenBook). IsFree x c.args.slot) (sym c.self.view_is) c.requires.free)
-    (subst (λ (x : SeenBook). first_due x ≡ None) (sym c.self.view_is) c.requires.none) c.in-None.ensures.first)))
+    (subst (λ (x : SeenBook). first_due x ≡ None) (sym c.self.view_is) c.requires.none)
+    (subst (λ (x : SeenBook). next_cell x ≡ None) (sym c.self.view_is) c.requires.no_cell) c.in-None.ensures.first)))

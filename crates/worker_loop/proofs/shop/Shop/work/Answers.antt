@@ -1,14 +1,15 @@
-use Rattle.std.proofs.Common.{rules, ◌+◌, ◌≤◌, List, refl, sym, subst, ◌∙◌, arith}
+use Rattle.std.proofs.Common.{rules, ◌+◌, ◌≤◌, List, map, refl, sym, ap, subst, ◌∙◌, arith}
 use Rattle.std.specs.Prelude.{IsSome}
 use Rattle.beam_values.specs.declared.plan.Plan.{Plan}
 use Rattle.beam_ports.specs.Counts.{greatest_count}
 use Rattle.beam_ports.specs.declared.store.Opened.{Opened}
 use Rattle.worker_table.specs.Passes.{entry_of, note_of_pass, setting_of}
-use Rattle.worker_loop.specs.Openings.{AreOpened, file_names}
-use Rattle.worker_loop.proofs.Answered.{kit_onward, kit_same}
+use Rattle.bundle_work.specs.Openings.{AreOpened, file_names}
+use Rattle.bundle_work.specs.Reading.{length_in, opened_lengths}
+use Rattle.bundle_work.proofs.Answered.{kit_onward, kit_same}
 use Rattle.worker_loop.specs.Laws.{others_onward}
 use Rattle.worker_loop.proofs.Rounds.{rises_few, rises_on, share_same}
-use Rattle.worker_loop.proofs.Told.{opened_known}
+use Rattle.bundle_work.proofs.Told.{opened_known}
 use Rattle.worker_loop.proofs.shop.Shop.work.Goals as goal
 
 pub returns-in_default-clause-share : goal.returns-in_default-clause-share
@@ -40,7 +41,8 @@ loop-init g c =
       free = told.job;
       owes = told.owes ∙ c.requires.owes;
       others = c.in-Ok.ensures.others;
-      reading = c.in-Ok-new.ensures known opened (subst (λ (p : Plan). AreOpened known opened (file_names p) c.as_slice-files.result.now) (sym c.requires.plan) shown);
+      reading = c.in-Ok-new.ensures.reading known opened (subst (λ (p : Plan). AreOpened known opened (file_names p) c.as_slice-files.result.now) (sym c.requires.plan) shown);
+      lengths = c.in-Ok-new.ensures.lengths ∙ (λ k. opened_lengths (c.requires.plan k) (c.as_slice-files.ensures k)) ∙ c.requires.kit.lengths;
       kept = kit_same g.F.Shelf.faults g.F.Shelf.strict g.S.Store.faults g.S.Store.files g.S.Store.opened c.args.kit.now.shelf c.args.kit.now.store;
       files = refl;
       share = share_same c.args.share.now (entry_of c.enroll.new.pass).calls (entry_of c.enroll.new.pass).reads c.counts_have_64_bits.ensures.calls c.counts_have_64_bits.ensures.reads told.calls told.reads;
@@ -93,6 +95,7 @@ loop-preserved g c =
       owes = c.in_default-end.ensures.end.1;
       others = others_onward (note_of_pass c.args.pass.now) (note_of_pass c.loop.pass) (note_of_pass c.round-end.new.pass) i.others c.round-end.ensures.others;
       reading = c.round-end.ensures.reading;
+      lengths = ap (map length_in) c.round-end.ensures.readers ∙ i.lengths;
       kept = kit_onward g.F.Shelf.faults g.F.Shelf.strict g.S.Store.faults g.S.Store.files g.S.Store.opened c.args.kit.now.shelf c.loop.kit.shelf c.round-end.new.kit.shelf c.args.kit.now.store c.loop.kit.store
           c.round-end.new.kit.store i.kept c.round-end.ensures.kept;
       files = c.round-end.ensures.files ∙ i.files;

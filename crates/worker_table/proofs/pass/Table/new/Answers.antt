@@ -2,7 +2,8 @@ use Rattle.std.proofs.Common.{List, [], ◌∷◌, sym, subst}
 use Rattle.turn_desk.specs.Notes.{opening_note}
 use Rattle.book_core.specs.Book.{SeenBook}
 use Rattle.worker_table.specs.Fits.{Fits}
-use Rattle.worker_table.specs.Notes.{Setting, Owner, fresh}
+use Rattle.known_jobs.specs.Jobs.{Setting}
+use Rattle.worker_table.specs.Notes.{Owner, fresh}
 use Rattle.worker_table.proofs.Opened.{opened_fits}
 use Rattle.worker_table.proofs.pass.Table.new.Goals as goal
 

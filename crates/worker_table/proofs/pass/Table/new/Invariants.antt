@@ -1,4 +1,4 @@
-use Rattle.worker_table.specs.Notes.{setting_for}
+use Rattle.known_jobs.specs.Jobs.{setting_for}
 use Rattle.worker_table.proofs.pass.Table.new.Given as goal
 
 abbrev pub ghost-picked : goal.ghost-picked

@@ -2,7 +2,6 @@ use Rattle.std.proofs.Common.{refl}
 use Rattle.book_core.specs.Steps.{Take}
 use Rattle.worker_table.specs.Calls.{take_answer}
 use Rattle.worker_table.specs.Passes.{setting_of}
-use Rattle.worker_table.proofs.Batches.{turn_of_plan}
 use Rattle.worker_table.proofs.Tells.{keeps_slot, take_tells}
 use Rattle.worker_table.proofs.Turning.{at_slot, retold, seated}
 use Rattle.worker_table.proofs.pass.Table.take_job.Goals as goal
@@ -13,8 +12,10 @@ returns-clause-turn g c = let t = c.turn.ensures.turn in at_slot _ _ _ c.slot-sl
 pub returns-clause-told : goal.returns-clause-told
 returns-clause-told g c =
     let t = c.turn.ensures.turn in
-    let stepped = retold _ _ _ _ _ _ t (t.made (setting_of c.args.self.now).known.told) in
-    take_tells _ _ _ c.slot-slot.result c.turn.result (turn_of_plan _ _ _ c.slot-slot.result c.turn.result c.panes_are_held_once.ensures c.cells_are_kept.ensures.cells stepped) stepped
+    let setting = setting_of c.args.self.now in
+    let stepped = retold _ _ _ _ _ _ t (t.made setting.known.told) in
+    take_tells _ _ _ c.slot-slot.result c.jobs_are_known_as_they_are_taken.ensures.known c.jobs_are_known_as_they_are_taken.ensures.inside
+    (λ b book. c.books_are_sane.ensures.reached setting.known.told b (c.honest_runs_are_runs.ensures setting.known b book.reached)) c.turn.result stepped
 
 pub returns-clause-stays : goal.returns-clause-stays
 returns-clause-stays g c =

@@ -1,0 +1,10 @@
+pub mod Answered
+pub mod Working
+pub mod PieceWork
+pub mod Claiming
+pub mod Stretching
+pub mod PieceReads
+pub mod Told
+pub mod Readers
+pub mod Jobs
+pub mod Halves

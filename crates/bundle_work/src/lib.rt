@@ -1,0 +1,28 @@
+//! The work on one job: positions of a source read and worked with a kit, or panes that go on, and what that brings to its
+//! commit. No call waits, and none knows a table.
+//!
+//! A [`Worker`] works a job with a [`Kit`], and claims positions through the trait [`Claims`], which a pass of a table meets
+//! and a slot of a book. The layer above may rely on this. What [`Worker::work_job`] answers is what the plan gives for the
+//! job as it is known then, up to the last attempted position, also of a range that others have shortened meanwhile; or the
+//! job failed, which was counted by the shelf or the store and is honest to tell of it; or there was no memory. Where it
+//! answers Ok a position of the range was attempted, if it has one. Elements are worked between claims, a stretch of them
+//! before the claim of its last position; what turns out to be another's is dropped again. Nothing that is promised depends
+//! on how large pieces, bundles and stretches are. [`each_pair`] does a job at each place of two slices, in threads.
+//!
+//! Read `claims.rt` first, then `bundles.rt`, `bench.rt` and `reading.rt`.
+#![tactic(auto)]
+
+mod bench;
+mod bundles;
+mod claims;
+mod kit;
+mod pairs;
+mod reading;
+mod trail;
+
+pub use bench::work_position;
+pub use bundles::Worker;
+pub use claims::Claims;
+pub use kit::Kit;
+pub use pairs::each_pair;
+pub use reading::{Reader, lengths_of, names_in, place_of, readers_of};

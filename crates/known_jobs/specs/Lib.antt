@@ -1,0 +1,5 @@
+pub mod Jobs
+pub mod Calls
+pub mod Kept
+pub mod Known
+pub mod Carried

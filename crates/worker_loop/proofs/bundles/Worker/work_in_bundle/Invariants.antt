@@ -1,4 +1,0 @@
-use Rattle.worker_loop.proofs.bundles.Worker.work_in_bundle.Given as goal
-
-abbrev pub ghost-work_span : goal.ghost-work_span
-ghost-work_span g a = g.setting

@@ -1,4 +1,0 @@
-use Rattle.worker_loop.proofs.bundles.Worker.work_job.Given as goal
-
-abbrev pub ghost-work_in_bundle : goal.ghost-work_in_bundle
-ghost-work_in_bundle g a = g.setting
