@@ -227,9 +227,11 @@ fn is_written_from(alloc: Global, plan: &Plan, from: usize) -> Result<bool, NoMe
 {
     let nodes = plan.nodes.as_slice();
     let passed = passed_nodes(alloc, nodes, from)?;
-    Ok(nodes
-        .iter()
-        .any(|node| node.kind.is_write() && takes(from, &passed, node)))
+    Ok(
+        nodes
+            .iter()
+            .any(|node| node.kind.is_write() && takes(from, &passed, node)),
+    )
 }
 
 /// Of each node whether what `from` puts out passes through it, with no barrier between.

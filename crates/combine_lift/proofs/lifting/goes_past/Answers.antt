@@ -18,7 +18,7 @@ returns-then-branch c =
     let e : c.as_slice-node-items.result.now ≡ plan.nodes = c.as_slice-node-items.ensures in
     let within : c.loop-number.number < length plan.nodes = omega (arith, ap length e, c.loop-number-test.true) in
     sym (passes_here (is_past plan) plan.nodes c.loop-number.number c.node-item.result within
-      (c.node-item.is ∙ ap (λ (l : List Node). get_or l c.loop-number.number c.node-item.result) e) (sym c.in_ok-is_past.ensures ∙ c.if-branch.true))
+    (c.node-item.is ∙ ap (λ (l : List Node). get_or l c.loop-number.number c.node-item.result) e) (sym c.in_ok-is_past.ensures ∙ c.if-branch.true))
 
 pub loop-number-preserved : goal.loop-number-preserved
 loop-number-preserved c =
