@@ -339,9 +339,9 @@ impl Book {
         Ok(Some(rest.from()))
     }
 
-    /// Places the receipt of the slot's job: arrivals become entries or are written, the range that was
-    /// worked is done and its rest pending again, panes fire and wait, and the slot is free. Where there
-    /// is no memory nothing is changed, and the receipt is handed back.
+    /// Places the receipt of the slot's job: arrivals become entries, wait at key cells or are written, the
+    /// range that was worked is done and its rest pending again, a key job's calls are logged, panes fire and
+    /// wait, and the slot is free. Where there is no memory nothing is changed, and the receipt is handed back.
     pub fn commit(&mut self, slot: u32, receipt: Receipt) -> Result<(), Unplaced>
         requires { CanCommit None self.old slot receipt }
         ensures ok { OnOk result

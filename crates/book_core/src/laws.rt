@@ -149,7 +149,7 @@ pub fn fails_lower_what_is_left()
 {}
 
 /// Each commit of a sane book lowers what is left of a run, where a position of its range was attempted,
-/// the range is empty, or its panes went on; and no claim raises it.
+/// the range is empty, its panes went on, or it is of a key job; and no claim raises it.
 pub fn commits_lower_what_is_left()
     ensures commit { (told : Option (List FileText)) (b new : SeenBook) (slot : ℕ)
         → IsSane b → Step told b slot Commit Committed new

@@ -1,8 +1,8 @@
-//! Where the positions of a job are claimed: in turns of a table, or at a book that no other slot works.
+//! Where the positions of a job are claimed, as in turns of a table: the work on a job knows of no table.
 
 /// Claims positions for one slot. What is promised of a job's work rests on what is known of the job alone.
 pub trait Claims {
-    /// What a claim changes: a worker's pass of a table, or a book.
+    /// What a claim changes, as a worker's pass of a table.
     type Pass;
 
     ghost use Rattle.std.specs.Prelude.{Option, nat_lt};

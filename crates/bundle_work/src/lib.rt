@@ -2,7 +2,7 @@
 //! commit. No call waits, and none knows a table.
 //!
 //! A [`Worker`] works a job with a [`Kit`], and claims positions through the trait [`Claims`], which a pass of a table meets
-//! and a slot of a book. The layer above may rely on this. What [`Worker::work_job`] answers is what the plan gives for the
+//! (`worker_loop`). The layer above may rely on this. What [`Worker::work_job`] answers is what the plan gives for the
 //! job as it is known then, up to the last attempted position, also of a range that others have shortened meanwhile; or the
 //! job failed, which was counted by the shelf or the store and is honest to tell of it; or there was no memory. Where it
 //! answers Ok a position of the range was attempted, if it has one. Elements are worked between claims, a stretch of them

@@ -120,9 +120,9 @@ pub fn sound_groups_drop_nothing()
     windows_hold_their_time();
 }
 
-/// Where the files are told: at each Write above which every Group has the default trigger and every
-/// estimator is sound, what was written is plain grouping of the whole input, and no Group above it
-/// dropped an element, whatever was split, bundled or tried again. Windows may be sessions, and Groups may
+/// Where the files are told: at each Write with no Stateful node above it, where every Group above has the
+/// default trigger and every estimator is sound, what was written is plain grouping of the whole input, and
+/// no Group above it dropped an element, whatever was split, bundled or tried again. Windows may be sessions, and Groups may
 /// stand one above another. The values of panes are ones that a program can hold.
 pub fn outcomes_are_plainly_written()
     ensures { (told : List FileText) (b : SeenBook) (o : Outcome)
