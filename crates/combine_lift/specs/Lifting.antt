@@ -77,6 +77,14 @@ shape_refusal plan =
     else (if list_any (λ node. is_stateful_kind node.kind) plan.nodes then Some refusal.Stateful
     else groups_refusal plan (only_group plan.nodes))
 
--- a plan that is lifted: it breaks no rule
+-- A plan that is lifted, as a condition of its own: of version 1 and without state, with one Group that has the default trigger and no sessions, is taken once, by
+-- SumSeq, CountSeq or MaxSeq, and that every way from a source to a Write meets.
 pub record IsLiftable (plan : Plan) : Type 0 where
-  pub unrefused : shape_refusal plan ≡ None
+  pub version : (plan.version == 1) ≡ true
+  pub stateless : list_any (λ node. is_stateful_kind node.kind) plan.nodes ≡ false
+  pub group : ℕ
+  pub only : only_group plan.nodes ≡ Some group
+  pub trigger : has_kind has_default plan group ≡ true
+  pub windows : is_sessions (strategy_of plan group) ≡ false
+  pub follower : is_only_fold plan (followers_of plan group) ≡ true
+  pub met : goes_past plan ≡ false
