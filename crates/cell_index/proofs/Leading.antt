@@ -46,7 +46,7 @@ against tag hash text null int blob pair seq =
 blobs_same : (a b : List ℕ) → varint (length a) ++ a ≡ varint (length b) ++ b → a ≡ b
 blobs_same a b e = (split_same (varint (length a)) (varint (length b)) a b (varints_decide (length a) (length b)) e).1
 
-one_hash : (key other : Value) → spelling key ≡ spelling other → key_hash key ≡ key_hash other
+pub one_hash : (key other : Value) → spelling key ≡ spelling other → key_hash key ≡ key_hash other
 one_hash =
     value_ind (λ key. (other : Value) → spelling key ≡ spelling other → key_hash key ≡ key_hash other)
     (λ other e. hash-Null ∙ against 0 0 [] (λ _. refl) (λ _ t _. absurd (omega arith)) (λ _ t _. absurd (omega arith)) (λ _. refl) (λ _. refl) other (sym spelling-Null ∙ e))

@@ -1,2 +1,2 @@
-mod Leading
+pub mod Leading
 pub mod Indexing

@@ -1,4 +1,4 @@
-ghost use Rattle.std.specs.Prelude.{◌≡◌, List as ListOf, [], ◌∷◌, ◌++◌, length, None, Some, IfOk, IfSome};
+ghost use Rattle.std.specs.Prelude.{◌≡◌, List as ListOf, [], ◌∷◌, ◌++◌, length, Some, IfOk, IfSome};
 ghost use Rattle.std.specs.Prelude.{true, IsNone, IsSome, OnErr, OnOk};
 ghost use Rattle.std.specs.BTreeMap as tree;
 ghost use Rattle.std.specs.Ordering.{as_partial_cmp, eq_by_cmp, on, then_cmp};
@@ -53,7 +53,7 @@ impl CellIndex {
     {
         let key = key_of_cell(alloc, cell)?;
         let place = u32::try_from(place).map_err(|_| NoMemory)?;
-        self.add(key, place)
+        self.add(alloc, &key, place)
     }
 
     /// The place of the cell among all cells, counted from 0, if there is one.
@@ -112,34 +112,15 @@ impl CellIndex {
 
     /// The place of one more cell, behind the others. Where another cell of its node, key and window is
     /// found, that one stays. After a refusal no place is added.
-    pub fn add(&mut self, key: IndexKey, place: u32) -> Result<(), NoMemory>
+    pub fn add(&mut self, alloc: Global, key: &IndexKey, place: u32) -> Result<(), NoMemory>
         ensures ok { OnOk result ((cells : ListOf CellOf) (cell : CellOf)
             → IsIndexOf self.old cells → place ≡ length cells
-            → cell.node ≡ key.node → cell.key ≡ key.key → cell.span ≡ key.span
+            → cell.node ≡ key.now.node → cell.key ≡ key.now.key → cell.span ≡ key.now.span
             → IsIndexOf self.new (cells ++ cell ∷ [])) }
         ensures err { OnErr result
             ((cells : ListOf CellOf) → IsIndexOf self.old cells → IsIndexOf self.new cells) }
     {
-        match self.find(&key) {
-            Some(_) => Ok(()),
-            None => self.add_new(key, place),
-        }
-    }
-
-    /// The same, where there is no such cell.
-    fn add_new(&mut self, key: IndexKey, place: u32) -> Result<(), NoMemory>
-        ensures ok { OnOk result ((cells : ListOf CellOf) (cell : CellOf)
-            → IsIndexOf self.old cells → place ≡ length cells
-            → cell.node ≡ key.node → cell.key ≡ key.key → cell.span ≡ key.span
-            → place_of key.node key.key key.span cells ≡ None
-            → IsIndexOf self.new (cells ++ cell ∷ [])) }
-        ensures err { OnErr result
-            ((cells : ListOf CellOf) → IsIndexOf self.old cells → IsIndexOf self.new cells) }
-    {
-        let hash = key.hash();
-        self.places.insert(key, place)?;
-        self.guesses.make_room(self.places.len());
-        self.guesses.note(Guess { hash, place });
+        let _found = self.find_or_add(alloc, key, place)?;
         Ok(())
     }
 

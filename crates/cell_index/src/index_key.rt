@@ -1,6 +1,6 @@
 //! What the index finds cells by: the key of a cell, led by a number that nearly always decides.
 
-ghost use Rattle.std.specs.Prelude.{◌≡◌, ◌<◌, ◌^◌, IfOk};
+ghost use Rattle.std.specs.Prelude.{◌≡◌, ◌+◌, ◌≤◌, ◌<◌, ◌^◌, fold, length, IfOk};
 ghost use Rattle.std.specs.Ordering.{as_partial_cmp, eq_by_cmp, on, nat_cmp, then_cmp};
 ghost use Rattle.std.specs.Cmp.{partial_order_from_own_ties};
 ghost use Rattle.std.specs.Cmp.Rules.{comparing};
@@ -8,12 +8,15 @@ ghost use Rattle.std.proofs.Common.{rules};
 ghost use Rattle.beam_values.specs.Cells.{span_cmp};
 ghost use Rattle.beam_values.specs.Orders.{value_cmp};
 ghost use Rattle.cell_index.specs.Indexes.{cell_key_cmp, place_cmp};
-ghost use Rattle.cell_index.specs.Leads.{bytes_hash, key_hash, lead_of, with_word};
+ghost use Rattle.cell_index.specs.Leads.{bytes_hash, key_hash, lead_of, spread, with_word, word_at};
 
 use beam_values::{NoMemory, Span, Value, cmp_spans, cmp_values, unsigned_bits};
 use std::alloc::Global;
 use std::cmp::Ordering;
 use std::marker::Model;
+
+/// How many bytes a hash takes at a time.
+const WORD: usize = 8;
 
 /// What a cell is found by.
 #[derive(Debug, Drop)]
@@ -175,7 +178,8 @@ pub fn lead_of(key: &Value, span: Span) -> u64
     (u64::from(u32::MAX) - start) * (1 << 32) + hash_of_key(key) / (1 << 32)
 }
 
-fn hash_of_key(key: &Value) -> u64
+/// A hash of a key. Keys that are neither numbers nor bytes share one.
+pub fn hash_of_key(key: &Value) -> u64
     ensures { result ≡ key_hash key.now }
 {
     match key {
@@ -185,14 +189,54 @@ fn hash_of_key(key: &Value) -> u64
     }
 }
 
+/// The words of the bytes, and then the last eight bytes as one word more.
 fn hash_of_bytes(bytes: &[u8]) -> u64
     ensures { result ≡ bytes_hash bytes.now }
+{
+    let count = bytes.len();
+    if count < WORD {
+        return hash_of_few(bytes);
+    }
+    let mut hash = 0;
+    for at in 0..count / WORD {
+        hash = with_word(spread(hash), word_at(bytes, at * WORD));
+    }
+    with_word(spread(hash), word_at(bytes, count - WORD))
+}
+
+/// A byte after the other.
+fn hash_of_few(bytes: &[u8]) -> u64
+    ensures { result ≡ fold with_word 0 bytes.now }
 {
     let mut hash = 0;
     for byte in bytes {
         hash = with_word(hash, u64::from(*byte));
     }
     hash
+}
+
+/// The eight bytes from a place on, the last one highest.
+fn word_at(bytes: &[u8], place: usize) -> u64
+    requires { place + 8 ≤ length bytes.now }
+    ensures { result ≡ word_at bytes.now place }
+{
+    u64::from_le_bytes([
+        bytes[place],
+        bytes[place + 1],
+        bytes[place + 2],
+        bytes[place + 3],
+        bytes[place + 4],
+        bytes[place + 5],
+        bytes[place + 6],
+        bytes[place + 7],
+    ])
+}
+
+/// The upper half is added to the lower one, where it reaches all bits of what comes next.
+fn spread(hash: u64) -> u64
+    ensures { result ≡ spread hash }
+{
+    hash.wrapping_add(hash / (1 << 32))
 }
 
 /// The multiplier is 2^64 over the golden ratio: the higher a bit, the more bits it depends on.

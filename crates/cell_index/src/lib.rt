@@ -17,4 +17,4 @@ mod index_key;
 
 pub use guesses::{Guess, Guesses};
 pub use index::CellIndex;
-pub use index_key::{CellKey, IndexKey};
+pub use index_key::{CellKey, IndexKey, hash_of_key};

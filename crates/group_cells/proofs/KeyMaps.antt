@@ -10,6 +10,7 @@ use Rattle.std.specs.Option.{option_map}
 use Rattle.std.specs.Ordering.{is_eq, nat_cmp}
 use Rattle.std.specs.Str.{bytes_eq}
 use Rattle.std.proofs.lemmas.Bool.{and_parts, eqb-true}
+use Rattle.std.proofs.lemmas.Bool.Decides.{Decides-eqb}
 use Rattle.std.proofs.lemmas.Cmp.{nat_cmp_total, nat_list_cmp_total, on_total, then_total}
 use Rattle.std.proofs.lemmas.List.{map-append}
 use Rattle.std.proofs.lemmas.List.Elements.{filter-append}
@@ -22,9 +23,11 @@ use Rattle.beam_values.specs.Orders.{value_cmp}
 use Rattle.beam_values.specs.Spelling.{spelling}
 use Rattle.beam_values.specs.declared.arrival.Arrival.{Arrival}
 use Rattle.beam_values.specs.declared.element.Element.{Element}
+use Rattle.cell_index.specs.Leads.{key_hash}
 use Rattle.cell_index.proofs.Indexing.{nat_tied}
+use Rattle.cell_index.proofs.Leading.{one_hash}
 use Rattle.group_cells.specs.Commits.{elements_keyed}
-use Rattle.group_cells.specs.KeyLists.{all_listed, group_key_cmp, listed}
+use Rattle.group_cells.specs.KeyLists.{all_listed, group_key_cmp, led_key_cmp, listed}
 use Rattle.group_cells.specs.Plain.{is_arrival_at}
 use Rattle.group_cells.specs.declared.groups.keyed.GroupKey.{GroupKey}
 use Rattle.group_cells.proofs.PlacedKeys.{at_itself, is_at as is_here}
@@ -34,6 +37,24 @@ pub same_key : (a q : GroupKey) → is_eq (group_key_cmp a q) ≡ is_here q.node
 same_key a q =
     sym (tied_then (nat_cmp a.node q.node) (value_cmp a.key q.key))
     ∙ (λ i. nat_tied a.node q.node i && is_eq-slice_cmp (spelling a.key) (spelling q.key) i)
+
+-- those that are one have one hash
+hashed_alike : (a q : GroupKey) (t : Bool) → is_here q.node q.key a.node a.key ≡ t → (is_eq (nat_cmp (key_hash a.key) (key_hash q.key)) && t) ≡ t
+hashed_alike a q false e = none (is_eq (nat_cmp (key_hash a.key) (key_hash q.key)))
+  where
+    none : (b : Bool) → (b && false) ≡ false
+    none true = refl
+    none false = refl
+hashed_alike a q true e =
+    let both = and_parts (a.node == q.node) (bytes_eq (spelling a.key) (spelling q.key)) e in
+    let one : key_hash a.key ≡ key_hash q.key = one_hash a.key q.key ((bytes_eq-Decides (spelling a.key) (spelling q.key)).0 both.1) in
+    ap (λ b. b && true) (nat_tied (key_hash a.key) (key_hash q.key) ∙ (Decides-eqb (key_hash a.key) (key_hash q.key)).1 one)
+
+pub led_same : (a q : GroupKey) → is_eq (led_key_cmp a q) ≡ is_here q.node q.key a.node a.key
+led_same a q =
+    sym (tied_then (nat_cmp (key_hash a.key) (key_hash q.key)) (group_key_cmp a q))
+    ∙ ap (λ b. is_eq (nat_cmp (key_hash a.key) (key_hash q.key)) && b) (same_key a q)
+    ∙ hashed_alike a q (is_here q.node q.key a.node a.key) refl
 
 pub key_itself : (a : GroupKey) → is_eq (group_key_cmp a a) ≡ true
 key_itself a = same_key a a ∙ at_itself a.node a.key

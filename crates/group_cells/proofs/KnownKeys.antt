@@ -27,7 +27,7 @@ use Rattle.group_cells.specs.Arrivals.{merging, with_arrivals}
 use Rattle.group_cells.specs.AtPlaces.{at_place}
 use Rattle.group_cells.specs.Cells.{after_firing, firing_of, once_fired}
 use Rattle.group_cells.specs.Commits.{arrives_in_time, cell_place, cells_keyed, elements_keyed, is_at_group, is_taken}
-use Rattle.group_cells.specs.KeyLists.{group_key_cmp, stands, stands_here}
+use Rattle.group_cells.specs.KeyLists.{led_key_cmp, stands, stands_here}
 use Rattle.group_cells.specs.KnownWindows.{known_of, opens, opens_as, AreKnown, AreStanding, IsKnown, IsKnownOf}
 use Rattle.group_cells.specs.Placing.{is_same_key, is_standing}
 use Rattle.group_cells.specs.Plain.{AreNodesFired, ArePlacedAt, is_arrival_at}
@@ -35,7 +35,7 @@ use Rattle.group_cells.specs.declared.groups.keyed.GroupKey.{GroupKey}
 use Rattle.group_cells.specs.declared.groups.standing.Known.{Known}
 use Rattle.group_cells.specs.declared.groups.standing.Known.TheVariants.{Apart, Nothing}
 use Rattle.group_cells.proofs.AllArrived.{all_behind}
-use Rattle.group_cells.proofs.KeyMaps.{same_key}
+use Rattle.group_cells.proofs.KeyMaps.{led_same}
 use Rattle.group_cells.proofs.KnownCells.{known_alike, known_as, known_at, known_same, pushed_opens}
 use Rattle.group_cells.proofs.ListedWindows.{listed_as}
 use Rattle.group_cells.proofs.PlacedCells.{GoesOn, placed_on}
@@ -87,20 +87,15 @@ module _ (plan : Plan) (standing : BTreeMap GroupKey Known) (cells : List Cell) 
 
 -- ---- what is noted of one Group and key is replaced
 
-put_twice : {X : Type 0} (b : Bool) (one : X) (old : Option X) → cond b (Some one) (cond b None old) ≡ cond b (Some one) old
-put_twice true one old = refl
-put_twice false one old = refl
-
 module _ (plan : Plan) (key : GroupKey) (known : Known) (old taken put : BTreeMap GroupKey Known) (new : List Cell)
-    (taken_is : (q : GroupKey) → known_of taken q ≡ cond (is_eq (group_key_cmp key q)) None (known_of old q))
-    (put_is : (q : GroupKey) → known_of put q ≡ cond (is_eq (group_key_cmp key q)) (Some known) (known_of taken q))
+    (taken_is : (q : GroupKey) → is_eq (led_key_cmp key q) ≡ false → known_of taken q ≡ known_of old q)
+    (put_is : (q : GroupKey) → known_of put q ≡ cond (is_eq (led_key_cmp key q)) (Some known) (known_of taken q))
     (here : IsKnown (rules_of plan key.node) key.node key.key new known)
     (others : (q : GroupKey) → is_group plan q.node ≡ true → (rules_of plan q.node).merges ≡ true → is_at q.node q.key key.node key.key ≡ false
     → IsKnownOf (rules_of plan q.node) q.node q.key new (known_of old q)) where
   known_is : (q : GroupKey) (b : Bool) → is_at q.node q.key key.node key.key ≡ b → known_of put q ≡ cond b (Some known) (known_of old q)
-  known_is q b e =
-      put_is q ∙ ap (λ o. cond (is_eq (group_key_cmp key q)) (Some known) o) (taken_is q) ∙ put_twice (is_eq (group_key_cmp key q)) known (known_of old q)
-      ∙ ap (λ t. cond t (Some known) (known_of old q)) (same_key key q ∙ e)
+  known_is q true on = put_is q ∙ ap (λ t. cond t (Some known) (known_of taken q)) (led_same key q ∙ on)
+  known_is q false off = put_is q ∙ ap (λ t. cond t (Some known) (known_of taken q)) (led_same key q ∙ off) ∙ taken_is q (led_same key q ∙ off)
 
   pub standing_replaced : AreStanding plan put new
   standing_replaced = record { each = λ q at merges. by q at merges (is_at q.node q.key key.node key.key) refl }
@@ -116,8 +111,8 @@ module _ (plan : Plan) (key : GroupKey) (known : Known) (old taken put : BTreeMa
 -- of a cell that stands and comes behind the others
 pub standing_more : (plan : Plan) (old taken put : BTreeMap GroupKey Known) (cells : List Cell) (cell : Cell) (key : GroupKey) (known : Known) → AreStanding plan old cells
     → key ≡ record { node = cell.node; key = cell.key }
-    → ((q : GroupKey) → known_of taken q ≡ cond (is_eq (group_key_cmp key q)) None (known_of old q))
-    → ((q : GroupKey) → known_of put q ≡ cond (is_eq (group_key_cmp key q)) (Some known) (known_of taken q))
+    → ((q : GroupKey) → is_eq (led_key_cmp key q) ≡ false → known_of taken q ≡ known_of old q)
+    → ((q : GroupKey) → known_of put q ≡ cond (is_eq (led_key_cmp key q)) (Some known) (known_of taken q))
     → IsKnown (rules_of plan key.node) key.node key.key (cells ++ cell ∷ []) known → AreStanding plan put (cells ++ cell ∷ [])
 standing_more plan old taken put cells cell key known h keyed taken_is put_is here =
     standing_replaced plan key known old taken put (cells ++ cell ∷ []) taken_is put_is here
@@ -147,8 +142,8 @@ yet_standing (Some into) e = absurd (false≢true (sym e))
 -- of the key that is placed it is told, and of others nothing changes
 pub standing_placed : (plan : Plan) (before : ℤ) (c : ℕ) (key : GroupKey) (own : List Element) (cells placed : List Cell) (old taken put : BTreeMap GroupKey Known) (known : Known)
     → is_group plan key.node ≡ true → ArePlacedAt (rules_of plan key.node) before key.node key.key c own cells placed → AreStanding plan old cells
-    → ((q : GroupKey) → known_of taken q ≡ cond (is_eq (group_key_cmp key q)) None (known_of old q))
-    → ((q : GroupKey) → known_of put q ≡ cond (is_eq (group_key_cmp key q)) (Some known) (known_of taken q))
+    → ((q : GroupKey) → is_eq (led_key_cmp key q) ≡ false → known_of taken q ≡ known_of old q)
+    → ((q : GroupKey) → known_of put q ≡ cond (is_eq (led_key_cmp key q)) (Some known) (known_of taken q))
     → IsKnown (rules_of plan key.node) key.node key.key placed known → AreStanding plan put placed
 standing_placed plan before c key own cells placed old taken put known group placed_are h taken_is put_is here =
     standing_replaced plan key known old taken put placed taken_is put_is here

@@ -9,11 +9,16 @@ use Rattle.beam_values.specs.Orders.{value_cmp}
 use Rattle.beam_values.specs.declared.cell.Cell.{Cell}
 use Rattle.beam_values.specs.declared.value.Value.{Value}
 use Rattle.beam_model.specs.Panes.{is_cell_at_key}
+use Rattle.cell_index.specs.Leads.{key_hash}
 use Rattle.group_cells.specs.Placing.{is_standing}
 use Rattle.group_cells.specs.declared.groups.keyed.GroupKey.{GroupKey}
 
 abbrev pub group_key_cmp : GroupKey → GroupKey → Ordering
 group_key_cmp = then_cmp (on (λ k. k.node) nat_cmp) (on (λ k. k.key) value_cmp)
+
+-- by the hashes of keys first, which differ for nearly all of them
+abbrev pub led_key_cmp : GroupKey → GroupKey → Ordering
+led_key_cmp = then_cmp (on (λ k. key_hash k.key) nat_cmp) group_key_cmp
 
 -- the list of a Group and key; without one it is empty
 abbrev pub listed : {X : Type 0} → BTreeMap GroupKey (List X) → GroupKey → List X

@@ -21,7 +21,7 @@ use Rattle.beam_values.specs.declared.plan.Trigger.{Trigger}
 use Rattle.beam_values.specs.declared.value.Value.{Value}
 use Rattle.beam_model.specs.Panes.{GroupRules, is_cell_at_key, rules_of}
 use Rattle.group_cells.specs.AtPlaces.{at_place, changed_at}
-use Rattle.group_cells.specs.KeyLists.{group_key_cmp, places_from, stands_here}
+use Rattle.group_cells.specs.KeyLists.{led_key_cmp, places_from, stands_here}
 use Rattle.group_cells.specs.Placing.{fresh_cell, with_entry}
 use Rattle.group_cells.specs.Plain.{once_opened_at, opening_of, put_at}
 use Rattle.group_cells.specs.Rounds.{is_open}
@@ -107,6 +107,10 @@ pub record AreMet (span : Interval) (by_end : BTreeMap ℤ Standing) (met : List
   pub each : All (λ t. (window_at by_end t.span.end ≡ Some t) × (overlaps span t.span ≡ true)) met
   pub whole : (e : ℤ) (t : Standing) → window_at by_end e ≡ Some t → overlaps span t.span ≡ true → Contains met t
 
+-- a window overlaps none of them
+abbrev pub IsAlone : Interval → BTreeMap ℤ Standing → Type 0
+IsAlone span by_end = (e : ℤ) (t : Standing) → window_at by_end e ≡ Some t → overlaps span t.span ≡ false
+
 -- the places, ascending, of the windows that pass a test and overlap another
 pub record ArePlacesMet (test : ℕ → Interval → Bool) (span : Interval) (places : List ℕ) : Type 0 where
   pub ascend : IsStrictlySortedBy nat_cmp places
@@ -120,6 +124,11 @@ abbrev pub AreKnown : ℤ → (ℕ → Interval → Bool) → Known → Type 0
 AreKnown mark test (Apart listed) = (listed.mark ≡ mark) × AreListed test listed.by_end
 AreKnown mark test Nothing = Unit {0}
 
+-- these are those that overlap a window, where windows are known
+abbrev pub AreKnownMet : Interval → Known → List Standing → Type 0
+AreKnownMet span (Apart listed) met = AreListedApart listed.by_end → AreMet span listed.by_end met
+AreKnownMet span Nothing met = Unit {0}
+
 abbrev pub IsKnown : GroupRules → ℕ → Value → List Cell → Known → Type 0
 IsKnown rules node key cells (Apart listed) = AreListed (opens rules listed.mark node key cells) listed.by_end
 IsKnown rules node key cells Nothing = Unit {0}
@@ -130,7 +139,7 @@ IsKnownOf rules node key cells None = HasNone node key cells
 IsKnownOf rules node key cells (Some known) = IsKnown rules node key cells known
 
 abbrev pub known_of : BTreeMap GroupKey Known → GroupKey → Option Known
-known_of standing q = tree.get group_key_cmp standing q
+known_of standing q = tree.get led_key_cmp standing q
 
 -- what is noted of each Group of sessions and key is so
 pub record AreStanding (plan : Plan) (standing : BTreeMap GroupKey Known) (cells : List Cell) : Type 0 where

@@ -40,7 +40,7 @@ mod standing;
 use crate::groups::advance::Next;
 use crate::groups::draft::Tracked;
 use crate::groups::group_plan::GroupPlan;
-use crate::groups::keyed::GroupKey;
+use crate::groups::keyed::LedKey;
 use crate::groups::looking::{place_among, shared_key};
 use crate::groups::standing::Known;
 use beam_values::{
@@ -58,7 +58,7 @@ pub struct Groups {
     tracked: Tracked,
     dropped: Vec<Dropped>,
     /// What is known of the windows that stand at Groups of sessions, unless a commit was refused.
-    standing: Option<BTreeMap<GroupKey, Known>>,
+    standing: Option<BTreeMap<LedKey, Known>>,
     alloc: Global,
 }
 

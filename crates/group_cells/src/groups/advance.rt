@@ -15,7 +15,7 @@ ghost use Rattle.watermarks.specs.Holds.{hold_at};
 use crate::arrivals::{mark_into, others_of};
 use crate::groups::draft::{Draft, Tracked};
 use crate::groups::group_plan::GroupPlan;
-use crate::groups::keyed::{GroupKey, standing_of};
+use crate::groups::keyed::{LedKey, standing_of};
 use crate::groups::placing::Commit;
 use crate::groups::standing::Known;
 use crate::rules::Rules;
@@ -32,7 +32,7 @@ pub struct Next {
     pub others: List<Arrival>,
     pub marks: List<StageMarks>,
     pub fired: List<Pane>,
-    pub standing: BTreeMap<GroupKey, Known>,
+    pub standing: BTreeMap<LedKey, Known>,
 }
 
 impl Tracked {
@@ -46,7 +46,7 @@ impl Tracked {
         holds: &[Mark],
         before: &[StageMarks],
         commit: u32,
-        standing: Option<BTreeMap<GroupKey, Known>>,
+        standing: Option<BTreeMap<LedKey, Known>>,
         dropped: &mut Vec<Dropped>,
     ) -> Result<Next, NoMemory>
         requires checked { IsChecked plan.now }
@@ -99,7 +99,7 @@ impl<'a> Draft<'a> {
         holds: &[Mark],
         before: &[StageMarks],
         commit: u32,
-        standing: Option<BTreeMap<GroupKey, Known>>,
+        standing: Option<BTreeMap<LedKey, Known>>,
         dropped: &mut Vec<Dropped>,
     ) -> Result<Next, NoMemory>
         requires plan { self.old.plan ≡ plan.now }
@@ -153,8 +153,8 @@ fn known_standing(
     plan: &GroupPlan,
     before: &[StageMarks],
     cells: &[Cell],
-    standing: Option<BTreeMap<GroupKey, Known>>,
-) -> Result<BTreeMap<GroupKey, Known>, NoMemory>
+    standing: Option<BTreeMap<LedKey, Known>>,
+) -> Result<BTreeMap<LedKey, Known>, NoMemory>
     requires { IfSome standing (λ known. AreStanding plan.now known cells.now) }
     ensures { IfOk result (λ known. AreStanding plan.now known cells.now) }
 {

@@ -536,7 +536,7 @@ fn one_entry(alloc: Global, entry: Entry) -> Result<List<Entry>, NoMemory>
 }
 
 /// A new cell with its first entries.
-fn first_cell(key: IndexKey, entries: List<Entry>) -> Cell
+pub fn first_cell(key: IndexKey, entries: List<Entry>) -> Cell
     ensures { result ≡ fresh_cell key.node key.key key.span entries }
 {
     let CellKey { node, span, key } = key.into_cell();

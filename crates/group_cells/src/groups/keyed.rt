@@ -2,7 +2,7 @@
 //! sessions.
 
 ghost use Rattle.std.specs.Prelude.{◌≡◌, ◌+◌, ◌&&◌, ◌∷◌, ◌++◌, [], length, List as ListOf};
-ghost use Rattle.std.specs.Prelude.{IfOk, OnOk, if◌then◌else◌};
+ghost use Rattle.std.specs.Prelude.{false, IfOk, OnOk, if◌then◌else◌};
 ghost use Rattle.std.specs.Ordering.{as_partial_cmp, eq_by_cmp, is_eq};
 ghost use Rattle.std.specs.Cmp.{partial_order_from_own_ties};
 ghost use Rattle.std.specs.Cmp.Rules.{comparing};
@@ -12,7 +12,7 @@ ghost use Rattle.beam_values.specs.declared.arrival.Arrival.{Arrival as ArrivalO
 ghost use Rattle.beam_values.specs.declared.cell.Cell.{Cell as CellOf};
 ghost use Rattle.beam_model.specs.Panes.{rules_of};
 ghost use Rattle.group_cells.specs.Commits.{elements_keyed};
-ghost use Rattle.group_cells.specs.KeyLists.{all_listed, group_key_cmp, listed};
+ghost use Rattle.group_cells.specs.KeyLists.{all_listed, group_key_cmp, led_key_cmp, listed};
 ghost use Rattle.group_cells.specs.KnownWindows.{known_of, opens, AreKnown, AreStanding, IsKnownOf};
 ghost use Rattle.group_cells.specs.declared.groups.keyed.GroupKey.{GroupKey as GroupKeyOf};
 
@@ -23,9 +23,12 @@ use crate::rules::Rules;
 use beam_values::{
     Arrival, Cell, Element, List, Mark, NoMemory, StageMarks, Value, cmp_values, copy_key,
 };
+use cell_index::hash_of_key;
 use std::alloc::Global;
 use std::cmp::Ordering;
 use std::collections::BTreeMap;
+use std::marker::Model;
+use std::mem;
 
 /// A Group and a key.
 #[derive(Debug, Drop)]
@@ -71,6 +74,89 @@ impl Ord for GroupKey {
     fn cmp(&self, other: &GroupKey) -> Ordering {
         match self.node.cmp(&other.node) {
             Ordering::Equal => cmp_values(&self.key, &other.key),
+            decided => decided,
+        }
+    }
+}
+
+/// A Group and a key, with a hash of the key. Maps search their nodes from the first key on: the hash decides
+/// nearly all comparisons by one word.
+#[derive(Debug, Drop)]
+pub struct LedKey {
+    hash: u64,
+    own: GroupKey,
+}
+
+impl Model for LedKey {
+    ghost use Rattle.std.specs.Prelude.{◌≡◌};
+    ghost use Rattle.std.specs.Coded.{codes};
+    ghost use Rattle.beam_values.specs.contracts.value.Value as value;
+    ghost use Rattle.cell_index.specs.Leads.{key_hash};
+    ghost use Rattle.group_cells.specs.declared.groups.keyed.GroupKey.{GroupKey as GroupKeyOf};
+
+    ghost Value = { GroupKeyOf };
+
+    ghost coded = { Prim.hlevel (codes, value.the_row.coded) };
+
+    ghost view = { λ k. k.own };
+
+    ghost invariant = { λ k. k.hash ≡ key_hash k.own.key };
+}
+
+impl LedKey {
+    pub fn of(own: GroupKey) -> LedKey
+        ensures { result ≡ own }
+    {
+        LedKey {
+            hash: hash_of_key(&own.key),
+            own,
+        }
+    }
+
+    pub fn own(&self) -> &GroupKey
+        ensures { result.now ≡ self.now }
+    {
+        &self.own
+    }
+}
+
+impl PartialEq for LedKey {
+    ghost eq = { eq_by_cmp led_key_cmp };
+
+    ghost laws = { Prim.search (comparing, rules) depth 12 };
+
+    fn eq(&self, other: &LedKey) -> bool {
+        self.cmp(other).is_eq()
+    }
+}
+
+impl Eq for LedKey {
+    ghost laws = { Prim.search (comparing, rules) depth 12 };
+}
+
+impl PartialOrd for LedKey {
+    ghost partial_cmp = { as_partial_cmp led_key_cmp };
+
+    ghost laws = { partial_order_from_own_ties (Prim.search (comparing, rules) depth 12)
+        (Prim.search (comparing, rules) depth 12) };
+
+    fn partial_cmp(&self, other: &LedKey) -> Option<Ordering> {
+        Some(self.cmp(other))
+    }
+}
+
+impl Ord for LedKey {
+    ghost cmp = { led_key_cmp };
+
+    ghost total = { Prim.search (comparing, rules) depth 12 };
+
+    ghost matches_partial_cmp = { Prim.search (comparing, rules) depth 12 };
+
+    ghost matches_eq = { Prim.search (comparing, rules) depth 12 };
+
+    fn cmp(&self, other: &LedKey) -> Ordering {
+        match self.hash.cmp(&other.hash) {
+            Ordering::Equal => self.own.cmp(&other.own),
             decided => decided,
         }
     }
@@ -159,23 +245,35 @@ fn push_arrival(
     push(alloc, lists, key, arrival.element)
 }
 
-/// What is known of a Group and key at a mark, taken out. Takes no memory.
+/// What is known of a Group and key at a mark. Nothing is, from then on. Takes no memory.
 pub fn take_known(
     alloc: Global,
-    standing: &mut BTreeMap<GroupKey, Known>,
-    key: &GroupKey,
+    standing: &mut BTreeMap<LedKey, Known>,
+    key: &LedKey,
     rules: &Rules,
     mark: Mark,
 ) -> Known
     ensures known { (cells : ListOf CellOf)
         → IsKnownOf rules.now key.now.node key.now.key cells (known_of standing.old key.now)
         → AreKnown mark (opens rules.now mark key.now.node key.now.key cells) result }
-    ensures others { (q : GroupKeyOf) → known_of standing.new q
-        ≡ (if is_eq (group_key_cmp key.now q) then None else known_of standing.old q) }
+    ensures others { (q : GroupKeyOf) → is_eq (led_key_cmp key.now q) ≡ false
+        → known_of standing.new q ≡ known_of standing.old q }
 {
-    match standing.remove(key) {
+    match take_noted(standing, key) {
         None => Known::none(alloc, mark),
         Some(known) => known.at(rules, mark),
+    }
+}
+
+/// What is noted of a Group and key, which stays among the others: it is noted anew soon.
+fn take_noted(standing: &mut BTreeMap<LedKey, Known>, key: &LedKey) -> Option<Known>
+    ensures noted { result ≡ known_of standing.old key.now }
+    ensures others { (q : GroupKeyOf) → is_eq (led_key_cmp key.now q) ≡ false
+        → known_of standing.new q ≡ known_of standing.old q }
+{
+    match standing.get_mut(key) {
+        None => None,
+        Some(noted) => Some(mem::replace(noted, Known::Nothing)),
     }
 }
 
@@ -185,7 +283,7 @@ pub fn standing_of(
     plan: &GroupPlan,
     before: &[StageMarks],
     cells: &[Cell],
-) -> Result<BTreeMap<GroupKey, Known>, NoMemory>
+) -> Result<BTreeMap<LedKey, Known>, NoMemory>
     ensures { IfOk result (λ standing. AreStanding plan.now standing cells.now) }
 {
     let mut standing = BTreeMap::new(alloc);
@@ -201,7 +299,7 @@ fn push_cell(
     before: &[StageMarks],
     cell: &Cell,
     place: usize,
-    standing: &mut BTreeMap<GroupKey, Known>,
+    standing: &mut BTreeMap<LedKey, Known>,
 ) -> Result<(), NoMemory>
     ensures { OnOk result
         ((cells : ListOf CellOf) → place ≡ length cells → AreStanding plan.now standing.old cells
@@ -221,11 +319,11 @@ fn push_cell(
     Ok(())
 }
 
-fn key_of_cell(alloc: Global, cell: &Cell) -> Result<GroupKey, NoMemory>
+fn key_of_cell(alloc: Global, cell: &Cell) -> Result<LedKey, NoMemory>
     ensures { IfOk result (λ key. key ≡ record { node = cell.now.node; key = cell.now.key }) }
 {
-    Ok(GroupKey {
+    Ok(LedKey::of(GroupKey {
         node: cell.node,
         key: cell.key.copy(alloc)?,
-    })
+    }))
 }

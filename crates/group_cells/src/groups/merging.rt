@@ -22,13 +22,13 @@ ghost use Rattle.group_cells.specs.Rounds.{entry_of, open_windows, AreSessionsOv
 ghost use Rattle.group_cells.specs.Undoing.{AreOfCommit};
 
 use crate::arrivals::mark_into;
-use crate::groups::draft::Draft;
-use crate::groups::keyed::{GroupKey, by_key, take_known};
+use crate::groups::draft::{Draft, first_cell};
+use crate::groups::keyed::{GroupKey, LedKey, by_key, take_known};
 use crate::groups::placing::Commit;
 use crate::groups::standing::Known;
 use crate::rules::Rules;
 use crate::windows::{gives_way, own_spans, sessions_over};
-use beam_values::{Arrival, Cell, Duplicate, Element, Entry, List, Mark, NoMemory, Span};
+use beam_values::{Arrival, Duplicate, Element, Entry, List, Mark, NoMemory, Span};
 use cell_index::{CellKey, IndexKey};
 use std::alloc::Global;
 use std::collections::BTreeMap;
@@ -40,7 +40,7 @@ impl<'a> Draft<'a> {
         alloc: Global,
         commit: Commit,
         taken: List<Arrival>,
-        standing: &mut BTreeMap<GroupKey, Known>,
+        standing: &mut BTreeMap<LedKey, Known>,
     ) -> Result<(), NoMemory>
         requires groups { All (λ arrival. is_group commit.plan.now arrival.node ≡ true) taken }
         requires merging { All
@@ -73,7 +73,7 @@ impl<'a> Draft<'a> {
         commit: Commit,
         key: GroupKey,
         own: List<Element>,
-        standing: &mut BTreeMap<GroupKey, Known>,
+        standing: &mut BTreeMap<LedKey, Known>,
     ) -> Result<(), NoMemory>
         requires group { is_group commit.plan.now key.node ≡ true }
         requires merges { (rules_of commit.plan.now key.node).merges ≡ true }
@@ -93,12 +93,40 @@ impl<'a> Draft<'a> {
             unreachable!()
         };
         let mark = mark_into(commit.before, key.node);
+        let key = LedKey::of(key);
         let known = take_known(alloc, standing, &key, rules, mark);
-        let windows = self.sessions_for(alloc, rules, mark, &key, own.as_slice(), &known)?;
-        let known = self.open_all(alloc, rules, mark, &key, windows.as_slice(), known)?;
-        self.put_all(rules, mark, &key, commit.number, own, &known)?;
+        let known = self.place_known(alloc, rules, mark, key.own(), commit.number, own, known)?;
         standing.insert(key, known)?;
         Ok(())
+    }
+
+    /// The same, by what is known of the key's windows. Answers what is known of them then.
+    fn place_known(
+        &mut self,
+        alloc: Global,
+        rules: &Rules,
+        before: Mark,
+        key: &GroupKey,
+        commit: u32,
+        own: List<Element>,
+        known: Known,
+    ) -> Result<Known, NoMemory>
+        requires merges { rules.now.merges ≡ true }
+        requires unexpired { All (λ e. is_expired rules.now.trigger e.span.end before ≡ false) own }
+        requires known { AreKnown before (opens rules.now before key.now.node key.now.key
+            self.old.cells) known }
+        ensures ok { OnOk result (ArePlacedAt rules.now before key.now.node key.now.key
+            commit own self.old.cells self.new.cells) }
+        ensures grown { OnOk result
+            (length self.new.cells ≤ length self.old.cells + length own) }
+        ensures known { IfOk result (AreKnown before (opens rules.now before key.now.node
+            key.now.key self.new.cells)) }
+        ensures same { AreOfCommit self.old self.new }
+    {
+        let windows = self.sessions_for(alloc, rules, before, key, own.as_slice(), &known)?;
+        let known = self.open_all(alloc, rules, before, key, windows.as_slice(), known)?;
+        self.put_all(rules, before, key, commit, own, &known)?;
+        Ok(known)
     }
 
     /// The sessions for which there are to be cells.
@@ -188,8 +216,8 @@ impl<'a> Draft<'a> {
         }
         let met = known.meeting(alloc, rules, before, key.node, &key.key, cells, span)?;
         let place = u32::try_from(cells.len()).map_err(|_| NoMemory)?;
-        self.open_over(alloc, rules, before, key, span, met.as_slice())?;
-        let known = known.opened(alloc, self.cells(), met.as_slice(), span, place)?;
+        self.open_over(alloc, rules, before, key, span, met.places.as_slice())?;
+        let known = known.opened(self.cells(), &met, span, place)?;
         Ok(known)
     }
 
@@ -273,12 +301,11 @@ impl<'a> Draft<'a> {
             ≡ self.old.cells ++ fresh_cell key.now.node key.now.key span [] ∷ []) }
         ensures same { AreOfCommit self.old self.new }
     {
-        let cell = session_cell(alloc, key, span)?;
         let own = session_key(alloc, key, span)?;
         let place = u32::try_from(self.tracked.cells.len()).map_err(|_| NoMemory)?;
         self.tracked.make_room(self.plan, key.node, place, span, 0)?;
-        self.tracked.index.add(own, place)?;
-        self.tracked.push(cell, 0);
+        self.tracked.index.add(alloc, &own, place)?;
+        self.tracked.push(first_cell(own, List::new(alloc)), 0);
         Ok(())
     }
 
@@ -340,20 +367,6 @@ impl<'a> Draft<'a> {
             }
         }
     }
-}
-
-fn session_cell(alloc: Global, key: &GroupKey, span: Span) -> Result<Cell, NoMemory>
-    ensures { IfOk result (λ cell. cell ≡ fresh_cell key.now.node key.now.key span []) }
-{
-    Ok(Cell {
-        node: key.node,
-        key: key.key.copy(alloc)?,
-        span,
-        entries: List::new(alloc),
-        next_index: 0,
-        on_time: false,
-        merged_into: None,
-    })
 }
 
 fn session_key(alloc: Global, key: &GroupKey, span: Span) -> Result<IndexKey, NoMemory>

@@ -15,9 +15,9 @@ ghost use Rattle.beam_values.specs.declared.cell.Cell.{Cell as CellOf};
 ghost use Rattle.beam_values.specs.declared.value.Value.{Value as ValueOf};
 ghost use Rattle.beam_model.specs.Panes.{is_cell_at_key, GroupRules};
 ghost use Rattle.group_cells.specs.KnownWindows.{meeting_places, meets, opens, overlaps, places_of};
-ghost use Rattle.group_cells.specs.KnownWindows.{window_at, AreKnown, AreListed, AreListedApart};
+ghost use Rattle.group_cells.specs.KnownWindows.{window_at, AreKnown, AreKnownMet, AreListed, AreListedApart};
 ghost use Rattle.group_cells.specs.KnownWindows.{AreFilled, AreMet, AreNear, ArePlacesMet, HasNone, HasOpened};
-ghost use Rattle.group_cells.specs.KnownWindows.{IsFirstAfter, IsFirstExpired, IsHolder, IsKnown, IsNextAfter, IsTaker};
+ghost use Rattle.group_cells.specs.KnownWindows.{IsAlone, IsFirstAfter, IsFirstExpired, IsHolder, IsKnown, IsNextAfter, IsTaker};
 ghost use Rattle.group_cells.specs.KnownWindows.{IsWithout};
 ghost use Rattle.group_cells.specs.Plain.{stands_at};
 ghost use Rattle.group_cells.specs.Rounds.{open_windows};
@@ -55,6 +55,15 @@ pub enum Known {
     Apart(Listed),
     /// Some may overlap, or a mark fell, which no run brings about: all cells are looked at.
     Nothing,
+}
+
+/// The cells of a Group and key that stand, aren't expired and overlap a window.
+#[derive(Debug, Drop)]
+pub struct Met {
+    /// Ascending.
+    pub places: List<u32>,
+    /// Their windows, where they are listed.
+    pub windows: List<Standing>,
 }
 
 impl Known {
@@ -117,7 +126,7 @@ impl Known {
         }
     }
 
-    /// The places, ascending, of the cells of the key that stand, aren't expired and overlap a window.
+    /// The cells of the key that stand, aren't expired and overlap a window.
     pub fn meeting(
         &self,
         alloc: Global,
@@ -127,17 +136,21 @@ impl Known {
         key: &Value,
         cells: &[Cell],
         span: Span,
-    ) -> Result<List<u32>, NoMemory>
+    ) -> Result<Met, NoMemory>
         ensures places { IfOk result
-            (λ places. AreKnown mark (opens rules.now mark node key.now cells.now) self.now
-            → places ≡ meeting_places rules.now mark node key.now span cells.now) }
+            (λ met. AreKnown mark (opens rules.now mark node key.now cells.now) self.now
+            → met.places ≡ meeting_places rules.now mark node key.now span cells.now) }
+        ensures windows { IfOk result (λ met. AreKnownMet span self.now met.windows) }
         ensures filled { OnOk result
             (AreKnown mark (opens rules.now mark node key.now cells.now) self.now
             → AreFilled rules.now mark node key.now cells.now) }
     {
         match self {
-            Known::Apart(listed) => listed.places_met(alloc, span),
-            Known::Nothing => all_meeting(alloc, rules, mark, node, key, cells, span),
+            Known::Apart(listed) => listed.meeting(alloc, span),
+            Known::Nothing => Ok(Met {
+                places: all_meeting(alloc, rules, mark, node, key, cells, span)?,
+                windows: List::new(alloc),
+            }),
         }
     }
 
@@ -163,30 +176,31 @@ impl Known {
         }
     }
 
-    /// What is known once the cell of a session was opened at a place, to which those at `met` gave way.
+    /// What is known once the cell of a session was opened at a place, to which those that it met gave way.
     pub fn opened(
         self,
-        alloc: Global,
         cells: &[Cell],
-        met: &[u32],
+        met: &Met,
         span: Span,
         place: u32,
     ) -> Result<Known, NoMemory>
         ensures { IfOk result (λ known. (rules : GroupRules) (mark : ℤ) (node : ℕ) (key : ValueOf)
             (old : ListOf CellOf) → AreKnown mark (opens rules mark node key old) self
-            → met.now ≡ meeting_places rules mark node key span old
+            → AreKnownMet span self met.now.windows
+            → met.now.places ≡ meeting_places rules mark node key span old
             → HasOpened rules mark node key span place old cells.now
             → AreKnown mark (opens rules mark node key cells.now) known) }
     {
         let Known::Apart(listed) = self else {
             return Ok(Known::Nothing);
         };
-        if any_stands(cells, met) {
+        if any_stands(cells, met.places.as_slice()) {
             return Ok(Known::Nothing);
         }
         let mut listed = listed;
-        listed.leave(alloc, span)?;
-        listed.with(span, place)
+        listed.leave(met.windows.as_slice());
+        listed.add(span, place)?;
+        Ok(Known::Apart(listed))
     }
 
     /// One more cell of the key, which stands.
@@ -281,12 +295,15 @@ impl Listed {
         Ok(met)
     }
 
-    fn places_met(&self, alloc: Global, span: Span) -> Result<List<u32>, NoMemory>
-        ensures { IfOk result (λ places. (test : ℕ → Interval → Bool)
-            → AreListed test self.now.by_end → ArePlacesMet test span places) }
+    fn meeting(&self, alloc: Global, span: Span) -> Result<Met, NoMemory>
+        ensures places { IfOk result (λ met. (test : ℕ → Interval → Bool)
+            → AreListed test self.now.by_end → ArePlacesMet test span met.places) }
+        ensures windows { IfOk result
+            (λ met. AreListedApart self.now.by_end → AreMet span self.now.by_end met.windows) }
     {
-        let met = self.met(alloc, span)?;
-        in_order(alloc, met.as_slice())
+        let windows = self.met(alloc, span)?;
+        let places = in_order(alloc, windows.as_slice())?;
+        Ok(Met { places, windows })
     }
 
     /// The windows that overlap some others, each as often as it does.
@@ -310,8 +327,8 @@ impl Listed {
     /// Whether a window overlaps a listed one.
     fn is_met(&self, span: Span) -> bool
         ensures some { IsNonEmpty span }
-        ensures none { AreListedApart self.now.by_end → result ≡ false → (e : ℤ) (t : StandingOf)
-            → window_at self.now.by_end e ≡ Some t → overlaps span t.span ≡ false }
+        ensures none { AreListedApart self.now.by_end → result ≡ false
+            → IsAlone span self.now.by_end }
     {
         let end = span.end();
         match self.next_after(span.start()) {
@@ -320,17 +337,16 @@ impl Listed {
         }
     }
 
-    /// The windows that overlap one leave.
-    fn leave(&mut self, alloc: Global, span: Span) -> Result<(), NoMemory>
-        ensures left { OnOk result (AreListedApart self.old.by_end
-            → IsWithout (overlaps span) self.old.by_end self.new.by_end) }
+    /// Windows leave: all that overlap one, say.
+    fn leave(&mut self, met: &[Standing])
+        ensures left { (span : Interval) → AreListedApart self.old.by_end
+            → AreMet span self.old.by_end met.now
+            → IsWithout (overlaps span) self.old.by_end self.new.by_end }
         ensures mark { self.new.mark ≡ self.old.mark }
     {
-        let met = self.met(alloc, span)?;
-        for window in met.as_slice() {
+        for window in met {
             self.by_end.remove(&window.span.end());
         }
-        Ok(())
     }
 
     /// One more window. Where it overlaps another, nothing is known.
@@ -343,8 +359,20 @@ impl Listed {
             return Ok(Known::Nothing);
         }
         let mut listed = self;
-        listed.by_end.insert(span.end(), Standing { span, place })?;
+        listed.add(span, place)?;
         Ok(Known::Apart(listed))
+    }
+
+    /// One more window, which overlaps no other.
+    fn add(&mut self, span: Span, place: u32) -> Result<(), NoMemory>
+        ensures listed { OnOk result ((test : ℕ → Interval → Bool) → AreListed test self.old.by_end
+            → IsAlone span self.old.by_end
+            → AreListed (λ other s. test other s || (other == place && same_span span s))
+            self.new.by_end) }
+        ensures mark { self.new.mark ≡ self.old.mark }
+    {
+        self.by_end.insert(span.end(), Standing { span, place })?;
+        Ok(())
     }
 }
 
@@ -410,7 +438,7 @@ fn push_spans(met: &[Standing], near: &mut List<Span>) -> Result<(), NoMemory>
     Ok(())
 }
 
-/// The same as of `Known::meeting`, where all cells are looked at.
+/// The places that `Known::meeting` answers, where all cells are looked at.
 fn all_meeting(
     alloc: Global,
     rules: &Rules,

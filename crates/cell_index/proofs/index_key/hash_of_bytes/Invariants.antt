@@ -1,7 +1,6 @@
-use Rattle.std.proofs.Common.{◌≡◌, take}
-use Rattle.std.specs.List.{fold}
-use Rattle.cell_index.specs.Leads.{with_word}
+use Rattle.std.proofs.Common.{◌≡◌}
+use Rattle.cell_index.specs.Leads.{words_hash}
 use Rattle.cell_index.proofs.index_key.hash_of_bytes.Given as goal
 
-abbrev pub invariant-loop-byte : goal.invariant-loop-byte
-invariant-loop-byte l = l.hash ≡ fold with_word 0 (take l.byte-index l.bytes)
+abbrev pub invariant-loop-at : goal.invariant-loop-at
+invariant-loop-at l = l.hash ≡ words_hash l.bytes l.at

@@ -4,7 +4,7 @@ use Rattle.beam_values.specs.Nodes.{is_group}
 use Rattle.beam_values.specs.declared.cell.Cell.{Cell}
 use Rattle.group_cells.specs.Arrivals.{UnmergedStand}
 use Rattle.group_cells.specs.Plain.{AreCells}
-use Rattle.group_cells.specs.KeyLists.{group_key_cmp}
+use Rattle.group_cells.specs.KeyLists.{led_key_cmp}
 use Rattle.group_cells.specs.KnownWindows.{known_of, AreStanding, IsKnownOf}
 use Rattle.group_cells.specs.declared.groups.keyed.GroupKey.{GroupKey}
 use Rattle.group_cells.specs.declared.groups.standing.Known.{Known}
@@ -19,7 +19,7 @@ invariant_of-result c =
     let plan = c.in_ok-new.field-0 in
     let none = sym c.new-2.ensures.cells in
     let unknown : (q : GroupKey) → known_of c.new-4.result q ≡ None =
-    λ q. ap (λ (es : List (GroupKey × Known)). lookup (λ k. is_eq (group_key_cmp q k)) es) c.new-4.ensures.empty in
+    λ q. ap (λ (es : List (GroupKey × Known)). lookup (λ k. is_eq (led_key_cmp q k)) es) c.new-4.ensures.empty in
     record {
       cells = subst (λ (l : List Cell). AreCells plan l) none (record {
         groups = All-nil (λ (cell : Cell). is_group plan cell.node ≡ true);

@@ -26,7 +26,7 @@ returns-clause-ok c =
     let span = c.args.span in
     let old = c.args.self.now.cells in
     let seen = c.cells-cells.result.now in
-    let met = c.in_ok-met.met in
+    let met = c.in_ok-met.met.places in
     let is = c.cells-cells.ensures in
     let known : AreKnown before (opens rs before key.node key.key seen) c.args.known =
     subst (λ (l : List Cell). AreKnown before (opens rs before key.node key.key l) c.args.known) (sym is) c.requires.known in
@@ -47,7 +47,7 @@ returns-clause-known c =
     let old = c.args.self.now.cells in
     let new = c.open_over.new.self.cells in
     let seen = c.cells-cells.result.now in
-    let met = c.in_ok-met.met in
+    let met = c.in_ok-met.met.places in
     let is = c.cells-cells.ensures in
     let behind : c.in_ok-place.place ≡ length seen = search rules in
     let known : AreKnown before (opens rs before key.node key.key seen) c.args.known =
@@ -60,4 +60,4 @@ returns-clause-known c =
     c.in_ok-place.place (behind ∙ ap length is) c.requires.unexpired in
     let whole : HasOpened rs before key.node key.key span c.in_ok-place.place old c.cells.result.now = subst (HasOpened rs before key.node key.key span c.in_ok-place.place old) (sym c.cells.ensures) has in
     subst (λ (l : List Cell). AreKnown before (opens rs before key.node key.key l) c.in_ok-known.known) c.cells.ensures
-    (c.in_ok-known.ensures rs before key.node key.key old c.requires.known (c.as_slice-2.ensures ∙ are) whole)
+    (c.in_ok-known.ensures rs before key.node key.key old c.requires.known c.in_ok-met.ensures.windows are whole)

@@ -1,5 +1,7 @@
 use Rattle.std.proofs.Common.{◌≡◌, ℕ, ◌<◌, ◌^◌, ◌++◌, ◌∷◌, [], List, ap, length, refl, rules, subst, sym, ◌∙◌}
+use Rattle.beam_values.specs.Intervals.{Interval}
 use Rattle.beam_values.specs.declared.cell.Cell.{Cell}
+use Rattle.beam_values.specs.declared.cell.Entry.{Entry}
 use Rattle.cell_index.specs.Indexes.{IsIndexOf}
 use Rattle.cell_index.specs.declared.index.CellIndex.{CellIndex}
 use Rattle.cell_index.specs.declared.index_key.CellKey.{CellKey}
@@ -9,8 +11,13 @@ use Rattle.group_cells.specs.Placing.{fresh_cell}
 use Rattle.group_cells.specs.Undoing.{undone_all, SeenDraft}
 use Rattle.group_cells.specs.declared.groups.draft.Change.{Change}
 use Rattle.group_cells.specs.declared.groups.draft.Change.TheVariants.{Opened}
+use Rattle.group_cells.specs.declared.groups.keyed.GroupKey.{GroupKey}
 use Rattle.group_cells.proofs.Tracking.{kept_tracked, opened_tracked, opened_undone}
 use Rattle.group_cells.proofs.groups.draft.Draft.push_session.Goals as goal
+
+fresh_is : (own : CellKey) (key : GroupKey) (span : Interval) (none : List Entry) (cell : Cell) → own ≡ record { node = key.node; span = span; key = key.key } → none ≡ []
+    → cell ≡ fresh_cell own.node own.key own.span none → cell ≡ fresh_cell key.node key.key span []
+fresh_is own key span none cell keyed empty is = is ∙ (λ i. fresh_cell (keyed i).node (keyed i).key (keyed i).span (empty i))
 
 pub invariant_of-self : goal.invariant_of-self
 invariant_of-self c =
@@ -30,12 +37,11 @@ invariant_of-self-2 c =
     let plan = c.self.inside.plan.now in
     let old = c.self.inside.tracked in
     let cells = old.cells.items in
-    let cell = c.in_ok-cell.cell in
-    let own = c.in_ok-own.own in
+    let cell = c.first_cell.result in
     let key = c.args.key.now in
     let place : c.in_ok-place.place ≡ length cells = search rules in
     let few : length cells < 2 ^ 32 = search rules in
-    let fresh : cell ≡ fresh_cell key.node key.key c.args.span [] = c.in_ok-cell.ensures in
+    let fresh : cell ≡ fresh_cell key.node key.key c.args.span [] = fresh_is c.in_ok-own.own key c.args.span c.new.result cell c.in_ok-own.ensures c.new.ensures c.first_cell.ensures in
     let moments : AreMoments plan c.make_room.new.self.due (cells ++ cell ∷ []) =
     subst (λ (x : Cell). AreMoments plan c.make_room.new.self.due (cells ++ x ∷ [])) (sym fresh) (c.in_ok-make_room.ensures.moments cells key.key [] c.self.invariant.due.moments place refl) in
     let index : IsIndexOf c.add.new.self (cells ++ cell ∷ []) =
@@ -51,13 +57,14 @@ invariant_of-self-2 c =
 
 pub returns-clause-ok : goal.returns-clause-ok
 returns-clause-ok c =
-    c.push.ensures.cells ∙ ap (λ (l : List Cell). l ++ c.in_ok-cell.cell ∷ []) (c.make_room.ensures.cells ∙ ap (λ (d : SeenDraft). d.cells) c.self.view_is)
-    ∙ ap (λ (x : Cell). c.args.self.now.cells ++ x ∷ []) c.in_ok-cell.ensures
+    c.push.ensures.cells ∙ ap (λ (l : List Cell). l ++ c.first_cell.result ∷ []) (c.make_room.ensures.cells ∙ ap (λ (d : SeenDraft). d.cells) c.self.view_is)
+    ∙ ap (λ (x : Cell). c.args.self.now.cells ++ x ∷ [])
+    (fresh_is c.in_ok-own.own c.args.key.now c.args.span c.new.result c.first_cell.result c.in_ok-own.ensures c.new.ensures c.first_cell.ensures)
 
 pub returns-clause-same : goal.returns-clause-same
 returns-clause-same c = (
   ap (λ (d : SeenDraft). d.plan) c.self.view_is,
-  opened_undone c.self.inside.tracked c.push.new.self c.in_ok-cell.cell (c.push.ensures.cells ∙ ap (λ (l : List Cell). l ++ c.in_ok-cell.cell ∷ []) c.make_room.ensures.cells)
+  opened_undone c.self.inside.tracked c.push.new.self c.first_cell.result (c.push.ensures.cells ∙ ap (λ (l : List Cell). l ++ c.first_cell.result ∷ []) c.make_room.ensures.cells)
       (c.push.ensures.changes ∙ ap (λ (l : List Change). l ++ Opened ∷ []) c.make_room.ensures.changes)
       ∙ ap (λ (d : SeenDraft). d.begun) c.self.view_is,
 )

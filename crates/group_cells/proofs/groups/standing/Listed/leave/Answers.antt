@@ -13,15 +13,15 @@ loop-window-preserved c =
     let ends = same ∙ c.end.ensures.value in
     record {
       mark = c.loop-window.invariant.mark;
-      left = among_more c.as_slice-window-items.result.now c.loop-window.window-index c.window-item.result c.args.self.now.by_end c.loop-window.self.by_end c.remove.new.self c.loop-window-test.true c.window-item.is
+      left = among_more c.args.met.now c.loop-window.window-index c.window-item.result c.args.self.now.by_end c.loop-window.self.by_end c.remove.new.self c.loop-window-test.true c.window-item.is
           c.loop-window.invariant.left
           (λ q. c.remove.ensures.updates.0 q ∙ ap (λ z. cond (is_eq (int_cmp z q)) None (window_at c.loop-window.self.by_end q)) ends);
     }
 
 pub returns-clause-left : goal.returns-clause-left
-returns-clause-left c = λ apart.
+returns-clause-left c = λ span apart are.
     let old = c.args.self.now.by_end in
-    let items = c.as_slice-window-items.result.now in
-    let all : take c.loop-window.window-index items ≡ c.in_ok-met.met = take_all c.loop-window.window-index items (omega (arith, c.loop-window-test.false)) ∙ c.as_slice-window-items.ensures in
-    met_left c.args.span old c.loop-window.self.by_end c.in_ok-met.met apart (c.in_ok-met.ensures.met apart)
+    let met = c.args.met.now in
+    let all : take c.loop-window.window-index met ≡ met = take_all c.loop-window.window-index met (omega (arith, c.loop-window-test.false)) in
+    met_left span old c.loop-window.self.by_end met apart are
     (λ e. c.loop-window.invariant.left e ∙ ap (λ (l : List Standing). cond (is_among l e) None (window_at old e)) all)

@@ -6,5 +6,5 @@ use Rattle.group_cells.proofs.groups.standing.Listed.leave.Given as goal
 abbrev pub invariant-loop-window : goal.invariant-loop-window
 invariant-loop-window l = record {
   mark : l.self.mark ≡ l.fn.self.mark;
-  left : (e : ℤ) → window_at l.self.by_end e ≡ cond (is_among (take l.window-index l.window-items) e) None (window_at l.fn.self.by_end e);
+  left : (e : ℤ) → window_at l.self.by_end e ≡ cond (is_among (take l.window-index l.met) e) None (window_at l.fn.self.by_end e);
 }

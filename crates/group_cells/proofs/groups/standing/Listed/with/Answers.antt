@@ -1,17 +1,4 @@
-use Rattle.std.proofs.Common.{◌≡◌, ◌∙◌, Some, ap, arith, cond, refl, to_z, of_z, w64}
-use Rattle.std.specs.Ordering.{int_cmp, is_eq}
-use Rattle.std.proofs.lemmas.Int.{to_z-of_z}
-use Rattle.group_cells.specs.KnownWindows.{window_at}
-use Rattle.group_cells.proofs.ListedWindows.{listed_with}
 use Rattle.group_cells.proofs.groups.standing.Listed.with.Goals as goal
 
 pub returns : goal.returns
-returns c = λ test h.
-    let same : to_z w64 (of_z w64 c.end.result) ≡ c.end.result = grind (arith, to_z-of_z, c.end.type_inv) in
-    let ends = same ∙ c.end.ensures.value in (
-      refl,
-      listed_with test c.args.self.by_end c.insert.new.self c.args.span c.args.place h c.is_met.ensures.some (c.is_met.ensures.none h.apart c.if-is_met.false)
-          (λ q.
-          c.in_ok-insert.ensures.updates.0 q
-          ∙ ap (λ z. cond (is_eq (int_cmp z q)) (Some (record { span = c.args.span; place = c.args.place })) (window_at c.args.self.by_end q)) ends),
-    )
+returns c = λ test h. (c.add.ensures.mark, c.in_ok-add.ensures.listed test h (c.is_met.ensures.none h.apart c.if-is_met.false))
