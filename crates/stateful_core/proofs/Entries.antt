@@ -6,15 +6,14 @@ use Rattle.std.proofs.lemmas.Int.{ints}
 use Rattle.beam_values.specs.States.{IsFirstTimer, IsNoneDue}
 use Rattle.beam_values.specs.Times.{IsMark, IsTime, final_mark, greatest_time, least_time}
 use Rattle.beam_values.specs.declared.log.Timer.{Timer}
-use Rattle.mark_trees.specs.Halves.{no_marks}
 use Rattle.stateful_core.specs.Cells.{KeyCell}
 use Rattle.stateful_core.specs.Taking.{first_timer, has_waiting, if_due, is_some}
-use Rattle.stateful_core.specs.Trees.{IsEntryOf, IsTimerDue, is_ready_at}
+use Rattle.stateful_core.specs.Trees.{IsDueTime, IsTimerDue, is_ready_at}
 use Rattle.stateful_core.specs.declared.waiting.Waiting.{Waiting}
 use Rattle.stateful_core.proofs.FirstTimer.{first_is, is_first}
 use Rattle.stateful_core.proofs.FirstOfTrees.{le_false, le_true, min_is, none_idle}
 
-pub live_entry : (cell : KeyCell) (n : ℕ) → cell.live ≡ Some n → IsEntryOf cell no_marks
+pub live_entry : (cell : KeyCell) (n : ℕ) → cell.live ≡ Some n → IsDueTime cell final_mark
 live_entry cell n e = record {
   due = λ mark m. none_idle.never mark m
       ∙ sym (ap (λ (o : Option ℕ). (elim o as (λ _. Bool) [ None ↦ true | Some k ↦ false ]) && (has_waiting cell.waiting || is_some (if_due mark (first_timer cell.kept.timers)))) e);
@@ -35,12 +34,12 @@ none_waits (w ∷ ws) h = absurd (omega arith)
 at_once : (mark : ℤ) → IsMark mark → int_le least_time (int_min mark greatest_time) ≡ true
 at_once mark m = min_is mark (λ b. int_le least_time b) true (λ above. refl) (λ below. le_true least_time mark m.0)
 
-pub waiting_entry : (cell : KeyCell) → cell.live ≡ None → 0 < length cell.waiting → IsEntryOf cell (record { due = least_time; hold = final_mark })
+pub waiting_entry : (cell : KeyCell) → cell.live ≡ None → 0 < length cell.waiting → IsDueTime cell least_time
 waiting_entry cell e some = record {
   due = λ mark m. at_once mark m ∙ sym (sym (free mark cell e) ∙ ap (λ b. b || is_some (if_due mark (first_timer cell.kept.timers))) (some_waits cell.waiting some));
 }
 
-pub timer_entry : (cell : KeyCell) (due : ℤ) → cell.live ≡ None → length cell.waiting ≤ 0 → IsTimerDue cell.kept.timers due → IsEntryOf cell (record { due = due; hold = final_mark })
+pub timer_entry : (cell : KeyCell) (due : ℤ) → cell.live ≡ None → length cell.waiting ≤ 0 → IsTimerDue cell.kept.timers due → IsDueTime cell due
 timer_entry cell due e none h = record {
   due = λ mark m. h.due mark m ∙ sym (sym (free mark cell e) ∙ ap (λ b. b || is_some (if_due mark (first_timer cell.kept.timers))) (none_waits cell.waiting none));
 }

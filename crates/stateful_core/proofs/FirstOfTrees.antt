@@ -46,9 +46,9 @@ min_is mark f t above below = by (int_lt greatest_time mark) refl
     by false e = below (omega (arith, ints, e))
 
 pub none_idle : IsIdle no_marks
-none_idle = record { never = λ mark m. min_is mark (λ b. int_le final_mark b) false (λ above. refl) (λ below. le_false final_mark mark (omega (arith, ints, below))) }
+none_idle = record { never = λ mark m. min_is mark (λ b. int_le final_mark b) false (λ above. refl) (λ below. le_false final_mark mark (omega (arith, ints, below))); free = refl }
 
-past_none : {X : Type 0} (xs : List X) (at : ℕ) → slice_get xs at ≡ None → length xs ≤ at
+pub past_none : {X : Type 0} (xs : List X) (at : ℕ) → slice_get xs at ≡ None → length xs ≤ at
 past_none [] at e = omega arith
 past_none (x ∷ xs) zero e = absurd (cc)
 past_none (x ∷ xs) (suc at) e = let h = past_none xs at e in omega (arith, h)

@@ -5,6 +5,7 @@ pub mod Cellwise
 pub mod SameValues
 pub mod Found
 pub mod Numbers
+pub mod Sought
 pub mod OnceOnly
 pub mod Keeping
 pub mod Came
@@ -19,6 +20,9 @@ pub mod OpenFirst
 pub mod PlaceParts
 pub mod ReadyTests
 pub mod LeastOf
+pub mod LowRuns
+pub mod CellHolds
+pub mod TreeHolds
 pub mod FinishedHolds
 pub mod JobStays
 pub mod WorkedOnce

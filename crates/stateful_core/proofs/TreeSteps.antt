@@ -10,16 +10,18 @@ use Rattle.std.specs.Option.{option_map}
 use Rattle.std.proofs.lemmas.Option.{get_or_from_slice_get, same_Some, slice_get-get_or, slice_get-map, slice_get_within}
 use Rattle.mark_trees.specs.Halves.{no_marks}
 use Rattle.mark_trees.specs.declared.twin_marks.TwinMarks.{TwinMarks}
+use Rattle.beam_model.specs.Holds.{least_hold}
 use Rattle.beam_values.specs.Nodes.{is_stateful}
+use Rattle.beam_values.specs.Times.{final_mark}
 use Rattle.beam_values.specs.declared.arrival.Arrival.{Arrival}
 use Rattle.beam_values.specs.declared.marks.StageMarks.{StageMarks}
 use Rattle.beam_values.specs.declared.plan.Plan.{Plan}
-use Rattle.stateful_core.specs.Cells.{KeyCell}
+use Rattle.stateful_core.specs.Cells.{KeyCell, cell_holds}
 use Rattle.stateful_core.specs.Opening.{IsCellAt, fresh_all, fresh_one, is_any, put_in, put_one}
 use Rattle.stateful_core.specs.Placing.{Done, finish, fresh_cell, set_done, waits, with_done, with_waiting}
 use Rattle.stateful_core.specs.Seen.{cell_of, cells_of}
 use Rattle.stateful_core.specs.Taking.{change, set_by}
-use Rattle.stateful_core.specs.Trees.{AreLonger, AreTrees, AreTreesBut, HasPlace, HavePlaces, IsAmong, IsEntryOf, IsIdle, IsLonger, IsSetLonger, IsTreeBut, entry_at, is_ready_at, renewed}
+use Rattle.stateful_core.specs.Trees.{AreLonger, AreRenewed, AreTrees, AreTreesBut, HasPlace, HavePlaces, IsAmong, IsEntryOf, IsIdle, IsLonger, IsRenewed, IsSetLonger, IsTreeBut, entry_at, is_ready_at, renewed}
 use Rattle.stateful_core.specs.declared.node_tree.NodeTree.{NodeTree}
 use Rattle.stateful_core.specs.declared.slot.Slot.{Slot}
 use Rattle.stateful_core.proofs.FirstOfTrees.{none_idle}
@@ -30,19 +32,19 @@ use Rattle.stateful_core.proofs.Roomy.{set_cases}
 not_both : (b : Bool) → b ≡ true → b ≡ false → ⊥
 not_both b e f = cc
 
-set_there : {X : Type 0} (xs : List X) (i : ℕ) (x d : X) → i < length xs → get_or (slice_set xs i x) i d ≡ x
+pub set_there : {X : Type 0} (xs : List X) (i : ℕ) (x d : X) → i < length xs → get_or (slice_set xs i x) i d ≡ x
 set_there [] i x d h = absurd (omega arith)
 set_there (y ∷ xs) zero x d h = refl
 set_there (y ∷ xs) (suc i) x d h = set_there xs i x d (omega arith)
 
-set_else : {X : Type 0} (xs : List X) (i j : ℕ) (x d : X) → (j ≡ i → ⊥) → get_or (slice_set xs i x) j d ≡ get_or xs j d
+pub set_else : {X : Type 0} (xs : List X) (i j : ℕ) (x d : X) → (j ≡ i → ⊥) → get_or (slice_set xs i x) j d ≡ get_or xs j d
 set_else [] i j x d h = refl
 set_else (y ∷ xs) zero zero x d h = absurd (h refl)
 set_else (y ∷ xs) zero (suc j) x d h = refl
 set_else (y ∷ xs) (suc i) zero x d h = refl
 set_else (y ∷ xs) (suc i) (suc j) x d h = set_else xs i j x d (λ e. h (ap suc e))
 
-set_sized : {X : Type 0} (xs : List X) (i : ℕ) (x : X) → length (slice_set xs i x) ≡ length xs
+pub set_sized : {X : Type 0} (xs : List X) (i : ℕ) (x : X) → length (slice_set xs i x) ≡ length xs
 set_sized [] i x = refl
 set_sized (y ∷ xs) zero x = refl
 set_sized (y ∷ xs) (suc i) x = ap suc (set_sized xs i x)
@@ -132,12 +134,6 @@ module _ (cells : List KeyCell) (at : ℕ) (cell : KeyCell) (there : slice_get c
       by true e = full tree.node tree.marks ((Decides-eqb tree.node cell.log.node).0 e) h
       by false e = past tree.node tree.marks (λ same. not_both (tree.node == cell.log.node) ((Decides-eqb tree.node cell.log.node).1 same) e) h
 
--- so many of the lists are made anew
-pub record IsRenewed (trees after : List NodeTree) (node at : ℕ) (entry : TwinMarks) (k : ℕ) : Type 0 where
-  pub done : (i : ℕ) (tree : NodeTree) → i < k → slice_get after i ≡ Some tree → (old : NodeTree) × (slice_get trees i ≡ Some old) × (tree ≡ renewed node at entry old)
-  pub left : (i : ℕ) (tree : NodeTree) → k ≤ i → slice_get after i ≡ Some tree → slice_get trees i ≡ Some tree
-  pub forth : (i : ℕ) (tree : NodeTree) → slice_get trees i ≡ Some tree → (now : NodeTree) × (slice_get after i ≡ Some now) × (now.node ≡ tree.node)
-
 pub renewed_all : (trees after : List NodeTree) (at : ℕ) (cells : List KeyCell) (cell : KeyCell) (entry : TwinMarks) (k : ℕ) → length after ≤ k → IsRenewed trees after cell.log.node at entry k
     → IsEntryOf cell entry → slice_get cells at ≡ Some cell → AreTreesBut (Some at) trees cells → AreTrees after cells
 renewed_all trees after at cells cell entry k all h is there before = record {
@@ -184,12 +180,12 @@ longer_then a b c h k = record {
   forth = λ i tree e. let x = h.forth i tree e in let y = k.forth i x.0 x.1 in (y.0, y.1, y.2 ∙ x.2);
 }
 
-set_got : {X : Type 0} (xs : List X) (i : ℕ) (x : X) → i < length xs → slice_get (slice_set xs i x) i ≡ Some x
+pub set_got : {X : Type 0} (xs : List X) (i : ℕ) (x : X) → i < length xs → slice_get (slice_set xs i x) i ≡ Some x
 set_got [] i x h = absurd (omega arith)
 set_got (y ∷ xs) zero x h = refl
 set_got (y ∷ xs) (suc i) x h = set_got xs i x (omega arith)
 
-set_got_other : {X : Type 0} (xs : List X) (i j : ℕ) (x : X) → (j ≡ i → ⊥) → slice_get (slice_set xs i x) j ≡ slice_get xs j
+pub set_got_other : {X : Type 0} (xs : List X) (i j : ℕ) (x : X) → (j ≡ i → ⊥) → slice_get (slice_set xs i x) j ≡ slice_get xs j
 set_got_other [] i j x h = refl
 set_got_other (y ∷ xs) zero zero x h = absurd (h refl)
 set_got_other (y ∷ xs) zero (suc j) x h = refl
@@ -246,8 +242,10 @@ module _ (trees : List NodeTree) (tree : NodeTree) (none : IsAmong trees tree.no
 
 -- ---- new cells
 
+-- never ready, and without a hold
 pub record IsQuiet (cell : KeyCell) : Type 0 where
   pub never : (mark : ℤ) → is_ready_at mark cell ≡ false
+  pub free : least_hold (cell_holds cell) cell.log.node ≡ final_mark
 
 pub opened : (trees : List NodeTree) (cells fresh : List KeyCell) → AreTrees trees cells
     → ((k : ℕ) (cell : KeyCell) → slice_get fresh k ≡ Some cell → HasPlace trees cell.log.node (length cells + k) × IsQuiet cell) → AreTrees trees (cells ++ fresh)
@@ -257,7 +255,10 @@ opened trees cells fresh h new = record {
       record {
         own = λ at cell f same _. elim (behind cells fresh at cell f) [
           | inl g ↦ was.own at cell g same (λ z. cc)
-          | inr g ↦ record { due = λ mark m. (was.idle at (omega (arith, g.1))).never mark m ∙ sym ((new g.0 cell g.2).1.never mark) }
+          | inr g ↦
+              let idle = was.idle at (omega (arith, g.1)) in
+              let quiet = (new g.0 cell g.2).1 in
+              record { due = λ mark m. idle.never mark m ∙ sym (quiet.never mark); held = idle.free ∙ sym quiet.free }
         ];
         other = λ at cell f differ. elim (behind cells fresh at cell f) [ inl g ↦ was.other at cell g differ | inr g ↦ was.idle at (omega (arith, g.1)) ];
         long = λ at cell f same. elim (behind cells fresh at cell f) [
@@ -281,6 +282,13 @@ renewed_none trees node at entry = record {
   done = λ i tree less e. absurd (omega (arith, less));
   left = λ i tree less e. e;
   forth = λ i tree e. (tree, e, refl);
+}
+
+pub renewed_done : (trees after : List NodeTree) (node at : ℕ) (entry : TwinMarks) (k : ℕ) → length after ≤ k → IsRenewed trees after node at entry k → AreRenewed trees after node at entry
+renewed_done trees after node at entry k all h = record {
+  done = λ i tree less e. h.done i tree (omega (arith, less, all)) e;
+  left = λ i tree past e. absurd (let w = slice_get_within after i tree e in omega (arith, w, past));
+  forth = h.forth;
 }
 
 pub renewed_more : (trees after new : List NodeTree) (node at : ℕ) (entry : TwinMarks) (k : ℕ) → k < length after
@@ -419,7 +427,7 @@ changed_put plan before arrival cells after at on there is trees h =
     (changed cells at there.cell (with_waiting there.cell (waits before arrival)) there.is_at refl trees h)
 
 pub fresh_quiet : (arrival : Arrival) → IsQuiet (fresh_cell arrival)
-fresh_quiet arrival = record { never = λ mark. refl }
+fresh_quiet arrival = record { never = λ mark. refl; free = refl }
 
 all_quiet : (plan : Plan) (cells : List KeyCell) (arrivals : List Arrival) (fresh : List KeyCell) → All IsQuiet fresh → All IsQuiet (fold (fresh_one plan cells) fresh arrivals)
 all_quiet plan cells [] fresh h = h

@@ -1,3 +1,4 @@
+pub mod Minima
 pub mod Queues
 pub mod Timers
 pub mod Cells

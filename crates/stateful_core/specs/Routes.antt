@@ -1,10 +1,12 @@
--- How an arrival is led to its cell, and room is kept there.
+-- How an arrival is led to its cell, and room is kept there; how any cell is found.
 use Rattle.std.specs.Prelude.{◌≡◌, ℕ, ◌+◌, ◌≤◌, ◌==◌, Bool, false, not, ◌&&◌, if◌then◌else◌, List, [], ◌∷◌, ◌++◌, slice_get, Option, Some, None}
 use Rattle.std.specs.BTreeMap as tree
 use Rattle.beam_values.specs.declared.arrival.Arrival.{Arrival}
 use Rattle.beam_values.specs.declared.plan.Plan.{Plan}
 use Rattle.cell_index.specs.declared.index_key.CellKey.{CellKey}
-use Rattle.stateful_core.specs.Cells.{KeyCell, belongs}
+use Rattle.beam_values.specs.Intervals.{Interval}
+use Rattle.beam_values.specs.declared.value.Value.{Value}
+use Rattle.stateful_core.specs.Cells.{KeyCell, belongs, is_cell_of}
 use Rattle.stateful_core.specs.Names.{AreFound, AreRoutes, arrival_name, names_of, number_in}
 use Rattle.stateful_core.specs.Opening.{fresh_one, is_any}
 use Rattle.stateful_core.specs.Placing.{fresh_cell}
@@ -15,6 +17,14 @@ use Rattle.stateful_core.specs.declared.slot.Slot.{Slot}
 abbrev pub belongs_to : Arrival → Option KeyCell → Bool
 belongs_to arrival None = false
 belongs_to arrival (Some cell) = belongs arrival cell
+
+-- whether the cell with this number is that of a node, key and window
+abbrev pub is_in : ℕ → Value → Interval → Option KeyCell → Bool
+is_in node key span None = false
+is_in node key span (Some cell) = is_cell_of node key span cell
+
+abbrev pub is_cell_at : ℕ → Value → Interval → List KeyCell → ℕ → Bool
+is_cell_at node key span cells at = is_in node key span (slice_get cells at)
 
 -- whether the cell with this number is the arrival's
 abbrev pub belongs_at : Arrival → List KeyCell → ℕ → Bool

@@ -1,23 +1,25 @@
-ghost use Rattle.std.specs.Prelude.{◌≡◌, ◌≤◌, ◌<◌, ◌+◌, [], ◌∷◌, ◌++◌, ℤ, true, All, List as ListOf};
-ghost use Rattle.std.specs.Prelude.{IfOk, drop, if◌then◌else◌, length, map, Some};
+ghost use Rattle.std.specs.Prelude.{◌≡◌, ◌<◌, [], ◌∷◌, ◌++◌, List as ListOf};
+ghost use Rattle.std.specs.Prelude.{IfOk, if◌then◌else◌, length, map, Some};
 ghost use Rattle.std.specs.Option.{option_map, option_copied};
 ghost use Rattle.std.specs.Int.{int_min};
-ghost use Rattle.std.specs.List.{filter, flat_map};
 ghost use Rattle.beam_values.specs.Nodes.{is_stateful};
-ghost use Rattle.beam_values.specs.States.{timer_of};
-ghost use Rattle.beam_model.specs.Holds.{Hold};
-ghost use Rattle.stateful_core.specs.Cells.{cell_holds, element_hold, key_holds, timer_hold};
-ghost use Rattle.stateful_core.specs.Least.{AreLeast, finished, holds_from};
-ghost use Rattle.stateful_core.specs.Opening.{done_of};
-ghost use Rattle.stateful_core.specs.Placing.{finish, place};
+ghost use Rattle.beam_values.specs.Times.{final_mark};
+ghost use Rattle.beam_model.specs.Holds.{Hold, arrival_hold, least_hold};
+ghost use Rattle.stateful_core.specs.Cells.{cell_holds, key_holds};
+ghost use Rattle.stateful_core.specs.Least.{AreLeast, tree_hold};
+ghost use Rattle.stateful_core.specs.Opening.{IsStanding, done_of};
+ghost use Rattle.stateful_core.specs.Placing.{finish, place, with_done};
 ghost use Rattle.stateful_core.specs.Lasting.{arrival_holds};
-ghost use Rattle.beam_model.specs.Holds.{arrival_hold};
 ghost use Rattle.stateful_core.specs.Seen.{cell_of, cells_of};
+ghost use Rattle.stateful_core.specs.Trees.{AreRenewed, AreTrees};
 
+use crate::cell_hold::hold_after;
 use crate::finding::is_stateful;
-use crate::putting::{arrival_hold, mark_out};
-use crate::{KeyDone, Queue, Slot, TimerHolds};
+use crate::putting::arrival_hold;
+use crate::trees::{renew_at, set_entry};
+use crate::{KeyDone, NodeTree, Slot};
 use beam_values::{Arrival, List, Mark, NoMemory, Plan, StageMarks};
+use mark_trees::TwinMarks;
 use std::alloc::Global;
 
 // A node is held back at one more mark; nothing is asked of a node behind the last.
@@ -38,87 +40,69 @@ fn lesser(a: Mark, b: Mark) -> Mark
     a.min(b)
 }
 
-fn lower_timer(least: &mut [Mark], node: u32, mark: Option<Mark>)
-    ensures least { (holds : ListOf Hold) → AreLeast least.old holds
-        → AreLeast least.new (timer_hold node mark ++ holds) }
+fn lower_trees(least: &mut [Mark], trees: &[NodeTree])
+    ensures least { AreLeast least.old [] → AreLeast least.new (map tree_hold trees.now) }
     ensures sized { length least.new ≡ length least.old }
 {
-    if let Some(mark) = mark {
-        lower(least, node, mark);
+    for tree in trees {
+        lower(least, tree.node, tree.marks.least().hold);
     }
 }
 
-fn lower_timers(least: &mut [Mark], node: u32, timers: &TimerHolds)
-    ensures least { (holds : ListOf Hold) → AreLeast least.old holds
-        → AreLeast least.new (flat_map (timer_hold node) timers.now ++ holds) }
-    ensures sized { length least.new ≡ length least.old }
-{
-    for name in 0..8u8 {
-        lower_timer(least, node, timers.get(name));
-    }
-}
-
-fn lower_waiting(least: &mut [Mark], node: u32, waiting: &Queue, from: usize)
-    ensures least { (holds : ListOf Hold) → AreLeast least.old holds
-        → AreLeast least.new (map (element_hold node) (drop from waiting.now.items) ++ holds) }
-    ensures sized { length least.new ≡ length least.old }
-{
-    for at in from..waiting.len() {
-        lower(least, node, waiting.hold(at));
-    }
-}
-
-fn lower_cell(least: &mut [Mark], node: u32, waiting: &Queue, from: usize, timers: &TimerHolds)
-    ensures least { (holds : ListOf Hold) → AreLeast least.old holds
-        → AreLeast least.new (holds_from node from waiting.now.items timers.now ++ holds) }
-    ensures sized { length least.new ≡ length least.old }
-{
-    lower_waiting(least, node, waiting, from);
-    lower_timers(least, node, timers);
-}
-
-fn lower_slot(
+/// The nodes are held back by their cells as they stand, but for the one whose job is done.
+fn lower_standing(
     least: &mut [Mark],
+    trees: &mut Vec<NodeTree>,
+    slots: &[Slot],
     before: &[StageMarks],
     done: Option<&KeyDone>,
-    at: usize,
-    slot: &Slot,
 )
-    ensures least { (holds : ListOf Hold) → AreLeast least.old holds
-        → AreLeast least.new (cell_holds (finished before.now
-        (option_map done_of (option_copied done.entry)) at (cell_of slot.now)) ++ holds) }
-    ensures sized { length least.new ≡ length least.old }
-{
-    match done {
-        Some(done) => lower_beside(least, before, done, at, slot),
-        None => lower_cell(least, slot.node, &slot.waiting, 0, &slot.timer_holds),
-    }
-}
-
-fn lower_beside(least: &mut [Mark], before: &[StageMarks], done: &KeyDone, at: usize, slot: &Slot)
-    ensures least { (holds : ListOf Hold) → AreLeast least.old holds
-        → AreLeast least.new (cell_holds (finished before.now (Some (done_of done.now)) at
-        (cell_of slot.now)) ++ holds) }
-    ensures sized { length least.new ≡ length least.old }
-{
-    if done.cell as usize == at {
-        let from = slot.live.unwrap_or(0) as usize;
-        let mark = mark_out(before, slot.node);
-        let timers = slot.timer_holds.after(mark, &slot.timers, &done.timers);
-        lower_cell(least, slot.node, &slot.waiting, from, &timers);
-    } else {
-        lower_cell(least, slot.node, &slot.waiting, 0, &slot.timer_holds);
-    }
-}
-
-fn lower_slots(least: &mut [Mark], before: &[StageMarks], done: Option<&KeyDone>, slots: &[Slot])
+    requires trees { AreTrees trees.old.items (cells_of slots.now) }
+    requires stands { IsStanding (cells_of slots.now) (option_map done_of (option_copied done)) }
+    ensures trees { AreTrees trees.new.items (cells_of slots.now) }
     ensures least { AreLeast least.old [] → AreLeast least.new (key_holds (finish before.now
         (option_map done_of (option_copied done.entry)) (cells_of slots.now))) }
     ensures sized { length least.new ≡ length least.old }
 {
-    for at in 0..slots.len() {
-        lower_slot(least, before, done, at, &slots[at]);
+    match done {
+        Some(done) => lower_beside(least, trees, slots, before, done),
+        None => lower_trees(least, trees.as_slice()),
     }
+}
+
+/// The entry of the cell whose job is done is what it will be, for as long as the least are read.
+fn lower_beside(
+    least: &mut [Mark],
+    trees: &mut Vec<NodeTree>,
+    slots: &[Slot],
+    before: &[StageMarks],
+    done: &KeyDone,
+)
+    requires trees { AreTrees trees.old.items (cells_of slots.now) }
+    requires stands { done.now.cell < length slots.now }
+    ensures trees { AreTrees trees.new.items (cells_of slots.now) }
+    ensures least { AreLeast least.old [] → AreLeast least.new (key_holds (finish before.now
+        (Some (done_of done.now)) (cells_of slots.now))) }
+    ensures sized { length least.new ≡ length least.old }
+{
+    let at = done.cell as usize;
+    set_done(trees, &slots[at], before, done);
+    lower_trees(least, trees.as_slice());
+    renew_at(trees, slots, at);
+}
+
+fn set_done(trees: &mut Vec<NodeTree>, slot: &Slot, before: &[StageMarks], done: &KeyDone)
+    ensures { AreRenewed trees.old.items trees.new.items slot.now.node done.now.cell (record {
+      due = final_mark;
+      hold = least_hold (cell_holds (with_done before.now (done_of done.now) (cell_of slot.now)))
+          slot.now.node;
+    }) }
+{
+    let entry = TwinMarks {
+        due: Mark::FINAL,
+        hold: hold_after(before, slot, done),
+    };
+    set_entry(trees, slot.node, done.cell as usize, &entry);
 }
 
 fn lower_arrivals(plan: &Plan, least: &mut [Mark], before: &[StageMarks], arrivals: &[Arrival])
@@ -142,38 +126,54 @@ fn lower_arrival(plan: &Plan, least: &mut [Mark], before: &[StageMarks], arrival
     }
 }
 
-/// The least hold of each node after the commit, or FINAL.
+/// The least hold of each node after the commit, or FINAL. The trees stay those of the cells.
 pub fn least_holds(
     alloc: Global,
     plan: &Plan,
+    trees: &mut Vec<NodeTree>,
     slots: &[Slot],
     done: Option<&KeyDone>,
     before: &[StageMarks],
     arrivals: &[Arrival],
 ) -> Result<List<Mark>, NoMemory>
+    requires trees { AreTrees trees.old.items (cells_of slots.now) }
+    requires stands { IsStanding (cells_of slots.now) (option_map done_of (option_copied done)) }
+    ensures trees { AreTrees trees.new.items (cells_of slots.now) }
     ensures sized { IfOk result (λ least. length least ≡ length plan.now.nodes) }
     ensures least { IfOk result (λ least. AreLeast least (key_holds (place plan.now before.now
         (option_map done_of (option_copied done.entry)) arrivals.now (cells_of slots.now)))) }
 {
     let mut least = no_holds(alloc, plan.nodes.len())?;
-    lower_all(plan, least.as_mut_slice(), before, done, slots, arrivals);
+    lower_all(
+        plan,
+        least.as_mut_slice(),
+        trees,
+        slots,
+        before,
+        done,
+        arrivals,
+    );
     Ok(List::from_vec(least))
 }
 
 fn lower_all(
     plan: &Plan,
     least: &mut [Mark],
+    trees: &mut Vec<NodeTree>,
+    slots: &[Slot],
     before: &[StageMarks],
     done: Option<&KeyDone>,
-    slots: &[Slot],
     arrivals: &[Arrival],
 )
-    requires { AreLeast least.old [] }
+    requires trees { AreTrees trees.old.items (cells_of slots.now) }
+    requires stands { IsStanding (cells_of slots.now) (option_map done_of (option_copied done)) }
+    requires least { AreLeast least.old [] }
+    ensures trees { AreTrees trees.new.items (cells_of slots.now) }
     ensures least { AreLeast least.new (key_holds (place plan.now before.now
         (option_map done_of (option_copied done.entry)) arrivals.now (cells_of slots.now))) }
     ensures sized { length least.new ≡ length least.old }
 {
-    lower_slots(least, before, done, slots);
+    lower_standing(least, trees, slots, before, done);
     lower_arrivals(plan, least, before, arrivals);
 }
 

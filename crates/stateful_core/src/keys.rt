@@ -35,7 +35,7 @@ pub struct Keys {
     slots: Vec<Slot>,
     // Leads to each of the cells and the new ones.
     index: KeyIndex,
-    // Of each node when its cells are due.
+    // Of each node when its cells are due, and where they hold it back.
     trees: Vec<NodeTree>,
     // New cells of the commit that is prepared.
     fresh: Vec<Slot>,
@@ -138,12 +138,18 @@ impl Keys {
         self.slots.len()
     }
 
-    /// The calls so far of the cell of a node, key and window; none where no such cell stands. Takes no
-    /// memory.
+    /// The calls so far of the cell of a node, key and window; none where no such cell stands.
     pub fn log(&self, node: u32, key: &Value, span: Span) -> Option<&[LogEntry]>
         ensures { option_copied result ≡ calls_of node key.now span self.now.cells }
     {
-        let at = number_of(node, key, span, self.slots.as_slice())?;
+        let at = number_of(
+            self.alloc,
+            &self.index,
+            self.slots.as_slice(),
+            node,
+            key,
+            span,
+        )?;
         Some(self.slots[at].entries.as_slice())
     }
 
@@ -189,6 +195,7 @@ impl Keys {
         let least = least_holds(
             self.alloc,
             plan,
+            &mut self.trees,
             self.slots.as_slice(),
             done,
             marks,

@@ -9,19 +9,23 @@
 //!
 //! No arrival looks through the cells: an index leads from its node, window and key to its cell
 //! (`specs/Names.antt`). Preparing a commit notes the numbers that it finds, and placing it goes by them. Nor
-//! does taking a job: for each node a tree has the time at which each cell is due (`specs/Trees.antt`).
+//! does taking a job, or telling the least hold of a node: for each node a tree has the time at which each cell
+//! is due, and the least mark at which it holds the node back (`specs/Trees.antt`). A cell tells that without a
+//! look at all that waits there (`specs/Minima.antt`).
 //!
 //! What each step does stands in `specs/Taking.antt` and `specs/Placing.antt`. [`laws`] has what every list of
 //! steps keeps: the logs are those of calls in one legal order, and what came stands in a log or waits, once
 //! and in order. Read `keys.rt` first.
 #![tactic(auto)]
 
+mod cell_hold;
 mod finding;
 mod holding;
 mod key_index;
 mod key_job;
 mod keys;
 pub mod laws;
+mod minima;
 mod node_tree;
 mod opening;
 mod place;
@@ -30,6 +34,8 @@ mod queue;
 mod routing;
 mod slot;
 mod taking;
+#[cfg(test)]
+mod tests;
 mod timer_holds;
 mod trees;
 mod waiting;

@@ -7,11 +7,12 @@ ghost use Rattle.mark_trees.specs.declared.twin_marks.TwinMarks.{TwinMarks};
 ghost use Rattle.stateful_core.specs.Cells.{KeyCell};
 ghost use Rattle.stateful_core.specs.Seen.{cell_of, cells_of};
 ghost use Rattle.stateful_core.specs.Taking.{next_place, sooner};
-ghost use Rattle.stateful_core.specs.Trees.{AreLonger, AreTrees, AreTreesBut, HasPlace, HavePlaces, IsAmong};
-ghost use Rattle.stateful_core.specs.Trees.{IsBestAmong, IsEntryOf, IsLonger, IsSetLonger, IsTimerDue, IsTreeBut, due_at, entry_at};
+ghost use Rattle.stateful_core.specs.Trees.{AreLonger, AreRenewed, AreTrees, AreTreesBut, HasPlace, HavePlaces, IsAmong};
+ghost use Rattle.stateful_core.specs.Trees.{IsBestAmong, IsDueTime, IsEntryOf, IsLonger, IsSetLonger, IsTimerDue, IsTreeBut, entry_at};
 ghost use Rattle.stateful_core.specs.Trees.{renewed};
 ghost use Rattle.stateful_core.specs.declared.node_tree.NodeTree.{NodeTree as NodeTreeOf};
 
+use crate::cell_hold::cell_hold;
 use crate::putting::mark_in;
 use crate::routing::number_behind;
 use crate::taking::sooner;
@@ -68,7 +69,7 @@ fn bound(mark: Mark) -> Mark
 
 /// When a cell is due: at once where an element waits, and never where its job is worked.
 fn due_of(slot: &Slot) -> Mark
-    ensures { IsEntryOf (cell_of slot.now) (due_at result) }
+    ensures { IsDueTime (cell_of slot.now) result }
 {
     match slot.live {
         Some(_) => Mark::FINAL,
@@ -98,16 +99,23 @@ fn mark_at(time: Time) -> Mark
     Mark::at(time)
 }
 
+/// When a cell is due, and the least mark at which it holds its node back.
+fn entry_of(slot: &Slot) -> TwinMarks
+    ensures { IsEntryOf (cell_of slot.now) result }
+{
+    TwinMarks {
+        due: due_of(slot),
+        hold: cell_hold(slot),
+    }
+}
+
 /// The entry of a cell is made anew. Takes no memory.
 fn renew(trees: &mut Vec<NodeTree>, at: usize, slot: &Slot)
     ensures due { (cells : ListOf KeyCell) → slice_get cells at ≡ Some (cell_of slot.now)
         → AreTreesBut (Some at) trees.old.items cells → AreTrees trees.new.items cells }
     ensures places { (n i : ℕ) → HasPlace trees.old.items n i → HasPlace trees.new.items n i }
 {
-    let due = due_of(slot);
-    for k in 0..trees.len() {
-        renew_in(trees, k, slot.node, at, due);
-    }
+    set_entry(trees, slot.node, at, &entry_of(slot));
 }
 
 /// The same of a cell among these.
@@ -120,36 +128,41 @@ pub fn renew_at(trees: &mut Vec<NodeTree>, slots: &[Slot], at: usize)
     renew(trees, at, &slots[at]);
 }
 
-fn renew_in(trees: &mut Vec<NodeTree>, k: usize, node: u32, at: usize, due: Mark)
+/// The entry of a cell of a node is this, where there is a place for it. Takes no memory.
+pub fn set_entry(trees: &mut Vec<NodeTree>, node: u32, at: usize, entry: &TwinMarks)
+    ensures { AreRenewed trees.old.items trees.new.items node at entry.now }
+{
+    for k in 0..trees.len() {
+        set_in(trees, k, node, at, entry);
+    }
+}
+
+fn set_in(trees: &mut Vec<NodeTree>, k: usize, node: u32, at: usize, entry: &TwinMarks)
     requires { k < length trees.old.items }
     ensures is { (tree : NodeTreeOf) → slice_get trees.old.items k ≡ Some tree
-        → trees.new.items ≡ slice_set trees.old.items k (renewed node at (due_at due) tree) }
+        → trees.new.items ≡ slice_set trees.old.items k (renewed node at entry.now tree) }
     ensures len { vec_len trees.new ≡ vec_len trees.old }
 {
     let tree = &mut trees[k];
-    renew_tree(tree, node, at, due);
+    set_of_node(tree, node, at, entry);
 }
 
-fn renew_tree(tree: &mut NodeTree, node: u32, at: usize, due: Mark)
-    ensures { tree.new ≡ renewed node at (due_at due) tree.old }
+fn set_of_node(tree: &mut NodeTree, node: u32, at: usize, entry: &TwinMarks)
+    ensures { tree.new ≡ renewed node at entry.now tree.old }
 {
     if tree.node != node {
         return;
     }
-    set(&mut tree.marks, at, due);
+    set(&mut tree.marks, at, entry);
 }
 
-fn set(marks: &mut LeastTree, at: usize, due: Mark)
-    ensures { marks.new ≡ slice_set marks.old at (due_at due) }
+fn set(marks: &mut LeastTree, at: usize, entry: &TwinMarks)
+    ensures { marks.new ≡ slice_set marks.old at entry.now }
 {
     if at >= marks.len() {
         return;
     }
-    let entry = TwinMarks {
-        due,
-        hold: Mark::FINAL,
-    };
-    marks.set(at, entry);
+    marks.set(at, *entry);
 }
 
 /// Makes places for the entries of new cells, of which the first has this number.

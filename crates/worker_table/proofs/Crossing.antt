@@ -31,6 +31,8 @@ use Rattle.cell_index.specs.contracts.index_key.CellKey as CellKey
 use Rattle.cell_index.specs.contracts.index_key.IndexKey as IndexKey
 use Rattle.cell_index.specs.contracts.index_key.IndexKey.TheInside as IndexKeyInside
 use Rattle.group_cells.specs.contracts.groups.keyed.GroupKey as GroupKey
+use Rattle.group_cells.specs.contracts.groups.keyed.LedKey as LedKey
+use Rattle.group_cells.specs.contracts.groups.keyed.LedKey.TheInside as LedKeyInside
 use Rattle.group_cells.specs.contracts.groups.room.Room as Room
 use Rattle.group_cells.specs.contracts.rules.Rules as Rules
 use Rattle.keyed_state.specs.contracts.bag.Bag as Bag
@@ -50,6 +52,9 @@ use Rattle.stateful_core.specs.contracts.keys.Keys.TheInside as KeysInside
 use Rattle.mark_trees.specs.contracts.least_tree.LeastTree as LeastTree
 use Rattle.mark_trees.specs.contracts.least_tree.LeastTree.TheInside as LeastTreeInside
 use Rattle.mark_trees.specs.contracts.twin_marks.TwinMarks as TwinMarks
+use Rattle.stateful_core.specs.contracts.minima.Minima as Minima
+use Rattle.stateful_core.specs.contracts.minima.Minima.TheInside as MinimaInside
+use Rattle.stateful_core.specs.contracts.minima.Run as HoldRun
 use Rattle.stateful_core.specs.contracts.node_tree.NodeTree as NodeTree
 use Rattle.stateful_core.specs.contracts.queue.Queue as KeyQueue
 use Rattle.stateful_core.specs.contracts.queue.Queue.TheInside as KeyQueueInside
@@ -95,6 +100,9 @@ IndexKey-send = view_send _ _ _ _ _ (declared_send IndexKeyInside.the_type (sear
 GroupKey-send : IsSend GroupKey.the_row
 GroupKey-send = declared_send GroupKey.the_type (search (Value-send, as_row_send, sendable) depth 40)
 
+LedKey-send : IsSend LedKey.the_row
+LedKey-send = view_send _ _ _ _ _ (declared_send LedKeyInside.the_type (search (GroupKey-send, as_row_send, sendable) depth 40))
+
 Room-send : IsSend Room.the_row
 Room-send = declared_send Room.the_type (search (Entry-send, as_row_send, sendable, crosses) depth 40)
 
@@ -129,7 +137,7 @@ Known-send : IsSend Known.the_row
 Known-send = variants_send Known.enum (search (Listed-send, as_row_send, sendable) depth 40)
 
 Groups-send : IsSend Groups.the_row
-Groups-send = view_send _ _ _ _ _ (declared_send GroupsInside.the_type (search (GroupPlan-send, Tracked-send, Dropped-send, GroupKey-send, Known-send, List-send, as_row_send, sendable, crosses, maps) depth 40))
+Groups-send = view_send _ _ _ _ _ (declared_send GroupsInside.the_type (search (GroupPlan-send, Tracked-send, Dropped-send, LedKey-send, Known-send, List-send, as_row_send, sendable, crosses, maps) depth 40))
 
 -- ---- the key cells
 
@@ -163,8 +171,14 @@ TimerHolds-send = search (sendable, crosses) depth 40
 Waiting-send : IsSend Waiting.the_row
 Waiting-send = declared_send Waiting.the_type (search (Element-send, as_row_send, sendable) depth 40)
 
+HoldRun-send : IsSend HoldRun.the_row
+HoldRun-send = search (sendable, crosses) depth 40
+
+Minima-send : IsSend Minima.the_row
+Minima-send = view_send _ _ _ _ _ (declared_send MinimaInside.the_type (search (HoldRun-send, as_row_send, sendable, crosses) depth 40))
+
 KeyQueue-send : IsSend KeyQueue.the_row
-KeyQueue-send = view_send _ _ _ _ _ (declared_send KeyQueueInside.the_type (search (Waiting-send, as_row_send, sendable, crosses) depth 40))
+KeyQueue-send = view_send _ _ _ _ _ (declared_send KeyQueueInside.the_type (search (Waiting-send, Minima-send, as_row_send, sendable, crosses) depth 40))
 
 KeySlot-send : IsSend KeySlot.the_row
 KeySlot-send =

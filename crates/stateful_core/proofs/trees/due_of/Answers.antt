@@ -1,6 +1,6 @@
 use Rattle.std.proofs.Common.{arith, ◌<◌, ◌≤◌, ℤ, length, subst, sym}
 use Rattle.stateful_core.specs.Seen.{cell_of}
-use Rattle.stateful_core.specs.Trees.{IsEntryOf, due_at}
+use Rattle.stateful_core.specs.Trees.{IsDueTime}
 use Rattle.stateful_core.proofs.Entries.{live_entry, timer_entry, waiting_entry}
 use Rattle.stateful_core.proofs.trees.due_of.Goals as goal
 
@@ -10,7 +10,7 @@ returns-in-Some c = live_entry (cell_of c.args.slot.now) _ c.in-Some.is
 pub returns-then-len-gt0 : goal.returns-then-len-gt0
 returns-then-len-gt0 c =
     let some : 0 < length c.args.slot.now.waiting.items = omega (arith, c.if-len-gt0.true, c.len.ensures) in
-    subst (λ (d : ℤ). IsEntryOf (cell_of c.args.slot.now) (due_at d)) (sym c.at.ensures) (waiting_entry (cell_of c.args.slot.now) c.in-None.is some)
+    subst (λ (d : ℤ). IsDueTime (cell_of c.args.slot.now) d) (sym c.at.ensures) (waiting_entry (cell_of c.args.slot.now) c.in-None.is some)
 
 pub returns-else-len-gt0 : goal.returns-else-len-gt0
 returns-else-len-gt0 c =

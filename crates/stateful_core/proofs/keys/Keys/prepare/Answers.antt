@@ -25,12 +25,12 @@ invariant_of-self-in_err-keep_room c =
     let grown : HavePlaces c.grow_all.new.trees.items (length c.let_all_go.new.slots.items) (cells_of c.in_ok-fresh.field-0.fresh.items) =
     subst (λ (n : ℕ). HavePlaces c.grow_all.new.trees.items n (cells_of c.in_ok-fresh.field-0.fresh.items)) first
     (subst (λ (l : List Slot). HavePlaces c.grow_all.new.trees.items c.len-3.result (cells_of l)) seen c.in_ok-grow_all.ensures.ok) in
-    kept_fresh c.route_all.new.index.numbers.places c.self.inside.trees.items c.grow_all.new.trees.items c.let_all_go.new.slots.items c.keep_room.new.slots.items c.in_ok-fresh.field-0.fresh.items
+    kept_fresh c.route_all.new.index.numbers.places c.least_holds.new.trees.items c.grow_all.new.trees.items c.let_all_go.new.slots.items c.keep_room.new.slots.items c.in_ok-fresh.field-0.fresh.items
     c.keep_room.new.fresh.items
     (stored_with c.route_all.new.index.numbers.places c.as_slice.result.now c.keep_room.new.slots.items c.in_ok-fresh.field-0.fresh.items c.keep_room.new.fresh.items
     (c.keep_room.ensures.cells ∙ sym (ap cells_of c.as_slice.ensures.value)) new few c.in_ok-fresh.ensures.found)
     sized c.keep_room.ensures.cells new (c.grow_all.ensures.kept None (cells_of c.let_all_go.new.slots.items))
-    (subst (AreTrees c.self.inside.trees.items) (sym c.let_all_go.ensures.cells) c.self.invariant.due) grown
+    (subst (λ (l : List Slot). AreTrees c.least_holds.new.trees.items (cells_of l)) c.as_slice-3.ensures.value c.least_holds.ensures.trees) grown
 
 pub invariant_of-self-2 : goal.invariant_of-self-2
 invariant_of-self-2 c =
@@ -44,9 +44,9 @@ invariant_of-self-2 c =
     let grown : HavePlaces c.grow_all.new.trees.items (length c.let_all_go.new.slots.items) (cells_of c.in_ok-fresh.field-0.fresh.items) =
     subst (λ (n : ℕ). HavePlaces c.grow_all.new.trees.items n (cells_of c.in_ok-fresh.field-0.fresh.items)) first
     (subst (λ (l : List Slot). HavePlaces c.grow_all.new.trees.items c.len-3.result (cells_of l)) seen c.in_ok-grow_all.ensures.ok) in
-    kept_fresh c.route_all.new.index.numbers.places c.self.inside.trees.items c.grow_all.new.trees.items c.let_all_go.new.slots.items c.keep_room.new.slots.items c.in_ok-fresh.field-0.fresh.items
+    kept_fresh c.route_all.new.index.numbers.places c.least_holds.new.trees.items c.grow_all.new.trees.items c.let_all_go.new.slots.items c.keep_room.new.slots.items c.in_ok-fresh.field-0.fresh.items
     c.keep_room.new.fresh.items
     (stored_with c.route_all.new.index.numbers.places c.as_slice.result.now c.keep_room.new.slots.items c.in_ok-fresh.field-0.fresh.items c.keep_room.new.fresh.items
     (c.keep_room.ensures.cells ∙ sym (ap cells_of c.as_slice.ensures.value)) new few c.in_ok-fresh.ensures.found)
     sized c.keep_room.ensures.cells new (c.grow_all.ensures.kept None (cells_of c.let_all_go.new.slots.items))
-    (subst (AreTrees c.self.inside.trees.items) (sym c.let_all_go.ensures.cells) c.self.invariant.due) grown
+    (subst (λ (l : List Slot). AreTrees c.least_holds.new.trees.items (cells_of l)) c.as_slice-3.ensures.value c.least_holds.ensures.trees) grown
