@@ -10,6 +10,7 @@ use Rattle.beam_model.specs.Account.{IsAccounted}
 use Rattle.beam_model.specs.Covers.{IsCovered}
 use Rattle.beam_model.specs.Estimators.{AreSoundAbove, IsSoundItem}
 use Rattle.beam_model.specs.Holds.{estimator_of}
+use Rattle.beam_model.specs.Logs.{AreLogsLegal}
 use Rattle.beam_model.specs.Panes.{ArePanesLegal, trigger_of}
 use Rattle.beam_model.specs.Plain.{ArePlainlyWritten, ArePlainlyWrittenWhere}
 use Rattle.beam_model.specs.Plans.{default_trigger, panes_plan}
@@ -25,7 +26,7 @@ use Rattle.command_ends.specs.declared.status.Status.{Status}
 use Rattle.command_ends.specs.declared.status.Status.TheVariants as status
 use Rattle.beam_command.specs.Asking.{IsPlanOf}
 use Rattle.beam_command.specs.Ends.{Observed, AreFound, HasRun, IsEndOf, IsHelpEnd, IsOutcomeOfAsked, IsPipelineEnd}
-use Rattle.beam_command.specs.Promises.{AsksPanes, HasLegalPanes, IsPlanAsked}
+use Rattle.beam_command.specs.Promises.{AsksPanes, HasLegalLogs, HasLegalPanes, IsPlanAsked}
 
 -- ---- from the end of a command to what holds of its outcome
 
@@ -96,6 +97,10 @@ module _ (asked : Option Asked) (observed : Observed) (own : Asked) (options : O
     pub legal : ((told : Option (List FileText)) (b : SeenBook) (o : Outcome) → Reached told b → IsOutcomeOf b o → ArePanesLegal o.plan o.commits o.cells o.dropped o.panes)
         → HasLegalPanes o
     legal law = law observed.kits.store.files run.3.book o reached run.3.of_book
+
+    pub legally_logged : ((told : Option (List FileText)) (b : SeenBook) (o : Outcome) → Reached told b → IsThrough b → IsOutcomeOf b o → AreLogsLegal o.plan o.commits o.logs)
+        → HasLegalLogs o
+    legally_logged law = law observed.kits.store.files run.3.book o reached run.3.is.through run.3.of_book
 
     pub accounted : ((told : List FileText) (b : SeenBook) (o : Outcome) → Reached (Some told) b → AreTold told b → IsThrough b → IsOutcomeOf b o → IsAccounted (items told b.plan) o)
         → WhereTold observed.kits.store.files (λ told. IsAccounted (items told o.plan) o)

@@ -3,6 +3,7 @@ use Rattle.std.specs.Prelude.{List, Option, Some, None}
 use Rattle.beam_values.specs.declared.file_text.FileText.{FileText}
 use Rattle.beam_values.specs.declared.outcome.Outcome.{Outcome}
 use Rattle.beam_values.specs.declared.plan.Plan.{Plan}
+use Rattle.beam_model.specs.Logs.{AreLogsLegal}
 use Rattle.beam_model.specs.Panes.{ArePanesLegal}
 use Rattle.command_words.specs.Commands.{Asked, Help, Panes, Run}
 use Rattle.beam_command.specs.Asking.{IsPlanOf}
@@ -14,6 +15,9 @@ IsPlanAsked files (Some asked) plan = IsPlanOf files asked plan
 
 abbrev pub HasLegalPanes : Outcome → Type 0
 HasLegalPanes o = ArePanesLegal o.plan o.commits o.cells o.dropped o.panes
+
+abbrev pub HasLegalLogs : Outcome → Type 0
+HasLegalLogs o = AreLogsLegal o.plan o.commits o.logs
 
 -- `panes` is asked for
 abbrev pub AsksPanes : Option Asked → Type 0

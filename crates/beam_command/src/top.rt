@@ -8,7 +8,7 @@ ghost use Rattle.beam_model.specs.Plans.{panes_plan};
 ghost use Rattle.command_ends.specs.Notes.{IsNoted};
 ghost use Rattle.run_engine.specs.Kits.{KeepsKit};
 ghost use Rattle.beam_command.specs.Asking.{IsPlanOf};
-ghost use Rattle.beam_command.specs.Promises.{HasLegalPanes};
+ghost use Rattle.beam_command.specs.Promises.{HasLegalLogs, HasLegalPanes};
 ghost use Rattle.beam_command.specs.Ends.{IsHelpEnd, IsPipelineEnd, IsRun};
 ghost use Rattle.beam_command.specs.Kits.{AreKitsLeft, HasNotBegun, IsOutcomeOfKits};
 ghost use Rattle.beam_command.specs.Kits.{IsOutcomeOfOpened, KeepsShelf, first_files};
@@ -29,8 +29,8 @@ use command_words::{Command, Usage, help_text, read_words};
 use dofn_traits::Shelf;
 use ended_runs::laws::{
     nothing_is_set_aside, outcomes_are_accounted, outcomes_are_covered,
-    outcomes_are_plainly_written, outcomes_have_legal_panes, runs_without_poison_fail_by_reads,
-    stops_are_honest,
+    outcomes_are_plainly_written, outcomes_have_legal_logs, outcomes_have_legal_panes,
+    runs_without_poison_fail_by_reads, stops_are_honest,
 };
 use run_engine::{Kit, RunEnd, Status};
 use std::alloc::Global;
@@ -72,11 +72,16 @@ pub fn beam_main<R: Threads + Wait + Sync, F: Shelf, S: Store, W: Sink, N: Sink,
     // account and of plain grouping.
     ensures cover { IsRun result IsPartitioned }
 
-    // The outputs of every position, and every pane, arrived at each barrier that they reach exactly once.
+    // The outputs of every position, every pane, and what each call of a Stateful node gave, arrived at each
+    // barrier that they reach exactly once.
     ensures account { IsRun result (IsAccountedFor (asking S.Store words.now kits.old)) }
 
     // The panes are legal under the trigger of each Group, commit by commit.
     ensures legal_panes { IsRun result HasLegalPanes }
+
+    // Each key and window of a Stateful node was called in one legal order: on its elements, and on its timers
+    // as they came due. That each element is called on once is said by the account.
+    ensures legal_logs { IsRun result HasLegalLogs }
 
     // At each Write with the default trigger and sound estimators above it: what was written is plain
     // grouping of the whole input, and nothing was dropped. So it is always for `panes`.
@@ -104,6 +109,7 @@ pub fn beam_main<R: Threads + Wait + Sync, F: Shelf, S: Store, W: Sink, N: Sink,
     outcomes_are_covered();
     nothing_is_set_aside();
     outcomes_are_accounted();
+    outcomes_have_legal_logs();
     outcomes_have_legal_panes();
     outcomes_are_plainly_written();
     words_ask_by_the_rules();

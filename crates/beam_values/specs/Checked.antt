@@ -169,9 +169,10 @@ abbrev pub file_count : List Node → ℕ
 file_count [] = 0
 file_count (node ∷ nodes) = files_of_kind node.kind + file_count nodes
 
--- whether pipelines may have Stateful nodes; they aren't run yet
-abbrev pub takes_state : Bool
-takes_state = false
+-- windows that merge, where a key and a window would be no cell of their own
+abbrev pub is_session : Strategy → Bool
+is_session (strategy.Sessions gap) = true
+is_session _ = false
 
 -- what a node asks of its settings, where `before` are the nodes before it
 abbrev pub is_set : List Node → NodeKind → List ℕ → Bool
@@ -181,7 +182,7 @@ is_set before (ParDo work args) inputs = is_function_allowed work args
 is_set before Flatten inputs = agrees before inputs
 is_set before (WindowInto strategy) inputs = is_allowed strategy && not (is_kept strategy)
 is_set before (Group trigger) inputs = is_trigger_allowed trigger
-is_set before (Stateful work args log) inputs = takes_state && is_state_allowed work args
+is_set before (Stateful work args log) inputs = is_state_allowed work args && not (is_session (first_strategy (facts_of before) inputs))
 is_set before (Write label) inputs = true
 
 -- the number of inputs of a node: one, of a Flatten 1 to 8; that of a source is another rule's

@@ -45,21 +45,31 @@ IsCellBelow limit cell = cell.attempts < limit
 abbrev pub IsCellMost : ℕ → KeyCell → Type 0
 IsCellMost limit cell = cell.attempts ≤ limit
 
-pub record AreCellsCounted (limit : ℕ) (running : Type 0) (keys : List KeyCell) : Type 0 where
+abbrev pub IsCellFailed : ℕ → KeyCell → Type 0
+IsCellFailed total cell = cell.attempts ≤ total
+
+pub record AreCellsCounted (limit total : ℕ) (running : Type 0) (keys : List KeyCell) : Type 0 where
   pub worked : All (IsCellWorked limit) keys
   pub below : running → All (IsCellBelow limit) keys
   pub most : All (IsCellMost limit) keys
+  pub failed : All (IsCellFailed total) keys
 
--- the run may have stopped
-pub cells_onward : (limit : ℕ) (running runs : Type 0) (keys : List KeyCell) → (runs → running) → AreCellsCounted limit running keys → AreCellsCounted limit runs keys
-cells_onward limit running runs keys still h = record { worked = h.worked; below = λ r. h.below (still r); most = h.most }
+-- more failed, and the run may have stopped
+pub cells_onward : (limit total : ℕ) (running : Type 0) (keys : List KeyCell) → AreCellsCounted limit total running keys
+    → (more : ℕ) (runs : Type 0) → total ≤ more → (runs → running) → AreCellsCounted limit more runs keys
+cells_onward limit total running keys h more runs rise still = record {
+  worked = h.worked;
+  below = λ r. h.below (still r);
+  most = h.most;
+  failed = All-weaker (IsCellFailed total) (IsCellFailed more) (λ cell k. omega (arith, k, rise)) keys h.failed;
+}
 
 abbrev pub CountsOf : SeenBook → Type 0
 CountsOf b = AreCounted b.options.attempts (b.calls + b.reads) (IsRunning b) b.pending b.returned b.slots
 
 pub record IsCounted (b : SeenBook) : Type 0 where
   pub counts : CountsOf b
-  pub cells : AreCellsCounted b.options.attempts (IsRunning b) b.keys
+  pub cells : AreCellsCounted b.options.attempts (b.calls + b.reads) (IsRunning b) b.keys
   pub stop : IsStopNoted b b.stopped
   pub calls : b.calls ≤ greatest_count
   pub reads : b.reads ≤ greatest_count
@@ -200,6 +210,7 @@ module _ (b : SeenBook) (slot : ℕ) (formed : IsWellFormed b) (h : IsCounted b)
           worked = All-weaker (IsCellBelow limit) (IsCellWorked limit) (λ c k works. k) _ below;
           below = λ runs. below;
           most = change_each (IsCellMost limit) (with_job b.options.bundle) place.at b.keys (λ c e k. k) h.cells.most;
+          failed = change_each (IsCellFailed total) (with_job b.options.bundle) place.at b.keys (λ c e k. k) h.cells.failed;
         };
         stop = h.stop;
         calls = h.calls;

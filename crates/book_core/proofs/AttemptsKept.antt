@@ -38,7 +38,7 @@ use Rattle.book_core.proofs.Slots.{All-slice_get}
 use Rattle.book_core.proofs.Slotted.{All-flat_at}
 use Rattle.book_core.proofs.Taking.{take_cases}
 use Rattle.book_core.proofs.Turns.{turn_at}
-use Rattle.book_core.proofs.Attempts.{AreCellsCounted, AreCounted, IsCounted, MayBeWorked, IsPiece, IsBatch, IsCellBelow, IsCellMost, IsCellWorked, cells_onward, set_counted, fresh_counted, residual_counted, more_counted, piece_back, batch_back, given_counted, waits_counted, keyed_counted, pending_counted}
+use Rattle.book_core.proofs.Attempts.{AreCellsCounted, AreCounted, IsCounted, MayBeWorked, IsPiece, IsBatch, IsCellBelow, IsCellFailed, IsCellMost, IsCellWorked, cells_onward, set_counted, fresh_counted, residual_counted, more_counted, piece_back, batch_back, given_counted, waits_counted, keyed_counted, pending_counted}
 
 -- ---- a fail
 
@@ -57,7 +57,7 @@ tried_read attempts calls reads h few = omega arith
 -- with the note that stops the run where the job is given up
 record IsFailedTo (spent : Bool) (y : SeenBook) (note : FaultNote) : Type 0 where
   counts : AreCounted y.options.attempts (y.calls + y.reads) ((spent ≡ false) × IsRunning y) y.pending y.returned y.slots
-  cells : AreCellsCounted y.options.attempts ((spent ≡ false) × IsRunning y) y.keys
+  cells : AreCellsCounted y.options.attempts (y.calls + y.reads) ((spent ≡ false) × IsRunning y) y.keys
   stop : IsStopNoted y y.stopped
   noted : spent ≡ true → note.attempt ≡ y.options.attempts
   calls : y.calls ≤ greatest_count
@@ -75,7 +75,8 @@ finish_counted : (spent : Bool) (y : SeenBook) (note : FaultNote) → IsFailedTo
 finish_counted true y note h = record {
   counts = more_counted y.options.attempts (y.calls + y.reads) ((true ≡ false) × IsRunning y) y.pending y.returned y.slots h.counts (y.calls + y.reads) (or_stopped y.stopped (stop.Spent note) ≡ None)
       (omega arith) (λ none. absurd (never_none y.stopped (stop.Spent note) none));
-  cells = cells_onward y.options.attempts ((true ≡ false) × IsRunning y) (or_stopped y.stopped (stop.Spent note) ≡ None) y.keys (λ none. absurd (never_none y.stopped (stop.Spent note) none)) h.cells;
+  cells = cells_onward y.options.attempts (y.calls + y.reads) ((true ≡ false) × IsRunning y) y.keys h.cells
+      (y.calls + y.reads) (or_stopped y.stopped (stop.Spent note) ≡ None) (omega arith) (λ none. absurd (never_none y.stopped (stop.Spent note) none));
   stop = stop_is_noted y y.stopped note h.stop (h.noted refl);
   calls = h.calls;
   reads = h.reads;
@@ -83,7 +84,8 @@ finish_counted true y note h = record {
 finish_counted false y note h = record {
   counts = more_counted y.options.attempts (y.calls + y.reads) ((false ≡ false) × IsRunning y) y.pending y.returned y.slots h.counts (y.calls + y.reads) (IsRunning y)
       (omega arith) (λ runs. (refl, runs));
-  cells = cells_onward y.options.attempts ((false ≡ false) × IsRunning y) (IsRunning y) y.keys (λ runs. (refl, runs)) h.cells;
+  cells = cells_onward y.options.attempts (y.calls + y.reads) ((false ≡ false) × IsRunning y) y.keys h.cells
+      (y.calls + y.reads) (IsRunning y) (omega arith) (λ runs. (refl, runs));
   stop = h.stop;
   calls = h.calls;
   reads = h.reads;
@@ -137,25 +139,32 @@ module _ (b : SeenBook) (slot at : ℕ) (formed : IsWellFormed b) (h : IsCounted
       (All-flat_at batch_of b.slots slot (IsBatch most_tried so_far (IsRunning b)) (Some (live.Batch batch)) works h.counts.worked_batches)
 
   -- a fail of another job leaves key cells
-  stays : (spent : Bool) → AreCellsCounted most_tried ((spent ≡ false) × IsRunning b) b.keys
-  stays spent = cells_onward most_tried (IsRunning b) ((spent ≡ false) × IsRunning b) b.keys (λ r. r.1) h.cells
+  stays : (spent : Bool) (more : ℕ) → so_far ≤ more → AreCellsCounted most_tried more ((spent ≡ false) × IsRunning b) b.keys
+  stays spent more rise = cells_onward most_tried so_far (IsRunning b) b.keys h.cells more ((spent ≡ false) × IsRunning b) rise (λ r. r.1)
 
   -- the attempts of a key job are those of its cell
   turn_tries : (turn : KeyTurn) → IsTurnOf b.keys turn → (cell : KeyCell) → slice_get b.keys turn.cell ≡ Some cell → turn.attempts ≡ cell.attempts
   turn_tries turn own cell e = let same : own.cell ≡ cell = let is = own.is_at in cc in ap (λ (t : KeyTurn). t.attempts) own.is ∙ ap (λ (c : KeyCell). c.attempts) same
 
-  worked_turn : (turn : KeyTurn) → IsTurnOf b.keys turn → turn.attempts < most_tried
+  worked_turn : (turn : KeyTurn) → IsTurnOf b.keys turn → MayBeWorked most_tried so_far turn.attempts
   worked_turn turn own =
       let below = All-slice_get (IsCellWorked most_tried) b.keys turn.cell own.cell own.is_at h.cells.worked (ap is_some own.works) in
-      omega (arith, below, turn_tries turn own own.cell own.is_at)
+      let failed = All-slice_get (IsCellFailed so_far) b.keys turn.cell own.cell own.is_at h.cells.failed in
+      let same = turn_tries turn own own.cell own.is_at in
+      (omega (arith, below, same), omega (arith, failed, same))
 
-  turn_back : (turn : KeyTurn) → IsTurnOf b.keys turn → (spent : Bool) → is_at_limit b (live.Key turn) ≡ spent → AreCellsCounted most_tried ((spent ≡ false) × IsRunning b) (change tried turn.cell b.keys)
-  turn_back turn own spent ends = record {
-    worked = change_each (IsCellWorked most_tried) tried turn.cell b.keys (λ cell e k works. absurd (cc)) h.cells.worked;
-    below = λ r. change_each (IsCellBelow most_tried) tried turn.cell b.keys
-        (λ cell e k. omega (arith, below_again most_tried turn.attempts (ends ∙ r.0), turn_tries turn own cell e)) (h.cells.below r.1);
-    most = change_each (IsCellMost most_tried) tried turn.cell b.keys (λ cell e k. omega (arith, worked_turn turn own, turn_tries turn own cell e)) h.cells.most;
-  }
+  turn_back : (turn : KeyTurn) → IsTurnOf b.keys turn → (spent : Bool) → is_at_limit b (live.Key turn) ≡ spent
+      → (more : ℕ) → so_far ≤ more → turn.attempts < most_tried → turn.attempts + 1 ≤ more
+      → AreCellsCounted most_tried more ((spent ≡ false) × IsRunning b) (change tried turn.cell b.keys)
+  turn_back turn own spent ends more rise below once_more =
+      let stay = stays spent more rise in
+      record {
+        worked = change_each (IsCellWorked most_tried) tried turn.cell b.keys (λ cell e k works. absurd (cc)) stay.worked;
+        below = λ r. change_each (IsCellBelow most_tried) tried turn.cell b.keys
+            (λ cell e k. omega (arith, below_again most_tried turn.attempts (ends ∙ r.0), turn_tries turn own cell e)) (stay.below r);
+        most = change_each (IsCellMost most_tried) tried turn.cell b.keys (λ cell e k. omega (arith, below, turn_tries turn own cell e)) stay.most;
+        failed = change_each (IsCellFailed more) tried turn.cell b.keys (λ cell e k. omega (arith, once_more, turn_tries turn own cell e)) stay.failed;
+      }
 
   few_tries : (attempts : ℕ) → MayBeWorked most_tried so_far attempts → attempts < 1000
   few_tries attempts may = let limits = formed.allowed.attempts.1 in omega (arith, may.0, limits)
@@ -166,7 +175,7 @@ module _ (b : SeenBook) (slot at : ℕ) (formed : IsWellFormed b) (h : IsCounted
       let may = worked_piece piece attempted works in
       record {
         counts = span_back piece attempted works spent ends (raised b.calls + b.reads) (rises_call b.calls b.reads h.calls) may;
-        cells = stays spent;
+        cells = stays spent (raised b.calls + b.reads) (rises_call b.calls b.reads h.calls);
         stop = h.stop;
         noted = λ e. just_spent most_tried piece.attempts may (ends ∙ e);
         calls = omega arith;
@@ -176,7 +185,7 @@ module _ (b : SeenBook) (slot at : ℕ) (formed : IsWellFormed b) (h : IsCounted
       let may = worked_piece piece attempted works in
       record {
         counts = span_back piece attempted works spent ends (b.calls + raised b.reads) (rises_read b.calls b.reads h.reads) may;
-        cells = stays spent;
+        cells = stays spent (b.calls + raised b.reads) (rises_read b.calls b.reads h.reads);
         stop = h.stop;
         noted = λ e. just_spent most_tried piece.attempts may (ends ∙ e);
         calls = h.calls;
@@ -186,7 +195,7 @@ module _ (b : SeenBook) (slot at : ℕ) (formed : IsWellFormed b) (h : IsCounted
       let may = worked_batch batch works in
       record {
         counts = batch_given batch works spent ends (raised b.calls + b.reads) (rises_call b.calls b.reads h.calls) may.0 (tried_call batch.attempts b.calls b.reads may.1 (few_tries batch.attempts may));
-        cells = stays spent;
+        cells = stays spent (raised b.calls + b.reads) (rises_call b.calls b.reads h.calls);
         stop = h.stop;
         noted = λ e. just_spent most_tried batch.attempts may.0 (ends ∙ e);
         calls = omega arith;
@@ -196,7 +205,7 @@ module _ (b : SeenBook) (slot at : ℕ) (formed : IsWellFormed b) (h : IsCounted
       let may = worked_batch batch works in
       record {
         counts = batch_given batch works spent ends (b.calls + raised b.reads) (rises_read b.calls b.reads h.reads) may.0 (tried_read batch.attempts b.calls b.reads may.1 (few_tries batch.attempts may));
-        cells = stays spent;
+        cells = stays spent (b.calls + raised b.reads) (rises_read b.calls b.reads h.reads);
         stop = h.stop;
         noted = λ e. just_spent most_tried batch.attempts may.0 (ends ∙ e);
         calls = h.calls;
@@ -204,21 +213,25 @@ module _ (b : SeenBook) (slot at : ℕ) (formed : IsWellFormed b) (h : IsCounted
       }
   failed_to turns (live.Key turn) Call works spent ends =
       let own = turn_at b slot turn turns works in
+      let may = worked_turn turn own in
       record {
         counts = freed (raised b.calls + b.reads) ((spent ≡ false) × IsRunning b) (rises_call b.calls b.reads h.calls) (λ r. r.1);
-        cells = turn_back turn own spent ends;
+        cells = turn_back turn own spent ends (raised b.calls + b.reads) (rises_call b.calls b.reads h.calls) may.0
+            (tried_call turn.attempts b.calls b.reads may.1 (few_tries turn.attempts may));
         stop = h.stop;
-        noted = λ e. just_spent most_tried turn.attempts (worked_turn turn own) (ends ∙ e);
+        noted = λ e. just_spent most_tried turn.attempts may.0 (ends ∙ e);
         calls = omega arith;
         reads = h.reads;
       }
   failed_to turns (live.Key turn) Read works spent ends =
       let own = turn_at b slot turn turns works in
+      let may = worked_turn turn own in
       record {
         counts = freed (b.calls + raised b.reads) ((spent ≡ false) × IsRunning b) (rises_read b.calls b.reads h.reads) (λ r. r.1);
-        cells = turn_back turn own spent ends;
+        cells = turn_back turn own spent ends (b.calls + raised b.reads) (rises_read b.calls b.reads h.reads) may.0
+            (tried_read turn.attempts b.calls b.reads may.1 (few_tries turn.attempts may));
         stop = h.stop;
-        noted = λ e. just_spent most_tried turn.attempts (worked_turn turn own) (ends ∙ e);
+        noted = λ e. just_spent most_tried turn.attempts may.0 (ends ∙ e);
         calls = h.calls;
         reads = omega arith;
       }
@@ -245,12 +258,13 @@ commit_counted limit total running pending returned slots slot (live.Key turn) r
     set_counted limit total running pending returned slots h slot None (All-nil (IsPiece limit total running)) (All-nil (IsBatch limit total running))
 
 -- a cell whose job is done has all its attempts again, and so has a new one
-commit_cells : (limit : ℕ) (running : Type 0) (plan : Plan) (before : List StageMarks) (done : Option Done) (arrivals : List Arrival) (keys : List KeyCell) → 1 ≤ limit
-    → AreCellsCounted limit running keys → AreCellsCounted limit running (place plan before done arrivals keys)
-commit_cells limit running plan before done arrivals keys some h = record {
+commit_cells : (limit total : ℕ) (running : Type 0) (plan : Plan) (before : List StageMarks) (done : Option Done) (arrivals : List Arrival) (keys : List KeyCell) → 1 ≤ limit
+    → AreCellsCounted limit total running keys → AreCellsCounted limit total running (place plan before done arrivals keys)
+commit_cells limit total running plan before done arrivals keys some h = record {
   worked = place_each (IsCellWorked limit) plan before (λ cell waiting k. k) (λ arrival works. omega (arith, some)) (λ done cell k works. omega (arith, some)) done arrivals keys h.worked;
   below = λ runs. place_each (IsCellBelow limit) plan before (λ cell waiting k. k) (λ arrival. omega (arith, some)) (λ done cell k. omega (arith, some)) done arrivals keys (h.below runs);
   most = place_each (IsCellMost limit) plan before (λ cell waiting k. k) (λ arrival. omega arith) (λ done cell k. omega arith) done arrivals keys h.most;
+  failed = place_each (IsCellFailed total) plan before (λ cell waiting k. k) (λ arrival. omega arith) (λ done cell k. omega arith) done arrivals keys h.failed;
 }
 
 -- first pieces were never tried
@@ -274,6 +288,7 @@ opening_counted b first opening =
         worked = All-nil (IsCellWorked b.options.attempts);
         below = λ runs. All-nil (IsCellBelow b.options.attempts);
         most = All-nil (IsCellMost b.options.attempts);
+        failed = All-nil (IsCellFailed (0 + 0));
       };
       stop = tt;
       calls = omega arith;
@@ -328,7 +343,8 @@ keeps_counted told = record {
   };
   commits = λ b slot job receipt cells fired marks known h made. record {
     counts = commit_counted b.options.attempts (b.calls + b.reads) (IsRunning b) b.pending b.returned b.slots slot job receipt known.0.allowed.attempts.0 h.counts;
-    cells = commit_cells b.options.attempts (IsRunning b) b.plan (last_marks b) (key_done (length b.commits) job receipt.logged) receipt.arrivals b.keys known.0.allowed.attempts.0 h.cells;
+    cells = commit_cells b.options.attempts (b.calls + b.reads) (IsRunning b) b.plan (last_marks b) (key_done (length b.commits) job receipt.logged)
+        receipt.arrivals b.keys known.0.allowed.attempts.0 h.cells;
     stop = h.stop;
     calls = h.calls;
     reads = h.reads;
@@ -339,7 +355,8 @@ keeps_counted told = record {
   stops = λ b known h. record {
     counts = more_counted b.options.attempts (b.calls + b.reads) (IsRunning b) b.pending b.returned b.slots h.counts (b.calls + b.reads) (or_stopped b.stopped stop.NoMemory ≡ None)
         (omega arith) (λ none. absurd (never_none b.stopped stop.NoMemory none));
-    cells = cells_onward b.options.attempts (IsRunning b) (or_stopped b.stopped stop.NoMemory ≡ None) b.keys (λ none. absurd (never_none b.stopped stop.NoMemory none)) h.cells;
+    cells = cells_onward b.options.attempts (b.calls + b.reads) (IsRunning b) b.keys h.cells
+        (b.calls + b.reads) (or_stopped b.stopped stop.NoMemory ≡ None) (omega arith) (λ none. absurd (never_none b.stopped stop.NoMemory none));
     stop = stop_no_memory b b.stopped h.stop;
     calls = h.calls;
     reads = h.reads;

@@ -1,5 +1,5 @@
--- From the opening on, what Groups took and put out ends early.
-use Rattle.std.proofs.Common.{◌≡◌, ℕ, ◌-◌, ◌<◌, ℤ, pos, Bool, true, false, cond, List, [], ◌∷◌, ◌++◌, length, map, get_or, refl, sym, ap, subst, arith, ◌∙◌}
+-- From the opening on, what Groups took ends early, and what they put out and what waits at key cells is early.
+use Rattle.std.proofs.Common.{◌≡◌, ℕ, ◌-◌, ◌<◌, ℤ, pos, Bool, true, false, cond, List, [], ◌∷◌, ◌++◌, length, map, get_or, refl, sym, ap, subst, arith}
 use Rattle.std.specs.Prelude.{Option, Some, None, ◌==◌, ◌&&◌, ◌≤ℤ◌, ◌-ℤ◌, bytes_eq, int_le, int_lt, slice_get, unwrap_or}
 use Rattle.std.specs.List.{All, filter}
 use Rattle.std.proofs.lemmas.Bool.{and_from}
@@ -38,7 +38,7 @@ use Rattle.group_cells.proofs.Counting.{All-unmap}
 use Rattle.group_cells.proofs.WindowTests.{span_itself}
 use Rattle.book_core.specs.Book.{SeenBook, last_marks, pane_at, panes_of}
 use Rattle.book_core.specs.Changes.{with_slot, committed, failed}
-use Rattle.book_core.specs.Facts.{AreCellsKept, EndsEarly, IsEarly, IsEarlyBook, IsEarlyPane, IsWellFormed, greatest_end}
+use Rattle.book_core.specs.Facts.{AreCellsKept, EndsEarly, IsEarlyBook, IsEarlyPane, greatest_end}
 use Rattle.book_core.specs.Jobs.{attempted_of, job_of}
 use Rattle.book_core.specs.Sane.{IsSane}
 use Rattle.book_core.specs.Work.{IsGiven, IsWorkOnItem, IsWorkOnRange, is_known, items_told, worked_to}
@@ -54,27 +54,21 @@ use Rattle.book_core.proofs.HeldOnce.{All-of_bag}
 use Rattle.book_core.proofs.SaneResults.{StaysCelled, fail_stays, take_stays}
 use Rattle.book_core.proofs.Shown.{stands_early}
 use Rattle.book_core.proofs.Slots.{All-slice_get}
-use Rattle.std.specs.Option.{option_map}
 use Rattle.std.proofs.lemmas.List.Elements.{All-set}
-use Rattle.beam_values.specs.Nodes.{is_stateful, is_stateful_kind}
 use Rattle.beam_values.specs.States.{KeptState}
 use Rattle.beam_values.specs.declared.fault.Cause.{Cause}
 use Rattle.beam_values.specs.declared.fault.Cause.TheVariants.{Call, Read}
 use Rattle.beam_values.specs.declared.fault.FaultNote.{FaultNote}
-use Rattle.beam_values.specs.declared.plan.NodeKind.{NodeKind}
-use Rattle.beam_values.specs.declared.plan.NodeKind.TheVariants.{Source, ParDo, Flatten, WindowInto, Group, Stateful, Write}
-use Rattle.pipeline_graph.specs.Rules.{HasSettings}
 use Rattle.stateful_core.specs.Cells.{KeyCell}
 use Rattle.stateful_core.specs.KeyWork.{key_outputs}
-use Rattle.stateful_core.specs.Placing.{place}
 use Rattle.stateful_core.specs.Taking.{change, set_by, tried, with_job}
-use Rattle.book_core.specs.Changes.{counted, ends_run, given_back, key_done, keys_after, note_of, stopped_where}
+use Rattle.book_core.specs.Changes.{counted, ends_run, given_back, key_done, note_of, stopped_where}
 use Rattle.book_core.specs.Facts.{IsEarlyCell}
 use Rattle.book_core.specs.Jobs.{Next, next_job}
-use Rattle.book_core.proofs.KeyOutputs.{outputs_all}
-use Rattle.book_core.proofs.KeysKept.{none_keyed}
+use Rattle.book_core.specs.Steps.{IsWorking}
+use Rattle.book_core.proofs.EarlyKeys.{IsEarlyArrival, calls_early, placed_early, turn_early}
 use Rattle.book_core.proofs.Taking.{take_cases}
-use Rattle.book_core.proofs.ToKeys.{none_placed}
+use Rattle.book_core.proofs.Turns.{turn_at}
 use Rattle.book_core.proofs.Through.{passes_have}
 
 last_early : (w : Interval) → last_time w ≤ℤ greatest_time
@@ -147,18 +141,13 @@ panes_of_early panes all (w ∷ ws) = All-append IsEarlyPane (pane_at panes w) (
     by None at = All-nil IsEarlyPane
     by (Some pane) at = All-cons IsEarlyPane pane [] (All-slice_get IsEarlyPane panes w.pane pane at all) (All-nil IsEarlyPane)
 
--- the own window of an arrival ends early
-abbrev pub HasEarlyEnd : Arrival → Type 0
-HasEarlyEnd arrival = arrival.element.span.end ≤ℤ greatest_end
-
 module _ (strategies : StrategiesOfPlans) (windows : WindowsOfKind) (settings : SettingsOfPlans) (told : Option (List FileText)) where
-  arrivals_early : (arrivals : List Arrival) (outputs : List Output) → map Arrives arrivals ≡ outputs → All IsEarlyOutput outputs → All HasEarlyEnd arrivals
-  arrivals_early arrivals outputs same all =
-      All-weaker (λ (a : Arrival). IsEarly a.element) HasEarlyEnd (λ a early. early.1) arrivals (All-unmap IsEarlyOutput Arrives arrivals (subst (All IsEarlyOutput) (sym same) all))
+  arrivals_early : (arrivals : List Arrival) (outputs : List Output) → map Arrives arrivals ≡ outputs → All IsEarlyOutput outputs → All IsEarlyArrival arrivals
+  arrivals_early arrivals outputs same all = All-unmap IsEarlyOutput Arrives arrivals (subst (All IsEarlyOutput) (sym same) all)
 
   item_early : (plan : Plan) (piece : Piece) (upto : ℕ) (receipt : Receipt) → IsChecked plan → (found : Option SourceItem) → item_at (items_told told plan) piece.node piece.item ≡ found
-      → IsWorkOnItem plan piece upto found receipt → All HasEarlyEnd receipt.arrivals
-  item_early plan piece upto receipt checked None at work = subst (All HasEarlyEnd) (sym work.0) (All-nil HasEarlyEnd)
+      → IsWorkOnItem plan piece upto found receipt → All IsEarlyArrival receipt.arrivals
+  item_early plan piece upto receipt checked None at work = subst (All IsEarlyArrival) (sym work.0) (All-nil IsEarlyArrival)
   item_early plan piece upto receipt checked (Some item) at work =
       let set = λ (n : ℕ) (node : Node) (here : slice_get plan.nodes n ≡ Some node). settings plan n node checked here in
       let allowed = found_has (is_item piece.node piece.item) (λ (i : SourceItem). is_source_argument i.work i.args ≡ true) (items_told told plan) item (items_set windows plan set (unwrap_or told [])) at in
@@ -166,45 +155,22 @@ module _ (strategies : StrategiesOfPlans) (windows : WindowsOfKind) (settings : 
       (spread_early windows plan set item allowed (offsets piece.range.from (upto - piece.range.from)))
 
   range_early : (plan : Plan) (piece : Piece) (upto : ℕ) (receipt : Receipt) → IsChecked plan → (t : Bool) → IsWorkOnRange t told plan piece upto receipt
-      → All HasEarlyEnd receipt.arrivals
+      → All IsEarlyArrival receipt.arrivals
   range_early plan piece upto receipt checked true work = item_early plan piece upto receipt checked (item_at (items_told told plan) piece.node piece.item) refl work
-  range_early plan piece upto receipt checked false work = work.ends
+  range_early plan piece upto receipt checked false work = λ k d inside. (work.times k d inside, work.ends k d inside)
 
-  -- As long as no checked plan has a Stateful node. Where one has, the times of what waits there have to be early too, also of files that aren't told.
-  no_settings : (kind : NodeKind) → HasSettings kind → is_stateful_kind kind ≡ true → ⊥
-  no_settings (Stateful work args log) set is = let no = set.0 in cc
-  no_settings (Source work args files estimator) set is = cc
-  no_settings (ParDo work args) set is = cc
-  no_settings Flatten set is = cc
-  no_settings (WindowInto strategy) set is = cc
-  no_settings (Group trigger) set is = cc
-  no_settings (Write label) set is = cc
-
-  none_keyed_of : (b : SeenBook) → IsWellFormed b → (n : ℕ) → is_stateful b.plan n ≡ true → ⊥
-  none_keyed_of b formed n is = by (slice_get b.plan.nodes n) refl is
-    where
-      by : (found : Option Node) → slice_get b.plan.nodes n ≡ found → unwrap_or (option_map (λ (x : Node). is_stateful_kind x.kind) found) false ≡ true → ⊥
-      by None at is = cc
-      by (Some node) at is = no_settings node.kind (settings b.plan n node formed.checked at) is
-
-  no_node : (b : SeenBook) → IsWellFormed b → (n : ℕ) → is_stateful b.plan n ≡ false
-  no_node b formed n = by (is_stateful b.plan n) refl
-    where
-      by : (t : Bool) → is_stateful b.plan n ≡ t → t ≡ false
-      by false e = refl
-      by true e = absurd (none_keyed_of b formed n e)
-
-  given_early : (b : SeenBook) (job : Live) (receipt : Receipt) → IsWellFormed b → All IsEarlyPane b.panes → IsGiven told b.plan (job_of b.panes job) (attempted_of job) receipt
-      → All HasEarlyEnd receipt.arrivals
-  given_early b (live.Span piece attempted) receipt formed panes given =
-      range_early b.plan piece (worked_to piece attempted) receipt formed.checked (is_known told b.plan piece.node) given.0
-  given_early b (live.Key turn) receipt formed panes given =
+  given_early : (b : SeenBook) (slot : ℕ) (job : Live) (receipt : Receipt) → IsSane b → IsEarlyBook b → IsWorking b slot job
+      → IsGiven told b.plan (job_of b.panes job) (attempted_of job) receipt → All IsEarlyArrival receipt.arrivals
+  given_early b slot (live.Span piece attempted) receipt sane h works given =
+      range_early b.plan piece (worked_to piece attempted) receipt sane.formed.checked (is_known told b.plan piece.node) given.0
+  given_early b slot (live.Key turn) receipt sane h works given =
       let kept : KeptState = record { cells = turn.state; timers = turn.timers } in
       arrivals_early receipt.arrivals (key_outputs b.plan turn.node turn.key turn.span turn.inputs kept) given.arrives
-      (outputs_all IsEarlyOutput b.plan turn.node tt (λ keyed e. absurd (none_keyed_of b formed turn.node keyed)) turn.key turn.span turn.inputs kept)
-  given_early b (live.Batch batch) receipt formed panes given =
+      (calls_early windows b.plan (λ n node here. settings b.plan n node sane.formed.checked here) turn.node turn.key turn.span turn.inputs
+      (turn_early b.plan b.commits b.keys turn sane.keys h.keys (turn_at b slot turn sane.turns works)) kept)
+  given_early b slot (live.Batch batch) receipt sane h works given =
       arrivals_early receipt.arrivals (batch_outputs b.plan batch.node (panes_of b.panes batch.panes)) given.0
-      (batch_early windows b.plan (λ n node here. settings b.plan n node formed.checked here) batch.node (panes_of b.panes batch.panes) (panes_of_early b.panes panes batch.panes))
+      (batch_early windows b.plan (λ n node here. settings b.plan n node sane.formed.checked here) batch.node (panes_of b.panes batch.panes) (panes_of_early b.panes h.panes batch.panes))
 
   -- ---- each step
 
@@ -238,12 +204,6 @@ module _ (strategies : StrategiesOfPlans) (windows : WindowsOfKind) (settings : 
       stop_keys (counted (given_back (with_slot b slot None) job at cause) cause) (ends_run b job cause) (note_of job at cause)
       (counted_keys (given_back (with_slot b slot None) job at cause) cause (back_keys b slot job at cause h))
 
-  commit_keys : (b : SeenBook) (job : Live) (receipt : Receipt) → IsSane b → All IsEarlyCell (keys_after b job receipt)
-  commit_keys b job receipt sane =
-      let none = no_node b sane.formed in
-      subst (All IsEarlyCell) (sym (ap (place b.plan (last_marks b) (key_done (length b.commits) job receipt.logged) receipt.arrivals) (none_keyed b.plan b.commits b.keys none sane.keys)
-      ∙ none_placed b.plan none (last_marks b) (key_done (length b.commits) job receipt.logged) receipt.arrivals)) (All-nil IsEarlyCell)
-
   early_onward : (old new : SeenBook) → StaysCelled old new → All IsEarlyCell new.keys → IsEarlyBook old → IsEarlyBook new
   early_onward old new s keys h = record {
     keys = keys;
@@ -261,14 +221,14 @@ module _ (strategies : StrategiesOfPlans) (windows : WindowsOfKind) (settings : 
   test_early z e = grind (arith, ints)
 
   commit_taken : (c : ℕ) (arrivals : List Arrival) (test : Arrival → Bool) (old new : List Cell) → IsSameBag (taken_by new) (taken_by old ++ map (taken_arrival c) (filter test arrivals))
-      → All EndsEarly (taken_by old) → All HasEarlyEnd arrivals → All EndsEarly (taken_by new)
+      → All EndsEarly (taken_by old) → All IsEarlyArrival arrivals → All EndsEarly (taken_by new)
   unfolding is_early
   commit_taken c arrivals test old new entries was all =
       let both = taken_by old ++ map (taken_arrival c) (filter test arrivals) in
       let joined : All EndsEarly both =
       All-append EndsEarly (taken_by old) (map (taken_arrival c) (filter test arrivals)) was
       (All-map EndsEarly (taken_arrival c) (filter test arrivals)
-      (All-weaker HasEarlyEnd (λ a. EndsEarly (taken_arrival c a)) (λ a e. e) (filter test arrivals) (All-filter test HasEarlyEnd arrivals all))) in
+      (All-weaker IsEarlyArrival (λ a. EndsEarly (taken_arrival c a)) (λ a e. e.1) (filter test arrivals) (All-filter test IsEarlyArrival arrivals all))) in
       All-weaker (λ t. is_early t ≡ true) EndsEarly (λ t e. test_early t.element.span.end e) (taken_by new)
       (All-of_bag is_early both (taken_by new) (bag_sym (taken_by new) both entries)
       (All-weaker EndsEarly (λ t. is_early t ≡ true) (λ t h. early_test t.element.span.end h) both joined))
@@ -277,10 +237,11 @@ module _ (strategies : StrategiesOfPlans) (windows : WindowsOfKind) (settings : 
       → Commits told b slot job receipt cells fired marks → IsEarlyBook (committed b slot job receipt cells fired marks)
   commit_early b slot job receipt cells fired marks sane celled h made =
       let entries = commit_entries told b slot job receipt cells fired marks celled.legal made in
-      let taken = commit_taken (length b.commits) receipt.arrivals (is_taken b.plan (last_marks b)) b.cells cells entries h.taken (given_early b job receipt sane.formed h.panes made.given) in
+      let came = given_early b slot job receipt sane h made.works made.given in
+      let taken = commit_taken (length b.commits) receipt.arrivals (is_taken b.plan (last_marks b)) b.cells cells entries h.taken came in
       record {
         taken = taken;
-        keys = commit_keys b job receipt sane;
+        keys = placed_early (last_marks b) b.plan (key_done (length b.commits) job receipt.logged) receipt.arrivals b.keys came h.keys;
         panes = legal_early (committed b slot job receipt cells fired marks) (commit_legal strategies told b slot job receipt cells fired marks sane celled made) taken;
       }
 

@@ -125,7 +125,7 @@ module _ (windows : WindowsOfKind) where
     all_set : All (λ node. HasSettings node.kind) plan.nodes
     all_set k d inside = settings k (get_or plan.nodes k d) (slice_get-get_or plan.nodes k d inside)
 
-    outputs_early : (n : ℕ) (e : Element) → IsEarly e → All IsEarlyOutput (chain plan n e)
+    pub outputs_early : (n : ℕ) (e : Element) → IsEarly e → All IsEarlyOutput (chain plan n e)
     outputs_early n e early = chain_early (drop (n + 1) plan.nodes) (n + 1) (All-drop (λ (node : Node). HasSettings node.kind) (n + 1) plan.nodes all_set) n e early
 
     values_early : (n : ℕ) (values : List TimedValue) → All (λ v. v.time ≤ℤ greatest_time) values → All IsEarlyOutput (flat_map (λ v. chain plan n (from_source v)) values)

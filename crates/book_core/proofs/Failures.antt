@@ -66,12 +66,8 @@ tried_at_most b slot (live.Batch batch) sane works =
     (All-append_right (λ (x : Batch). x.attempts ≤ b.calls + b.reads) b.returned (live_batches b) sane.attempts.batches))
 tried_at_most b slot (live.Key turn) sane works =
     let own = turn_at b slot turn sane.turns works in
-    omega (
-      arith,
-      sane.attempts.together,
-      set_weighs (λ (cell : KeyCell). cell.attempts) b.keys turn.cell own.cell (record own.cell { attempts = 0 }) own.is_at,
-      ap (λ (t : KeyTurn). t.attempts) own.is,
-    )
+    let failed = All-slice_get (λ (c : KeyCell). c.attempts ≤ b.calls + b.reads) b.keys turn.cell own.cell own.is_at sane.attempts.keys_failed in
+    omega (arith, failed, ap (λ (t : KeyTurn). t.attempts) own.is)
 
 pub few_attempts : (b : SeenBook) (slot : ℕ) (job : Live) → IsSane b → slice_get b.slots slot ≡ Some (Some job) → attempts_of job < 4294967295
 few_attempts b slot job sane works = omega (arith, below_limit b slot job sane works, sane.formed.allowed.attempts.1)

@@ -27,17 +27,20 @@ one_set (Some time) = omega arith
 kind_timers : (kind : StateKind) (timers : List (Option ℤ)) → AreTimersOf kind timers → sum_by one_if_set timers ≤ 1
 kind_timers kind timers h = omega (arith, one_set h.first, ap (sum_by one_if_set) h.is)
 
-at_timers : (commits : List CommitMarks) (kind : NodeKind) (log : KeyLog) (end : KeptState) → LeadsAt commits kind log end → sum_by one_if_set end.timers ≤ 1
-at_timers commits (Stateful work args logged) log end leads =
-    kind_timers work end.timers (leads_timers commits work args log fresh_state 1 log.entries end leads (fresh_timers work))
+-- the timers of a cell are those that its node's function sets
+at_timers : (commits : List CommitMarks) (kind : NodeKind) (log : KeyLog) (end : KeptState) → LeadsAt commits kind log end → (work : StateKind) × AreTimersOf work end.timers
+at_timers commits (Stateful work args logged) log end leads = (work, leads_timers commits work args log fresh_state 1 log.entries end leads (fresh_timers work))
 at_timers commits _ log end leads = absurd leads
 
-in_timers : (commits : List CommitMarks) (found : Option Node) (log : KeyLog) (end : KeptState) → LeadsIn commits found log end → sum_by one_if_set end.timers ≤ 1
+in_timers : (commits : List CommitMarks) (found : Option Node) (log : KeyLog) (end : KeptState) → LeadsIn commits found log end → (work : StateKind) × AreTimersOf work end.timers
 in_timers commits (Some node) log end leads = at_timers commits node.kind log end leads
 in_timers commits None log end leads = absurd leads
 
+pub cell_timers : (plan : Plan) (commits : List CommitMarks) (cell : KeyCell) → IsCellKept plan commits cell → (work : StateKind) × AreTimersOf work cell.kept.timers
+cell_timers plan commits cell h = in_timers commits (slice_get plan.nodes cell.log.node) cell.log cell.kept h.leads
+
 cell_most : (plan : Plan) (commits : List CommitMarks) (cell : KeyCell) → IsCellKept plan commits cell → left_of cell ≤ 9 * length cell.waiting + 1
-cell_most plan commits cell h = omega (arith, in_timers commits (slice_get plan.nodes cell.log.node) cell.log cell.kept h.leads)
+cell_most plan commits cell h = let timers = cell_timers plan commits cell h in omega (arith, kind_timers timers.0 cell.kept.timers timers.1)
 
 pub cells_most : (plan : Plan) (commits : List CommitMarks) (p : KeyCell → Bool) (cells : List KeyCell) → All (IsCellKept plan commits) cells
     → sum_by left_of (filter p cells) ≤ 9 * waiting_in cells + length cells

@@ -51,6 +51,7 @@ pub mod Through
 pub mod Ended
 pub mod EarlyTimes
 pub mod EarlyEnds
+pub mod EarlyKeys
 pub mod EarlyAlways
 pub mod Lowered
 pub mod TakenLeft

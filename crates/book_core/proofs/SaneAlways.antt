@@ -46,7 +46,7 @@ counted_of b h stop = record {
         pending_most = h.pending_most;
         returned_most = λ k d inside. (h.returned_most k d inside, most k d inside);
       };
-  cells = record { worked = h.worked_keys; below = h.keys; most = h.keys_most };
+  cells = record { worked = h.worked_keys; below = h.keys; most = h.keys_most; failed = h.keys_failed };
   stop = stop;
   calls = h.calls;
   reads = h.reads;
@@ -67,6 +67,7 @@ attempts_of b h tried = record {
   returned_most = λ k d inside. (h.counts.returned_most k d inside).0;
   keys_most = h.cells.most;
   together = omega (arith, tried.tried, sum_by-append (λ (piece : Piece). piece.attempts) b.pending (live_pieces b));
+  keys_failed = h.cells.failed;
   batches =
       let total = b.calls + b.reads in
       All-append (λ (batch : Batch). batch.attempts ≤ total) b.returned (live_batches b)

@@ -1,6 +1,6 @@
--- All pieces and key cells together have failed no more often than jobs failed at all: from the opening on.
+-- All pieces together have failed no more often than jobs failed at all: from the opening on.
 use Rattle.std.proofs.Common.{◌≡◌, ℕ, ◌+◌, ◌*◌, ◌<◌, ◌≤◌, Bool, true, false, cond, List, [], ◌∷◌, length, refl, ap, subst, sym, arith}
-use Rattle.std.specs.Prelude.{Option, Some, None, nat_lt, slice_get}
+use Rattle.std.specs.Prelude.{Option, Some, None, nat_lt}
 use Rattle.std.specs.List.{All, sum_by}
 use Rattle.std.proofs.lemmas.List.Elements.{All-nil, All-head, All-tail, All-weaker}
 use Rattle.std.proofs.lemmas.List.Sums.{sum_by-cons}
@@ -9,16 +9,10 @@ use Rattle.beam_values.specs.declared.fault.Cause.{Cause}
 use Rattle.beam_values.specs.declared.fault.Cause.TheVariants.{Call, Read}
 use Rattle.beam_values.specs.declared.fault.FaultNote.{FaultNote}
 use Rattle.beam_values.specs.declared.file_text.FileText.{FileText}
-use Rattle.beam_values.specs.declared.arrival.Arrival.{Arrival}
-use Rattle.beam_values.specs.declared.marks.StageMarks.{StageMarks}
 use Rattle.beam_values.specs.declared.piece.Piece.{Piece}
-use Rattle.beam_values.specs.declared.plan.Plan.{Plan}
 use Rattle.bundle_commit.specs.declared.job.Receipt.{Receipt}
-use Rattle.stateful_core.specs.Cells.{KeyCell}
-use Rattle.stateful_core.specs.Placing.{Done, finish, place, set_done, with_done}
-use Rattle.stateful_core.specs.Taking.{change, set_by, tried, with_job}
-use Rattle.book_core.specs.Book.{SeenBook, last_marks, piece_of, live_pieces}
-use Rattle.book_core.specs.Changes.{with_slot, cut_to, rest_of, given_back, tried_piece, counted, stopped_where, ends_run, key_done, keys_after, note_of, pending_after, residual_of, with_residual}
+use Rattle.book_core.specs.Book.{SeenBook, piece_of, live_pieces}
+use Rattle.book_core.specs.Changes.{with_slot, cut_to, rest_of, given_back, tried_piece, counted, stopped_where, ends_run, note_of, pending_after, residual_of, with_residual}
 use Rattle.book_core.specs.Facts.{IsWellFormed}
 use Rattle.book_core.specs.Jobs.{Next, next_job, with_key}
 use Rattle.book_core.specs.Runs.{pieces_of}
@@ -28,22 +22,16 @@ use Rattle.book_core.specs.declared.live.Live.{Live}
 use Rattle.book_core.specs.declared.live.Live.TheVariants as live
 use Rattle.book_core.proofs.Attempts.{IsCounted}
 use Rattle.book_core.proofs.Cases.{Keeps, Both}
-use Rattle.book_core.proofs.EachKeyCell.{all_weigh}
 use Rattle.book_core.proofs.HoldBags.{piece_set_weighs, with_piece_weight}
-use Rattle.book_core.proofs.KeyChanges.{change_weighs}
 use Rattle.book_core.proofs.OpenedPieces.{all_pieces, enrolled_of}
-use Rattle.book_core.proofs.Slots.{set_weighs}
 use Rattle.book_core.proofs.Slotted.{one_weighs}
 use Rattle.book_core.proofs.Taking.{take_cases}
 
 abbrev tries : Piece → ℕ
 tries piece = piece.attempts
 
-abbrev cell_tries : KeyCell → ℕ
-cell_tries cell = cell.attempts
-
 pub record IsTried (b : SeenBook) : Type 0 where
-  pub tried : sum_by (λ piece. piece.attempts) b.pending + sum_by (λ piece. piece.attempts) (live_pieces b) + sum_by (λ cell. cell.attempts) b.keys ≤ b.calls + b.reads
+  pub tried : sum_by (λ piece. piece.attempts) b.pending + sum_by (λ piece. piece.attempts) (live_pieces b) ≤ b.calls + b.reads
 
 -- ---- the sum can't come near the greatest count
 
@@ -52,13 +40,12 @@ few_tries w [] all = omega arith
 few_tries w (x ∷ xs) all =
     omega (arith, sum_by-cons w x xs, All-head (λ y. w y ≤ 1000) x xs all, few_tries w xs (All-tail (λ y. w y ≤ 1000) x xs all))
 
-few_in : (b : SeenBook) → IsWellFormed b → IsCounted b → sum_by tries b.pending + sum_by tries (live_pieces b) + sum_by cell_tries b.keys < greatest_count
+few_in : (b : SeenBook) → IsWellFormed b → IsCounted b → sum_by tries b.pending + sum_by tries (live_pieces b) < greatest_count
 few_in b formed counted =
     let most = formed.allowed.attempts.1 in
     let pending = few_tries tries b.pending (All-weaker (λ (p : Piece). p.attempts ≤ b.options.attempts) (λ p. p.attempts ≤ 1000) (λ p low. omega (arith, low, most)) b.pending counted.counts.pending_most) in
     let worked = few_tries tries (live_pieces b) (All-weaker (λ (p : Piece). p.attempts < b.options.attempts) (λ p. p.attempts ≤ 1000) (λ p low. omega (arith, low, most)) (live_pieces b) counted.counts.worked_pieces) in
-    let cells = few_tries cell_tries b.keys (All-weaker (λ (c : KeyCell). c.attempts ≤ b.options.attempts) (λ c. c.attempts ≤ 1000) (λ c low. omega (arith, low, most)) b.keys counted.cells.most) in
-    omega (arith, pending, worked, cells, formed.within.pieces, formed.within.keys)
+    omega (arith, pending, worked, formed.within.pieces)
 
 -- ---- the steps
 
@@ -67,14 +54,7 @@ take_tried b slot next h free is =
     take_cases b (λ (n : Next). IsTried (with_slot n.rest slot (Some n.job)))
     (λ batch among. record { tried = omega (arith, h.tried, piece_set_weighs tries b slot None (Some (live.Batch batch)) free) })
     (λ batch oldest. record { tried = omega (arith, h.tried, piece_set_weighs tries b slot None (Some (live.Batch batch)) free) })
-    (λ place cell found. record {
-      tried = omega (
-        arith,
-        h.tried,
-        piece_set_weighs tries b slot None (Some (with_key b place.at cell).job) free,
-        change_weighs cell_tries (with_job b.options.bundle) (λ c. refl) place.at b.keys,
-      );
-    })
+    (λ place cell found. record { tried = omega (arith, h.tried, piece_set_weighs tries b slot None (Some (with_key b place.at cell).job) free) })
     (λ piece later e. record {
       tried = omega (
         arith,
@@ -94,43 +74,17 @@ residual_tries piece attempted receipt pending = by (nat_lt (worked_to piece att
     by true = omega (arith, with_piece_weight tries (record piece { range = record { from = worked_to piece attempted; to = piece.range.to }; seen = receipt.seen; attempts = 0 }) pending)
     by false = refl
 
--- what is placed has all its attempts, and the cell of a job that is done has them again
-place_tries : (plan : Plan) (before : List StageMarks) (done : Option Done) (arrivals : List Arrival) (cells : List KeyCell) → sum_by cell_tries (place plan before done arrivals cells) ≤ sum_by cell_tries cells
-place_tries plan before done arrivals cells =
-    omega (arith, all_weigh cell_tries plan before arrivals (λ k d inside. record { joins = λ cell e. refl; opens = refl }) (finish before done cells), finished done)
-  where
-    by : (done : Done) (found : Option KeyCell) → slice_get cells done.cell ≡ found → sum_by cell_tries (set_done before done found cells) ≤ sum_by cell_tries cells
-    by done None e = omega arith
-    by done (Some cell) e = omega (arith, set_weighs cell_tries cells done.cell cell (with_done before done cell) e)
-
-    finished : (done : Option Done) → sum_by cell_tries (finish before done cells) ≤ sum_by cell_tries cells
-    finished None = omega arith
-    finished (Some done) = by done (slice_get cells done.cell) refl
-
-pieces_tries : (b : SeenBook) (slot : ℕ) (job : Live) (receipt : Receipt) → IsWorking b slot job
+commit_tries : (b : SeenBook) (slot : ℕ) (job : Live) (receipt : Receipt) → IsWorking b slot job
     → sum_by tries (pending_after b.pending job receipt) + sum_by tries (live_pieces (with_slot b slot None)) ≤ sum_by tries b.pending + sum_by tries (live_pieces b)
-pieces_tries b slot (live.Span piece attempted) receipt works =
+commit_tries b slot (live.Span piece attempted) receipt works =
     omega (arith, residual_tries piece attempted receipt b.pending, piece_set_weighs tries b slot (Some (live.Span piece attempted)) None works)
-pieces_tries b slot (live.Batch batch) receipt works = omega (arith, piece_set_weighs tries b slot (Some (live.Batch batch)) None works)
-pieces_tries b slot (live.Key turn) receipt works = omega (arith, piece_set_weighs tries b slot (Some (live.Key turn)) None works)
-
-commit_tries : (b : SeenBook) (slot : ℕ) (job : Live) (receipt : Receipt) → IsWorking b slot job → IsTried b
-    → sum_by tries (pending_after b.pending job receipt) + sum_by tries (live_pieces (with_slot b slot None)) + sum_by cell_tries (keys_after b job receipt) ≤ b.calls + b.reads
-commit_tries b slot job receipt works h =
-    omega (arith, h.tried, pieces_tries b slot job receipt works, place_tries b.plan (last_marks b) (key_done (length b.commits) job receipt.logged) receipt.arrivals b.keys)
-
-tried_tries : (at : ℕ) (cells : List KeyCell) → sum_by cell_tries (change tried at cells) ≤ sum_by cell_tries cells + 1
-tried_tries at cells = by (slice_get cells at) refl
-  where
-    by : (found : Option KeyCell) → slice_get cells at ≡ found → sum_by cell_tries (set_by tried found at cells) ≤ sum_by cell_tries cells + 1
-    by None e = omega arith
-    by (Some cell) e = omega (arith, set_weighs cell_tries cells at cell (tried cell) e)
+commit_tries b slot (live.Batch batch) receipt works = omega (arith, piece_set_weighs tries b slot (Some (live.Batch batch)) None works)
+commit_tries b slot (live.Key turn) receipt works = omega (arith, piece_set_weighs tries b slot (Some (live.Key turn)) None works)
 
 -- a job that is given back has failed once more
 back_tries : (b : SeenBook) (slot : ℕ) (job : Live) (at : ℕ) (cause : Cause) → IsWorking b slot job
     → sum_by tries (given_back (with_slot b slot None) job at cause).pending + sum_by tries (live_pieces (given_back (with_slot b slot None) job at cause))
-    + sum_by cell_tries (given_back (with_slot b slot None) job at cause).keys
-    ≤ sum_by tries b.pending + sum_by tries (live_pieces b) + sum_by cell_tries b.keys + 1
+    ≤ sum_by tries b.pending + sum_by tries (live_pieces b) + 1
 back_tries b slot (live.Span piece attempted) at cause works =
     omega (
       arith,
@@ -139,7 +93,7 @@ back_tries b slot (live.Span piece attempted) at cause works =
       one_weighs tries piece,
     )
 back_tries b slot (live.Batch batch) at cause works = omega (arith, piece_set_weighs tries b slot (Some (live.Batch batch)) None works)
-back_tries b slot (live.Key turn) at cause works = omega (arith, piece_set_weighs tries b slot (Some (live.Key turn)) None works, tried_tries turn.cell b.keys)
+back_tries b slot (live.Key turn) at cause works = omega (arith, piece_set_weighs tries b slot (Some (live.Key turn)) None works)
 
 one_more_call : (tried calls reads : ℕ) → tried ≤ calls + reads → tried < greatest_count → tried + 1 ≤ raised calls + reads
 one_more_call tried calls reads h few = omega (arith, h, few)
@@ -157,11 +111,11 @@ fail_tried : (b : SeenBook) (slot at : ℕ) (job : Live) (cause : Cause) → IsW
     → IsTried (counted (given_back (with_slot b slot None) job at cause) cause)
 fail_tried b slot at job Call formed counts h works =
     let same = back_calls b slot job at Call in
-    let more = one_more_call (sum_by tries b.pending + sum_by tries (live_pieces b) + sum_by cell_tries b.keys) b.calls b.reads h.tried (few_in b formed counts) in
+    let more = one_more_call (sum_by tries b.pending + sum_by tries (live_pieces b)) b.calls b.reads h.tried (few_in b formed counts) in
     record { tried = omega (arith, back_tries b slot job at Call works, more, ap raised same.0, same.1) }
 fail_tried b slot at job Read formed counts h works =
     let same = back_calls b slot job at Read in
-    let more = one_more_read (sum_by tries b.pending + sum_by tries (live_pieces b) + sum_by cell_tries b.keys) b.calls b.reads h.tried (few_in b formed counts) in
+    let more = one_more_read (sum_by tries b.pending + sum_by tries (live_pieces b)) b.calls b.reads h.tried (few_in b formed counts) in
     record { tried = omega (arith, back_tries b slot job at Read works, more, same.0, ap raised same.1) }
 
 stop_tried : (spent : Bool) (x : SeenBook) (note : FaultNote) → IsTried x → IsTried (stopped_where spent x note)
@@ -203,7 +157,7 @@ keeps_tried told = record {
           one_weighs tries front,
         );
       };
-  commits = λ b slot job receipt cells fired marks known h made. record { tried = commit_tries b slot job receipt made.works h };
+  commits = λ b slot job receipt cells fired marks known h made. record { tried = omega (arith, h.tried, commit_tries b slot job receipt made.works) };
   fails = λ b slot at job cause known h works.
       stop_tried (ends_run b job cause) (counted (given_back (with_slot b slot None) job at cause) cause) (note_of job at cause) (fail_tried b slot at job cause known.0 known.1 h works);
   stops = λ b known h. record { tried = h.tried };

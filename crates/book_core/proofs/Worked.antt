@@ -137,8 +137,8 @@ range_can b new claimed slot p piece granted receipt step claim unknown plausibl
 
 pub plausible_at : (plan : Plan) (node : ℕ) (piece : Piece) (receipt : Receipt) → reaches_barrier plan piece.node node ≡ true → ((span : Interval) → HasLength (strategy_of plan node) span)
     → All (λ (arrival : Arrival). arrival.node ≡ node) receipt.arrivals → All (λ (arrival : Arrival). arrival.element.span.end ≤ℤ (greatest_time +ℤ greatest_length)) receipt.arrivals
-    → piece.seen ≤ℤ receipt.seen → receipt.seen ≤ℤ greatest_time → IsPlausible plan piece receipt
-plausible_at plan node piece receipt reaches fixed at ends seen time = record {
+    → All (λ (arrival : Arrival). arrival.element.time ≤ℤ greatest_time) receipt.arrivals → piece.seen ≤ℤ receipt.seen → receipt.seen ≤ℤ greatest_time → IsPlausible plan piece receipt
+plausible_at plan node piece receipt reaches fixed at ends times seen time = record {
   at_barriers =
       All-weaker (λ (arrival : Arrival). arrival.node ≡ node) (λ (arrival : Arrival). reaches_barrier plan piece.node arrival.node ≡ true)
       (λ arrival e. subst (λ (n : ℕ). reaches_barrier plan piece.node n ≡ true) (sym e) reaches) receipt.arrivals at;
@@ -146,6 +146,7 @@ plausible_at plan node piece receipt reaches fixed at ends seen time = record {
       All-weaker (λ (arrival : Arrival). arrival.node ≡ node) (HasGap plan)
       (λ arrival e group. subst (λ (n : ℕ). HasLength (strategy_of plan n) arrival.element.span) (sym e) (fixed arrival.element.span)) receipt.arrivals at;
   ends = ends;
+  times = times;
   seen = seen;
   seen_time = time;
 }

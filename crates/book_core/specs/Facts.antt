@@ -102,8 +102,8 @@ AreSeenBefore told b =
     All (λ piece. IsSeenOf b (item_at (items_told (Some told) b.plan) piece.node piece.item) piece) (b.pending ++ live_pieces b)
 
 -- A job that is worked has failed less often than it may, and so has one that isn't worked, unless the book is stopped: then it may have failed as often. All
--- pieces and key cells together have failed no more often than jobs failed at all, and so has each batch. After two calls and a read failed, pieces with 2 and 1
--- attempts may be there, or a piece with 1 and a key cell with 2, or one piece with 3, but nothing beside it with 1.
+-- pieces together have failed no more often than jobs failed at all, and so has each batch and each key cell by itself. After two calls and a read failed,
+-- pieces with 2 and 1 attempts may be there and a key cell with 3, or one piece with 3, but no other piece beside it with 1.
 abbrev pub IsBelowLimit : SeenBook → ℕ → Type 0
 IsBelowLimit b attempts = attempts < b.options.attempts
 
@@ -117,7 +117,8 @@ pub record AreAttemptsCounted (b : SeenBook) : Type 0 where
   pub pending_most : All (λ piece. piece.attempts ≤ b.options.attempts) b.pending
   pub returned_most : All (λ batch. batch.attempts ≤ b.options.attempts) b.returned
   pub keys_most : All (λ cell. cell.attempts ≤ b.options.attempts) b.keys
-  pub together : sum_by (λ piece. piece.attempts) (b.pending ++ live_pieces b) + sum_by (λ cell. cell.attempts) b.keys ≤ b.calls + b.reads
+  pub together : sum_by (λ piece. piece.attempts) (b.pending ++ live_pieces b) ≤ b.calls + b.reads
+  pub keys_failed : All (λ cell. cell.attempts ≤ b.calls + b.reads) b.keys
   pub batches : All (λ batch. batch.attempts ≤ b.calls + b.reads) (b.returned ++ live_batches b)
   pub calls : b.calls ≤ greatest_count
   pub reads : b.reads ≤ greatest_count
@@ -168,7 +169,7 @@ IsEarly e = (e.time ≤ℤ greatest_time) × (e.span.end ≤ℤ greatest_end)
 abbrev pub IsEarlyPane : Pane → Type 0
 IsEarlyPane pane = IsEarly pane.element
 
--- What waits at a key cell, and its window. This rests on no checked plan having a Stateful node: where one has, the elements of untold files have to be early too.
+-- the window of a key cell, and what waits there
 pub record IsEarlyCell (cell : KeyCell) : Type 0 where
   pub span : cell.log.span.end ≤ℤ greatest_end
   pub waiting : All (λ waiting. waiting.element.time ≤ℤ greatest_time) cell.waiting

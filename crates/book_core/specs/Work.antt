@@ -77,11 +77,12 @@ pub record IsWorkOn (plan : Plan) (piece : Piece) (upto : ℕ) (item : SourceIte
   pub seen : receipt.seen ≡ seen_over (estimator_of plan piece.node) item piece.range.from upto piece.seen
 
 -- What is asked where the bytes aren't known: arrivals are at barriers that the source reaches, own windows at Groups of sessions are as long as the
--- gap, and what was seen doesn't fall. No window ends later than a window of the greatest time, and no time is above the greatest.
+-- gap, and what was seen doesn't fall. No window ends later than a window of the greatest time, and no time is above the greatest, also of what was seen.
 pub record IsPlausible (plan : Plan) (piece : Piece) (receipt : Receipt) : Type 0 where
   pub at_barriers : All (λ arrival. reaches_barrier plan piece.node arrival.node ≡ true) receipt.arrivals
   pub gaps : All (HasGap plan) receipt.arrivals
   pub ends : All (λ arrival. arrival.element.span.end ≤ℤ (greatest_time +ℤ greatest_length)) receipt.arrivals
+  pub times : All (λ arrival. arrival.element.time ≤ℤ greatest_time) receipt.arrivals
   pub seen : piece.seen ≤ℤ receipt.seen
   pub seen_time : receipt.seen ≤ℤ greatest_time
 

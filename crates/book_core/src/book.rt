@@ -37,7 +37,7 @@ use bundle_commit::{Job, Receipt};
 use group_cells::Groups;
 use pipeline_graph::Graph;
 use pipeline_graph::laws::{
-    no_node_is_stateful, nodes_take_elements_of_their_strategy, strategies_follow_kinds,
+    nodes_take_elements_of_their_strategy, stateful_nodes_have_no_sessions, strategies_follow_kinds,
 };
 use retry_core::{FaultShare, next_attempt};
 use split_core::Pieces;
@@ -350,7 +350,7 @@ impl Book {
         ensures err { IfErr result
             (λ unplaced. (unplaced.receipt ≡ receipt) × (self.new ≡ self.old)) }
     {
-        no_node_is_stateful();
+        stateful_nodes_have_no_sessions();
         nodes_take_elements_of_their_strategy();
         strategies_follow_kinds();
         let count = receipt.arrivals.len();

@@ -22,8 +22,8 @@ ghost use Rattle.book_core.specs.Steps.{IsIdle, IsTaking, Step};
 ghost use Rattle.book_core.specs.Work.{Surroundings};
 
 use pipeline_graph::laws::{
-    no_node_is_stateful, nodes_have_inputs_and_settings_of_their_kind,
-    nodes_take_elements_of_their_strategy, strategies_follow_kinds,
+    nodes_have_inputs_and_settings_of_their_kind, nodes_take_elements_of_their_strategy,
+    stateful_nodes_have_no_sessions, strategies_follow_kinds,
 };
 use windowing::laws::windows_hold_their_time;
 
@@ -49,7 +49,7 @@ pub fn books_are_kept()
     ensures reached { (told : Option (List FileText)) (b : SeenBook)
         → Reached told b → AreKeptWith b }
 {
-    no_node_is_stateful();
+    stateful_nodes_have_no_sessions();
     nodes_take_elements_of_their_strategy();
     strategies_follow_kinds();
     nodes_have_inputs_and_settings_of_their_kind();
@@ -70,7 +70,7 @@ pub fn told_books_are_kept()
     ensures reached { (told : List FileText) (b : SeenBook)
         → Reached (Some told) b → AreKeptOf told b }
 {
-    no_node_is_stateful();
+    stateful_nodes_have_no_sessions();
     nodes_take_elements_of_their_strategy();
     strategies_follow_kinds();
     nodes_have_inputs_and_settings_of_their_kind();
@@ -132,7 +132,7 @@ pub fn books_with_no_job_left_are_through()
     ensures { (told : Option (List FileText)) (b : SeenBook)
         → Reached told b → next_job b ≡ None → IsIdle b → IsThrough b }
 {
-    no_node_is_stateful();
+    stateful_nodes_have_no_sessions();
     nodes_take_elements_of_their_strategy();
     strategies_follow_kinds();
     nodes_have_inputs_and_settings_of_their_kind();

@@ -82,6 +82,7 @@ fn number(minute: u32, n: i64) -> Result<Arrival, Fail>
     ensures at { IfOk result (λ arrival. arrival.node ≡ 2) }
     ensures ends { IfOk result
         (λ arrival. arrival.element.span.end ≤ℤ (greatest_time +ℤ greatest_length)) }
+    ensures time { IfOk result (λ arrival. arrival.element.time ≤ℤ greatest_time) }
 {
     let start = i64::from(minute) * 60_000;
     Ok(Arrival {
@@ -145,6 +146,7 @@ fn work_range(
     requires at { All (λ arrival. arrival.node ≡ 2) arrivals }
     requires ends { All
         (λ arrival. arrival.element.span.end ≤ℤ (greatest_time +ℤ greatest_length)) arrivals }
+    requires times { All (λ arrival. arrival.element.time ≤ℤ greatest_time) arrivals }
     ensures free { OnOk result (IsFree book.new slot) }
     ensures plan { OnOk result (book.new.plan ≡ book.old.plan) }
 {

@@ -189,6 +189,7 @@ fit_plausible plan piece receipt known time =
       at_barriers = λ k d inside. (each k d inside).0;
       gaps = λ k d inside. (each k d inside).1;
       ends = λ k d inside. (each k d inside).2;
+      times = λ k d inside. (each k d inside).3;
       seen = known.seen;
       seen_time = time;
     }
@@ -196,7 +197,7 @@ fit_plausible plan piece receipt known time =
 -- ---- what a source emits is fit
 
 fit_of : (plan : Plan) (node : ℕ) (o : Output) → ReachesBarrier plan node o → IsGapped plan o → IsEarlyOutput o → IsFit plan node o
-fit_of plan node (Arrives arrival) reaches gapped early = (reaches, gapped, early.1)
+fit_of plan node (Arrives arrival) reaches gapped early = (reaches, gapped, early.1, early.0)
 fit_of plan node (PoisonAt at) reaches gapped early = tt
 
 gapped_of : (plan : Plan) → AreStrategies plan → (n : ℕ) (node : Node) → slice_get plan.nodes n ≡ Some node → is_source_kind node.kind ≡ true → (e : Emission)

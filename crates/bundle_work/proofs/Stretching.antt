@@ -114,7 +114,8 @@ module _ (plan : Plan) (piece : Piece) where
 
     plausible_cut : (now : Piece) (receipt : Receipt) → now ≡ cut_to piece (record { from = piece.range.from; to = now.range.to }) → IsPlausible plan piece receipt → IsPlausible plan now receipt
     plausible_cut now receipt same is =
-        subst (λ (x : Piece). IsPlausible plan x receipt) (sym same) (record { at_barriers = is.at_barriers; gaps = is.gaps; ends = is.ends; seen = is.seen; seen_time = is.seen_time })
+        subst (λ (x : Piece). IsPlausible plan x receipt) (sym same)
+        (record { at_barriers = is.at_barriers; gaps = is.gaps; ends = is.ends; times = is.times; seen = is.seen; seen_time = is.seen_time })
 
     -- of the piece as it is now, up to the last attempted position
     pub over_all : (upto next : ℕ) (old new : Receipt) → old ≡ record { arrivals = []; seen = piece.seen; logged = None } → IsWorkedOver plan opening len piece piece.range.from upto next old new

@@ -60,10 +60,11 @@ abbrev pub item_of : Piece → SourceWork → List ℕ → SourceItem
 item_of piece source text = record { node = piece.node; item = piece.item; work = source.work; args = source.args; file = text; left_out = [] }
 
 -- An output is poison, or arrives at a barrier that the source reaches. A window at a Group of sessions is as long as the gap, and none ends later than one
--- of the greatest time can.
+-- of the greatest time can. No time is above the greatest.
 abbrev pub IsFit : Plan → ℕ → Output → Type 0
 IsFit plan source (Arrives arrival) =
     (reaches_barrier plan source arrival.node ≡ true) × HasGap plan arrival × (arrival.element.span.end ≤ℤ (greatest_time +ℤ greatest_length))
+    × (arrival.element.time ≤ℤ greatest_time)
 IsFit plan source (PoisonAt node) = Unit {0}
 
 -- a position was worked: one emission was staged, and it is that of the position where the text is known

@@ -34,9 +34,8 @@ use chain_exec::{Buffers, ExecRefusal, run_batch, run_key};
 use dofn_traits::Shelf;
 use pipeline_graph::Graph;
 use pipeline_graph::laws::{
-    no_node_is_stateful, nodes_have_inputs_and_settings_of_their_kind,
-    nodes_take_elements_of_their_strategy, plans_are_small_and_write_something,
-    strategies_follow_kinds,
+    nodes_have_inputs_and_settings_of_their_kind, nodes_take_elements_of_their_strategy,
+    plans_are_small_and_write_something, stateful_nodes_have_no_sessions, strategies_follow_kinds,
 };
 use sdf_library::Pager;
 use std::alloc::Global;
@@ -361,7 +360,7 @@ fn outputs_are_fit(graph: &Graph)
         → (emitted : Emission) → IsTimely emitted
         → All (IsFit graph.now source) (emission_outputs graph.now source emitted) }
 {
-    no_node_is_stateful();
+    stateful_nodes_have_no_sessions();
     nodes_take_elements_of_their_strategy();
     strategies_follow_kinds();
     nodes_have_inputs_and_settings_of_their_kind();

@@ -28,7 +28,6 @@ use Rattle.book_core.specs.Jobs.{Due, GivenBack, Oldest, Next, attempted_of, job
 use Rattle.book_core.specs.Runs.{HonestRun, HonestlyReached, IsHonestAction, MadeStep}
 use Rattle.book_core.specs.Steps.{Action, Enroll, Take, Claim, Split, Commit, Fail, Stop, Answer, Enrolled, TakenJob, Nothing, Finished, Stopped, Claimed, SplitAt, Committed, Noted, NoMemory, IsWorking, Step}
 use Rattle.book_core.specs.Work.{IsHonestCall, IsHonestRead, IsPoisonAttempt, IsPoisonJob, Surroundings, is_known, items_told}
-use Rattle.book_core.specs.declared.live.Batch.{Batch}
 use Rattle.book_core.specs.declared.live.Live.{Live}
 use Rattle.book_core.specs.declared.live.Live.TheVariants as live
 use Rattle.book_core.proofs.Taking.{take_cases}

@@ -507,13 +507,13 @@ outcome_plain laws told b o reached lengths through of storable to write statele
     }
 
 -- where nothing is asked of the end of a run: nothing is dropped
-pub outcome_undropped : KnownLaws → (told : List FileText) (b : SeenBook) (o : Outcome) (to : ℕ) → Reached (Some told) b → IsOutcomeOf b o → HasNoStatefulAbove b.plan to → HasDefaultTriggersAbove o.plan to
+pub outcome_undropped : KnownLaws → (told : List FileText) (b : SeenBook) (o : Outcome) (to : ℕ) → Reached (Some told) b → IsOutcomeOf b o → HasNoStatefulAbove o.plan to → HasDefaultTriggersAbove o.plan to
     → AreSoundAbove o.plan (items told b.plan) to → NothingIsDroppedAbove o.plan to o.dropped
 outcome_undropped laws told b o to reached of stateless triggers sound =
     let same = of.plan in
     let kept = reached_so_far laws told to b reached (record {
       sound = subst (λ (p : Plan). AreSoundAbove p (items told b.plan) to) same sound;
       triggers = subst (λ (p : Plan). HasDefaultTriggersAbove p to) same triggers;
-      stateless = stateless;
+      stateless = subst (λ (p : Plan). HasNoStatefulAbove p to) same stateless;
     }) in
     subst (λ (p : Plan). NothingIsDroppedAbove p to o.dropped) (sym same) (subst (NothingIsDroppedAbove b.plan to) (sym of.dropped) kept.none_dropped)

@@ -4,6 +4,7 @@
 ghost use Rattle.std.specs.Prelude.{◌≡◌, ◌≤◌, ℕ, true, List, [], Option, Some};
 ghost use Rattle.std.specs.List.Sorted.{IsSorted};
 ghost use Rattle.beam_values.specs.Cells.{cell_cmp, pane_cmp};
+ghost use Rattle.beam_values.specs.Nodes.{HasNoStatefulAbove};
 ghost use Rattle.beam_values.specs.declared.fault.FaultNote.{FaultNote};
 ghost use Rattle.beam_values.specs.declared.file_text.FileText.{FileText};
 ghost use Rattle.beam_values.specs.declared.outcome.Outcome.{Outcome};
@@ -33,8 +34,8 @@ use book_core::laws::{
     reached_books_are_well_formed, told_books_are_kept,
 };
 use pipeline_graph::laws::{
-    allowed_functions_go_forward, no_node_is_stateful,
-    nodes_have_inputs_and_settings_of_their_kind, nodes_take_elements_of_their_strategy,
+    allowed_functions_go_forward, nodes_have_inputs_and_settings_of_their_kind,
+    nodes_take_elements_of_their_strategy, stateful_nodes_have_no_sessions,
     strategies_follow_kinds,
 };
 use windowing::laws::windows_hold_their_time;
@@ -78,10 +79,11 @@ pub fn outcomes_have_legal_panes()
     cells_are_kept();
 }
 
-/// Where nothing is left to do, the logs of an outcome are legal, whatever the plan and the files are: they
-/// have the calls of a Stateful node for each key and window once, in one order, each on an element of that
-/// key and window or on its first timer that was due, with the outputs that the function gives; and no
-/// timer is set at their end. Of a run that was given up a log may end while timers are set.
+/// Where nothing is left to do, the logs of an outcome are legal, whatever the plan and the files are: there
+/// is at most one for each Stateful node, key and window. Its calls are in one order, each on an element of
+/// that key and window or on its first timer that was due, with the outputs that the function gives on the
+/// state that the calls before left; and no timer is set at its end. That each element is called on once is
+/// said by the account. Of a run that was given up a log may end while timers are set.
 pub fn outcomes_have_legal_logs()
     ensures { (told : Option (List FileText)) (b : SeenBook) (o : Outcome)
         → Reached told b → IsThrough b → IsOutcomeOf b o
@@ -104,15 +106,16 @@ pub fn outcomes_are_in_order()
     cells_are_kept();
 }
 
-/// Where the files are told, no Group above a node drops an element, also in a run that was given up, if
-/// each of these Groups has the default trigger and each estimator above the node is sound.
+/// Where the files are told, no Group above a node drops an element, also in a run that was given up, if no
+/// Stateful node is above it, each of these Groups has the default trigger and each estimator above it is
+/// sound.
 pub fn sound_groups_drop_nothing()
     ensures { (told : List FileText) (b : SeenBook) (o : Outcome) (node : ℕ)
-        → Reached (Some told) b → IsOutcomeOf b o
+        → Reached (Some told) b → IsOutcomeOf b o → HasNoStatefulAbove o.plan node
         → HasDefaultTriggersAbove o.plan node → AreSoundAbove o.plan (items told b.plan) node
         → NothingIsDroppedAbove o.plan node o.dropped }
 {
-    no_node_is_stateful();
+    stateful_nodes_have_no_sessions();
     nodes_have_inputs_and_settings_of_their_kind();
     nodes_take_elements_of_their_strategy();
     strategies_follow_kinds();
@@ -121,15 +124,17 @@ pub fn sound_groups_drop_nothing()
 }
 
 /// Where the files are told: at each Write with no Stateful node above it, where every Group above has the
-/// default trigger and every estimator is sound, what was written is plain grouping of the whole input, and
-/// no Group above it dropped an element, whatever was split, bundled or tried again. Windows may be sessions, and Groups may
-/// stand one above another. The values of panes are ones that a program can hold.
+/// default trigger and every estimator above is sound, what was written is plain grouping of the whole
+/// input, and no Group above it dropped an element, whatever was split, bundled or tried again. Windows may
+/// be sessions, and Groups may stand one above another. The values of panes are ones that a program can
+/// hold. Of a Write below a Stateful node nothing is said here, since the order of a key's elements decides
+/// what comes to it.
 pub fn outcomes_are_plainly_written()
     ensures { (told : List FileText) (b : SeenBook) (o : Outcome)
         → Reached (Some told) b → AreTold told b → IsThrough b → IsOutcomeOf b o
         → ArePanesStorable o → ArePlainlyWrittenWhere (items told b.plan) o }
 {
-    no_node_is_stateful();
+    stateful_nodes_have_no_sessions();
     nodes_have_inputs_and_settings_of_their_kind();
     nodes_take_elements_of_their_strategy();
     strategies_follow_kinds();

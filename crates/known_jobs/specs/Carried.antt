@@ -37,7 +37,7 @@ module _ (plan : Plan) (noted : Piece) (range : Offsets) (start : range.from ≡
 
   range_cut : (known : Bool) (told : Option (List FileText)) (upto : ℕ) (receipt : Receipt) → IsWorkOnRange known told plan noted upto receipt → IsWorkOnRange known told plan (cut_to noted range) upto receipt
   range_cut true told upto receipt work = item_cut upto (item_at (items_told told plan) noted.node noted.item) receipt work
-  range_cut false told upto receipt work = record { at_barriers = work.at_barriers; gaps = work.gaps; ends = work.ends; seen = work.seen; seen_time = work.seen_time }
+  range_cut false told upto receipt work = record { at_barriers = work.at_barriers; gaps = work.gaps; ends = work.ends; times = work.times; seen = work.seen; seen_time = work.seen_time }
 
 -- it is worked as far as the range that was known
 worked_same : (noted now : Piece) (attempted : Option ℕ) → IsShortened noted attempted now → worked_to now attempted ≡ worked_to noted attempted

@@ -7,7 +7,7 @@ use Rattle.std.proofs.lemmas.Bool.{and_parts, both_ways, leb-true, ltb-true, ltb
 use Rattle.std.proofs.lemmas.List.{length-take-le}
 use Rattle.std.proofs.lemmas.List.Folds.{list_any_at, Any-from_list_any}
 use Rattle.std.proofs.lemmas.Option.{slice_get_within, slice_get-get_or}
-use Rattle.beam_values.specs.Checked.{IsChecked, has_arity, has_input, file_count, are_early_bars, is_count, is_early_allowed, is_estimator_allowed, is_file_name, is_function_allowed, is_kept, is_set, is_source_allowed, is_trigger_allowed, is_write_in, node_refusal, nodes_refusal, write_refusal, is_source_argument, is_state_allowed, takes_state}
+use Rattle.beam_values.specs.Checked.{IsChecked, has_arity, has_input, file_count, are_early_bars, is_count, is_early_allowed, is_estimator_allowed, is_file_name, is_function_allowed, is_kept, is_set, is_source_allowed, is_trigger_allowed, is_write_in, node_refusal, nodes_refusal, write_refusal, is_source_argument, is_state_allowed}
 use Rattle.beam_values.specs.Nodes.{is_source_kind, is_stateful_kind, is_write_kind, is_stateful, is_write}
 use Rattle.beam_values.specs.Strategies.{IsAllowed, IsLength, greatest_length, is_allowed, is_length}
 use Rattle.beam_values.specs.declared.graph_refusal.GraphRefusal.TheVariants.{NoWrite}
@@ -203,30 +203,11 @@ settings before (ParDo work args) inputs test = test
 settings before Flatten inputs test = tt
 settings before (WindowInto strategy) inputs test = let parts = and_parts _ _ test in (allowed_strategy strategy parts.0, not_kept strategy (not-true _ parts.1))
 settings before (Group trigger) inputs test = trigger_set trigger test
-settings before (Stateful work args log) inputs test = and_parts takes_state (is_state_allowed work args) test
+settings before (Stateful work args log) inputs test = (and_parts (is_state_allowed work args) _ test).0
 settings before (Write label) inputs test = tt
 
 pub node_settings : (plan : Plan) (n : ℕ) (node : Node) → IsChecked plan → slice_get plan.nodes n ≡ Some node → HasSettings node.kind
 node_settings plan n node checked here = settings (take n plan.nodes) node.kind node.inputs (checked_at plan checked n node here).settings
-
-none_taken : takes_state ≡ false
-none_taken = refl
-
-pub no_stateful : (plan : Plan) (n : ℕ) → IsChecked plan → is_stateful plan n ≡ false
-no_stateful plan n checked = by_node (slice_get plan.nodes n) refl
-  where
-    by_kind : (kind : NodeKind) → HasSettings kind → is_stateful_kind kind ≡ false
-    by_kind (Source work args files estimator) set = refl
-    by_kind (ParDo work args) set = refl
-    by_kind Flatten set = refl
-    by_kind (WindowInto strategy) set = refl
-    by_kind (Group trigger) set = refl
-    by_kind (Stateful work args log) set = absurd (both_ways takes_state none_taken set.0)
-    by_kind (Write label) set = refl
-
-    by_node : (found : Option Node) → slice_get plan.nodes n ≡ found → unwrap_or (option_map (λ node. is_stateful_kind node.kind) found) false ≡ false
-    by_node None here = refl
-    by_node (Some node) here = by_kind node.kind (node_settings plan n node checked here)
 
 -- a shift that is allowed goes forward
 pub goes_forward : (work : FnKind) (args : Args) → is_function_allowed work args ≡ true → IsForward work args

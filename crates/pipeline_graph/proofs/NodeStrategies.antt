@@ -1,16 +1,17 @@
 -- The strategies of the nodes of a plan, and those of what their inputs put out.
 use Rattle.std.proofs.Common.{◌≡◌, ◌⊎◌, inl, inr, ℕ, zero, suc, ◌+◌, ◌<◌, ◌≤◌, ◌&&◌, true, false, cond, List, [], ◌∷◌, ◌++◌, length, get_or, take, drop, Some, None, slice_get, refl, sym, ap, subst, ◌∙◌, zero-add, length-append, arith}
-use Rattle.std.specs.Prelude.{ℤ, int_le, fold}
+use Rattle.std.specs.Prelude.{ℤ, Option, int_le, fold, unwrap_or}
 use Rattle.std.specs.List.{All}
-use Rattle.std.proofs.lemmas.Bool.{and_from, and_parts, cases_lt}
+use Rattle.std.specs.Option.{option_map}
+use Rattle.std.proofs.lemmas.Bool.{and_from, and_parts, cases_lt, not-true}
 use Rattle.std.proofs.lemmas.Grind.{fold-append}
 use Rattle.std.proofs.lemmas.Int.{ints}
 use Rattle.std.proofs.lemmas.List.{get_or_append_left, get_or_past, get_or_read, take-append-drop, drop_more}
 use Rattle.std.proofs.lemmas.List.Elements.{All-nil, All-push}
 use Rattle.std.proofs.lemmas.Option.{slice_get_within, get_or_from_slice_get, unwrap_or-slice_get}
 use Rattle.std.proofs.Math.Seq.{get_or-append_seam}
-use Rattle.beam_values.specs.Checked.{IsChecked, is_same_strategy, is_set, node_refusal, nodes_refusal}
-use Rattle.beam_values.specs.Nodes.{NodeFacts, below_group, facts_after, facts_at, facts_of, first_strategy, is_group_kind, onward_of, strategy_of, with_facts}
+use Rattle.beam_values.specs.Checked.{IsChecked, is_same_strategy, is_session, is_set, is_state_allowed, node_refusal, nodes_refusal}
+use Rattle.beam_values.specs.Nodes.{NodeFacts, below_group, facts_after, facts_at, facts_of, first_strategy, is_group_kind, is_stateful, is_stateful_kind, onward_of, strategy_of, with_facts}
 use Rattle.beam_values.specs.Strategies.{IsAllowed}
 use Rattle.beam_values.specs.declared.plan.Node.{Node}
 use Rattle.beam_values.specs.declared.plan.NodeKind.{NodeKind}
@@ -169,6 +170,28 @@ own_strategy plan n node here =
     by_kind (Group trigger) above = tt
     by_kind (Stateful work args log) above = tt
     by_kind (Write label) above = tt
+
+-- ---- no Stateful node has sessions
+
+pub no_sessions : (plan : Plan) (n : ℕ) → IsChecked plan → is_stateful plan n ≡ true → is_session (strategy_of plan n) ≡ false
+no_sessions plan n checked stateful = by_node (slice_get plan.nodes n) refl stateful
+  where
+    by_kind : (kind : NodeKind) (inputs : List ℕ) → is_set (take n plan.nodes) kind inputs ≡ true → is_stateful_kind kind ≡ true
+        → is_session (facts_after kind (first_strategy (facts_of (take n plan.nodes)) inputs)).strategy ≡ false
+    by_kind (Stateful work args log) inputs set is = not-true _ (and_parts (is_state_allowed work args) _ set).1
+    by_kind (Source work args files estimator) inputs set is = absurd cc
+    by_kind (ParDo work args) inputs set is = absurd cc
+    by_kind Flatten inputs set is = absurd cc
+    by_kind (WindowInto strategy) inputs set is = absurd cc
+    by_kind (Group trigger) inputs set is = absurd cc
+    by_kind (Write label) inputs set is = absurd cc
+
+    by_node : (found : Option Node) → slice_get plan.nodes n ≡ found → unwrap_or (option_map (λ node. is_stateful_kind node.kind) found) false ≡ true
+        → is_session (strategy_of plan n) ≡ false
+    by_node None here is = absurd cc
+    by_node (Some node) here is =
+        subst (λ (facts : NodeFacts). is_session facts.strategy ≡ false) (sym (facts_at-node plan.nodes n node here))
+        (by_kind node.kind node.inputs (checked_at plan checked n node here).settings is)
 
 -- ---- each strategy is allowed
 

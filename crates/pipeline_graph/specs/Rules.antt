@@ -1,6 +1,6 @@
 -- What the nodes of a checked plan have (Beam Programming Guide, Creating a pipeline; the limits are this profile's).
 use Rattle.std.specs.Prelude.{◌≡◌, ◌≢◌, ℕ, ◌<◌, ◌≤◌, ℤ, pos, negsuc, ◌-ℤ◌, ◌<ℤ◌, ◌≤ℤ◌, Bool, true, false, List, [], length, All, AllPairs, IfSome, Option, Some, None}
-use Rattle.beam_values.specs.Checked.{is_function_allowed, is_source_argument, is_state_allowed, takes_state}
+use Rattle.beam_values.specs.Checked.{is_function_allowed, is_source_argument, is_state_allowed}
 use Rattle.beam_values.specs.Strategies.{IsAllowed, greatest_length}
 use Rattle.beam_values.specs.declared.plan.Bar.{Bar}
 use Rattle.beam_values.specs.declared.plan.Estimator.{Estimator}
@@ -77,7 +77,7 @@ HasSettings (ParDo work args) = is_function_allowed work args ≡ true
 HasSettings Flatten = Unit {0}
 HasSettings (WindowInto strategy) = IsAllowed strategy × (strategy ≢ Kept)
 HasSettings (Group trigger) = IsTriggerSet trigger
-HasSettings (Stateful work args log) = (takes_state ≡ true) × (is_state_allowed work args ≡ true)
+HasSettings (Stateful work args log) = is_state_allowed work args ≡ true
 HasSettings (Write label) = Unit {0}
 
 -- a source has the one window of all times, and a WindowInto its own strategy

@@ -9,10 +9,10 @@ ghost use Rattle.pipeline_graph.specs.Refusals.{IsFirst};
 use crate::kinds::{has_arity, is_source};
 use crate::refusal::CheckRefusal;
 use crate::settings::{
-    TAKES_STATE, is_estimator_allowed, is_function_allowed, is_source_allowed, is_state_allowed,
+    is_estimator_allowed, is_function_allowed, is_source_allowed, is_state_allowed,
     is_strategy_allowed, is_trigger_allowed,
 };
-use crate::strategies::{agrees, is_kept};
+use crate::strategies::{agrees, is_kept, takes_sessions};
 use beam_values::{GraphRefusal, List, NoMemory, Node, NodeKind, Plan};
 use std::alloc::Global;
 use windowing::{NodeFacts, add_facts};
@@ -142,7 +142,9 @@ fn is_set(facts: &[NodeFacts], earlier: usize, kind: &NodeKind, inputs: &[u32]) 
         NodeKind::Flatten => agrees(facts, inputs),
         NodeKind::WindowInto { strategy } => is_strategy_allowed(strategy) && !is_kept(strategy),
         NodeKind::Group { trigger } => is_trigger_allowed(trigger),
-        NodeKind::Stateful { work, args, .. } => TAKES_STATE && is_state_allowed(work, args),
+        NodeKind::Stateful { work, args, .. } => {
+            is_state_allowed(work, args) && !takes_sessions(facts, inputs)
+        }
         NodeKind::Write { .. } => true,
     }
 }

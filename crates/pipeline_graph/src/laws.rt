@@ -5,7 +5,8 @@ ghost use Rattle.std.specs.Prelude.{slice_get, Some, All};
 ghost use Rattle.std.specs.List.{Any, Contains, count_by, flat_map};
 ghost use Rattle.std.specs.List.Sorted.{IsNonDecreasing};
 ghost use Rattle.beam_values.specs.Checked.{IsChecked, file_count, is_function_allowed};
-ghost use Rattle.beam_values.specs.Nodes.{HasNoStatefulAbove, below_group, is_group_kind};
+ghost use Rattle.beam_values.specs.Checked.{is_session};
+ghost use Rattle.beam_values.specs.Nodes.{below_group, is_group_kind};
 ghost use Rattle.beam_values.specs.Nodes.{is_stateful, is_write, is_write_kind, onward_of};
 ghost use Rattle.beam_values.specs.Nodes.{strategy_of};
 ghost use Rattle.beam_values.specs.Strategies.{IsAllowed};
@@ -56,10 +57,10 @@ pub fn allowed_functions_go_forward()
         → is_function_allowed work args ≡ true → IsForward work args }
 {}
 
-/// Keyed state isn't taken yet.
-pub fn no_node_is_stateful()
-    ensures none { (plan : Plan) (n : ℕ) → IsChecked plan → is_stateful plan n ≡ false }
-    ensures none_above { (plan : Plan) (n : ℕ) → IsChecked plan → HasNoStatefulAbove plan n }
+/// The windows of a Stateful node never merge: none has sessions.
+pub fn stateful_nodes_have_no_sessions()
+    ensures { (plan : Plan) (n : ℕ) → IsChecked plan → is_stateful plan n ≡ true
+        → is_session (strategy_of plan n) ≡ false }
 {}
 
 /// A node takes elements of its own strategy, unless it is a WindowInto; each strategy is an allowed one.

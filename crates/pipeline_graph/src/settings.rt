@@ -11,9 +11,6 @@ use crate::bars::{are_early_bars, are_late_bars};
 use beam_values::{Args, Bytes, Estimator, FnKind, SourceKind, StateKind, Strategy, Trigger};
 use windowing::{GREATEST_LENGTH, check_strategy};
 
-/// Whether pipelines may have Stateful nodes; they aren't run yet.
-pub(crate) const TAKES_STATE: bool = false;
-
 /// The greatest number of files of all sources of a plan together.
 pub const MOST_FILES: usize = 256;
 

@@ -1,5 +1,6 @@
 ghost use Rattle.std.specs.Prelude.{◌≡◌};
-ghost use Rattle.beam_values.specs.Checked.{is_kept, is_same_strategy};
+ghost use Rattle.beam_values.specs.Checked.{is_kept, is_same_strategy, is_session};
+ghost use Rattle.beam_values.specs.Nodes.{first_strategy};
 ghost use Rattle.pipeline_graph.specs.Settings.{agrees_in};
 
 use beam_values::Strategy;
@@ -25,4 +26,11 @@ pub(crate) fn is_kept(strategy: &Strategy) -> bool
     ensures { result ≡ is_kept strategy.now }
 {
     matches!(strategy, Strategy::Kept)
+}
+
+/// Whether the first of these inputs puts out sessions.
+pub(crate) fn takes_sessions(facts: &[NodeFacts], inputs: &[u32]) -> bool
+    ensures { result ≡ is_session (first_strategy facts.now inputs.now) }
+{
+    matches!(first_strategy(facts, inputs), Strategy::Sessions { .. })
 }

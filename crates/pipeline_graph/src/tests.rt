@@ -181,19 +181,21 @@ fn nodes_have_their_followers_and_strategies(rt: HostRuntime) -> Result<(), Fail
         (Step::Flatten, "010"),
         (Step::Sessions, "2"),
         (Step::Group, "3"),
-        (Step::Write, "4"),
+        (Step::Dedupe, "4"),
+        (Step::Write, "5"),
         (Step::Write, "0"),
     ];
     let graph = checked(alloc, &steps)?.copy(alloc)?;
     let sessions = Strategy::Sessions { gap: 10 };
     for (node, followers, strategy) in [
-        (0, [1, 2, 2, 6].as_slice(), Strategy::Global),
+        (0, [1, 2, 2, 7].as_slice(), Strategy::Global),
         (1, [2].as_slice(), Strategy::Global),
         (2, [3].as_slice(), Strategy::Global),
         (3, [4].as_slice(), sessions),
         (4, [5].as_slice(), sessions),
-        (5, [].as_slice(), Strategy::Kept),
-        (6, [].as_slice(), Strategy::Global),
+        (5, [6].as_slice(), Strategy::Kept),
+        (6, [].as_slice(), Strategy::Kept),
+        (7, [].as_slice(), Strategy::Global),
     ] {
         if node as usize >= graph.plan().nodes.len() {
             return Err("no such node".into());

@@ -12,13 +12,13 @@ use Rattle.run_engine.specs.declared.run_end.RunEnd.{RunEnd}
 use Rattle.beam_command.specs.Clauses.{Asking, IsOfAsked, IsPartitioned, IsPlain, asked_by, asking}
 use Rattle.beam_command.specs.Ends.{Observed, IsEndOf, IsOutcomeOfAsked, IsRun}
 use Rattle.beam_command.specs.Kits.{AreKitsLeft, IsOutcomeOfKits, in_use, observed_in_use}
-use Rattle.beam_command.specs.Promises.{HasLegalPanes}
+use Rattle.beam_command.specs.Promises.{HasLegalLogs, HasLegalPanes}
 use Rattle.beam_command.proofs.Asked.{end_of_same, noted_end}
 use Rattle.beam_command.proofs.Completeness.{complete, complete_strict, few_faults, same_files}
 use Rattle.beam_command.proofs.InUse.{all_written, written_back}
 use Rattle.beam_command.proofs.Kept.{become_length, left_before_note, still_some}
 use Rattle.beam_command.proofs.PanesEnds.{HasAttempts, absent, clean, not_ok, poison, some_attempts}
-use Rattle.beam_command.proofs.Promises.{accounted, covered, files_found, legal, lengths_kept, panes_plainly, plainly, plan_kept, promised}
+use Rattle.beam_command.proofs.Promises.{accounted, covered, files_found, legal, legally_logged, lengths_kept, panes_plainly, plainly, plan_kept, promised}
 use Rattle.beam_command.proofs.Stores.{AreOfOne, are_of_one}
 use Rattle.beam_command.proofs.top.beam_main.Given.{Over}
 use Rattle.beam_command.proofs.top.beam_main.Goals as goal
@@ -101,6 +101,10 @@ returns-clause-account g c = run g c _ (account g c)
 pub returns-clause-legal_panes : goal.returns-clause-legal_panes
 returns-clause-legal_panes g c =
     run g c HasLegalPanes (λ own options o is was. legal (asked g c) (seen g c) own options o is was c.honest_runs_are_runs.ensures c.outcomes_have_legal_panes.ensures)
+
+pub returns-clause-legal_logs : goal.returns-clause-legal_logs
+returns-clause-legal_logs g c =
+    run g c HasLegalLogs (λ own options o is was. legally_logged (asked g c) (seen g c) own options o is was c.honest_runs_are_runs.ensures c.outcomes_have_legal_logs.ensures)
 
 pub returns-clause-plain : goal.returns-clause-plain
 returns-clause-plain g c =

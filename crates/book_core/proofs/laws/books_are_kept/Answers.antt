@@ -1,6 +1,6 @@
-use Rattle.std.proofs.Common.{◌≡◌, true, false, sym, ◌∙◌}
 use Rattle.book_core.proofs.AllKept.{kept_always, opened_kept, reached_kept_with}
 use Rattle.book_core.proofs.Cases.{AreAlways}
+use Rattle.book_core.proofs.Gaps.{keyed_long}
 use Rattle.book_core.proofs.laws.books_are_kept.Goals as goal
 
 pub returns-clause-opening : goal.returns-clause-opening
@@ -9,7 +9,7 @@ returns-clause-opening c =
       inputs = λ n node at. c.nodes_take_elements_of_their_strategy.ensures.inputs plan n node checked at;
       own = c.strategies_follow_kinds.ensures.own plan;
       onward = c.strategies_follow_kinds.ensures.onward plan;
-      keyed = λ n span is. absurd (let no = c.no_node_is_stateful.ensures.none plan n checked in let e : true ≡ false = sym is ∙ no in cc);
+      keyed = keyed_long c.stateful_nodes_have_no_sessions.ensures plan checked;
     }) (λ plan n node checked at. c.nodes_have_inputs_and_settings_of_their_kind.ensures.settings plan n node checked at)
     (λ s time allowed. c.windows_hold_their_time.ensures.of_the_kind s time allowed)
 
@@ -19,7 +19,7 @@ returns-clause-step c = λ told b new slot action answer step h.
       inputs = λ n node at. c.nodes_take_elements_of_their_strategy.ensures.inputs plan n node checked at;
       own = c.strategies_follow_kinds.ensures.own plan;
       onward = c.strategies_follow_kinds.ensures.onward plan;
-      keyed = λ n span is. absurd (let no = c.no_node_is_stateful.ensures.none plan n checked in let e : true ≡ false = sym is ∙ no in cc);
+      keyed = keyed_long c.stateful_nodes_have_no_sessions.ensures plan checked;
     }) (λ plan n node checked at. c.nodes_have_inputs_and_settings_of_their_kind.ensures.settings plan n node checked at)
     (λ s time allowed. c.windows_hold_their_time.ensures.of_the_kind s time allowed) told).steps b new slot action answer step h
 
@@ -29,6 +29,6 @@ returns-clause-reached c =
       inputs = λ n node at. c.nodes_take_elements_of_their_strategy.ensures.inputs plan n node checked at;
       own = c.strategies_follow_kinds.ensures.own plan;
       onward = c.strategies_follow_kinds.ensures.onward plan;
-      keyed = λ n span is. absurd (let no = c.no_node_is_stateful.ensures.none plan n checked in let e : true ≡ false = sym is ∙ no in cc);
+      keyed = keyed_long c.stateful_nodes_have_no_sessions.ensures plan checked;
     }) (λ plan n node checked at. c.nodes_have_inputs_and_settings_of_their_kind.ensures.settings plan n node checked at)
     (λ s time allowed. c.windows_hold_their_time.ensures.of_the_kind s time allowed)

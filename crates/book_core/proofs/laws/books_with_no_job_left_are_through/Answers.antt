@@ -1,5 +1,5 @@
-use Rattle.std.proofs.Common.{◌≡◌, true, false, sym, ◌∙◌}
 use Rattle.book_core.proofs.AllKept.{reached_through}
+use Rattle.book_core.proofs.Gaps.{keyed_long}
 use Rattle.book_core.proofs.laws.books_with_no_job_left_are_through.Goals as goal
 
 pub returns : goal.returns
@@ -8,6 +8,6 @@ returns c =
       inputs = λ n node at. c.nodes_take_elements_of_their_strategy.ensures.inputs plan n node checked at;
       own = c.strategies_follow_kinds.ensures.own plan;
       onward = c.strategies_follow_kinds.ensures.onward plan;
-      keyed = λ n span is. absurd (let no = c.no_node_is_stateful.ensures.none plan n checked in let e : true ≡ false = sym is ∙ no in cc);
+      keyed = keyed_long c.stateful_nodes_have_no_sessions.ensures plan checked;
     }) (λ plan n node checked at. c.nodes_have_inputs_and_settings_of_their_kind.ensures.settings plan n node checked at)
     (λ s time allowed. c.windows_hold_their_time.ensures.of_the_kind s time allowed)

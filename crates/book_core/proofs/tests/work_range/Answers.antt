@@ -29,7 +29,7 @@ commit-requires c =
     (subst (λ (n : ℕ). is_known None c.args.book.now.plan n ≡ false) (sym (c.if-not-fits.ensures.node refl)) c.requires.unknown)
     (plausible_at c.args.book.now.plan 2 c.in-Some.piece _
     (subst (λ (n : ℕ). reaches_barrier c.args.book.now.plan n 2 ≡ true) (sym (c.if-not-fits.ensures.node refl)) c.requires.reaches)
-    c.requires.fixed c.requires.at c.requires.ends (c.if-not-fits.ensures.seen refl) c.if-not-fits.ensures.time) refl in
+    c.requires.fixed c.requires.at c.requires.ends c.requires.times (c.if-not-fits.ensures.seen refl) c.if-not-fits.ensures.time) refl in
     can
 
 pub returns-clause-free : goal.returns-clause-free
@@ -41,7 +41,7 @@ returns-clause-free c =
     (subst (λ (n : ℕ). is_known None c.args.book.now.plan n ≡ false) (sym (c.if-not-fits.ensures.node refl)) c.requires.unknown)
     (plausible_at c.args.book.now.plan 2 c.in-Some.piece _
     (subst (λ (n : ℕ). reaches_barrier c.args.book.now.plan n 2 ≡ true) (sym (c.if-not-fits.ensures.node refl)) c.requires.reaches)
-    c.requires.fixed c.requires.at c.requires.ends (c.if-not-fits.ensures.seen refl) c.if-not-fits.ensures.time) refl in
+    c.requires.fixed c.requires.at c.requires.ends c.requires.times (c.if-not-fits.ensures.seen refl) c.if-not-fits.ensures.time) refl in
     (committed_free c.claim.new.self c.commit.new.self c.args.slot None _ (c.in-Ok.ensures.ok None can).0).0
 
 pub returns-clause-plan : goal.returns-clause-plan
@@ -53,7 +53,7 @@ returns-clause-plan c =
     (subst (λ (n : ℕ). is_known None c.args.book.now.plan n ≡ false) (sym (c.if-not-fits.ensures.node refl)) c.requires.unknown)
     (plausible_at c.args.book.now.plan 2 c.in-Some.piece _
     (subst (λ (n : ℕ). reaches_barrier c.args.book.now.plan n 2 ≡ true) (sym (c.if-not-fits.ensures.node refl)) c.requires.reaches)
-    c.requires.fixed c.requires.at c.requires.ends (c.if-not-fits.ensures.seen refl) c.if-not-fits.ensures.time) refl in
+    c.requires.fixed c.requires.at c.requires.ends c.requires.times (c.if-not-fits.ensures.seen refl) c.if-not-fits.ensures.time) refl in
     (committed_free c.claim.new.self c.commit.new.self c.args.slot None _ (c.in-Ok.ensures.ok None can).0).1
     ∙ (claimed_works c.take.new.self c.claim.new.self c.args.slot c.args.last c.in-Some.piece c.claim.result (taken_range c.args.book.now c.take.new.self c.args.slot c.in-Some.piece step) (c.claim.ensures None)).1
     ∙ taken_plan c.args.book.now c.take.new.self c.args.slot (job.Span c.in-Some.piece) step

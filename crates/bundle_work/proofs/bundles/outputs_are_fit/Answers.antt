@@ -1,4 +1,4 @@
-use Rattle.std.proofs.Common.{◌≡◌, true, false, sym, ◌∙◌}
+use Rattle.book_core.proofs.Gaps.{keyed_long}
 use Rattle.bundle_work.proofs.Claiming.{source_node}
 use Rattle.bundle_work.proofs.PieceWork.{emission_fit}
 use Rattle.bundle_work.proofs.bundles.outputs_are_fit.Goals as goal
@@ -13,6 +13,6 @@ returns c = λ source some emitted timely.
       inputs = λ n node here. c.nodes_take_elements_of_their_strategy.ensures.inputs plan n node checked here;
       own = c.strategies_follow_kinds.ensures.own plan;
       onward = c.strategies_follow_kinds.ensures.onward plan;
-      keyed = λ n span is. absurd (let no = c.no_node_is_stateful.ensures.none plan n checked in let e : true ≡ false = sym is ∙ no in cc);
+      keyed = keyed_long c.stateful_nodes_have_no_sessions.ensures plan checked;
     })
     (λ n node here. c.nodes_have_inputs_and_settings_of_their_kind.ensures.settings plan n node checked here) source at.0 at.1 at.2 at.3 emitted timely

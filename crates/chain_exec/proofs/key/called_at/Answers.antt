@@ -10,4 +10,4 @@ pub returns-clause-allowed : goal.returns-clause-allowed
 returns-clause-allowed c =
     let here = ap (λ (p : Plan). slice_get p.nodes c.args.node) (sym c.plan.ensures.value) ∙ sym c.get.ensures.value ∙ ap option_copied c.in-Some.is in
     let settings = node_settings c.args.graph.now c.args.node c.in-Some.at.now c.plan.ensures.checked here in
-    (subst (λ (kind : NodeKind). HasSettings kind) c.in-Stateful.is settings).1
+    subst (λ (kind : NodeKind). HasSettings kind) c.in-Stateful.is settings

@@ -1,4 +1,4 @@
-use Rattle.std.proofs.Common.{◌≡◌, true, false, sym, ◌∙◌}
+use Rattle.book_core.proofs.Gaps.{keyed_long}
 use Rattle.ended_runs.proofs.Written.{outcome_plain}
 use Rattle.ended_runs.proofs.laws.outcomes_are_plainly_written.Goals as goal
 
@@ -11,7 +11,7 @@ returns c told b o reached lengths through of storable =
         inputs = λ n node at. c.nodes_take_elements_of_their_strategy.ensures.inputs plan n node checked at;
         own = c.strategies_follow_kinds.ensures.own plan;
         onward = c.strategies_follow_kinds.ensures.onward plan;
-        keyed = λ n span is. absurd (let no = c.no_node_is_stateful.ensures.none plan n checked in let e : true ≡ false = sym is ∙ no in cc);
+        keyed = keyed_long c.stateful_nodes_have_no_sessions.ensures plan checked;
       };
       forward = c.allowed_functions_go_forward.ensures;
     }) told b o reached lengths through of storable

@@ -1,11 +1,9 @@
-use Rattle.std.proofs.Common.{◌≡◌, true, false, sym, ◌∙◌}
-use Rattle.std.specs.Prelude.{Some}
-use Rattle.book_core.proofs.SaneAlways.{reached_sane}
+use Rattle.book_core.proofs.Gaps.{keyed_long}
 use Rattle.ended_runs.proofs.Written.{outcome_undropped}
 use Rattle.ended_runs.proofs.laws.sound_groups_drop_nothing.Goals as goal
 
 pub returns : goal.returns
-returns c told b o node reached of triggers sound =
+returns c told b o node reached of stateless triggers sound =
     outcome_undropped (record {
       windows = λ s time allowed. c.windows_hold_their_time.ensures.of_the_kind s time allowed;
       settings = λ plan n node checked at. c.nodes_have_inputs_and_settings_of_their_kind.ensures.settings plan n node checked at;
@@ -13,7 +11,7 @@ returns c told b o node reached of triggers sound =
         inputs = λ n node at. c.nodes_take_elements_of_their_strategy.ensures.inputs plan n node checked at;
         own = c.strategies_follow_kinds.ensures.own plan;
         onward = c.strategies_follow_kinds.ensures.onward plan;
-        keyed = λ n span is. absurd (let no = c.no_node_is_stateful.ensures.none plan n checked in let e : true ≡ false = sym is ∙ no in cc);
+        keyed = keyed_long c.stateful_nodes_have_no_sessions.ensures plan checked;
       };
       forward = c.allowed_functions_go_forward.ensures;
-    }) told b o node reached of (λ upper above. c.no_node_is_stateful.ensures.none b.plan upper (reached_sane (Some told) b reached).formed.checked) triggers sound
+    }) told b o node reached of stateless triggers sound

@@ -28,6 +28,7 @@ use Rattle.book_core.specs.declared.live.Live.{Live}
 use Rattle.book_core.proofs.CommitCalls.{are_fired, few_left, holds_there, waits_there, freed_there, gaps_there, given_there, indexed_as, job_attempted, job_back, job_held, job_stands, job_within, kept_there, left_room, left_there, rises_there, same_back}
 use Rattle.book_core.proofs.CommitHolds.{kept_holds}
 use Rattle.book_core.proofs.CommitStep.{AreFired, commit_indexed, commit_written, no_longer}
+use Rattle.book_core.proofs.Gaps.{keyed_long}
 use Rattle.book_core.proofs.KeysKept.{none_keyed}
 use Rattle.book_core.proofs.KeyDones.{job_waits, logged_same}
 use Rattle.book_core.proofs.ToKeys.{is_other, left_counted, left_few, left_placed, left_prepared, no_stateful_at, others_written}
@@ -100,9 +101,7 @@ fire-fired-requires-clause-gaps c =
       inputs = λ n node at. c.nodes_take_elements_of_their_strategy.ensures.inputs c.self.inside.graph n node c.self.invariant.indexed.sane.formed.checked at;
       own = c.strategies_follow_kinds.ensures.own c.self.inside.graph;
       onward = c.strategies_follow_kinds.ensures.onward c.self.inside.graph;
-      keyed = λ n span is. absurd (
-          let no = c.no_node_is_stateful.ensures.none c.self.inside.graph n c.self.invariant.indexed.sane.formed.checked in
-          let e : true ≡ false = sym is ∙ no in cc);
+      keyed = keyed_long c.stateful_nodes_have_no_sessions.ensures c.self.inside.graph c.self.invariant.indexed.sane.formed.checked;
     }) given)
 
 pub fire-fired-requires-clause-none : goal.fire-fired-requires-clause-none
