@@ -1,3 +1,13 @@
 pub mod Folding
 pub mod OneMore
 pub mod Numbered
+pub mod RowOrder
+pub mod Pointwise
+pub mod RowPlaces
+pub mod Adding
+pub mod Taking
+pub mod Joined
+pub mod Absorbing
+pub mod FoldedRows
+pub mod Keeping
+pub mod Opening

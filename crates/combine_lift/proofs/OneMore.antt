@@ -1,12 +1,12 @@
 -- Accumulators of numbers, one part more and those of two lists.
-use Rattle.std.proofs.Common.{◌≡◌, ℕ, ◌+◌, ℤ, pos, ◌+ℤ◌, Bool, ◌||◌, List, [], ◌∷◌, ◌++◌, length, Option, Some, None, refl, sym, ap, ◌∙◌, arith, length-append}
-use Rattle.std.specs.Prelude.{int_le, nat_lt}
+use Rattle.std.proofs.Common.{◌≡◌, ℕ, ◌+◌, ℤ, pos, ◌+ℤ◌, ◌||◌, List, [], ◌∷◌, ◌++◌, Option, Some, None, refl, sym, ap, ◌∙◌, arith, length-append}
+use Rattle.std.specs.Prelude.{nat_lt}
 use Rattle.std.specs.List.{sum_by}
 use Rattle.std.proofs.lemmas.Int.{ints}
 use Rattle.std.proofs.lemmas.List.Sums.{sum_by-append}
 use Rattle.beam_values.specs.declared.value.Value.{Value}
 use Rattle.beam_model.specs.Values.{as_int}
-use Rattle.combine_lift.specs.Parts.{weight, no_weight, above_zero, below_zero, one_if_reached, others_in, all_above, all_below, reaching}
+use Rattle.combine_lift.specs.Parts.{weight, no_weight, above_zero, below_zero, one_if_reached, reaching}
 use Rattle.combine_lift.specs.Standing.{IsSumOf, IsMaxOf, greater_of, is_reached}
 use Rattle.combine_lift.proofs.Folding.{up_to_sign, some_of_two, reached_once, is_reached-greater_of}
 

@@ -1,3 +1,7 @@
 pub mod Parts
 pub mod Standing
 pub mod Lifting
+pub mod Tables
+pub mod Merging
+pub mod Indexed
+pub mod Folds

@@ -1,5 +1,5 @@
 -- Parts by what they weigh: sums over a list that no order of it changes.
-use Rattle.std.specs.Prelude.{ℕ, zero, suc, ◌+◌, ℤ, pos, negsuc, Bool, true, false, int_le, if◌then◌else◌, is_some, List, Option, Some, None}
+use Rattle.std.specs.Prelude.{ℕ, suc, ℤ, pos, negsuc, Bool, int_le, if◌then◌else◌, is_some, List, Option, Some, None}
 use Rattle.std.specs.List.{sum_by}
 use Rattle.beam_values.specs.declared.value.Value.{Value}
 use Rattle.beam_model.specs.Values.{as_int}

@@ -1,7 +1,7 @@
 -- What accumulators of numbers stand for, and that the order of their parts is no matter.
-use Rattle.std.specs.Prelude.{◌≡◌, ℕ, ℤ, pos, ◌+ℤ◌, Bool, true, false, int_le, nat_lt, List, length, Option, Some, None}
+use Rattle.std.specs.Prelude.{◌≡◌, ℕ, ℤ, pos, ◌+ℤ◌, Bool, false, int_le, nat_lt, List, length, Option, Some, None}
 use Rattle.std.specs.Int.{int_max}
-use Rattle.std.proofs.Common.{[], ◌∷◌, ◌+◌, refl, sym, ap, ◌∙◌, arith}
+use Rattle.std.proofs.Common.{[], ◌∷◌, refl, sym, ap, ◌∙◌, arith}
 use Rattle.std.proofs.lemmas.List.Sums.{sum_by-cons}
 use Rattle.std.specs.List.{sum_by}
 use Rattle.beam_values.specs.Bags.{IsSameBag}

@@ -4,19 +4,31 @@
 //!
 //! A [`Combiner`] folds parts into an accumulator; its contract says which list of parts an accumulator
 //! stands for, and that the order of that list is no matter. [`SumOf`], [`CountOf`] and [`MaxOf`] stand for
-//! the functions SumSeq, CountSeq and MaxSeq of `beam_model`. [`shape_refusal`] says which plans are lifted. Read
-//! `combiner.rt` first.
+//! the functions SumSeq, CountSeq and MaxSeq of `beam_model`. A [`Partials`] has an accumulator for each key
+//! and window, and takes those of another one. The layer above may rely on what such a table stands for
+//! (`specs/Tables.antt`) and gives (`specs/Folds.antt`). [`shape_refusal`] tells which plans may be combined
+//! so. Read `combiner.rt` first, then `partials.rt`.
 #![tactic(auto)]
 
+mod combined;
 mod combiner;
 mod count_of;
+mod extracting;
 mod lifting;
 mod max_of;
+mod merging;
 mod numbers;
+mod partials;
+mod refusal;
+mod row;
+mod rows_index;
 mod sum_of;
 
+pub use combined::Combined;
 pub use combiner::Combiner;
 pub use count_of::{CountAcc, CountOf};
 pub use lifting::{ShapeRefusal, shape_refusal};
 pub use max_of::{MaxAcc, MaxOf};
+pub use partials::Partials;
+pub use refusal::LiftRefusal;
 pub use sum_of::{SumAcc, SumOf};
