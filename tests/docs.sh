@@ -308,12 +308,12 @@ check_example() {
 
 check_examples() {
     local output
-    for output in examples/*/output.txt; do
+    for output in examples/*/output.txt examples/state/*/output.txt; do
         check_example "$output" "${output%output.txt}plan.json"
     done
     check_example examples/visits.panes.txt examples/visits.tsv
     check_example examples/lag/short.txt examples/lag/short.json
-    for output in examples/*/options; do
+    for output in examples/*/options examples/state/*/options; do
         [ "$(wc -l <"$output")" -gt 1 ] || grep -qF "run ${output%options}plan.json $(cat "$output")\`" examples/README.md ||
             echo "$output:1: examples/README.md doesn't show these options"
     done

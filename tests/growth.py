@@ -124,6 +124,77 @@ def early_panes(n):
     return counted({"fixed": 10**9}, early=1)
 
 
+def stateful(work, source=None, **node):
+    """A function with state on what comes with each key."""
+    nodes = [{"kind": "pardo", "work": "KeyField"}]
+    if work == "RunningSum":
+        nodes.append({"kind": "pardo", "work": "FieldInt"})
+    return plan(*nodes, {"kind": "stateful", "work": work, **node}, source=source)
+
+
+def totals(n, keys):
+    timed(range(n), key=lambda at: f"k{at % keys}", part=lambda at: 1)
+    return stateful("RunningSum")
+
+
+@shape(100_000)
+def totals_of_10_keys(n):
+    return totals(n, 10)
+
+
+@shape(100_000)
+def totals_of_1000_keys(n):
+    return totals(n, 1000)
+
+
+@shape(100_000, sorts=True)
+def totals_of_100000_keys(n):
+    return totals(n, 100_000)
+
+
+@shape(50_000, sorts=True)
+def values_of_one_key_once(n):
+    timed(range(n), part=lambda at: f"v{at}")
+    return stateful("Dedupe")
+
+
+@shape(50_000, sorts=True)
+def values_of_many_keys_once(n):
+    timed(range(n), key=lambda at: f"k{at // 4}", part=lambda at: f"v{at % 2}")
+    return stateful("Dedupe")
+
+
+@shape(50_000, sorts=True)
+def one_large_batch(n):
+    timed(range(n), part=lambda at: f"v{at * 7919 % n}")
+    return stateful("BatchUntil", number=1_000_000)
+
+
+@shape(20_000, sorts=True)
+def timers_one_after_another(n):
+    """Each key's timer is due as the lines behind its own are read."""
+    timed((at * 10 for at in range(n)), key=lambda at: f"k{at}")
+    words = stateful("LatestThenEmit", source={"estimator": "monotonic"}, number=5000)
+    return [*words, "--chunk", "1000000000"]
+
+
+@shape(20_000, sorts=True)
+def timers_at_the_end(n):
+    timed((at * 10 for at in range(n)), key=lambda at: f"k{at}")
+    return stateful("LatestThenEmit", number=5000)
+
+
+@shape(20_000, sorts=True)
+def windows_of_one_key_with_timers(n):
+    timed(at * 1000 for at in range(n))
+    return plan(
+        {"kind": "pardo", "work": "KeyField"},
+        {"kind": "window", "windows": {"fixed": 1000}},
+        {"kind": "stateful", "work": "BatchUntil", "number": 2},
+        source={"estimator": "monotonic"},
+    ) + ["--chunk", "1000000000"]
+
+
 @shape(64)
 def many_files(n):
     names = [f"file{at}" for at in range(n)]

@@ -47,6 +47,20 @@ def grouped(line):
     return words
 
 
+def stateful(work, line, *before, **node):
+    """A run of one stateful node over so many lines, with the functions before it."""
+
+    def words(count, folder):
+        path = folder / "lines.tsv"
+        with open(path, "w") as file:
+            file.writelines(line(at) for at in range(count))
+        functions = [{"kind": "pardo", "work": name} for name in ("KeyField", *before)]
+        (folder / "plan.json").write_text(plan([str(path)], *functions, {"kind": "stateful", "work": work, **node}))
+        return ["run", str(folder / "plan.json"), "--workers", "1"]
+
+    return words
+
+
 def filtered(count, folder):
     """A run that keeps nothing, each of whose lines is a bundle."""
     path = folder / "lines.tsv"
@@ -58,10 +72,15 @@ def filtered(count, folder):
 
 # How each row of the table is tried, and what stands in a line beside what is measured.
 TRIED = {
-    "each line grouped": (grouped(lambda at: f"{at % 60000}\tkey\t{at}\n"), None),
-    "each key and window": (grouped(lambda at: f"0\tk{at}\tx\n"), "each line grouped"),
-    "each byte of a part above 22": (grouped(lambda at: f"{at % 60000}\tkey\t{at:0272}\n"), "each line grouped"),
-    "each bundle": (filtered, None),
+    "each line grouped": (grouped(lambda at: f"{at % 60000}\tkey\t{at}\n"), ()),
+    "each key and window": (grouped(lambda at: f"0\tk{at}\tx\n"), ("each line grouped",)),
+    "each byte of a part above 22": (grouped(lambda at: f"{at % 60000}\tkey\t{at:0272}\n"), ("each line grouped",)),
+    "each bundle": (filtered, ()),
+    "each call of a stateful node": (stateful("LatestThenEmit", lambda at: f"{at}\tkey\t{at}\n", number=1000), ()),
+    "what such a call gives": (stateful("RunningSum", lambda at: f"{at}\tkey\t1\n", "FieldInt"), ("each call of a stateful node",)),
+    "each key and window of a stateful node": (
+        stateful("Dedupe", lambda at: f"{at}\tk{at}\tx\n"), ("each call of a stateful node", "what such a call gives"),
+    ),
 }
 UNITS = {"each byte of a part above 22": 250}
 
@@ -81,7 +100,7 @@ def main():
         folder = pathlib.Path(path)
         for name, (words, beside) in TRIED.items():
             for size in SIZES:
-                taken = (most_memory(program, words(size, folder)) - most["the run itself"]) / size - (most[beside] if beside else 0)
+                taken = (most_memory(program, words(size, folder)) - most["the run itself"]) / size - sum(most[other] for other in beside)
                 taken /= UNITS.get(name, 1)
                 is_near = taken <= most[name] and (size != SIZES[-1] or taken >= most[name] / 2)
                 wrong += not is_near

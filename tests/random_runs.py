@@ -17,6 +17,15 @@ values  The same in sessions, where the window of an early pane isn't determined
 status  An estimator that isn't sound may drop lines, and which ones depends on the order of the commits. The text is not compared.
 note    A line is poison: nothing is written, and as it is the only one, the note says the same of it.
 fault   Several things are poison, and which fails first isn't determined. Of the note only `work fault` is compared.
+inputs  Below a stateful node the order of a key's elements tells, and that isn't determined. But nothing is dropped there, so the bag
+        of the elements that came to a stateful node is, where the node reads sources alone: these lines of its log are compared. And
+        the logs have to account for themselves: their calls are legal, and what they put out came to the nodes below (run_model.py).
+alone   One worker reads in the order of the files. Without an estimator no timer is due before all is read, and while the key and the
+        windows stay the same, the calls of each key are determined: several runs by one worker, at other bundles and chunks, print the
+        same text. Several workers are compared as in `inputs`.
+settled The same, and what is put out at the end doesn't depend on the order of the elements either: what is written is compared too.
+
+`tests/run_model.py` works out what one worker prints, and compares it with the same plans.
 """
 import argparse
 import json
@@ -28,8 +37,11 @@ import subprocess
 import sys
 import tempfile
 
+import run_model
+
 KEYS = ["a", "b", "c", "dd", "key", ""]
 STRATEGIES = ["fixed", "sliding", "sessions", "global"]
+STATEFUL = ["inputs", "alone", "settled"]  # how plans with stateful nodes are compared
 TEXT, NUMBER, DIGITS = "text", "number", "digits"
 LINE = "line"  # a text `key TAB digits`
 
@@ -152,6 +164,13 @@ def any_source(plan):
     return plan.choose.choice([timed_source, timed_source, timed_source, lines_source, count_source, made_source])(plan)
 
 
+def quiet_source(plan):
+    """A source of lines whose mark stays the least one until all is read."""
+    end = plan.choose.choice([timed_source, timed_source, lines_source, made_source])(plan)
+    plan.nodes[-1].pop("estimator", None)
+    return end
+
+
 # ---- nodes
 
 
@@ -225,11 +244,31 @@ def add_group(plan, end, **keys):
     return End(plan.add("group", [end.name], **keys), form_of_panes(end.form), windows, True)
 
 
-def form_of_panes(form):
+def add_stateful(plan, end, works=None):
+    """A stateful node that finds no poison. Sessions have no state, since they merge."""
+    choose = plan.choose
+    key, part = key_and_part(end.form)
+    works = works or ["Dedupe", "BatchUntil", "LatestThenEmit", *["RunningSum"] * 2 * (part == NUMBER)]
+    work = choose.choice(works)
+    keys = {"log": True} if choose.random() < 0.9 else {}
+    if work == "BatchUntil":
+        keys["number"] = choose.choice([1, 2, 2, 3, 5, 1_000_000])
+    elif work == "LatestThenEmit":
+        keys["number"] = choose.choice([1, 500, 60_000, 31_536_000_000_000])
+    name = plan.add("stateful", [end.name], work=work, **keys)
+    # A timer of the global window has the greatest time, which a Shift doesn't pass.
+    return End(name, pane(key, part) if work == "BatchUntil" else pair(key, part), end.windows, True)
+
+
+def key_and_part(form):
     if not isinstance(form, tuple):
-        return pane("no key", form)
+        return "no key", form
     kind, key, part = form
-    return pane(key, part if kind == "pair" else "parts")
+    return key, part if kind == "pair" else "parts"
+
+
+def form_of_panes(form):
+    return pane(*key_and_part(form))
 
 
 def add_flatten(plan, ends):
@@ -329,7 +368,90 @@ def poison_panes_plan(plan):
     add_writes(plan, [end])
 
 
-KINDS = [text_plan] * 6 + [panes_plan, two_groups_plan, two_groups_plan, early_plan, unsound_plan, poison_plan, poison_panes_plan]
+def keyed_ends(plan, sources, as_numbers):
+    """Pairs of all these sources in one collection of windows that state may have."""
+    end = sources[0] if len(sources) == 1 else add_flatten(plan, sources)
+    end = add_key(plan, end)
+    if as_numbers:
+        end = End(plan.add("pardo", [end.name], work="FieldInt"), pair(TEXT, NUMBER))
+    return add_window(plan, end, ["fixed", "sliding", "global"])
+
+
+def may_group(plan, end):
+    """Whether no timer gives anything behind the end of its window, which a Group may drop or not, by the order of the jobs."""
+    return end.windows == '"global"' or all(node.get("work") != "LatestThenEmit" for node in plan.nodes)
+
+
+def add_with_its_key(plan, end):
+    """One more node that leaves keys and windows as they are."""
+    if plan.choose.random() < 0.65 or not may_group(plan, end):
+        return add_stateful(plan, end)
+    end = add_group(plan, end)
+    works = ["CountSeq", "Unseq"] + (["SumSeq", "MaxSeq"] if end.form[2] == NUMBER else [])
+    work = plan.choose.choice(works)
+    form = pair(end.form[1], end.form[2] if work == "Unseq" else NUMBER)
+    return End(plan.add("pardo", [end.name], work=work), form, end.windows, True)
+
+
+def alone_plan(plan):
+    choose = plan.choose
+    plan.compared = "alone"
+    sources = [quiet_source(plan) for _ in range(choose.choice([1, 1, 2, 3]))]
+    end = add_stateful(plan, keyed_ends(plan, sources, choose.random() < 0.7))
+    for _ in range(choose.choice([0, 1, 1, 2])):
+        end = add_with_its_key(plan, end)
+    add_writes(plan, [end])
+
+
+def settled_plan(plan):
+    choose = plan.choose
+    plan.compared = "settled"
+    work = choose.choice(["Dedupe", "BatchUntil", "LatestThenEmit"])
+    # Of several elements at the latest time the last one stays, so no two of a key may have one time.
+    sources = [made_source(plan)] if work == "LatestThenEmit" else [quiet_source(plan) for _ in range(choose.choice([1, 2, 3]))]
+    plan.nodes[0].pop("estimator", None)
+    end = add_stateful(plan, keyed_ends(plan, sources, choose.random() < 0.5), [work])
+    if work == "BatchUntil":
+        plan.nodes[-1]["number"] = 1_000_000
+    if choose.random() < 0.5 and may_group(plan, end):
+        end = add_group(plan, end)
+    add_writes(plan, [end])
+
+
+def inputs_plan(plan):
+    """Stateful nodes anywhere: below several sources, sound or not, below Groups and below one another."""
+    choose = plan.choose
+    plan.compared = "inputs"
+    ends = [timed_source(plan, sound=choose.random() < 0.6) if choose.random() < 0.6 else any_source(plan) for _ in range(choose.choice([1, 1, 2]))]
+    for _ in range(choose.randrange(2, 9)):
+        at = choose.randrange(len(ends))
+        if choose.random() < 0.35 and "sessions" not in ends[at].windows:
+            ends = ends[:at] + [add_stateful(plan, ends[at])] + ends[at + 1 :]
+        else:
+            ends = add_node(plan, ends)
+    at = choose.randrange(len(ends))
+    if not any(node["kind"] == "stateful" for node in plan.nodes) and "sessions" not in ends[at].windows:
+        ends[at] = add_stateful(plan, ends[at])
+    add_writes(plan, ends)
+
+
+def poison_state_plan(plan):
+    """Parts that are no numbers, or numbers whose sum 64 bits don't hold, can't be added up."""
+    choose = plan.choose
+    plan.compared = "fault"
+    end = add_key(plan, timed_source(plan))
+    if choose.random() < 0.5:
+        end = End(plan.add("pardo", [end.name], work="FieldInt"), pair(TEXT, NUMBER))
+    greatest = 2**63 - 1
+    lines = plan.files["f0"].splitlines()
+    for _ in range(2):
+        lines.insert(choose.randrange(len(lines) + 1), f"{choose.randrange(1000)}\ta\t{greatest}")
+    plan.files["f0"] = "".join(line + "\n" for line in lines)
+    add_writes(plan, [add_stateful(plan, add_window(plan, end, ["global"]), ["RunningSum"])])
+
+
+STATEFUL_KINDS = [alone_plan, alone_plan, settled_plan, inputs_plan, inputs_plan, poison_state_plan]
+KINDS = [text_plan] * 6 + [panes_plan, two_groups_plan, two_groups_plan, early_plan, unsound_plan, poison_plan, poison_panes_plan, *STATEFUL_KINDS]
 
 
 def random_plan(choose):
@@ -368,7 +490,24 @@ def bag_of(out, columns):
     return sorted([line[at] for at in columns] for line in lines)
 
 
-def difference(compared, one, several):
+def reads_sources_alone(plan, node):
+    above = [other for other in plan.nodes if other["name"] in node.get("input", [])]
+    return all(other["kind"] not in ("group", "stateful") and reads_sources_alone(plan, other) for other in above)
+
+
+def inputs_of(plan, out):
+    """The lines of the elements that came to stateful nodes which read sources alone."""
+    nodes = [b"%d" % at for at, node in enumerate(plan.nodes) if node["kind"] == "stateful" and reads_sources_alone(plan, node)]
+    lines = [line.split(b"\t") for line in out.splitlines()]
+    return sorted(line for line in lines if line[0] == b"log" and line[1] in nodes and line[5] == b"element")
+
+
+def written(out):
+    """What was written: its order is that of the times, and which of two equal values came first isn't determined."""
+    return sorted(line for line in out.splitlines() if not line.startswith(b"log\t"))
+
+
+def difference(plan, compared, one, several):
     """What differs, or nothing."""
     if one.status != several.status:
         return f"status {one.status} and {several.status}, notes {one.note!r} and {several.note!r}"
@@ -380,6 +519,14 @@ def difference(compared, one, several):
         return "the windows and values that were written"
     if compared == "values" and bag_of(one.out, [4]) != bag_of(several.out, [4]):
         return "the values that were written"
+    if compared in STATEFUL and inputs_of(plan, one.out) != inputs_of(plan, several.out):
+        return "what came to stateful nodes"
+    if compared in STATEFUL and all(node.get("log") for node in plan.nodes if node["kind"] == "stateful"):
+        fault = run_model.log_fault(plan.document(), lambda name: plan.files[name].encode(), several.out.decode())
+        if fault is not None:
+            return fault
+    if compared == "settled" and written(one.out) != written(several.out):
+        return "what was written"
     if compared == "note" and one.note != several.note:
         return f"notes {one.note!r} and {several.note!r}"
     if compared == "fault" and not (one.note.startswith(b"work fault: ") and several.note.startswith(b"work fault: ")):
@@ -395,28 +542,42 @@ def write_plan(plan, folder):
         (folder / name).write_bytes(text.encode())
 
 
-def random_options(choose, plan):
-    workers = choose.choice([2, 3, 4, 4, 8, 16])
+def random_options(choose, plan, workers):
     bundle = choose.choice([1, 2, 7, 64])
     # Some fifty pieces of all files together at most, since each piece costs several turns at the lock.
     chunk = max(choose.choice([1, 5, 64, 1000, 4096]), sum(map(len, plan.files.values())) // 50)
     return ["--workers", str(workers), "--bundle", str(bundle), "--chunk", str(chunk)]
 
 
+def comparisons(choose, plan):
+    """By what a run by one worker is compared with which other runs."""
+    if plan.compared in ("alone", "settled"):
+        yield from (("text", random_options(choose, plan, 1)) for _ in range(2))
+    yield plan.compared, random_options(choose, plan, choose.choice([2, 3, 4, 4, 8, 16]))
+
+
+def first_difference(program, folder, choose, plan):
+    one = program.run(folder, ["--workers", "1"])
+    for compared, options in comparisons(choose, plan):
+        found = difference(plan, compared, one, program.run(folder, options))
+        if found is not None:
+            return f"{found}; {' '.join(options)}"
+    return None
+
+
 def try_seed(program, seed):
     """How the plan of the seed was compared, and what differs; the plan stays in a folder then."""
     choose = random.Random(seed)
     plan = random_plan(choose)
-    options = random_options(choose, plan)
     with tempfile.TemporaryDirectory(prefix="random_runs_") as name:
         folder = pathlib.Path(name)
         write_plan(plan, folder)
-        found = difference(plan.compared, program.run(folder, ["--workers", "1"]), program.run(folder, options))
+        found = first_difference(program, folder, choose, plan)
         if found is None:
             return plan.compared, None
     kept = pathlib.Path(tempfile.mkdtemp(prefix=f"random_runs_{seed}_"))
     write_plan(plan, kept)
-    return plan.compared, f"{found}; {' '.join(options)} in {kept}"
+    return plan.compared, f"{found} in {kept}"
 
 
 def keep_busy():

@@ -1,0 +1,868 @@
+#!/usr/bin/env python3
+"""What `run` prints by one worker, worked out from the rules of docs/model and docs/using alone, by no code of the program.
+
+    tests/run_model.py plan.json [--bundle N] [--chunk N] [--attempts N]     prints it, and ends with its status
+    tests/run_model.py --cases FILE [FILE ..]       compares it with the commands `run` of files of cases
+    tests/run_model.py --beside ./beam_run [--runs N] [--seed S] [--stateful]      and with runs of random plans of random_runs.py
+
+One worker takes batches of panes first, then jobs of keys, then pieces, each in their order, so the rules determine the whole text,
+whatever the estimators and triggers are. The model is as plain as it can be, and slow: after each commit it looks at all cells.
+The plan has to be one that the program accepts. Where something differs the status is 1.
+"""
+import argparse
+import json
+import pathlib
+import random
+import re
+import sys
+import tempfile
+
+LEAST_TIME, GREATEST_TIME, FINAL = -9223372036854775, 9223372036854775, 2**63 - 1
+GLOBAL = LEAST_TIME, GREATEST_TIME + 1
+TIMINGS = "EARLY", "ON_TIME", "LATE", "UNKNOWN"
+EARLY, ON_TIME, LATE, UNKNOWN = range(4)
+NO_PANE = UNKNOWN, 0
+BARRIERS = "group", "stateful", "write"
+
+
+class Poison(Exception):
+    """Work that fails, with the node whose function or source it is."""
+
+    def __init__(self, at=None):
+        super().__init__(at)
+        self.at = at
+
+
+class Spent(Exception):
+    """The last attempt of a job has failed; carries the note."""
+
+
+# ---- values: None, an int, bytes, a pair as a tuple, a sequence as a list
+
+
+def varint(number):
+    number %= 2**64
+    groups = bytearray()
+    while number > 127:
+        groups.append(number % 128 + 128)
+        number //= 128
+    groups.append(number)
+    return bytes(groups)
+
+
+def spelled(value):
+    """The bytes by which values are ordered and told apart."""
+    match value:
+        case None:
+            return b"\x00"
+        case int():
+            return b"\x01" + varint(value)
+        case bytes():
+            return b"\x02" + varint(len(value)) + value
+        case tuple():
+            return b"\x03" + b"".join(map(spelled, value))
+        case list():
+            return b"\x04" + varint(len(value)) + b"".join(map(spelled, value))
+
+
+def text(value):
+    if value is None:
+        return "null"
+    if isinstance(value, int):
+        return str(value)
+    if isinstance(value, bytes):
+        return '"' + "".join(map(letter, value)) + '"'
+    if isinstance(value, tuple):
+        return f"({text(value[0])},{text(value[1])})"
+    return "[" + ",".join(map(text, value)) + "]"
+
+
+def letter(byte):
+    short = {0x0A: "\\n", 0x0D: "\\r", 0x09: "\\t", 0x22: '\\"', 0x5C: "\\\\"}
+    return short.get(byte) or (chr(byte) if 0x20 <= byte <= 0x7E else f"\\x{byte:02x}")
+
+
+def read_value(line):
+    """The value that a text writes."""
+    value, end = value_at(line, 0)
+    assert end == len(line), line
+    return value
+
+
+def value_at(line, at):
+    if line.startswith("null", at):
+        return None, at + 4
+    if line[at] == '"':
+        blob = re.compile(r'"((?:[^"\\]|\\.)*)"').match(line, at)
+        return unescaped(blob[1]), blob.end()
+    if line[at] not in "([":
+        number = re.compile(r"-?\d+").match(line, at)
+        return int(number[0]), number.end()
+    items, end = [], at + 1
+    while line[end] not in ")]":
+        item, end = value_at(line, end + (line[end] == ","))
+        items.append(item)
+    return tuple(items) if line[at] == "(" else items, end + 1
+
+
+def unescaped(text):
+    short = {"n": "\n", "r": "\r", "t": "\t"}
+    letter = lambda found: chr(int(found[1][1:], 16)) if found[1][0] == "x" else short.get(found[1], found[1])
+    return re.sub(r"\\(x..|.)", letter, text.encode().decode("latin-1")).encode("latin-1")
+
+
+def is_number(value):
+    return isinstance(value, int)
+
+
+def fits(number):
+    return -(2**63) <= number < 2**63
+
+
+class Element:
+    def __init__(self, value, time, span, pane):
+        self.value, self.time, self.span, self.pane = value, time, span, pane
+
+    def key_and_part(self):
+        return self.value if isinstance(self.value, tuple) else (None, self.value)
+
+    def order(self):
+        timing, index = self.pane
+        return *self.span, index, timing, self.time, spelled(self.value)
+
+    def line(self):
+        start, end = self.span
+        return f"{start}\t{end}\t{TIMINGS[self.pane[0]]}\t{self.pane[1]}\t{text(self.value)}\n"
+
+
+def last_time(span):
+    return min(span[1] - 1, GREATEST_TIME)
+
+
+# ---- sources
+
+
+def read_time(digits):
+    bare = digits[1:] if digits[:1] == b"-" else digits
+    if not 1 <= len(bare) <= 16 or not bare.isdigit():
+        raise Poison
+    time = int(digits)
+    if not LEAST_TIME <= time <= GREATEST_TIME:
+        raise Poison
+    return time
+
+
+def timed(line):
+    """The timed values of a line, and the mark that it declares."""
+    if line[:1] == b"!":
+        return [], read_time(line[1:])
+    head, tab, rest = line.partition(b"\t")
+    if not tab:
+        raise Poison
+    return [(rest, read_time(head))], None
+
+
+def made_line(number, position):
+    at = position + number
+    return f"{100 * position + 37 * at % 100}\tk{(7 * position + number) % 16}\t{at % 1000}".encode()
+
+
+class Item:
+    """What a source reads of one file or of its count."""
+
+    def __init__(self, node, content):
+        self.node, self.work, self.content = node, node["work"], content
+        self.length = node["count"] if content is None else len(content)
+
+    def next(self, position):
+        if self.content is None:
+            return position + 1
+        end = self.content.find(b"\n", position)
+        return self.length if end < 0 else end + 1
+
+    def emission(self, position):
+        """The timed values of a position and the mark that it declares."""
+        if self.work == "Count":
+            return [(position, position * self.node["number"])], None
+        if self.work == "Made":
+            return timed(made_line(self.node["number"], position))
+        if position > 0 and self.content[position - 1] != 0x0A:
+            return [], None
+        line, ended, _ = self.content[position:].partition(b"\n")
+        if ended and line[-1:] == b"\r":
+            line = line[:-1]
+        return ([(line, LEAST_TIME)], None) if self.work == "Lines" else timed(line)
+
+
+# ---- functions
+
+
+def words_of(blob):
+    other = bytes(byte if chr(byte).isalnum() and byte < 128 else 0x20 for byte in blob)
+    return other.split()
+
+
+def digits_of(blob):
+    bare = blob[1:] if blob[:1] == b"-" else blob
+    if not 1 <= len(bare) <= 19 or not bare.isdigit() or not fits(int(blob)):
+        raise Poison
+    return int(blob)
+
+
+def the(form, value):
+    if not isinstance(value, form):
+        raise Poison
+    return value
+
+
+def numbers(items):
+    if not all(map(is_number, items)):
+        raise Poison
+    return items
+
+
+def outputs(node, value):
+    """The values that a function gives of one."""
+    match node["work"]:
+        case "KeyField":
+            before, _, after = the(bytes, value).partition(b"\t")
+            return [(before, after)]
+        case "Words":
+            return words_of(the(bytes, value))
+        case "Field":
+            fields = the(bytes, value).split(b"\t")
+            if node["number"] >= len(fields):
+                raise Poison
+            return [fields[node["number"]]]
+        case "KeepPrefix":
+            return [value] if isinstance(value, bytes) and value.startswith(node["text"].encode()) else []
+        case "Shift":
+            return [value]
+    key, part = the(tuple, value)
+    match node["work"]:
+        case "FieldInt":
+            return [(key, digits_of(the(bytes, part)))]
+        case "Swap":
+            return [(part, key)]
+        case "Values":
+            return [part]
+        case "SumSeq":
+            total = sum(numbers(the(list, part)))
+            if not fits(total):
+                raise Poison
+            return [(key, total)]
+        case "CountSeq":
+            return [(key, len(the(list, part)))]
+        case "MaxSeq":
+            return [(key, max(numbers(the(list, part)), default=None))]
+        case "Unseq":
+            return [(key, item) for item in the(list, part)]
+    raise AssertionError(node["work"])
+
+
+# ---- state: what a call does to the state and the timer of a key cell, and what it puts out. Only timer 0 is ever set.
+
+
+class State:
+    def __init__(self, bag=(), number=None, timer=None):
+        self.bag, self.number, self.timer = tuple(bag), number, timer
+
+
+def on_element(node, key, element, state):
+    part = element.key_and_part()[1]
+    match node["work"]:
+        case "Dedupe":
+            if spelled(part) in map(spelled, state.bag):
+                return state, []
+            return State(bag=(*state.bag, part)), [(key, part)]
+        case "RunningSum":
+            total = (state.number or 0) + (part if is_number(part) else 2**64)
+            if not fits(total):
+                raise Poison
+            return State(number=total), [(key, total)]
+        case "BatchUntil":
+            bag = *state.bag, part
+            if len(bag) == node["number"]:
+                return State(), [(key, ascending(bag))]
+            return State(bag=bag, timer=last_time(element.span)), []
+        case "LatestThenEmit":
+            if state.number is None or state.number <= element.time:
+                state = State(bag=(part,), number=element.time)
+            return State(state.bag, state.number, min(state.number + node["number"], GREATEST_TIME)), []
+    raise AssertionError(node["work"])
+
+
+def on_timer(node, key, state):
+    if node["work"] == "BatchUntil":
+        return State(), [(key, ascending(state.bag))] if state.bag else []
+    return State(), [(key, part) for part in state.bag]
+
+
+def ascending(parts):
+    return sorted(parts, key=spelled)
+
+
+# ---- windows
+
+
+def windows_at(strategy, time):
+    if strategy == "global":
+        return [GLOBAL]
+    (kind, length), = strategy.items()
+    if kind == "sessions":
+        return [(time, time + length)]
+    length, period = length if kind == "sliding" else (length, length)
+    starts, start = [], time - time % period
+    while start > time - length:
+        starts.append(start)
+        start -= period
+    return [(start, start + length) for start in reversed(starts)]
+
+
+def merged(spans):
+    """The sessions that these spans make."""
+    made = []
+    for start, end in sorted(set(spans)):
+        if made and start < made[-1][1]:
+            made[-1] = made[-1][0], max(made[-1][1], end)
+        else:
+            made.append((start, end))
+    return made
+
+
+# ---- the plan
+
+
+class Plan:
+    def __init__(self, document, read):
+        self.nodes = json.loads(document)["nodes"]
+        names = {node["name"]: at for at, node in enumerate(self.nodes)}
+        self.inputs = [[names[name] for name in node.get("input", [])] for node in self.nodes]
+        self.followers = [[to for to, inputs in enumerate(self.inputs) for it in inputs if it == at] for at in range(len(self.nodes))]
+        self.items = {at: self.items_of(node, read) for at, node in enumerate(self.nodes) if node["kind"] == "source"}
+        self.strategies = []
+        for node, inputs in zip(self.nodes, self.inputs):
+            self.strategies.append(self.strategy_of(node, inputs))
+
+    @staticmethod
+    def items_of(node, read):
+        if node["work"] in ("Lines", "TimedLines"):
+            return [Item(node, read(name)) for name in node["files"]]
+        return [Item(node, None)]
+
+    def strategy_of(self, node, inputs):
+        """The strategy after a node: what a Group of sessions puts out is kept as it is."""
+        if node["kind"] == "source":
+            return "global"
+        if node["kind"] == "window":
+            return node["windows"]
+        above = self.strategies[inputs[0]]
+        return "kept" if node["kind"] == "group" and merges(above) else above
+
+    def chain(self, at, element):
+        """The barriers and elements that an output of a node comes to."""
+        for to in self.followers[at]:
+            node = self.nodes[to]
+            if node["kind"] in BARRIERS:
+                yield to, element
+                continue
+            for output in self.through(to, node, element):
+                yield from self.chain(to, output)
+
+    @staticmethod
+    def through(at, node, element):
+        if node["kind"] == "flatten":
+            return [element]
+        if node["kind"] == "window":
+            return [Element(element.value, element.time, span, element.pane) for span in windows_at(node["windows"], element.time)]
+        try:
+            values = outputs(node, element.value)
+        except Poison:
+            raise Poison(at) from None
+        time = min(element.time + node["number"], GREATEST_TIME) if node["work"] == "Shift" else element.time
+        return [Element(value, time, element.span, element.pane) for value in values]
+
+
+def merges(strategy):
+    return isinstance(strategy, dict) and "sessions" in strategy
+
+
+# ---- what stands while a plan is run
+
+
+class Piece:
+    def __init__(self, node, item, start, end, seen=LEAST_TIME, attempts=0):
+        self.node, self.item, self.start, self.end, self.seen, self.attempts = node, item, start, end, seen, attempts
+
+    def order(self):
+        return self.node, self.item, self.start, self.end, self.seen, self.attempts
+
+    def mark(self, estimator):
+        if estimator == "none":
+            return LEAST_TIME
+        if isinstance(estimator, dict):
+            return max(LEAST_TIME, self.seen - estimator["lag"])
+        return self.seen
+
+
+class Pane:
+    def __init__(self, number, node, element, hold):
+        self.number, self.node, self.element, self.hold = number, node, element, hold
+
+
+class Entry:
+    def __init__(self, element, commit):
+        self.element, self.commit, self.shown = element, commit, False
+
+    def belongs(self, span):
+        start, end = self.element.span
+        return span[0] <= start and end <= span[1]
+
+
+class KeyGroup:
+    """The cells of a key at a Group."""
+
+    def __init__(self):
+        self.spans, self.entries, self.panes, self.on_time = [], [], {}, set()
+
+
+class KeyCell:
+    def __init__(self, node, key, span):
+        self.node, self.key, self.span = node, key, span
+        self.state, self.timer_hold = State(), None
+        self.waiting, self.log, self.attempts = [], [], 0
+
+
+class Run:
+    def __init__(self, plan, bundle=64, chunk=65536, attempts=3):
+        self.plan, self.bundle, self.limit = plan, bundle, attempts
+        self.pieces = [
+            Piece(node, number, start, min(start + chunk, item.length))
+            for node, items in plan.items.items() for number, item in enumerate(items) for start in range(0, item.length, chunk)
+        ]
+        self.live_piece = None
+        self.panes, self.panes_fired, self.batch_attempts = [], 0, 0
+        self.groups, self.cells, self.written, self.commits = {}, {}, {}, 0
+        count = len(plan.nodes)
+        self.mark_in, self.mark_out = [LEAST_TIME] * count, [LEAST_TIME] * count
+        self.compute_marks()
+
+    # -- jobs
+
+    def work(self):
+        while self.work_batch() or self.work_key() or self.work_piece():
+            pass
+
+    def failed(self, node, item, poison, attempts):
+        if attempts >= self.limit:
+            raise Spent(f"work fault: node {node} item {item} at {poison.at} attempt {attempts} call\n")
+        return attempts
+
+    def work_batch(self):
+        if not self.panes:
+            return False
+        node = min(pane.node for pane in self.panes)
+        batch = sorted((pane for pane in self.panes if pane.node == node), key=lambda pane: pane.number)[: self.bundle]
+        try:
+            arrivals = [came for pane in batch for came in self.plan.chain(node, pane.element)]
+        except Poison as poison:
+            self.batch_attempts = self.failed(node, batch[0].number, poison, self.batch_attempts + 1)
+            return True
+        self.batch_attempts = 0
+        self.panes = [pane for pane in self.panes if pane not in batch]
+        self.commit(arrivals)
+        return True
+
+    def work_key(self):
+        ready = (cell for cell in self.cells.values() if cell.waiting or self.is_due(cell))
+        # The cells stand in the order of their numbers.
+        cell = min(ready, key=lambda cell: cell.node, default=None)
+        if cell is None:
+            return False
+        number = list(self.cells.values()).index(cell)
+        node = self.plan.nodes[cell.node]
+        inputs, state, log, arrivals = cell.waiting[: self.bundle], cell.state, [], []
+        try:
+            for element, _ in inputs:
+                state, values = self.call(cell.node, on_element, node, cell.key, element, state)
+                log.append(("element", element.time, text(element.value)))
+                for value in values:
+                    arrivals += self.plan.chain(cell.node, Element(value, element.time, cell.span, element.pane))
+            if not inputs:
+                time = state.timer
+                state, values = self.call(cell.node, on_timer, node, cell.key, state)
+                log.append(("timer", 0, time))
+                for value in values:
+                    arrivals += self.plan.chain(cell.node, Element(value, time, cell.span, NO_PANE))
+        except Poison as poison:
+            cell.attempts = self.failed(cell.node, number, poison, cell.attempts + 1)
+            return True
+        if state.timer is None:
+            cell.timer_hold = None
+        elif state.timer != cell.state.timer:
+            cell.timer_hold = max(state.timer, self.mark_out[cell.node])
+        cell.state, cell.attempts, cell.waiting = state, 0, cell.waiting[len(inputs):]
+        cell.log += log
+        self.commit(arrivals)
+        return True
+
+    def is_due(self, cell):
+        return cell.state.timer is not None and cell.state.timer <= self.mark_in[cell.node]
+
+    @staticmethod
+    def call(at, function, *words):
+        try:
+            return function(*words)
+        except Poison:
+            raise Poison(at) from None
+
+    def work_piece(self):
+        if not self.pieces:
+            return False
+        piece = min(self.pieces, key=Piece.order)
+        try:
+            arrivals, seen, left = self.read(piece)
+        except Poison as poison:
+            piece.attempts = self.failed(piece.node, piece.item, poison, piece.attempts + 1)
+            return True
+        self.pieces.remove(piece)
+        if left < piece.end:
+            self.pieces.append(Piece(piece.node, piece.item, left, piece.end, seen))
+        self.commit(arrivals)
+        return True
+
+    def read(self, piece):
+        """What a bundle of a piece brings, what it has seen, and where what is left of the piece begins."""
+        item, estimator = self.plan.items[piece.node][piece.item], self.plan.nodes[piece.node].get("estimator", "none")
+        arrivals, seen, emitted, at = [], piece.seen, 0, piece.start
+        while at < piece.end:
+            values, declared = self.call(piece.node, item.emission, at)
+            for value, time in values:
+                arrivals += self.plan.chain(piece.node, Element(value, time, GLOBAL, NO_PANE))
+                if estimator == "monotonic" or isinstance(estimator, dict):
+                    seen = max(seen, time)
+            if estimator == "declared" and declared is not None:
+                seen = max(seen, declared)
+            emitted += bool(values)
+            if emitted == self.bundle:
+                return arrivals, seen, at + 1
+            at = item.next(at)
+        return arrivals, seen, piece.end
+
+    # -- commits
+
+    def commit(self, arrivals):
+        self.commits += 1
+        came = {}
+        for node, element in arrivals:
+            kind = self.plan.nodes[node]["kind"]
+            if kind == "write":
+                self.written.setdefault(node, []).append(element)
+            elif kind == "stateful":
+                self.arrive_at_state(node, element)
+            else:
+                self.arrive_at_group(node, element, came)
+        self.merge_sessions(came)
+        self.compute_marks()
+
+    def arrive_at_state(self, node, element):
+        key = element.key_and_part()[0]
+        name = node, spelled(key), element.span
+        if name not in self.cells:
+            self.cells[name] = KeyCell(node, key, element.span)
+        self.cells[name].waiting.append((element, max(element.time, self.mark_out[node])))
+
+    def lateness(self, node):
+        return self.plan.nodes[node].get("lateness", 0)
+
+    def arrive_at_group(self, node, element, came):
+        if self.mark_in[node] >= element.span[1] + self.lateness(node):
+            return
+        key = element.key_and_part()[0]
+        name = node, spelled(key)
+        group = self.groups.setdefault(name, KeyGroup())
+        group.key = key
+        group.entries.append(Entry(element, self.commits))
+        came.setdefault(name, []).append(element.span)
+
+    def merge_sessions(self, came):
+        for name, spans in came.items():
+            group, node = self.groups[name], name[0]
+            above = self.plan.strategies[self.plan.inputs[node][0]]
+            if not merges(above):
+                group.spans += [span for span in dict.fromkeys(spans) if span not in group.spans]
+                continue
+            is_past = lambda span: self.mark_in[node] >= span[1] + self.lateness(node)
+            past = [span for span in group.spans if is_past(span)]
+            group.spans = past + merged([span for span in group.spans if not is_past(span)] + spans)
+
+    def compute_marks(self):
+        before = list(self.mark_out)
+        for at, node in enumerate(self.plan.nodes):
+            self.mark_in[at] = min((self.mark_out[it] for it in self.plan.inputs[at]), default=FINAL)
+            if node["kind"] == "group":
+                self.fire(at, before[at])
+            self.mark_out[at] = min([self.mark_in[at], *self.holds(at, node)])
+
+    def holds(self, at, node):
+        if node["kind"] == "source":
+            return [piece.mark(node.get("estimator", "none")) for piece in self.pieces if piece.node == at]
+        if node["kind"] == "group":
+            return [pane.hold for pane in self.panes if pane.node == at]
+        mine = [cell for cell in self.cells.values() if cell.node == at]
+        return [hold for cell in mine for _, hold in cell.waiting] + [cell.timer_hold for cell in mine if cell.timer_hold is not None]
+
+    def fire(self, at, mark_before):
+        for (node, _), group in sorted(self.groups.items()):
+            if node != at:
+                continue
+            fired, shown = [], []
+            for span in sorted(group.spans):
+                belong = [entry for entry in group.entries if entry.belongs(span)] if merges(self.plan.strategies[self.plan.inputs[at][0]]) else [
+                    entry for entry in group.entries if entry.element.span == span
+                ]
+                unseen = [entry for entry in belong if not entry.shown]
+                timing = self.timing(at, span, span in group.on_time, len(unseen))
+                if timing is None:
+                    continue
+                if timing == ON_TIME:
+                    group.on_time.add(span)
+                held = belong if self.plan.nodes[at].get("mode") == "accumulating" else unseen
+                parts = ascending([entry.element.key_and_part()[1] for entry in held])
+                index = group.panes.get(span, 0)
+                group.panes[span] = index + 1
+                fired.append(Element((group.key, parts), last_time(span), span, (timing, index)))
+                shown += belong
+            for entry in shown:
+                entry.shown = True
+            for element in fired:
+                self.panes.append(Pane(self.panes_fired, at, element, max(element.time, mark_before)))
+                self.panes_fired += 1
+
+    def timing(self, at, span, was_on_time, unseen):
+        node, mark = self.plan.nodes[at], self.mark_in[at]
+        if not was_on_time and mark >= span[1]:
+            return ON_TIME
+        if not was_on_time and "early" in node and unseen >= node["early"]:
+            return EARLY
+        if was_on_time and unseen >= 1 and (unseen >= node.get("late", 1) or mark >= span[1] + self.lateness(at)):
+            return LATE
+        return None
+
+    # -- the text
+
+    def rendering(self):
+        writes = [at for at, node in enumerate(self.plan.nodes) if node["kind"] == "write"]
+        lines = []
+        for at in writes:
+            if len(writes) > 1:
+                node = self.plan.nodes[at]
+                lines.append(f"# {text(node.get('label', node['name']).encode())}\n")
+            lines += [element.line() for element in sorted(self.written.get(at, []), key=Element.order)]
+        for (at, _, span), cell in sorted(self.cells.items(), key=lambda named: named[0]):
+            if self.plan.nodes[at].get("log"):
+                for entry in cell.log:
+                    lines.append("\t".join(map(str, ("log", at, *span, text(cell.key), *entry))) + "\n")
+        return "".join(lines)
+
+
+def answer(document, read, bundle=64, chunk=65536, attempts=3):
+    """The status, the text and the note of `run` by one worker."""
+    run = Run(Plan(document, read), bundle, chunk, attempts)
+    try:
+        run.work()
+    except Spent as spent:
+        return 6, "", str(spent)
+    return 0, run.rendering(), ""
+
+
+# ---- what any number of workers print
+
+
+class Printed:
+    """The written lines of each Write, and the logs, of a text."""
+
+    def __init__(self, plan, out):
+        self.written, self.logs = {}, {}
+        writes = [at for at, node in enumerate(plan.nodes) if node["kind"] == "write"]
+        if len(writes) == 1:
+            self.written[writes[0]] = []
+        for line in out.splitlines():
+            cells = line.split("\t")
+            if line.startswith("# "):
+                self.written[writes[len(self.written)]] = []
+            elif cells[0] == "log":
+                at, start, end = map(int, cells[1:4])
+                self.logs.setdefault((at, (start, end), cells[4]), []).append(cells[5:])
+            else:
+                self.written[max(self.written)].append(cells)
+
+
+def log_fault(document, read, out):
+    """What is wrong with the logs of a run, or nothing. The calls of each log have to be legal in their order, and what sources and
+    calls put out has to come to each node once, where nothing comes to it from a Group. Each stateful node has to have a log."""
+    plan = Plan(document, read)
+    printed, came = Printed(plan, out), {}
+    bring = lambda at, element: [came.setdefault(to, []).append(brought) for to, brought in plan.chain(at, element)]
+    for at, items in plan.items.items():
+        for item in items:
+            spread(at, item, bring)
+    arrived = {}
+    for (at, span, key), calls in printed.logs.items():
+        state = State()
+        for kind, number, rest in calls:
+            if kind == "timer":
+                if number != "0" or state.timer != int(rest):
+                    return f"node {at} key {key}: no timer is set at {rest}"
+                time, (state, values) = state.timer, on_timer(plan.nodes[at], read_value(key), state)
+            else:
+                element = Element(read_value(rest), int(number), span, NO_PANE)
+                arrived.setdefault(at, []).append((span, number, rest))
+                if text(element.key_and_part()[0]) != key:
+                    return f"node {at} key {key}: {rest} has another key"
+                time, (state, values) = element.time, on_element(plan.nodes[at], read_value(key), element, state)
+            for value in values:
+                bring(at, Element(value, time, span, NO_PANE))
+        if state.timer is not None:
+            return f"node {at} key {key}: the timer at {state.timer} is left"
+    for at, node in enumerate(plan.nodes):
+        if node["kind"] not in ("stateful", "write") or comes_from_group(plan, at):
+            continue
+        if node["kind"] == "stateful":
+            there, wanted = arrived.get(at, []), [(element.span, str(element.time), text(element.value)) for element in came.get(at, [])]
+        else:
+            there, wanted = printed.written[at], [[*map(str, element.span), text(element.value)] for element in came.get(at, [])]
+            there = [[start, end, value] for start, end, _, _, value in there]
+        if sorted(there) != sorted(wanted):
+            return f"what came to node {at}"
+    return None
+
+
+def spread(at, item, bring):
+    position = 0
+    while position < item.length:
+        for value, time in item.emission(position)[0]:
+            bring(at, Element(value, time, GLOBAL, NO_PANE))
+        position = item.next(position)
+
+
+def comes_from_group(plan, at):
+    above = [(it, plan.nodes[it]["kind"]) for it in plan.inputs[at]]
+    return any(kind == "group" or kind != "stateful" and comes_from_group(plan, it) for it, kind in above)
+
+
+# ---- beside the cases
+
+
+class Case:
+    """A block that runs a command: its words, its files and what is wanted."""
+
+    def __init__(self, words):
+        self.words, self.files, self.status, self.out, self.note, self.fails = words, {}, 0, b"", b"", False
+
+    def add(self, line):
+        kind, _, rest = line.partition(" ")
+        if kind == "file":
+            name, text = (unescaped(quoted) for quoted in re.findall(r'"((?:[^"\\]|\\.)*)"', rest))
+            self.files[name.decode()] = text
+        elif kind == "status":
+            self.status = int(rest)
+        elif kind in ("out", "note"):
+            setattr(self, kind, getattr(self, kind) + unescaped(rest))
+        else:
+            self.fails |= kind in ("fail", "kit")
+
+    def is_modelled(self):
+        return self.words[:1] == ["run"] and not self.fails and (self.status == 0 or self.note.endswith(b" call\n"))
+
+    def difference(self):
+        numbers = {word[2:]: int(number) for word, number in zip(self.words, self.words[1:]) if word in ("--bundle", "--chunk", "--attempts")}
+        status, out, note = answer(self.files[self.words[1]], self.files.get, **numbers)
+        if (status, out.encode(), note.encode()) != (self.status, self.out, self.note):
+            return f"the model gives status {status}\n{out}{note}"
+        return None
+
+
+def cases_of(path):
+    """The blocks of a file that run a command, each with its line."""
+    case = None
+    for at, line in enumerate(pathlib.Path(path).read_text().splitlines(), 1):
+        if line.startswith("command "):
+            case, start = Case(line.split(" ")[1:]), at
+        elif line == "end" and case is not None:
+            yield start, case
+            case = None
+        elif case is not None:
+            case.add(line)
+
+
+def compare_cases(paths):
+    count = differences = 0
+    for path in paths:
+        for at, case in cases_of(path):
+            if not case.is_modelled():
+                continue
+            count += 1
+            found = case.difference()
+            if found is not None:
+                differences += 1
+                print(f"{path}:{at}: {found}")
+    print(f"{count} cases compared with the model, {differences} differ")
+    return 1 if differences or not count else 0
+
+
+# ---- beside the program
+
+
+def compare(program, runs, seed, stateful):
+    import random_runs
+
+    program = random_runs.Program(program, 120)
+    differences = 0
+    for number in range(seed, seed + runs):
+        choose = random.Random(number)
+        plan = random_runs.Plan(choose)
+        choose.choice(random_runs.STATEFUL_KINDS if stateful else random_runs.KINDS)(plan)
+        bundle, chunk, attempts = choose.choice([1, 2, 7, 64]), choose.choice([7, 64, 1000, 65536]), choose.choice([1, 2, 3])
+        wanted = answer(plan.document(), lambda name: plan.files[name].encode(), bundle, chunk, attempts)
+        words = ["--workers", "1", "--bundle", str(bundle), "--chunk", str(chunk), "--attempts", str(attempts)]
+        with tempfile.TemporaryDirectory(prefix="run_model_") as name:
+            random_runs.write_plan(plan, pathlib.Path(name))
+            ended = program.run(name, words)
+        if (ended.status, ended.out.decode(), ended.note.decode()) != wanted:
+            differences += 1
+            kept = pathlib.Path(tempfile.mkdtemp(prefix=f"run_model_{number}_"))
+            random_runs.write_plan(plan, kept)
+            (kept / "wanted").write_text(wanted[1] + wanted[2])
+            print(f"seed {number}: {' '.join(words)} in {kept}: status {ended.status}, {wanted[0]} is wanted", flush=True)
+    print(f"{runs} plans compared with the model, {differences} differ")
+    return 1 if differences else 0
+
+
+def main():
+    words = argparse.ArgumentParser(description=__doc__.splitlines()[0])
+    words.add_argument("plan", nargs="?", help="a plan document, whose files are read in the folder of the call")
+    words.add_argument("--bundle", type=int, default=64)
+    words.add_argument("--chunk", type=int, default=65536)
+    words.add_argument("--attempts", type=int, default=3)
+    words.add_argument("--cases", nargs="+", metavar="FILE", help="files of command cases")
+    words.add_argument("--beside", metavar="PROGRAM", help="the built program")
+    words.add_argument("--runs", type=int, default=500)
+    words.add_argument("--seed", type=int, default=1)
+    words.add_argument("--stateful", action="store_true", help="plans with stateful nodes alone")
+    words = words.parse_args()
+    if words.cases:
+        return compare_cases(words.cases)
+    if words.beside:
+        return compare(words.beside, words.runs, words.seed, words.stateful)
+    if not words.plan:
+        sys.exit(__doc__)
+    read = lambda name: pathlib.Path(name).read_bytes()
+    status, out, note = answer(pathlib.Path(words.plan).read_text(), read, words.bundle, words.chunk, words.attempts)
+    sys.stdout.write(out)
+    sys.stderr.write(note)
+    return status
+
+
+if __name__ == "__main__":
+    sys.exit(main())
