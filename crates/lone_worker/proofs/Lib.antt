@@ -1,0 +1,10 @@
+pub mod Slots
+pub mod Leading
+pub mod Counted
+pub mod Rounds
+pub mod Ranges
+pub mod Bases
+pub mod Wholes
+pub mod Works
+pub mod Claiming
+pub mod Granted

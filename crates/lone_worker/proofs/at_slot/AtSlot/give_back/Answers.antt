@@ -1,0 +1,53 @@
+use Rattle.book_core.specs.Steps.{Fail, Retried, Spent}
+use Rattle.known_jobs.specs.Calls.{CanFailAs}
+use Rattle.known_jobs.specs.Carried.{can_fail, fails_honestly}
+use Rattle.known_jobs.specs.Jobs.{known_at}
+use Rattle.known_jobs.specs.Known.{known_where}
+use Rattle.lone_worker.proofs.Leading.{run_one}
+use Rattle.lone_worker.proofs.Rounds.{failed_calls, failed_reads, failed_round, spent_stops}
+use Rattle.lone_worker.proofs.at_slot.AtSlot.give_back.Goals as goal
+
+pub fail-requires : goal.fail-requires
+fail-requires g c =
+    let b = c.args.book.now in
+    let slot = c.args.self.now.slot in
+    can_fail g.setting b slot (known_at b slot) c.requires.0.plan (known_where (λ known. CanFailAs g.setting known c.args.at c.args.cause) (λ h. h) b slot c.is_sane.ensures.held c.requires.1.0) c.args.at c.args.cause
+    c.requires.1.0
+
+pub returns-in-Retry-clause-run : goal.returns-in-Retry-clause-run
+returns-in-Retry-clause-run g c =
+    let b = c.args.book.now in
+    let slot = c.args.self.now.slot in
+    let honest = fails_honestly g.setting b slot (known_at b slot) c.requires.0.plan (known_where (λ known. CanFailAs g.setting known c.args.at c.args.cause) (λ h. h) b slot c.is_sane.ensures.held c.requires.1.0) c.args.at
+    c.args.cause c.requires.1.0 in
+    run_one g.setting.known b c.fail.new.self slot (Fail c.args.at c.args.cause) Retried (c.in-Retry.ensures g.setting.known.told) honest
+
+pub returns-in-Retry-clause-end : goal.returns-in-Retry-clause-end
+returns-in-Retry-clause-end g c =
+    let b = c.args.book.now in
+    let slot = c.args.self.now.slot in
+    let step = c.in-Retry.ensures g.setting.known.told in
+    failed_round b c.fail.new.self slot c.args.at c.args.cause Retried step c.requires.1.1.1 (c.rounds_are_bounded.ensures.fail b c.fail.new.self slot c.args.at c.args.cause Retried c.is_sane.ensures step)
+
+pub returns-in-Retry-clause-calls : goal.returns-in-Retry-clause-calls
+returns-in-Retry-clause-calls g c = failed_calls c.args.book.now c.fail.new.self c.args.self.now.slot c.args.at c.args.cause Retried (c.in-Retry.ensures g.setting.known.told)
+
+pub returns-in-Retry-clause-reads : goal.returns-in-Retry-clause-reads
+returns-in-Retry-clause-reads g c = failed_reads c.args.book.now c.fail.new.self c.args.self.now.slot c.args.at c.args.cause Retried (c.in-Retry.ensures g.setting.known.told)
+
+pub returns-in-Spent-clause-run : goal.returns-in-Spent-clause-run
+returns-in-Spent-clause-run g c =
+    let b = c.args.book.now in
+    let slot = c.args.self.now.slot in
+    let honest = fails_honestly g.setting b slot (known_at b slot) c.requires.0.plan (known_where (λ known. CanFailAs g.setting known c.args.at c.args.cause) (λ h. h) b slot c.is_sane.ensures.held c.requires.1.0) c.args.at
+    c.args.cause c.requires.1.0 in
+    run_one g.setting.known b c.fail.new.self slot (Fail c.args.at c.args.cause) (Spent c.in-Spent.note) (c.in-Spent.ensures g.setting.known.told) honest
+
+pub returns-in-Spent-clause-end : goal.returns-in-Spent-clause-end
+returns-in-Spent-clause-end g c = spent_stops c.args.book.now c.fail.new.self c.args.self.now.slot c.args.at c.args.cause c.in-Spent.note c.requires.1.1.0 (c.in-Spent.ensures g.setting.known.told)
+
+pub returns-in-Spent-clause-calls : goal.returns-in-Spent-clause-calls
+returns-in-Spent-clause-calls g c = failed_calls c.args.book.now c.fail.new.self c.args.self.now.slot c.args.at c.args.cause (Spent c.in-Spent.note) (c.in-Spent.ensures g.setting.known.told)
+
+pub returns-in-Spent-clause-reads : goal.returns-in-Spent-clause-reads
+returns-in-Spent-clause-reads g c = failed_reads c.args.book.now c.fail.new.self c.args.self.now.slot c.args.at c.args.cause (Spent c.in-Spent.note) (c.in-Spent.ensures g.setting.known.told)
