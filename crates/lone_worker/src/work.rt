@@ -1,6 +1,6 @@
 //! The work of a slot on its job, a position at a time.
 ghost use Rattle.std.specs.Prelude.{◌≡◌, ◌<◌, ◌≤ℤ◌, ℕ, [], None, true, All, IfErr, IfOk, IsSome};
-ghost use Rattle.std.specs.Prelude.{OnOk};
+ghost use Rattle.std.specs.Prelude.{OnErr, OnOk};
 ghost use Rattle.std.specs.List.{list_any};
 ghost use Rattle.beam_model.specs.Positions.{Emission};
 ghost use Rattle.beam_model.specs.Spread.{emission_outputs};
@@ -118,7 +118,8 @@ impl Work {
 }
 
 impl AtSlot {
-    /// Claims the next position of a range, and works it where that is granted.
+    /// Claims the next position of a range, and works it where that is granted. Where there is no memory for that, the position is
+    /// claimed.
     pub fn claim<F: Shelf, S: Store>(
         &self,
         book: &mut Book,
@@ -137,6 +138,8 @@ impl AtSlot {
         requires may { may_claim_in work.old.job work.old.stage ≡ true }
         ensures step { IfOk result (λ claim. Makes book.old self.now.slot (Claim work.old.next)
             (Claimed (is_granted claim)) book.new) }
+        ensures claimed { OnErr result (Makes book.old self.now.slot (Claim work.old.next)
+            (Claimed true) book.new) }
         ensures done { IfOk result (IsClaimDone base.setting
             (observed_shelf F.strict F.faults kit.old.shelf kit.new.shelf)
             (observed_store S.files S.faults kit.old.store kit.new.store)

@@ -211,6 +211,12 @@ returns-in-Err-Faulted-clause-reading g c =
     (g.S.Store.opened c.work_at.new.kit.store) last.readers.items last.place last.bench.pager stays.kept.reading.openings (c.in-Err-Faulted.ensures.readers ∙ c.turn_to.ensures.readers) c.in-Err-Faulted.ensures.place stays.file
     stays.len stays.able
 
+pub returns-in-Err-NoMemory-clause-claimed : goal.returns-in-Err-NoMemory-clause-claimed
+returns-in-Err-NoMemory-clause-claimed g c =
+    let inside : c.args.work.now.next < c.claim_end-end.result = omega (arith, c.if-p-end.false) in
+    let some : nat_lt c.args.work.now.next c.claim_end-end.result ≡ true = grind (arith, nat_tests) in
+    subst (λ (granted : Bool). Makes c.args.book.now c.args.self.now.slot (Claim c.args.work.now.next) (Claimed granted) c.claim_end-end.new.book) some c.claim_end-end.ensures.step
+
 pub returns-in-Err-NoMemory-clause-reading : goal.returns-in-Err-NoMemory-clause-reading
 returns-in-Err-NoMemory-clause-reading g c =
     let r = c.requires.1.1.1.1 in
