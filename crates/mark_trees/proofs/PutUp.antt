@@ -1,14 +1,14 @@
 -- An item is put into one list after the other.
-use Rattle.std.proofs.Common.{◌≡◌, ℕ, zero, suc, ◌+◌, ◌/◌, ◌<◌, ◌≤◌, List, [], ◌∷◌, ◌++◌, Vec, Global, length, map, take, drop, get_or, Option, Some, None, refl, sym, ap, subst, ◌∙◌, arith, append_assoc}
-use Rattle.std.specs.Prelude.{slice_get, slice_set, vec_len, vec_capacity}
+use Rattle.std.proofs.Common.{◌≡◌, ℕ, zero, suc, ◌+◌, ◌*◌, ◌/◌, ◌<◌, ◌≤◌, ℤ, List, [], ◌∷◌, ◌++◌, Vec, Global, length, take, drop, get_or, Option, Some, None, refl, sym, ap, subst, ◌∙◌, arith, append_assoc}
+use Rattle.std.specs.Prelude.{slice_get, slice_set}
 use Rattle.std.specs.List.{All}
-use Rattle.std.proofs.lemmas.List.{append-nil, drop-map, drop-set-lt, drop-drop, drop_all, drop_more, get_or-map, length-map, length-set, map-append, map-set, set-get_or, take-map, take_all, take_more_set}
+use Rattle.std.proofs.lemmas.List.{append-nil, drop-map, drop-set-lt, drop-drop, drop_all, drop_more, get_or-map, length-map, length-set, map-append, map-set, set-get_or, take-append-drop, take-map, take_all, take_more_set}
 use Rattle.std.proofs.lemmas.List.Elements.{All-head, All-tail}
-use Rattle.std.proofs.lemmas.Option.{get_or_from_slice_get, slice_get_within}
-use Rattle.mark_trees.specs.Halves.{halved, put, put_up, AreOver, AreLevels, lowest}
+use Rattle.std.proofs.lemmas.Option.{get_or_from_slice_get, slice_get-get_or, slice_get_within}
+use Rattle.mark_trees.specs.Halves.{first_due, halved, no_marks, put, put_up, AreOver, AreLevels, lowest}
 use Rattle.mark_trees.specs.Levels.{HasRoom, HaveRoom, IsPutAt, lists_of}
 use Rattle.mark_trees.specs.declared.twin_marks.TwinMarks.{TwinMarks}
-use Rattle.mark_trees.proofs.Halving.{half_below, half_within}
+use Rattle.mark_trees.proofs.Halving.{first_none, first_some, half_below, half_within}
 
 missing : {X : Type 0} (xs : List X) (k : ℕ) → slice_get xs k ≡ None → k < length xs → ⊥
 missing [] k e less = omega arith
@@ -67,6 +67,47 @@ put_done initial levels k at m all end ends made =
     ∙ (λ i. sym (take-map (λ (v : Vec TwinMarks Global). v.items) k levels ∙ ap lists_of (take_all k levels end)) i ++ put_up (sym (drop-map (λ (v : Vec TwinMarks Global). v.items) k initial ∙ ap lists_of (drop_all k initial ends)) i) at m)
     ∙ made
 
+-- ---- where nothing changes
+
+pub levels_above : (lists : List (List TwinMarks)) (k : ℕ) → k < length lists → AreLevels (drop k lists) → AreLevels (drop (k + 1) lists)
+levels_above [] k less h = absurd (omega (arith, less))
+levels_above (x ∷ []) zero less h = tt
+levels_above (x ∷ (y ∷ rest)) zero less h = h.1
+levels_above (x ∷ xs) (suc k) less h =
+    let next : suc (k + 1) ≡ suc k + 1 = omega arith in
+    subst (λ n. AreLevels (drop n (x ∷ xs))) next (levels_above xs k (omega (arith, less)) h)
+
+put_same : (xs : List TwinMarks) (at : ℕ) (m : TwinMarks) → slice_get xs at ≡ Some m → put xs at m ≡ xs
+put_same [] at m e = absurd (cc)
+put_same (x ∷ xs) zero m e = let own : m ≡ x = cc in ap (λ (y : TwinMarks). y ∷ xs) own
+put_same (x ∷ xs) (suc at) m e = ap (λ l. x ∷ l) (put_same xs at m e)
+
+-- what stands at a place is what lies over it, and so on
+put_over_same : (low : List TwinMarks) (higher : List (List TwinMarks)) (at : ℕ) (m : TwinMarks) → AreOver low higher → slice_get low at ≡ Some m
+    → put_up (low ∷ higher) at m ≡ low ∷ higher
+put_over_same low [] at m h e = ap (λ l. l ∷ []) (put_same low at m e)
+put_over_same low (high ∷ higher) at m h e =
+    let same = put_same low at m e in
+    let up = get_or (halved low) (at / 2) m in
+    let over : slice_get high (at / 2) ≡ Some up =
+    ap (λ l. slice_get l (at / 2)) h.0 ∙ slice_get-get_or (halved low) (at / 2) m (half_below low at (slice_get_within low at m e)) in
+    (λ i. same i ∷ put_up (high ∷ higher) (at / 2) (get_or (halved (same i)) (at / 2) m))
+    ∙ ap (λ l. low ∷ l) (put_over_same high higher (at / 2) up h.1 over)
+
+pub put_up_same : (lists : List (List TwinMarks)) (at : ℕ) (m : TwinMarks) → AreLevels lists → slice_get (lowest lists) at ≡ Some m → put_up lists at m ≡ lists
+put_up_same [] at m h e = refl
+put_up_same (low ∷ higher) at m h e = put_over_same low higher at m h e
+
+-- an item that stands already is put, so the lists are those that were made so far and the others
+pub put_stands : (initial levels : List (Vec TwinMarks Global)) (k at : ℕ) (m : TwinMarks) (all : List (List TwinMarks))
+    → slice_get (lowest (drop k (lists_of levels))) at ≡ Some m → AreLevels (drop k (lists_of initial)) → drop k levels ≡ drop k initial
+    → take k (lists_of levels) ++ put_up (drop k (lists_of initial)) at m ≡ all → lists_of levels ≡ all
+put_stands initial levels k at m all stands h same made =
+    let lists : drop k (lists_of initial) ≡ drop k (lists_of levels) =
+    drop-map (λ (x : Vec TwinMarks Global). x.items) k initial ∙ ap lists_of (sym same) ∙ sym (drop-map (λ (x : Vec TwinMarks Global). x.items) k levels) in
+    let here : slice_get (lowest (drop k (lists_of initial))) at ≡ Some m = ap (λ (l : List (List TwinMarks)). slice_get (lowest l) at) lists ∙ stands in
+    sym (take-append-drop k (lists_of levels)) ∙ ap (λ l. take k (lists_of levels) ++ l) (sym lists ∙ sym (put_up_same (drop k (lists_of initial)) at m h here)) ∙ made
+
 -- ---- room
 
 pub room_below : (levels : List (Vec TwinMarks Global)) (at : ℕ) → AreLevels (lists_of levels) → at < length (lowest (lists_of levels)) → HaveRoom at levels
@@ -110,6 +151,34 @@ two_levels (x ∷ (y ∷ rest)) zero less h = (h.1, h.0)
 two_levels (x ∷ xs) (suc k) less h =
     let next : suc (k + 1) ≡ suc k + 1 = omega arith in
     subst (λ n. AreTwo (x ∷ xs) (suc k) n) next (two_levels xs k (omega (arith, less)) h)
+
+pub levels_at : (lists : List (List TwinMarks)) (k : ℕ) → AreLevels lists → AreLevels (drop k lists)
+levels_at [] zero h = tt
+levels_at [] (suc k) h = tt
+levels_at (x ∷ xs) zero h = h
+levels_at (x ∷ []) (suc k) h = levels_at [] k tt
+levels_at (x ∷ (y ∷ rest)) (suc k) h = levels_at (y ∷ rest) k h.1
+
+-- the first that is due in the list over one tells it of that one
+pub record IsUnderPair (bound : ℤ) (lists : List (List TwinMarks)) (k at : ℕ) (level : List TwinMarks) : Type 0 where
+  pub within : 2 * at < length level
+  pub over : first_due bound (halved level) ≡ Some at
+
+pub under_pair : (bound : ℤ) (lists : List (List TwinMarks)) (k next at : ℕ) (level : List TwinMarks) → k + 1 < length lists → next ≡ k + 1 → AreLevels lists
+    → level ≡ lowest (drop k lists) → first_due bound (lowest (drop next lists)) ≡ Some at → IsUnderPair bound lists k at level
+under_pair bound lists k next at level less is h read due =
+    let two = two_levels lists k less (levels_at lists k h) in
+    let over : first_due bound (halved level) ≡ Some at =
+    ap (λ (l : List TwinMarks). first_due bound (halved l)) read ∙ ap (first_due bound) (sym two.1) ∙ ap (λ n. first_due bound (lowest (drop n lists))) (sym is) ∙ due in
+    record { within = (first_some bound level at no_marks over).0; over = over }
+
+-- nothing is due where nothing is in a list over it
+pub none_under : (bound : ℤ) (lists : List (List TwinMarks)) (k : ℕ) → k < length lists → AreLevels lists → first_due bound (lowest (drop k lists)) ≡ None
+    → first_due bound (lowest lists) ≡ None
+none_under bound [] k less h e = absurd (omega (arith, less))
+none_under bound (x ∷ xs) zero less h e = e
+none_under bound (x ∷ []) (suc k) less h e = absurd (omega (arith, less))
+none_under bound (x ∷ (y ∷ rest)) (suc k) less h e = first_none bound x (ap (first_due bound) (sym h.0) ∙ none_under bound (y ∷ rest) k (omega (arith, less)) h.1 e)
 
 pub lists_sized : (levels : List (Vec TwinMarks Global)) → length (lists_of levels) ≡ length levels
 lists_sized levels = length-map levels (λ (v : Vec TwinMarks Global). v.items)

@@ -1,5 +1,5 @@
 -- Lists that lie over a list: each has the lesser of each two neighbours of the one below.
-use Rattle.std.specs.Prelude.{◌≡◌, ℕ, zero, suc, ℤ, ◌≤◌, ◌/◌, List, [], ◌∷◌, fold, length, map, get_or, int_le, position, Bool, Option}
+use Rattle.std.specs.Prelude.{◌≡◌, ℕ, zero, suc, ℤ, ◌≤◌, ◌/◌, List, [], ◌∷◌, fold, length, get_or, int_le, position, Bool, Option}
 use Rattle.std.specs.Int.{int_min}
 use Rattle.beam_values.specs.Times.{final_mark}
 use Rattle.mark_trees.specs.declared.twin_marks.TwinMarks.{TwinMarks}

@@ -1,10 +1,10 @@
-ghost use Rattle.std.specs.Prelude.{◌≡◌, ◌<◌, [], ◌∷◌, ◌++◌, length, drop, slice_index_or, slice_set};
+ghost use Rattle.std.specs.Prelude.{◌≡◌, ◌<◌, ◌-◌, Some, [], ◌∷◌, ◌++◌, length, drop, slice_index_or, slice_set};
 ghost use Rattle.std.specs.Prelude.{IfOk, OnOk, OnErr};
 ghost use Rattle.mark_trees.specs.Halves.{AreLevels, IsUnder, first_due, least_of, lowest};
 ghost use Rattle.mark_trees.specs.Levels.{lists_of};
 ghost use Rattle.mark_trees.specs.declared.twin_marks.TwinMarks.{TwinMarks as TwinMarksOf};
 
-use crate::levels::{first_of_pair, grow, keep_room, put_up};
+use crate::levels::{first_of_pair, grow, keep_room, level_at, put_up};
 use crate::twin_marks::{TwinMarks, is_due, lesser};
 use beam_values::{Mark, NoMemory};
 use std::alloc::Global;
@@ -80,7 +80,9 @@ impl LeastTree {
         if self.levels.is_empty() {
             return None;
         }
-        first_from(&self.levels, 0, bound)
+        let highest = level_at(&self.levels, self.levels.len() - 1);
+        let at = first_among(highest, bound)?;
+        Some(first_under(&self.levels, at, bound))
     }
 
     /// Puts marks in the place of others. Takes no memory.
@@ -104,27 +106,20 @@ impl LeastTree {
     }
 }
 
-/// The first place of a list that is due, by way of the list over it.
-fn first_from(levels: &Vec<Vec<TwinMarks>>, at: usize, bound: Mark) -> Option<usize>
-    requires levels { AreLevels (drop at (lists_of levels.now.items)) }
-    requires within { at < length levels.now.items }
-    ensures { result ≡ first_due bound (lowest (drop at (lists_of levels.now.items))) }
+/// The first place of the lowest list that is due, where this is the first of the highest.
+fn first_under(levels: &Vec<Vec<TwinMarks>>, highest: usize, bound: Mark) -> usize
+    requires levels { AreLevels (lists_of levels.now.items) }
+    requires some { 0 < length levels.now.items }
+    requires over { first_due bound (lowest (drop (length levels.now.items - 1)
+        (lists_of levels.now.items))) ≡ Some highest }
+    ensures { first_due bound (lowest (lists_of levels.now.items)) ≡ Some result }
 {
-    let level = level_at(levels, at);
-    if at + 1 == levels.len() {
-        return first_among(level, bound);
+    let mut at = highest;
+    for over in 1..levels.len() {
+        let level = level_at(levels, levels.len() - 1 - over);
+        at = first_of_pair(level, at, bound);
     }
-    match first_from(levels, at + 1, bound) {
-        Some(over) => Some(first_of_pair(level, over, bound)),
-        None => None,
-    }
-}
-
-fn level_at(levels: &Vec<Vec<TwinMarks>>, at: usize) -> &[TwinMarks]
-    requires { at < length levels.now.items }
-    ensures { result.now ≡ lowest (drop at (lists_of levels.now.items)) }
-{
-    levels[at].as_slice()
+    at
 }
 
 fn first_among(level: &[TwinMarks], bound: Mark) -> Option<usize>

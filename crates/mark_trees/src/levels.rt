@@ -1,5 +1,5 @@
 ghost use Rattle.std.specs.Prelude.{◌≡◌, ◌≤◌, ◌<◌, ◌+◌, ◌*◌, ◌/◌, [], ◌∷◌, drop, take, length, get_or, All};
-ghost use Rattle.std.specs.Prelude.{◌-◌, nat_lt, IfOk, vec_capacity, vec_len, slice_get, OnOk, Some, Vec as VecOf};
+ghost use Rattle.std.specs.Prelude.{◌-◌, nat_lt, true, IfOk, vec_capacity, vec_len, slice_get, OnOk, Some, Vec as VecOf};
 ghost use Rattle.std.specs.declared.alloc.Global.{Global};
 ghost use Rattle.mark_trees.specs.Halves.{AreLevels, HasTop, first_due, halved, halvings, lowest, put, put_up};
 ghost use Rattle.mark_trees.specs.Levels.{HasRoom, HaveRoom, IsPutAt, lists_of};
@@ -10,16 +10,38 @@ use beam_values::{Mark, NoMemory};
 use std::alloc::Global;
 
 /// An item is put at a place of the lowest list, behind the last or in the place of another, and what lies
-/// over it follows. Takes no memory.
+/// over it follows, up to the list in which nothing changes. Takes no memory.
 pub fn put_up(levels: &mut Vec<Vec<TwinMarks>>, at: usize, marks: TwinMarks)
-    requires { HaveRoom at levels.old.items }
+    requires levels { AreLevels (lists_of levels.old.items) }
+    requires room { HaveRoom at levels.old.items }
     ensures { lists_of levels.new.items ≡ put_up (lists_of levels.old.items) at marks }
 {
     let mut at = at;
     let mut marks = marks;
     for k in 0..levels.len() {
+        if stands(level_at(levels, k), at, &marks) {
+            return;
+        }
         marks = put_at(levels, k, at, marks);
         at /= 2;
+    }
+}
+
+/// One of the lists.
+pub fn level_at(levels: &Vec<Vec<TwinMarks>>, k: usize) -> &[TwinMarks]
+    requires { k < length levels.now.items }
+    ensures { result.now ≡ lowest (drop k (lists_of levels.now.items)) }
+{
+    levels[k].as_slice()
+}
+
+/// Whether this is what stands at a place.
+fn stands(level: &[TwinMarks], at: usize, marks: &TwinMarks) -> bool
+    ensures { result ≡ true → slice_get level.now at ≡ Some marks.now }
+{
+    match level.get(at) {
+        Some(own) => own == marks,
+        None => false,
     }
 }
 

@@ -6,8 +6,11 @@ use Rattle.mark_trees.proofs.Halving.{lowest_push, push_levels}
 use Rattle.mark_trees.proofs.PutUp.{room_for}
 use Rattle.mark_trees.proofs.least_tree.LeastTree.push.Goals as goal
 
-pub put_up-requires : goal.put_up-requires
-put_up-requires c =
+pub put_up-requires-clause-levels : goal.put_up-requires-clause-levels
+put_up-requires-clause-levels c = subst AreLevels (sym c.in_ok-keep_room.ensures.lists) c.in_ok-grow.ensures.levels
+
+pub put_up-requires-clause-room : goal.put_up-requires-clause-room
+put_up-requires-clause-room c =
     room_for c.keep_room.new.levels.items c.len-at.result (subst AreLevels (sym c.in_ok-keep_room.ensures.lists) c.in_ok-grow.ensures.levels) c.in_ok-keep_room.ensures.ok
     (omega (arith, c.len-at.ensures, ap length c.self.view_is, ap length c.in_ok-grow.ensures.lowest, ap (λ (l : List (List TwinMarks)). length (lowest l)) c.in_ok-keep_room.ensures.lists))
 

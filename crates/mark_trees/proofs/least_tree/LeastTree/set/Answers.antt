@@ -1,4 +1,4 @@
-use Rattle.std.proofs.Common.{◌<◌, List, ap, arith, length, subst, sym, ◌∙◌}
+use Rattle.std.proofs.Common.{List, ap, arith, length, subst, sym, ◌∙◌}
 use Rattle.std.specs.Prelude.{slice_set}
 use Rattle.mark_trees.specs.Halves.{AreLevels, lowest}
 use Rattle.mark_trees.specs.Levels.{lists_of}
@@ -7,8 +7,8 @@ use Rattle.mark_trees.proofs.Halving.{lowest_set, set_levels}
 use Rattle.mark_trees.proofs.PutUp.{room_below}
 use Rattle.mark_trees.proofs.least_tree.LeastTree.set.Goals as goal
 
-pub put_up-requires : goal.put_up-requires
-put_up-requires c = room_below c.self.inside.levels.items c.args.at c.self.invariant (omega (arith, c.requires, ap length c.self.view_is))
+pub put_up-requires-clause-room : goal.put_up-requires-clause-room
+put_up-requires-clause-room c = room_below c.self.inside.levels.items c.args.at c.self.invariant (omega (arith, c.requires, ap length c.self.view_is))
 
 pub invariant_of-self : goal.invariant_of-self
 invariant_of-self c =
