@@ -1,4 +1,5 @@
 pub mod Fronts
+pub mod MadeLines
 pub mod PlainBytes
 pub mod Sorts
 pub mod ValueTexts
