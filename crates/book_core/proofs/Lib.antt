@@ -76,3 +76,4 @@ pub mod WaitingOrder
 pub mod SaneResults
 pub mod SaneAlways
 pub mod AllKept
+pub mod NoGroups

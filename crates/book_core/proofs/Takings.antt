@@ -243,14 +243,7 @@ module _ (b : SeenBook) (slot node : ℕ) (running : IsRunning b) (free : IsFree
         batches = omega (arith, room, batches_after b.slots slot None (Some (live.Batch (oldest_batch b node))) free, ap (λ (s : List (Option Live)). length (flat_map batch_of s)) g);
       }
 
--- a job of a key cell is taken: whatever is found twice is one job
-pub one_turn : (marks : List StageMarks) (bundle : ℕ) (cells new other : List KeyCell) (turn again : KeyTurn) → IsTaken marks bundle cells turn new → IsTaken marks bundle cells again other → turn ≡ again
-one_turn marks bundle cells new other turn again h k =
-    let place : h.place ≡ k.place = let next = h.next in let too = k.next in cc in
-    let cell : h.cell ≡ k.cell = let here = sym h.is_at ∙ ap (λ (p : Place). slice_get cells p.at) place ∙ k.is_at in cc in
-    h.handed ∙ ap (λ (p : Place). turn_of p.at h.cell (min bundle (length h.cell.waiting))) place
-    ∙ ap (λ (c : KeyCell). turn_of k.place.at c (min bundle (length c.waiting))) cell ∙ sym k.handed
-
+-- the job of a key cell is taken
 module _ (b : SeenBook) (slot : ℕ) (turn : KeyTurn) (keys : List KeyCell) (slots : List (Option Live)) (running : IsRunning b) (free : IsFree b slot) (none : first_due b ≡ None)
     (found : IsTaken (last_marks b) b.options.bundle b.keys turn keys) (g : slots ≡ slice_set b.slots slot (Some (live.Key turn))) (sane : IsSane b) where
   abbrev cell_next : Next

@@ -1,5 +1,7 @@
 ghost use Rattle.std.specs.Prelude.{◌≡◌, ℕ, ◌≤◌, ◌<◌, [], reverse, length, List, Option, Some};
 ghost use Rattle.std.specs.Prelude.{None, IfOk, IfErr, OnOk, OnErr};
+ghost use Rattle.std.specs.List.{All};
+ghost use Rattle.beam_values.specs.Storable.{IsStorable};
 ghost use Rattle.beam_values.specs.declared.file_text.FileText.{FileText};
 ghost use Rattle.beam_model.specs.Positions.{items};
 ghost use Rattle.book_core.specs.Book.{SeenBook};
@@ -27,6 +29,7 @@ use crate::opening::{cut_files, empty_queues, hold_pieces, mark_nodes};
 use crate::outcome::{in_order, logs_in_order};
 use crate::queue::Queue;
 use crate::results::Results;
+use crate::storable::look_at_panes;
 use crate::working::{
     count_batches, count_pieces, idle_answer, most_left, piece_at, span_at, tracker_of,
 };
@@ -181,6 +184,13 @@ impl Book {
         let _ = &self.faults;
     }
 
+    /// A law: each number in the panes has 64 bits.
+    pub fn look_at_panes(&self)
+        ensures { All (λ pane. IsStorable pane.element.value) self.now.panes }
+    {
+        look_at_panes(self.results.panes.as_slice());
+    }
+
     /// One more slot, which works nothing. Answers its number.
     pub fn enroll(&mut self) -> Result<u32, NoMemory>
         ensures ok { IfOk result
@@ -250,7 +260,7 @@ impl Book {
         Ok(Taken::Job(job))
     }
 
-    // The job that is handed out and the one that the slot keeps are two copies.
+    // The job that is handed out and the one that the slot keeps share their state.
     fn take_key(&mut self, slot: u32) -> Result<Taken, NoMemory>
         requires running { IsRunning self.old }
         requires free { IsFree self.old slot }
@@ -263,9 +273,8 @@ impl Book {
         let Some(turn) = self.keys.next_job(marks, bundle)? else {
             return Ok(self.take_piece(slot));
         };
-        let Some(worked) = self.keys.take_job(marks, bundle)? else {
-            unreachable!()
-        };
+        let worked = turn.share(self.alloc)?;
+        self.keys.start_job(turn.cell, bundle);
         self.slots[slot as usize] = Some(Live::Key(worked));
         Ok(Taken::Job(key_job(turn)))
     }

@@ -21,15 +21,14 @@ ghost use Rattle.book_core.specs.Indexes.{room_in, marks_in, least_in, least_wit
 ghost use Rattle.book_core.specs.declared.live.Live.{Live};
 ghost use Rattle.book_core.specs.declared.live.Live.TheVariants as live;
 
+use crate::grouped::{commit_groups, is_group};
 use crate::held::{NodeHolds, mark_of_piece};
 use crate::keyed::prepare;
 use crate::live::{Live, WaitingPane};
 use crate::queue::Queue;
 use crate::results::Results;
 use crate::working::tracker_of;
-use beam_values::{
-    Arrival, Done, List, Mark, NoMemory, Node, NodeKind, Pane, Piece, Plan, StageMarks, Time,
-};
+use beam_values::{Arrival, Done, List, Mark, NoMemory, Node, Pane, Piece, Plan, StageMarks, Time};
 use bundle_commit::Receipt;
 use group_cells::Groups;
 use split_core::Pieces;
@@ -337,12 +336,6 @@ fn keep_if_group(
     }
 }
 
-fn is_group(node: &Node) -> bool
-    ensures { result ≡ is_group_kind node.now.kind }
-{
-    matches!(node.kind, NodeKind::Group { .. })
-}
-
 fn keep_at(
     queues: &mut Vec<Queue>,
     held: &mut NodeHolds,
@@ -411,8 +404,10 @@ pub fn fire(
 {
     let holds = prepare(alloc, plan, keys, done, arrivals, held, before)?;
     let mut marks = Vec::from_slice(alloc, before)?;
-    let panes = groups.commit(
+    let panes = commit_groups(
+        alloc,
         plan,
+        groups,
         arrivals,
         holds.as_slice(),
         marks.as_mut_slice(),

@@ -125,9 +125,9 @@ fn least_with(alloc: Global, nodes: &[Holds], others: &[Mark]) -> Result<Vec<Mar
     ensures each { IfOk result (λ least. (n : ℕ) → n < length nodes.now
         → hold_at least.items n ≡ int_min (least_in nodes.now n) (hold_at others.now n)) }
 {
-    let mut least = Vec::new(alloc);
+    let mut least = Vec::with_capacity(alloc, nodes.len())?;
     for (n, holds) in nodes.iter().enumerate() {
-        least.push(lesser(holds.least_or_final(), mark_at(others, n)))?;
+        least.push_reserved(lesser(holds.least_or_final(), mark_at(others, n)));
     }
     Ok(least)
 }

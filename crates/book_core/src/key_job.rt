@@ -99,7 +99,7 @@ pub fn elements_of(job: &Live) -> usize
     ensures { result ≡ elements_of job.now }
 {
     match job {
-        Live::Key(turn) => count_arrived(turn.inputs.as_slice()),
+        Live::Key(turn) => count_arrived(turn.inputs.get().as_slice()),
         Live::Batch(_) => 0,
         Live::Span { .. } => 0,
     }

@@ -12,6 +12,7 @@ mod book;
 mod committing;
 mod due;
 mod failing;
+mod grouped;
 mod held;
 mod key_job;
 mod keyed;
@@ -21,9 +22,11 @@ mod opening;
 mod outcome;
 mod queue;
 mod results;
+mod storable;
 #[cfg(test)]
 mod tests;
 mod working;
 
 pub use book::Book;
 pub use live::{Batch, Failure, Live, Taken, Unplaced, WaitingPane};
+pub use storable::look_at_panes;

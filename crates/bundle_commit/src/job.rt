@@ -1,4 +1,4 @@
-use beam_values::{Arrival, List, LogEntry, LogInput, Pane, Piece, Span, Time, Value};
+use beam_values::{Arrival, Boxed, List, LogEntry, LogInput, Pane, Piece, Span, Time, Value};
 use keyed_state::KeyState;
 use timer_core::Timers;
 
@@ -24,9 +24,9 @@ pub enum Job {
         cell: u32,
         key: Value,
         span: Span,
-        inputs: List<LogInput>,
-        state: KeyState,
-        timers: Timers,
+        inputs: Boxed<List<LogInput>>,
+        state: Boxed<KeyState>,
+        timers: Boxed<Timers>,
         attempts: u32,
     },
 }
@@ -35,8 +35,8 @@ pub enum Job {
 /// The commit fills in its own number in the entries.
 #[derive(Debug, Drop)]
 pub struct Logged {
-    pub state: KeyState,
-    pub timers: Timers,
+    pub state: Boxed<KeyState>,
+    pub timers: Boxed<Timers>,
     pub entries: List<LogEntry>,
 }
 

@@ -15,6 +15,8 @@ const USUAL_COUNT: usize = 64;
 #[derive(Debug, Drop)]
 pub struct Staging {
     receipt: Receipt,
+    // For how many elements the first one asks room.
+    expected: usize,
 }
 
 impl Model for Staging {
@@ -33,12 +35,20 @@ impl Staging {
     pub fn new(alloc: Global, seen: Time) -> Staging
         ensures { result ≡ record { arrivals = []; seen = seen; logged = None } }
     {
+        Staging::expecting(alloc, seen, USUAL_COUNT)
+    }
+
+    /// The same for a bundle that mostly puts out so many elements at most. More of them only take longer.
+    pub fn expecting(alloc: Global, seen: Time, count: usize) -> Staging
+        ensures { result ≡ record { arrivals = []; seen = seen; logged = None } }
+    {
         Staging {
             receipt: Receipt {
                 arrivals: List::new(alloc),
                 seen,
                 logged: None,
             },
+            expected: count.min(USUAL_COUNT),
         }
     }
 
@@ -51,7 +61,7 @@ impl Staging {
         ensures err { OnErr result (self.new ≡ self.old) }
     {
         if self.receipt.arrivals.is_empty() {
-            let _ = self.receipt.arrivals.reserve(USUAL_COUNT);
+            let _ = self.receipt.arrivals.reserve(self.expected);
         }
         self.receipt.arrivals.push(Arrival { node, element })
     }
@@ -100,7 +110,7 @@ impl Staging {
     pub fn seal(self) -> Receipt
         ensures { result ≡ self }
     {
-        let Staging { receipt } = self;
+        let Staging { receipt, .. } = self;
         receipt
     }
 }

@@ -1,7 +1,7 @@
 //! Receipts of staged bundles, counted by hand.
 
 use crate::{Logged, Staging};
-use beam_values::{Element, Estimator, List, PaneTag, Span, Time, Timing, Value};
+use beam_values::{Boxed, Element, Estimator, List, PaneTag, Span, Time, Timing, Value};
 use keyed_state::KeyState;
 use std::test::Fail;
 use timer_core::Timers;
@@ -48,12 +48,12 @@ fn a_receipt_has_what_was_logged_last(rt: HostRuntime) -> Result<(), Fail> {
         let mut state = KeyState::new(rt.alloc());
         state.set_number(0, number);
         staging.put_logged(Logged {
-            state,
-            timers: Timers::new(),
+            state: Boxed::new(rt.alloc(), state)?,
+            timers: Boxed::new(rt.alloc(), Timers::new())?,
             entries: List::new(rt.alloc()),
         });
     }
     let logged = staging.seal().logged.ok_or("nothing logged")?;
-    assert_eq!(rt; logged.state.number(0), Some(7));
+    assert_eq!(rt; logged.state.get().number(0), Some(7));
     Ok(())
 }

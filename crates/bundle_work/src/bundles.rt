@@ -213,7 +213,8 @@ impl Worker {
             kit.old.shelf kit.new.shelf kit.old.store kit.new.store }
         ensures files { kit.new.files ≡ kit.old.files }
     {
-        self.bench.staging = Staging::new(self.bench.alloc, piece.seen);
+        let count = most_outputs(piece, self.bundle);
+        self.bench.staging = Staging::expecting(self.bench.alloc, piece.seen, count);
         let from = piece.range.from();
         let end = claims.claim_end(pass, from);
         if end <= from {
@@ -306,6 +307,20 @@ impl Worker {
     }
 }
 
+// How many elements a bundle of a piece mostly puts out at most: one for each of its positions.
+fn most_outputs(piece: &Piece, bundle: u32) -> usize {
+    let positions = piece.range.to().saturating_sub(piece.range.from());
+    positions.min(u64::from(bundle)) as usize
+}
+
+// How many calls a key job has.
+fn count_inputs(job: &Job) -> usize {
+    match job {
+        Job::Key { inputs, .. } => inputs.get().len(),
+        Job::Batch { .. } | Job::Span { .. } => 0,
+    }
+}
+
 // The panes of a batch go on.
 fn work_batch<F: Shelf>(
     alloc: Global,
@@ -325,7 +340,7 @@ fn work_batch<F: Shelf>(
     ensures counts { F.faults shelf.old ≤ F.faults shelf.new }
     ensures strict { F.strict shelf.new ≡ F.strict shelf.old }
 {
-    let mut staging = Staging::new(alloc, Time::LEAST);
+    let mut staging = Staging::expecting(alloc, Time::LEAST, panes.len());
     run_batch(alloc, graph, shelf, node, panes, buffers, &mut staging)?;
     Ok(staging.seal())
 }
@@ -349,7 +364,7 @@ fn work_key<F: Shelf>(
     ensures counts { F.faults shelf.old ≤ F.faults shelf.new }
     ensures strict { F.strict shelf.new ≡ F.strict shelf.old }
 {
-    let mut staged = Staging::new(alloc, Time::LEAST);
+    let mut staged = Staging::expecting(alloc, Time::LEAST, count_inputs(job));
     run_key(alloc, graph, shelf, job, buffers, &mut staged)?;
     Ok(staged.seal())
 }

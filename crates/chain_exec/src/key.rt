@@ -1,4 +1,4 @@
-ghost use Rattle.std.specs.Prelude.{◌≡◌, [], ◌≢◌, ◌≤◌, ◌<◌, ◌++◌, true, None, Some, length, map, IfErr};
+ghost use Rattle.std.specs.Prelude.{◌≡◌, [], ◌≢◌, ◌≤◌, ◌<◌, ◌++◌, true, None, Some, length, map, IfErr, IfOk};
 ghost use Rattle.std.specs.Prelude.{IsSome, IsSomeAnd, OnOk, slice_get};
 ghost use Rattle.std.specs.List.{flat_map};
 ghost use Rattle.std.specs.Option.{option_map};
@@ -17,12 +17,16 @@ ghost use Rattle.chain_exec.specs.Unused.{IsUnused};
 use crate::ExecRefusal;
 use crate::buffers::Buffers;
 use beam_values::{
-    Args, Cause, Duplicate, Element, List, LogEntry, LogInput, NodeKind, Span, StateKind, Value,
+    Args, Boxed, Cause, Duplicate, Element, List, LogEntry, LogInput, NoMemory, NodeKind, Span,
+    StateKind, Value,
 };
 use bundle_commit::{Job, Logged, Staging};
 use dofn_traits::{CallRefusal, Shelf};
+use keyed_state::KeyState;
 use pipeline_graph::Graph;
 use std::alloc::Global;
+use std::marker::Model;
+use timer_core::Timers;
 
 /// Calls the function of a key job on its inputs, one after another: stages what each call puts out, and
 /// notes the state, the timers and the entries of the log after all of them, under commit 0. The job's own
@@ -64,9 +68,9 @@ pub fn run_key<F: Shelf>(
         unreachable!()
     };
     let called = called_at(graph, *node, key, *span);
-    let mut logged = Logged {
-        state: state.copy()?,
-        timers: *timers,
+    let mut calls = Calls {
+        state: state.get().copy()?,
+        timers: *timers.get(),
         entries: List::new(alloc),
     };
     buffers.clear_lists();
@@ -74,13 +78,62 @@ pub fn run_key<F: Shelf>(
         alloc,
         &called,
         shelf,
-        inputs.as_slice(),
-        &mut logged,
+        inputs.get().as_slice(),
+        &mut calls,
         buffers,
         staging,
     )?;
-    staging.put_logged(logged);
+    staging.put_logged(logged_of(alloc, calls, timers)?);
     Ok(())
+}
+
+/// What the calls so far left, in place. Contracts see it as what is logged of them.
+#[derive(Drop)]
+struct Calls {
+    state: KeyState,
+    timers: Timers,
+    entries: List<LogEntry>,
+}
+
+impl Model for Calls {
+    ghost use Rattle.bundle_commit.specs.declared.job.Logged.{Logged};
+    ghost use Rattle.bundle_commit.specs.contracts.job.Logged as logged;
+
+    ghost Value = { Logged };
+
+    ghost coded = { logged.the_row.coded };
+
+    ghost view = { λ c. record { state = c.state; timers = c.timers; entries = c.entries } };
+}
+
+// What is logged of calls. Mostly the timers stay those of the job, which it shares.
+fn logged_of(alloc: Global, calls: Calls, before: &Boxed<Timers>) -> Result<Logged, NoMemory>
+    ensures { IfOk result (λ logged. logged ≡ calls) }
+{
+    let Calls {
+        state,
+        timers,
+        entries,
+    } = calls;
+    Ok(Logged {
+        state: Boxed::new(alloc, state)?,
+        timers: kept_or_new(alloc, timers, before)?,
+        entries,
+    })
+}
+
+fn kept_or_new(
+    alloc: Global,
+    timers: Timers,
+    before: &Boxed<Timers>,
+) -> Result<Boxed<Timers>, NoMemory>
+    ensures { IfOk result (λ boxed. boxed ≡ timers) }
+{
+    if timers == *before.get() {
+        before.share()
+    } else {
+        Boxed::new(alloc, timers)
+    }
 }
 
 /// The function that a key job calls, and for which key and window.
@@ -127,7 +180,7 @@ fn run_calls<F: Shelf>(
     at: &Called<'_>,
     shelf: &mut F,
     inputs: &[LogInput],
-    logged: &mut Logged,
+    logged: &mut Calls,
     buffers: &mut Buffers,
     staging: &mut Staging,
 ) -> Result<(), ExecRefusal>
@@ -163,7 +216,7 @@ fn run_call<F: Shelf>(
     at: &Called<'_>,
     shelf: &mut F,
     input: &LogInput,
-    logged: &mut Logged,
+    logged: &mut Calls,
     buffers: &mut Buffers,
     staging: &mut Staging,
 ) -> Result<(), ExecRefusal>
@@ -204,7 +257,7 @@ fn call_state<F: Shelf>(
     at: &Called<'_>,
     shelf: &mut F,
     input: &LogInput,
-    logged: &mut Logged,
+    logged: &mut Calls,
     out: &mut List<Element>,
 ) -> Result<(), ExecRefusal>
     requires { is_state_allowed at.now.work at.now.args.now ≡ true }
@@ -222,7 +275,7 @@ fn call_state<F: Shelf>(
         (kept_of logged.old) ≢ None
         → F.faults shelf.new ≡ F.faults shelf.old }
 {
-    let Logged { state, timers, .. } = logged;
+    let Calls { state, timers, .. } = logged;
     match shelf.call_state(at.work, at.args, at.key, at.span, input, state, timers, out) {
         Ok(()) => Ok(()),
         Err(CallRefusal::Failed) => Err(ExecRefusal::Faulted {

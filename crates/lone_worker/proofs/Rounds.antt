@@ -1,7 +1,8 @@
 -- A round of one worker at a book: a job is taken, and committed or given back.
-use Rattle.std.proofs.Common.{◌≡◌, ℕ, ◌<◌, ◌≤◌, List, sym, ap, subst, ◌∙◌, arith}
+use Rattle.std.proofs.Common.{◌≡◌, ◌⊎◌, inl, inr, ℕ, ◌<◌, ◌≤◌, Bool, false, List, refl, sym, ap, subst, ◌∙◌, arith}
 use Rattle.std.specs.Prelude.{Option, Some, None, slice_set}
 use Rattle.beam_values.specs.declared.fault.Cause.{Cause}
+use Rattle.beam_values.specs.declared.fault.Cause.TheVariants.{Call, Read}
 use Rattle.beam_values.specs.declared.fault.FaultNote.{FaultNote}
 use Rattle.beam_values.specs.declared.file_text.FileText.{FileText}
 use Rattle.beam_values.specs.declared.outcome.StopCause.TheVariants as stop
@@ -9,13 +10,16 @@ use Rattle.bundle_commit.specs.declared.job.Job.{Job}
 use Rattle.bundle_commit.specs.declared.job.Receipt.{Receipt}
 use Rattle.book_core.specs.Book.{SeenBook}
 use Rattle.book_core.specs.Left.{rounds_left}
-use Rattle.book_core.specs.Steps.{Answer, Fail, IsCommitting, IsFailing, IsIdle, IsRunning, IsTaking, Spent}
+use Rattle.book_core.specs.Changes.{counted, ends_run, failed, given_back, note_of, stopped_where, with_slot}
+use Rattle.book_core.specs.Steps.{Answer, Fail, IsCommitting, IsFailing, IsFailure, IsIdle, IsRunning, IsTaking, Retried, Spent}
 use Rattle.book_core.specs.declared.live.Live.{Live}
+use Rattle.book_core.specs.declared.live.Live.TheVariants as live
 use Rattle.known_jobs.specs.Calls.{IsJobIn, calls_after, reads_after}
 use Rattle.known_jobs.specs.Jobs.{Setting, setting_for}
 use Rattle.known_jobs.specs.Kept.{fail_leaves, next_keep}
-use Rattle.lone_worker.specs.Alone.{GoesOnOrEnds, IsBookIn, IsIdleBut, IsNextRound}
+use Rattle.lone_worker.specs.Alone.{GoesOnOrEnds, IsAloneEnd, IsBookIn, IsIdleBut, IsNextRound}
 use Rattle.lone_worker.specs.declared.alone.AloneEnd.{AloneEnd}
+use Rattle.lone_worker.specs.declared.alone.AloneEnd.TheVariants as ends
 use Rattle.lone_worker.proofs.Slots.{freed, taken_but}
 
 -- ---- a take
@@ -46,20 +50,36 @@ in_setting setting b job is inside =
 
 -- ---- a commit
 
-pub committed_round : (told : Option (List FileText)) (b new : SeenBook) (slot : ℕ) (receipt : Receipt) → IsCommitting told b slot receipt new → IsIdleBut b slot → rounds_left new < rounds_left b
+pub committed_round : (told : Option (List FileText)) (b new : SeenBook) (slot : ℕ) (receipt : Receipt) → IsCommitting told b slot receipt new → IsRunning b → IsIdleBut b slot → rounds_left new < rounds_left b
     → IsNextRound slot b new
-committed_round told b new slot receipt step others fewer =
+committed_round told b new slot receipt step running others fewer =
     let free = freed b new slot step.job step.works (ap (λ (x : SeenBook). x.slots) step.commit.is) others in
-    record { free = free.0; idle = free.1; fewer = fewer }
+    record { free = free.0; idle = free.1; running = ap (λ (x : SeenBook). x.stopped) step.commit.is ∙ running; fewer = fewer }
 
 -- ---- a fail
 
+back_stopped : (b : SeenBook) (job : Live) (at : ℕ) (cause : Cause) → (counted (given_back b job at cause) cause).stopped ≡ b.stopped
+back_stopped b (live.Span piece attempted) at Call = refl
+back_stopped b (live.Span piece attempted) at Read = refl
+back_stopped b (live.Batch batch) at Call = refl
+back_stopped b (live.Batch batch) at Read = refl
+back_stopped b (live.Key turn) at Call = refl
+back_stopped b (live.Key turn) at Read = refl
+
+-- a job that may be tried again leaves the book running
+retried_runs : (b : SeenBook) (slot : ℕ) (job : Live) (at : ℕ) (cause : Cause) → ends_run b job cause ≡ false → IsRunning b → IsRunning (failed b slot job at cause)
+retried_runs b slot job at cause more running =
+    ap (λ (spent : Bool). (stopped_where spent (counted (given_back (with_slot b slot None) job at cause) cause) (note_of job at cause)).stopped) more
+    ∙ back_stopped (with_slot b slot None) job at cause ∙ running
+
 module _ (b new : SeenBook) (slot at : ℕ) (cause : Cause) (answer : Answer) (step : IsFailing b slot at cause answer new) where
-  pub failed_round : IsIdleBut b slot → rounds_left new < rounds_left b → IsNextRound slot b new
-  failed_round others fewer =
+  pub failed_round : answer ≡ Retried → IsRunning b → IsIdleBut b slot → rounds_left new < rounds_left b → IsNextRound slot b new
+  failed_round again running others fewer =
       let leaves = fail_leaves b slot at step.job cause in
       let free = freed b new slot step.job step.works (ap (λ (x : SeenBook). x.slots) step.is ∙ leaves.slots) others in
-      record { free = free.0; idle = free.1; fewer = fewer }
+      let more = subst (λ (a : Answer). IsFailure b step.job at cause a) again step.answers in
+      let runs = subst IsRunning (sym step.is) (retried_runs b slot step.job at cause more running) in
+      record { free = free.0; idle = free.1; running = runs; fewer = fewer }
 
   pub failed_calls : new.calls ≤ calls_after (Fail at cause) b.calls
   failed_calls = subst (λ (x : SeenBook). x.calls ≤ calls_after (Fail at cause) b.calls) (sym step.is) (fail_leaves b slot at step.job cause).calls
@@ -73,6 +93,14 @@ spent_stops b new slot at cause note running step =
 
 -- ---- what came before a round changed nothing that its end speaks of
 
-pub ends_from : (slot : ℕ) (b mid new : SeenBook) (end : Option AloneEnd) → rounds_left mid ≤ rounds_left b → GoesOnOrEnds slot mid end new → GoesOnOrEnds slot b end new
-ends_from slot b mid new None most next = record { free = next.free; idle = next.idle; fewer = omega (arith, most, next.fewer) }
-ends_from slot b mid new (Some end) most ended = ended
+-- a book that runs is not found stopped
+pub ended_from : (b mid new : SeenBook) (end : AloneEnd) → (mid ≡ b) ⊎ IsRunning mid → IsAloneEnd end mid new → IsAloneEnd end b new
+ended_from b mid new ends.Stopped (inl same) ended = subst (λ (x : SeenBook). IsAloneEnd ends.Stopped x new) same ended
+ended_from b mid new ends.Stopped (inr running) ended = absurd (ended.0 running)
+ended_from b mid new ends.Finished before ended = ended
+ended_from b mid new (ends.Spent note) before ended = ended
+ended_from b mid new ends.NoMemory before ended = ended
+
+pub ends_from : (slot : ℕ) (b mid new : SeenBook) (end : Option AloneEnd) → IsRunning mid → rounds_left mid ≤ rounds_left b → GoesOnOrEnds slot mid end new → GoesOnOrEnds slot b end new
+ends_from slot b mid new None running most next = record { free = next.free; idle = next.idle; running = next.running; fewer = omega (arith, most, next.fewer) }
+ends_from slot b mid new (Some end) running most ended = ended_from b mid new end (inr running) ended

@@ -34,22 +34,24 @@ IsIdleBut b slot = All (λ other. other ≡ None) (slice_set b.slots slot None)
 
 -- ---- how it ends
 
--- No job is left; the book was stopped; or a fail with this note stopped it. Of a book in which there was no memory nothing more is said.
-abbrev pub IsAloneEnd : AloneEnd → SeenBook → Type 0
-IsAloneEnd end.Finished b = IsRunning b × (next_job b ≡ None) × IsIdle b
-IsAloneEnd end.Stopped b = IsRunning b → ⊥
-IsAloneEnd (end.Spent note) b = b.stopped ≡ Some (stop.Spent note)
-IsAloneEnd end.NoMemory b = Unit {0}
+-- No job is left; the book was stopped before, and stays as it was; or a fail with this note stopped it. Of a book in which there was no memory nothing more is
+-- said.
+abbrev pub IsAloneEnd : AloneEnd → SeenBook → SeenBook → Type 0
+IsAloneEnd end.Finished b new = IsRunning new × (next_job new ≡ None) × IsIdle new
+IsAloneEnd end.Stopped b new = (IsRunning b → ⊥) × (new ≡ b)
+IsAloneEnd (end.Spent note) b new = new.stopped ≡ Some (stop.Spent note)
+IsAloneEnd end.NoMemory b new = Unit {0}
 
--- the slot is free for its next job, no other one works, and fewer rounds are left
+-- the slot is free for its next job, no other one works, the book runs on, and fewer rounds are left
 pub record IsNextRound (slot : ℕ) (b new : SeenBook) : Type 0 where
   pub free : IsFree new slot
   pub idle : IsIdle new
+  pub running : IsRunning new
   pub fewer : rounds_left new < rounds_left b
 
 abbrev pub GoesOnOrEnds : ℕ → SeenBook → Option AloneEnd → SeenBook → Type 0
 GoesOnOrEnds slot b None new = IsNextRound slot b new
-GoesOnOrEnds slot b (Some end) new = IsAloneEnd end new
+GoesOnOrEnds slot b (Some end) new = IsAloneEnd end b new
 
 -- ---- what is counted
 

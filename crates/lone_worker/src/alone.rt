@@ -31,7 +31,7 @@ use std::alloc::Global;
 pub enum AloneEnd {
     /// No job was left.
     Finished,
-    /// The book was stopped before.
+    /// The book was stopped before, and stays as it was.
     Stopped,
     /// A job failed as often as it may, and stopped the book.
     Spent(FaultNote),
@@ -54,7 +54,7 @@ pub fn work_alone<F: Shelf, S: Store>(
     requires plan { graph.now ≡ book.old.plan }
     requires kit { IsKitFor F.strict S.files S.opened (setting_for known book.old) kit.old }
     ensures run { IsRunOn known book.old book.new }
-    ensures ended { IsAloneEnd result book.new }
+    ensures ended { IsAloneEnd result book.old book.new }
     ensures counted { AreFailsCounted (observed_shelf F.strict F.faults kit.old.shelf kit.new.shelf)
         (observed_store S.files S.faults kit.old.store kit.new.store) book.old book.new }
     ensures kept { IsKitKept F.faults F.strict S.faults S.files S.opened
@@ -163,6 +163,7 @@ impl AtSlot {
         requires setting { IsBookIn setting book.old }
         requires given { CanCommitAs setting (known_at book.old self.now.slot) receipt }
         requires goes_on { HasAttempted (known_at book.old self.now.slot) }
+        requires running { IsRunning book.old }
         requires others { IsIdleBut book.old self.now.slot }
         ensures run { IsRunOn setting.known book.old book.new }
         ensures end { GoesOnOrEnds self.now.slot book.old result book.new }

@@ -11,7 +11,6 @@
 mod opening;
 mod plan_run;
 mod run_end;
-mod storable;
 
 pub use bundle_work::Kit;
 pub use command_ends::{Status, put};

@@ -17,11 +17,10 @@ ghost use Rattle.bundle_work.specs.Reading.{opened_lengths};
 ghost use Rattle.run_engine.specs.PlanRun.{lengths_of_first, IsPlanEnd, IsStatusAfter};
 
 use crate::run_end::RunEnd;
-use crate::storable::look_at_panes;
 use beam_ports::{Gate, Opened, Store};
 use beam_values::{FileLen, List, NoMemory, Options, StopCause};
-use book_core::Book;
 use book_core::laws::{attempts_are_counted, honest_runs_are_runs};
+use book_core::{Book, look_at_panes};
 use bundle_work::{Kit, lengths_of, readers_of};
 use command_ends::Status;
 use dofn_traits::Shelf;

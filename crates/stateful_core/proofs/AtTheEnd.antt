@@ -1,15 +1,14 @@
 -- Where no cell is ready or worked, nothing waits and no timer is set: every timer is due once nothing else holds the marks back.
-use Rattle.std.proofs.Common.{◌≡◌, ℕ, zero, suc, ◌+◌, ◌<◌, ◌≤◌, ℤ, ◌<ℤ◌, ◌≤ℤ◌, Bool, true, false, cond, List, [], ◌∷◌, ◌++◌, length, map, replicate, Option, Some, None, refl, sym, ap, subst, ◌∙◌, ◌⊎◌, inl, inr, arith, append_assoc}
-use Rattle.std.specs.Prelude.{slice_get, fold, int_le, ◌&&◌, ◌||◌, ◌==◌}
+use Rattle.std.proofs.Common.{◌≡◌, ℕ, zero, suc, ◌<◌, ◌≤◌, ℤ, ◌≤ℤ◌, Bool, true, false, cond, List, [], ◌∷◌, ◌++◌, length, map, replicate, Option, Some, None, refl, ap, subst, ◌∙◌, inl, inr, arith}
+use Rattle.std.specs.Prelude.{slice_get, fold, int_le, ◌||◌, ◌==◌}
 use Rattle.std.specs.Int.{int_min}
 use Rattle.std.specs.List.{All, filter, flat_map, slice_index_or}
-use Rattle.std.proofs.lemmas.Bool.{cond_both, cases_lt, cases_eq, eqb-true, eq-eqb, ne_eqb, and_cases, or_parts}
+use Rattle.std.proofs.lemmas.Bool.{cases_lt, cases_eq, ne_eqb, and_cases, or_parts}
 use Rattle.std.proofs.lemmas.Int.{ints, clamps}
-use Rattle.std.proofs.lemmas.List.{append-nil}
 use Rattle.std.proofs.lemmas.List.Elements.{All-nil, All-cons, All-head, All-tail, filter-append}
-use Rattle.std.proofs.lemmas.Option.{same_Some, slice_get_within}
-use Rattle.beam_values.specs.Marks.{least_mark, marks_at, mark_into, node_marks, AreMarks}
-use Rattle.beam_values.specs.States.{KeptState, fresh_state, timer_of, IsFirstTimer}
+use Rattle.std.proofs.lemmas.Option.{slice_get_within}
+use Rattle.beam_values.specs.Marks.{least_mark, marks_at, mark_into, AreMarks}
+use Rattle.beam_values.specs.States.{KeptState, fresh_state, timer_of}
 use Rattle.beam_values.specs.Times.{greatest_time, final_mark}
 use Rattle.beam_values.specs.declared.log.KeyLog.{KeyLog}
 use Rattle.beam_values.specs.declared.log.Timer.{Timer}
@@ -21,7 +20,7 @@ use Rattle.beam_values.specs.declared.plan.NodeKind.TheVariants.{Flatten, Statef
 use Rattle.beam_values.specs.declared.plan.Plan.{Plan}
 use Rattle.beam_values.specs.declared.plan.StateKind.{StateKind}
 use Rattle.beam_values.specs.declared.plan.StateKind.TheVariants.{Dedupe, RunningSum, BatchUntil, LatestThenEmit}
-use Rattle.beam_model.specs.Holds.{Hold, marks_held, least_hold}
+use Rattle.beam_model.specs.Holds.{Hold, least_hold}
 use Rattle.beam_model.specs.Logs.{LeadsAt, LeadsIn}
 use Rattle.stateful_core.specs.Cells.{KeyCell, element_hold, timer_hold, cell_holds, key_holds}
 use Rattle.stateful_core.specs.declared.waiting.Waiting.{Waiting}

@@ -1,23 +1,19 @@
 -- What came to key cells: the calls of their logs and what waits, each arrival once and in order.
-use Rattle.std.proofs.Common.{◌≡◌, ℕ, zero, suc, ◌+◌, ◌<◌, ◌≤◌, ℤ, Bool, true, false, cond, List, [], ◌∷◌, ◌++◌, length, map, take, drop, Option, Some, None, refl, sym, ap, subst, ◌∙◌, arith, append_assoc}
-use Rattle.std.specs.Prelude.{slice_get, slice_set, unwrap_or, fold}
-use Rattle.std.specs.List.{All, count_by, flat_map, filter, sum_by}
-use Rattle.std.proofs.lemmas.Bool.{cond_both}
+use Rattle.std.proofs.Common.{◌≡◌, ℕ, zero, suc, ◌+◌, ◌≤◌, Bool, true, false, cond, List, [], ◌∷◌, ◌++◌, map, take, drop, Option, Some, None, refl, sym, ap, ◌∙◌, arith, append_assoc}
+use Rattle.std.specs.Prelude.{slice_get, slice_set, unwrap_or}
+use Rattle.std.specs.List.{count_by, flat_map, filter, sum_by}
 use Rattle.std.proofs.lemmas.List.{append-nil, map-append, take-append-drop}
 use Rattle.std.proofs.lemmas.List.Concat.{flat_map-append}
 use Rattle.std.proofs.lemmas.List.Sums.{sum_by-cons, sum_by-append}
 use Rattle.std.proofs.lemmas.Option.{same_Some}
 use Rattle.beam_values.specs.Bags.{IsSameBag}
-use Rattle.beam_values.specs.Grouping.{key_of}
 use Rattle.beam_values.specs.Intervals.{Interval}
 use Rattle.beam_values.specs.Nodes.{is_stateful}
 use Rattle.beam_values.specs.States.{KeptState}
 use Rattle.beam_values.specs.declared.arrival.Arrival.{Arrival}
-use Rattle.beam_values.specs.declared.element.Element.{Element}
 use Rattle.beam_values.specs.declared.log.KeyLog.{KeyLog}
 use Rattle.beam_values.specs.declared.log.LogEntry.{LogEntry}
 use Rattle.beam_values.specs.declared.log.LogInput.{LogInput}
-use Rattle.beam_values.specs.declared.log.LogInput.TheVariants.{Arrived, Fired}
 use Rattle.beam_values.specs.declared.log.Timer.{Timer}
 use Rattle.beam_values.specs.declared.marks.StageMarks.{StageMarks}
 use Rattle.beam_values.specs.declared.plan.Node.{Node}
@@ -29,7 +25,7 @@ use Rattle.beam_model.specs.Account.{input_arrival, log_arrivals}
 use Rattle.beam_model.specs.Logs.{is_log_of}
 use Rattle.stateful_core.specs.Cells.{KeyCell, belongs, logs_of, waiting_arrival, cell_arrivals, key_arrivals}
 use Rattle.stateful_core.specs.declared.waiting.Waiting.{Waiting}
-use Rattle.stateful_core.specs.Facts.{Folded, folded_at, folded_in, IsDoneOf, AreDoneOf, of_key, came_to, is_of}
+use Rattle.stateful_core.specs.Facts.{Folded, folded_at, folded_in, AreDoneOf, of_key, came_to, is_of}
 use Rattle.stateful_core.specs.Placing.{Done, fresh_cell, waits, with_waiting, place_in, place_one, place_all, with_done, set_done, finish, place}
 use Rattle.stateful_core.specs.Taking.{first_timer, timer_inputs, element_inputs, inputs_of}
 use Rattle.stateful_core.proofs.Leading.{folded_inputs}

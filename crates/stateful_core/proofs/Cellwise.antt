@@ -1,16 +1,12 @@
 -- One cell at a time: what commits, jobs and arrivals leave of it.
-use Rattle.std.proofs.Common.{◌≡◌, ℕ, zero, suc, ◌+◌, ◌-◌, ◌<◌, ◌≤◌, ℤ, ◌≤ℤ◌, Bool, true, false, cond, List, [], ◌∷◌, ◌++◌, length, map, take, drop, replicate, Option, Some, None, refl, sym, ap, subst, ◌∙◌, inl, inr, arith}
-use Rattle.std.specs.Prelude.{slice_get, slice_set, unwrap_or, min}
+use Rattle.std.proofs.Common.{◌≡◌, ℕ, zero, suc, ◌-◌, ◌<◌, ◌≤◌, ℤ, ◌≤ℤ◌, List, [], ◌++◌, length, take, Option, Some, None, refl, sym, ap, subst, arith}
+use Rattle.std.specs.Prelude.{slice_get, unwrap_or}
 use Rattle.std.specs.List.{All}
-use Rattle.std.proofs.lemmas.Bool.{cond_both}
 use Rattle.std.proofs.lemmas.Int.{ints}
-use Rattle.std.proofs.lemmas.List.{length-append, get_or_past}
-use Rattle.std.proofs.lemmas.List.Elements.{All-nil, All-cons, All-head, All-tail, All-append, All-push, All-drop, All-take, All-weaker}
-use Rattle.beam_values.specs.Intervals.{Interval}
-use Rattle.beam_values.specs.States.{KeptState, fresh_state, timer_of, IsFirstTimer}
+use Rattle.std.proofs.lemmas.List.{get_or_past}
+use Rattle.std.proofs.lemmas.List.Elements.{All-append, All-drop, All-take, All-weaker}
+use Rattle.beam_values.specs.States.{KeptState, fresh_state, timer_of}
 use Rattle.beam_values.specs.Marks.{marks_at}
-use Rattle.beam_values.specs.declared.arrival.Arrival.{Arrival}
-use Rattle.beam_values.specs.declared.element.Element.{Element}
 use Rattle.beam_values.specs.declared.log.KeyLog.{KeyLog}
 use Rattle.beam_values.specs.declared.log.LogEntry.{LogEntry}
 use Rattle.beam_values.specs.declared.log.LogInput.{LogInput}
@@ -20,20 +16,15 @@ use Rattle.beam_values.specs.declared.marks.StageMarks.{StageMarks}
 use Rattle.beam_values.specs.declared.plan.Args.{Args}
 use Rattle.beam_values.specs.declared.plan.Node.{Node}
 use Rattle.beam_values.specs.declared.plan.NodeKind.{NodeKind}
-use Rattle.beam_values.specs.declared.plan.NodeKind.TheVariants as kinds
 use Rattle.beam_values.specs.declared.plan.NodeKind.TheVariants.{Stateful}
 use Rattle.beam_values.specs.declared.plan.Plan.{Plan}
 use Rattle.beam_values.specs.declared.plan.StateKind.{StateKind}
 use Rattle.beam_model.specs.Logs.{Leads, LeadsAt, LeadsIn}
 use Rattle.beam_model.specs.Panes.{mark_after, IsCommit}
-use Rattle.beam_model.specs.Sessions.{is_keyed}
-use Rattle.timer_core.specs.FirstTimers.{earlier}
 use Rattle.stateful_core.specs.Cells.{KeyCell}
-use Rattle.stateful_core.specs.declared.waiting.Waiting.{Waiting}
 use Rattle.stateful_core.specs.Facts.{Folded, folded, folded_at, folded_in, IsOfCell, IsLiveAs, IsCellKept, Later}
 use Rattle.stateful_core.specs.Placing.{Done, with_done, timer_hold_after, timer_holds_after}
-use Rattle.stateful_core.specs.Taking.{first_timer, first_from, is_some, inputs_of, element_inputs, timer_inputs}
-use Rattle.stateful_core.specs.Timers.{AreTimersOf}
+use Rattle.stateful_core.specs.Taking.{is_some, inputs_of, timer_inputs}
 use Rattle.stateful_core.proofs.Leading.{leads_under, leads_append, elements_lead, timer_leads, folded_commits}
 use Rattle.stateful_core.proofs.SetTimers.{fresh_timers, leads_timers}
 use Rattle.stateful_core.proofs.FirstTimer.{first_is}

@@ -1,10 +1,9 @@
 -- The first timer by a pass over the names is the one that comes first.
-use Rattle.std.proofs.Common.{◌≡◌, ℕ, zero, suc, ◌+◌, ◌<◌, ◌≤◌, ℤ, ◌<ℤ◌, ◌≤ℤ◌, Bool, true, false, List, [], ◌∷◌, ◌++◌, length, Option, Some, None, refl, sym, ap, subst, ◌∙◌, ◌⊎◌, inl, inr, arith}
+use Rattle.std.proofs.Common.{◌≡◌, ℕ, ◌+◌, ℤ, List, [], ◌∷◌, ◌++◌, length, Option, Some, None, refl, sym, ap, subst, inl, inr, arith}
 use Rattle.std.specs.Option.{MatchOption}
 use Rattle.std.proofs.lemmas.Int.{ints}
-use Rattle.std.proofs.lemmas.List.{get_or_at, append_assoc, append-nil, length-append}
-use Rattle.std.proofs.lemmas.Option.{same_Some}
-use Rattle.beam_values.specs.States.{timer_of, ComesNoLater, IsFirstTimer}
+use Rattle.std.proofs.lemmas.List.{get_or_at, append_assoc, length-append}
+use Rattle.beam_values.specs.States.{ComesNoLater, IsFirstTimer}
 use Rattle.beam_values.specs.declared.log.Timer.{Timer}
 use Rattle.timer_core.specs.FirstTimers.{IsNoneSet, earlier}
 use Rattle.timer_core.proofs.FirstSoFar.{IsFirstSoFar, first_none, first_more, first_all}

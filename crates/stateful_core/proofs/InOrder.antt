@@ -1,11 +1,10 @@
 -- Over a whole commit: what came to each key and window, in order.
-use Rattle.std.proofs.Common.{◌≡◌, ℕ, zero, suc, ◌+◌, ◌<◌, ◌≤◌, ℤ, Bool, true, false, cond, List, [], ◌∷◌, ◌++◌, length, map, Option, Some, None, refl, sym, ap, subst, ◌∙◌, arith, append_assoc}
+use Rattle.std.proofs.Common.{◌≡◌, ℕ, ◌≤◌, Bool, true, false, cond, List, [], ◌∷◌, ◌++◌, map, Option, refl, sym, ap, ◌∙◌, arith, append_assoc}
 use Rattle.std.specs.Prelude.{◌&&◌}
-use Rattle.std.specs.List.{All, count_by, flat_map, filter}
+use Rattle.std.specs.List.{count_by, flat_map, filter}
 use Rattle.std.proofs.lemmas.Bool.{cond_both}
 use Rattle.std.proofs.lemmas.List.{append-nil}
 use Rattle.std.proofs.lemmas.List.Sums.{sum_by-cons}
-use Rattle.beam_values.specs.Grouping.{key_of}
 use Rattle.beam_values.specs.Intervals.{Interval}
 use Rattle.beam_values.specs.Nodes.{is_stateful}
 use Rattle.beam_values.specs.declared.arrival.Arrival.{Arrival}
@@ -16,7 +15,7 @@ use Rattle.beam_values.specs.declared.value.Value.{Value}
 use Rattle.beam_model.specs.Logs.{is_log_of}
 use Rattle.stateful_core.specs.Cells.{KeyCell, logs_of, cell_arrivals}
 use Rattle.stateful_core.specs.Facts.{AreDoneOf, came_to, of_key, is_of}
-use Rattle.stateful_core.specs.Placing.{Done, fresh_cell, place_in, place_one, place_all, finish, place}
+use Rattle.stateful_core.specs.Placing.{Done, place_in, place_one, place_all, finish, place}
 use Rattle.stateful_core.proofs.Came.{Came, came, finish_came, in_others, in_own}
 use Rattle.stateful_core.proofs.OnceOnly.{once_more}
 

@@ -1,18 +1,17 @@
 -- Every step of key cells keeps what holds of them.
-use Rattle.std.proofs.Common.{◌≡◌, ℕ, zero, suc, ◌+◌, ◌-◌, ◌<◌, ◌≤◌, min, ℤ, ◌≤ℤ◌, Bool, true, false, cond, List, [], ◌∷◌, ◌++◌, length, map, take, drop, replicate, Option, Some, None, refl, sym, ap, subst, ◌∙◌, inl, inr, arith}
-use Rattle.std.specs.Prelude.{slice_get, slice_set, unwrap_or, fold, int_le, ◌&&◌, ◌||◌}
-use Rattle.std.specs.List.{All, count_by, slice_index_or}
+use Rattle.std.proofs.Common.{◌≡◌, ℕ, zero, suc, ◌-◌, ◌≤◌, min, ℤ, ◌≤ℤ◌, Bool, true, false, cond, List, [], ◌∷◌, length, replicate, Option, Some, None, refl, sym, ap, subst, ◌∙◌, arith}
+use Rattle.std.specs.Prelude.{slice_get, slice_set, unwrap_or, int_le, ◌||◌}
+use Rattle.std.specs.List.{All, count_by}
 use Rattle.std.specs.Option.{option_map}
-use Rattle.std.proofs.lemmas.Bool.{cond_both, and_parts, or_cases}
+use Rattle.std.proofs.lemmas.Bool.{cond_both, and_parts}
 use Rattle.std.proofs.lemmas.Int.{ints}
 use Rattle.std.proofs.lemmas.List.{length-append, map-set}
-use Rattle.std.proofs.lemmas.List.Elements.{All-nil, All-cons, All-head, All-tail, All-append, All-push, All-drop, All-take, All-weaker, All-set, All-get_or, All-map}
+use Rattle.std.proofs.lemmas.List.Elements.{All-nil, All-cons, All-head, All-tail, All-push, All-weaker, All-set, All-get_or, All-map}
 use Rattle.std.proofs.lemmas.Option.{get_or_from_slice_get, slice_get_within, slice_get-map}
-use Rattle.beam_values.specs.Grouping.{key_of}
 use Rattle.beam_values.specs.Intervals.{Interval}
 use Rattle.beam_values.specs.Marks.{marks_at}
-use Rattle.beam_values.specs.Nodes.{is_stateful, is_stateful_kind, has_kind}
-use Rattle.beam_values.specs.States.{KeptState, fresh_state, timer_of, IsFirstTimer}
+use Rattle.beam_values.specs.Nodes.{is_stateful, is_stateful_kind}
+use Rattle.beam_values.specs.States.{fresh_state, timer_of, IsFirstTimer}
 use Rattle.beam_values.specs.declared.arrival.Arrival.{Arrival}
 use Rattle.beam_values.specs.declared.log.KeyLog.{KeyLog}
 use Rattle.beam_values.specs.declared.log.LogEntry.{LogEntry}
@@ -28,7 +27,7 @@ use Rattle.beam_model.specs.Logs.{Leads, LeadsAt, LeadsIn, is_log_of, IsLegalLog
 use Rattle.beam_model.specs.Panes.{mark_after, IsCommit}
 use Rattle.stateful_core.specs.Cells.{KeyCell, belongs, logs_of}
 use Rattle.stateful_core.specs.declared.waiting.Waiting.{Waiting}
-use Rattle.stateful_core.specs.Facts.{IsOfCell, IsLiveAs, IsCellKept, AreKeysKept, IsDoneOf, AreDoneOf, IsCellThrough, Later}
+use Rattle.stateful_core.specs.Facts.{IsOfCell, IsLiveAs, IsCellKept, AreKeysKept, AreDoneOf, IsCellThrough, Later}
 use Rattle.stateful_core.specs.Placing.{Done, fresh_cell, waits, with_waiting, place_in, place_one, place_all, with_done, set_done, finish, place}
 use Rattle.stateful_core.specs.Taking.{first_timer, if_due, is_some, is_free, has_waiting, is_ready, with_job, tried, set_by, change}
 use Rattle.stateful_core.proofs.Cellwise.{kept_later, done_kept}

@@ -1,7 +1,7 @@
 -- A commit of a key job from its receipt; and what no commit changes before the job's node.
-use Rattle.std.proofs.Common.{◌≡◌, ℕ, zero, suc, ◌<◌, ◌≤◌, ℤ, Bool, true, false, cond, List, [], ◌∷◌, ◌++◌, length, map, Option, Some, None, refl, sym, ap, subst, ◌∙◌, ◌⊎◌, inl, inr, arith}
-use Rattle.std.specs.Prelude.{slice_get, slice_set, ◌==◌}
-use Rattle.std.specs.List.{All, filter, flat_map, sum_by}
+use Rattle.std.proofs.Common.{◌≡◌, ℕ, zero, suc, Bool, true, false, cond, List, [], ◌∷◌, ◌++◌, map, Option, Some, None, refl, sym, ap, subst, ◌∙◌}
+use Rattle.std.specs.Prelude.{slice_get, slice_set}
+use Rattle.std.specs.List.{All, filter}
 use Rattle.std.proofs.lemmas.Bool.{ne_eqb}
 use Rattle.std.proofs.lemmas.List.{append-nil}
 use Rattle.std.proofs.lemmas.List.Elements.{All-head, All-tail, All-get_or, filter-append}
@@ -17,13 +17,11 @@ use Rattle.beam_values.specs.declared.plan.Node.{Node}
 use Rattle.beam_values.specs.declared.plan.NodeKind.{NodeKind}
 use Rattle.beam_values.specs.declared.plan.NodeKind.TheVariants.{Stateful}
 use Rattle.beam_values.specs.declared.plan.Plan.{Plan}
-use Rattle.beam_values.proofs.Bags.{bag_filter, bag_map}
-use Rattle.beam_model.specs.Chains.{Arrives}
 use Rattle.beam_model.specs.Holds.{Hold, arrival_hold, least_hold}
 use Rattle.beam_model.specs.Logs.{LeadsAt, LeadsIn}
 use Rattle.stateful_core.specs.Cells.{KeyCell, cell_holds, key_holds}
-use Rattle.stateful_core.specs.Facts.{Folded, AreKeysKept, IsCellKept, IsDoneOf}
-use Rattle.stateful_core.specs.KeyWork.{numbered, IsGivenOfKey, KeyCommit, entry_chains}
+use Rattle.stateful_core.specs.Facts.{Folded, AreKeysKept, IsCellKept}
+use Rattle.stateful_core.specs.KeyWork.{IsGivenOfKey, KeyCommit}
 use Rattle.stateful_core.specs.Lasting.{arrival_holds}
 use Rattle.stateful_core.specs.Placing.{Done, with_done, set_done, finish, place}
 use Rattle.stateful_core.specs.Taking.{inputs_of}

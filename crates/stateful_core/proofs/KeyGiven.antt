@@ -1,9 +1,7 @@
 -- What a receipt of a key job gives: the fold of its calls, and the chains of their outputs.
-use Rattle.std.proofs.Common.{◌≡◌, ℕ, zero, suc, Bool, true, false, cond, List, [], ◌∷◌, ◌++◌, map, Option, Some, None, refl, sym, ap, subst, ◌∙◌}
-use Rattle.std.specs.Prelude.{slice_get}
+use Rattle.std.proofs.Common.{◌≡◌, ℕ, List, [], ◌∷◌, ◌++◌, map, Option, Some, None, refl, sym, ap, subst, ◌∙◌}
 use Rattle.std.specs.List.{flat_map}
 use Rattle.std.specs.Option.{option_map, option_and_then}
-use Rattle.std.proofs.lemmas.Option.{same_Some, option_and_then_some}
 use Rattle.beam_values.specs.Intervals.{Interval}
 use Rattle.beam_values.specs.States.{KeptState}
 use Rattle.beam_values.specs.declared.arrival.Arrival.{Arrival}
@@ -19,7 +17,7 @@ use Rattle.beam_values.specs.declared.value.Value.{Value}
 use Rattle.beam_model.specs.Chains.{Output, Arrives, PoisonAt, chain}
 use Rattle.beam_model.specs.Steps.{Stepped, steps}
 use Rattle.stateful_core.specs.Facts.{Folded, noted, folded, folded_at, folded_in}
-use Rattle.stateful_core.specs.KeyWork.{call_outputs, calls_outputs, outputs_at, outputs_in, key_outputs, numbered_entry, numbered, IsGivenOfKey, entry_chains}
+use Rattle.stateful_core.specs.KeyWork.{call_outputs, calls_outputs, outputs_at, outputs_in, numbered_entry, numbered, entry_chains}
 
 -- outputs that all arrive have no poison in them
 abbrev AllArrive : List Output → Type 0

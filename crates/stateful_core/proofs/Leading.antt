@@ -1,13 +1,10 @@
 -- Logs that grow: what leads from the fresh state to a cell's goes on to lead there.
-use Rattle.std.proofs.Common.{◌≡◌, ℕ, zero, suc, ◌+◌, ◌-◌, ◌<◌, ◌≤◌, ℤ, ◌≤ℤ◌, Bool, true, false, List, [], ◌∷◌, ◌++◌, length, map, Option, Some, None, refl, sym, ap, subst, ◌∙◌, arith}
-use Rattle.std.specs.Prelude.{slice_get}
+use Rattle.std.proofs.Common.{◌≡◌, ℕ, ◌-◌, ◌<◌, ◌≤◌, ℤ, ◌≤ℤ◌, true, List, [], ◌∷◌, ◌++◌, map, Option, Some, None, refl, sym, ap, subst, ◌∙◌, arith}
 use Rattle.std.specs.List.{All}
-use Rattle.std.specs.Option.{option_map, option_and_then}
+use Rattle.std.specs.Option.{option_map}
 use Rattle.std.proofs.lemmas.List.Elements.{All-nil, All-cons, All-head, All-tail}
 use Rattle.std.proofs.lemmas.Option.{option_and_then_some, same_Some}
-use Rattle.beam_values.specs.Intervals.{Interval}
-use Rattle.beam_values.specs.States.{KeptState, fresh_state, IsFirstTimer}
-use Rattle.beam_values.specs.declared.element.Element.{Element}
+use Rattle.beam_values.specs.States.{KeptState, IsFirstTimer}
 use Rattle.beam_values.specs.declared.log.KeyLog.{KeyLog}
 use Rattle.beam_values.specs.declared.log.LogEntry.{LogEntry}
 use Rattle.beam_values.specs.declared.log.LogInput.{LogInput}
@@ -15,17 +12,13 @@ use Rattle.beam_values.specs.declared.log.LogInput.TheVariants.{Arrived, Fired}
 use Rattle.beam_values.specs.declared.log.Timer.{Timer}
 use Rattle.beam_values.specs.declared.marks.CommitMarks.{CommitMarks}
 use Rattle.beam_values.specs.declared.plan.Args.{Args}
-use Rattle.beam_values.specs.declared.plan.Node.{Node}
-use Rattle.beam_values.specs.declared.plan.NodeKind.{NodeKind}
-use Rattle.beam_values.specs.declared.plan.NodeKind.TheVariants.{Stateful}
 use Rattle.beam_values.specs.declared.plan.StateKind.{StateKind}
-use Rattle.beam_values.specs.declared.value.Value.{Value}
-use Rattle.beam_model.specs.Logs.{IsLegalInput, Leads, LeadsAt, LeadsIn}
+use Rattle.beam_model.specs.Logs.{IsLegalInput, Leads}
 use Rattle.beam_model.specs.Panes.{mark_after, IsCommit}
 use Rattle.beam_model.specs.Sessions.{is_keyed}
 use Rattle.beam_model.specs.Steps.{Stepped, steps}
 use Rattle.stateful_core.specs.declared.waiting.Waiting.{Waiting}
-use Rattle.stateful_core.specs.Facts.{Folded, noted, folded, folded_at, folded_in}
+use Rattle.stateful_core.specs.Facts.{Folded, noted, folded}
 use Rattle.stateful_core.specs.Taking.{element_inputs}
 
 map_some : {A B P : Type 0} (f : A → B) (o : Option A) (y : B) → option_map f o ≡ Some y → ((x : A) → o ≡ Some x → f x ≡ y → P) → P

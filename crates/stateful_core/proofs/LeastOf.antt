@@ -1,5 +1,5 @@
 -- The least of holds: one more hold, and holds in another order.
-use Rattle.std.proofs.Common.{◌≡◌, ℕ, zero, suc, ◌<◌, ◌≤◌, ℤ, cond, List, [], ◌∷◌, length, map, get_or, refl, sym, ap, subst, ◌∙◌, ◌⊎◌, inl, inr, arith}
+use Rattle.std.proofs.Common.{◌≡◌, ℕ, zero, suc, ◌<◌, ◌≤◌, ℤ, cond, List, [], ◌∷◌, length, map, get_or, refl, sym, ap, ◌∙◌, ◌⊎◌, inl, inr, arith}
 use Rattle.std.specs.Prelude.{slice_set, fold, ◌==◌}
 use Rattle.std.specs.Int.{int_min}
 use Rattle.std.specs.List.{filter}

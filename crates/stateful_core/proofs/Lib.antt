@@ -39,3 +39,4 @@ pub mod Entries
 pub mod FirstOfTrees
 pub mod TreeSteps
 pub mod KeptSteps
+pub mod BesideHolds

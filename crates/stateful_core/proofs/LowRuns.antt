@@ -4,7 +4,7 @@ use Rattle.std.specs.Prelude.{slice_get, fold}
 use Rattle.std.specs.Int.{int_min}
 use Rattle.std.specs.List.{All}
 use Rattle.std.proofs.lemmas.Int.{ints, clamps}
-use Rattle.std.proofs.lemmas.List.{append-nil, drop_more, get_or-append-add, get_or-replicate, length-append, length-replicate, map-append, replicate-append-replicate}
+use Rattle.std.proofs.lemmas.List.{append-nil, drop_more, get_or-replicate, length-append, length-replicate, map-append, replicate-append-replicate}
 use Rattle.std.proofs.lemmas.List.Concat.{flat_map-append}
 use Rattle.std.proofs.lemmas.List.Elements.{All-cons, All-head, All-nil, All-tail}
 use Rattle.std.proofs.lemmas.Option.{slice_get-get_or}

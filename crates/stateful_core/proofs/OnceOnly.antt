@@ -1,28 +1,24 @@
 -- Which cell an arrival belongs to, and that there is one at most.
-use Rattle.std.proofs.Common.{◌≡◌, ℕ, zero, suc, ◌+◌, ◌<◌, ◌≤◌, max, ℤ, Bool, true, false, cond, List, [], ◌∷◌, ◌++◌, length, map, Option, Some, None, refl, sym, ap, subst, ◌∙◌, inl, inr, arith}
+use Rattle.std.proofs.Common.{◌≡◌, ℕ, zero, suc, ◌+◌, ◌≤◌, max, Bool, true, false, cond, List, [], ◌∷◌, Some, refl, sym, ap, ◌∙◌, arith}
 use Rattle.std.specs.Prelude.{slice_get, slice_set, ◌==◌, ◌&&◌, bytes_eq}
 use Rattle.std.specs.Ordering.{int_eq}
-use Rattle.std.specs.List.{count_by, sum_by}
-use Rattle.std.proofs.lemmas.Bool.{and_parts, and_from, cases_Bool, eqb-true, eq-eqb}
+use Rattle.std.specs.List.{count_by}
+use Rattle.std.proofs.lemmas.Bool.{and_parts, and_from, eqb-true, eq-eqb}
 use Rattle.std.proofs.lemmas.Bool.Decides.{Decides-int_eq}
 use Rattle.std.proofs.lemmas.Slice.Eq.{bytes_eq-Decides}
 use Rattle.std.proofs.lemmas.List.Sums.{sum_by-cons}
 use Rattle.beam_values.specs.Grouping.{key_of}
 use Rattle.beam_values.specs.Intervals.{Interval}
-use Rattle.beam_values.specs.Nodes.{is_stateful}
 use Rattle.beam_values.specs.Spans.{same_span}
 use Rattle.beam_values.specs.Spelling.{spelling}
 use Rattle.beam_values.specs.declared.arrival.Arrival.{Arrival}
-use Rattle.beam_values.specs.declared.element.Element.{Element}
 use Rattle.beam_values.specs.declared.log.KeyLog.{KeyLog}
 use Rattle.beam_values.specs.declared.marks.StageMarks.{StageMarks}
-use Rattle.beam_values.specs.declared.plan.Plan.{Plan}
 use Rattle.beam_values.specs.declared.value.Value.{Value}
 use Rattle.beam_model.specs.Logs.{is_log_of}
 use Rattle.beam_model.specs.Sessions.{is_keyed}
 use Rattle.stateful_core.specs.Cells.{KeyCell, belongs, logs_of}
-use Rattle.stateful_core.specs.declared.waiting.Waiting.{Waiting}
-use Rattle.stateful_core.specs.Placing.{fresh_cell, waits, with_waiting, place_in, place_one, place_all}
+use Rattle.stateful_core.specs.Placing.{fresh_cell, waits, with_waiting, place_in}
 
 -- a log is of a node, key and window
 pub record IsLogOf (node : ℕ) (key : Value) (span : Interval) (log : KeyLog) : Type 0 where

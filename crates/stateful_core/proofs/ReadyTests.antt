@@ -1,20 +1,18 @@
 -- The tests of a ready cell, part by part.
-use Rattle.std.proofs.Common.{◌≡◌, ℕ, zero, suc, ◌+◌, ◌<◌, ◌≤◌, min, ℤ, ◌<ℤ◌, ◌≤ℤ◌, Bool, true, false, cond, List, [], ◌∷◌, ◌++◌, length, map, take, get_or, Option, Some, None, refl, sym, ap, subst, ◌∙◌, ◌⊎◌, inl, inr, arith}
-use Rattle.std.specs.Prelude.{slice_get, slice_set, int_le, fold, ◌&&◌, ◌||◌}
-use Rattle.std.specs.List.{enumerate_from}
+use Rattle.std.proofs.Common.{◌≡◌, ℕ, zero, suc, ◌<◌, ◌≤◌, min, ℤ, ◌<ℤ◌, ◌≤ℤ◌, Bool, true, false, cond, List, [], ◌∷◌, length, take, get_or, Option, Some, None, refl, sym, ap, ◌∙◌, arith}
+use Rattle.std.specs.Prelude.{slice_get, slice_set, int_le, ◌&&◌, ◌||◌}
 use Rattle.std.specs.Option.{IfSome, MatchOption, option_map}
-use Rattle.std.proofs.lemmas.Bool.{cond_both}
 use Rattle.std.proofs.lemmas.Int.{ints}
-use Rattle.std.proofs.lemmas.List.{take_more, map-append, map-set, length-map, length-append, length-take-le, take_min, take_all}
+use Rattle.std.proofs.lemmas.List.{map-set, length-map, take_min}
 use Rattle.std.proofs.lemmas.Option.{same_Some, slice_get-map, slice_get-get_or, slice_get_within}
 use Rattle.beam_values.specs.Marks.{marks_at}
-use Rattle.beam_values.specs.States.{timer_of, IsFirstTimer, IsNoneDue}
+use Rattle.beam_values.specs.States.{IsFirstTimer, IsNoneDue}
 use Rattle.beam_values.specs.declared.log.LogInput.{LogInput}
 use Rattle.beam_values.specs.declared.log.Timer.{Timer}
 use Rattle.beam_values.specs.declared.marks.StageMarks.{StageMarks}
 use Rattle.stateful_core.specs.Cells.{KeyCell}
 use Rattle.stateful_core.specs.Seen.{cell_of, cells_of}
-use Rattle.stateful_core.specs.Taking.{first_timer, if_due, is_some, is_free, has_waiting, is_ready, sooner, or_sooner, next_place, IsFirstReady, set_by, change, inputs_of, element_inputs, timer_inputs}
+use Rattle.stateful_core.specs.Taking.{first_timer, if_due, is_some, has_waiting, is_ready, next_place, IsFirstReady, set_by, change, inputs_of, element_inputs, timer_inputs}
 use Rattle.stateful_core.specs.declared.place.Place.{Place}
 use Rattle.stateful_core.specs.declared.slot.Slot.{Slot}
 use Rattle.stateful_core.specs.declared.waiting.Waiting.{Waiting}

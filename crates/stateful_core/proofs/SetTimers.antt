@@ -1,21 +1,20 @@
 -- The stateful functions set timer 0 alone, and its delivery clears it.
-use Rattle.std.proofs.Common.{◌≡◌, ℕ, zero, suc, ◌+◌, ◌≤◌, ℤ, ◌≤ℤ◌, ◌+ℤ◌, Bool, true, false, cond, List, [], ◌∷◌, ◌++◌, length, map, replicate, Option, Some, None, refl, sym, ap, subst, ◌∙◌, inl, inr, arith}
-use Rattle.std.specs.Prelude.{slice_get, slice_set, ◌==◌, unwrap_or}
+use Rattle.std.proofs.Common.{◌≡◌, ℕ, ℤ, ◌≤ℤ◌, Bool, true, false, cond, List, [], ◌∷◌, length, Option, Some, None, refl, ap, subst, arith}
+use Rattle.std.specs.Prelude.{slice_set, ◌==◌, unwrap_or}
 use Rattle.std.specs.Option.{option_map, option_and_then}
-use Rattle.std.proofs.lemmas.Bool.{cond_both, cases_Bool, eqb-true, eq-eqb}
+use Rattle.std.proofs.lemmas.Bool.{cond_both}
 use Rattle.std.proofs.lemmas.Int.{ints, clamps}
-use Rattle.std.proofs.lemmas.Option.{same_Some, option_and_then_some}
+use Rattle.std.proofs.lemmas.Option.{same_Some}
 use Rattle.beam_values.specs.Grouping.{last_time, part_of}
 use Rattle.beam_values.specs.Intervals.{Interval}
-use Rattle.beam_values.specs.States.{KeptState, fresh_state, timer_of, IsFirstTimer, cell_of, number_in}
-use Rattle.beam_values.specs.Times.{greatest_time, least_time}
+use Rattle.beam_values.specs.States.{KeptState, fresh_state, cell_of, number_in}
+use Rattle.beam_values.specs.Times.{greatest_time}
 use Rattle.beam_values.specs.Windows.{or_zero}
 use Rattle.beam_values.specs.declared.element.Element.{Element}
 use Rattle.beam_values.specs.declared.log.LogInput.{LogInput}
 use Rattle.beam_values.specs.declared.log.LogInput.TheVariants.{Arrived, Fired}
 use Rattle.beam_values.specs.declared.log.KeyLog.{KeyLog}
 use Rattle.beam_values.specs.declared.log.LogEntry.{LogEntry}
-use Rattle.beam_values.specs.declared.log.Timer.{Timer}
 use Rattle.beam_values.specs.declared.marks.CommitMarks.{CommitMarks}
 use Rattle.beam_values.specs.declared.plan.Args.{Args}
 use Rattle.beam_values.specs.declared.plan.StateKind.{StateKind}
@@ -23,8 +22,8 @@ use Rattle.beam_values.specs.declared.plan.StateKind.TheVariants.{Dedupe, Runnin
 use Rattle.beam_values.specs.declared.value.Value.{Value}
 use Rattle.beam_model.specs.Functions.{number_arg, later_by, in_word}
 use Rattle.beam_model.specs.Logs.{Leads}
-use Rattle.beam_model.specs.Steps.{Stepped, steps, bag, stepped, with_cell, dedupe, running_sum, sum_so_far, batch_until, collected, emptied, latest_then_emit, with_latest, is_latest, on_element, on_first_timer, holds_value, cleared_bag}
-use Rattle.beam_model.specs.Values.{as_int, pair, int}
+use Rattle.beam_model.specs.Steps.{Stepped, steps, bag, stepped, dedupe, sum_so_far, batch_until, collected, latest_then_emit, with_latest, is_latest, on_element, on_first_timer, holds_value, cleared_bag}
+use Rattle.beam_model.specs.Values.{as_int}
 use Rattle.stateful_core.specs.Timers.{IsAllowed, AreTimersOf}
 
 map_some : {A B P : Type 0} (f : A → B) (o : Option A) (y : B) → option_map f o ≡ Some y → ((x : A) → o ≡ Some x → f x ≡ y → P) → P

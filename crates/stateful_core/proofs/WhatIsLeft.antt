@@ -1,19 +1,15 @@
 -- A job that is done lowers what is left of its cell, whichever function it calls.
-use Rattle.std.proofs.Common.{◌≡◌, ℕ, zero, suc, ◌+◌, ◌*◌, ◌-◌, ◌<◌, ◌≤◌, ℤ, ◌≤ℤ◌, Bool, true, false, cond, List, [], ◌∷◌, ◌++◌, length, map, drop, replicate, Option, Some, None, refl, sym, ap, subst, ◌∙◌, arith}
+use Rattle.std.proofs.Common.{◌≡◌, ℕ, zero, suc, ◌-◌, ◌<◌, ◌≤◌, ℤ, true, cond, List, [], ◌∷◌, length, drop, replicate, Option, Some, None, refl, sym, ap, subst, ◌∙◌, arith}
 use Rattle.std.specs.Prelude.{slice_get, slice_set, unwrap_or, ◌==◌}
-use Rattle.std.specs.List.{All, sum_by}
-use Rattle.std.specs.Option.{option_map, option_and_then}
-use Rattle.std.proofs.lemmas.Bool.{eqb-true, eq-eqb}
-use Rattle.std.proofs.lemmas.Int.{ints}
+use Rattle.std.specs.List.{sum_by}
+use Rattle.std.specs.Option.{option_map}
+use Rattle.std.proofs.lemmas.Bool.{eq-eqb}
 use Rattle.std.proofs.lemmas.List.{length-drop}
-use Rattle.std.proofs.lemmas.List.Sums.{sum_by-cons, sum_by-append}
 use Rattle.std.proofs.lemmas.Option.{same_Some, option_and_then_some}
 use Rattle.beam_values.specs.Intervals.{Interval}
 use Rattle.beam_values.specs.States.{KeptState, fresh_state, timer_of, IsFirstTimer}
-use Rattle.beam_values.specs.declared.log.KeyLog.{KeyLog}
-use Rattle.beam_values.specs.declared.log.LogEntry.{LogEntry}
 use Rattle.beam_values.specs.declared.log.LogInput.{LogInput}
-use Rattle.beam_values.specs.declared.log.LogInput.TheVariants.{Arrived, Fired}
+use Rattle.beam_values.specs.declared.log.LogInput.TheVariants.{Fired}
 use Rattle.beam_values.specs.declared.log.Timer.{Timer}
 use Rattle.beam_values.specs.declared.marks.CommitMarks.{CommitMarks}
 use Rattle.beam_values.specs.declared.marks.StageMarks.{StageMarks}
@@ -25,14 +21,13 @@ use Rattle.beam_values.specs.declared.plan.Plan.{Plan}
 use Rattle.beam_values.specs.declared.plan.StateKind.{StateKind}
 use Rattle.beam_values.specs.declared.plan.StateKind.TheVariants.{Dedupe, RunningSum, BatchUntil, LatestThenEmit}
 use Rattle.beam_values.specs.declared.value.Value.{Value}
-use Rattle.beam_model.specs.Logs.{Leads, LeadsAt, LeadsIn}
+use Rattle.beam_model.specs.Logs.{LeadsAt, LeadsIn}
 use Rattle.beam_model.specs.Steps.{Stepped, steps, stepped, bag, cleared_bag, on_first_timer}
 use Rattle.stateful_core.specs.Cells.{KeyCell}
-use Rattle.stateful_core.specs.declared.waiting.Waiting.{Waiting}
 use Rattle.stateful_core.specs.Facts.{Folded, noted, folded, folded_at, folded_in, IsCellKept, IsLiveAs}
 use Rattle.stateful_core.specs.Lasting.{one_if_set, left_of}
 use Rattle.stateful_core.specs.Placing.{Done, with_done}
-use Rattle.stateful_core.specs.Taking.{first_timer, timer_inputs, inputs_of}
+use Rattle.stateful_core.specs.Taking.{timer_inputs, inputs_of}
 use Rattle.stateful_core.specs.Timers.{IsAllowed, AreTimersOf}
 use Rattle.stateful_core.proofs.FirstTimer.{first_is}
 use Rattle.stateful_core.proofs.SetTimers.{steps_timers, fresh_timers, leads_timers}

@@ -1,5 +1,5 @@
 -- What every step keeps of key cells.
-use Rattle.std.specs.Prelude.{◌≡◌, ℕ, zero, suc, ◌+◌, ◌-◌, ◌<◌, ◌≤◌, ◌&&◌, ℤ, ◌≤ℤ◌, Bool, true, List, [], ◌∷◌, ◌++◌, length, map, slice_get, Option, Some, None}
+use Rattle.std.specs.Prelude.{◌≡◌, ℕ, zero, suc, ◌+◌, ◌-◌, ◌<◌, ◌≤◌, ◌&&◌, ◌≤ℤ◌, Bool, true, List, [], ◌∷◌, length, slice_get, Option, Some, None}
 use Rattle.std.specs.List.{All, count_by, filter, flat_map}
 use Rattle.std.specs.Option.{option_map, option_and_then}
 use Rattle.beam_values.specs.Intervals.{Interval}
@@ -20,7 +20,7 @@ use Rattle.beam_values.specs.declared.value.Value.{Value}
 use Rattle.beam_model.specs.Logs.{LeadsIn, is_log_of}
 use Rattle.beam_model.specs.Panes.{mark_after, IsCommit}
 use Rattle.beam_model.specs.Sessions.{is_keyed}
-use Rattle.beam_model.specs.Steps.{Stepped, steps}
+use Rattle.beam_model.specs.Steps.{steps}
 use Rattle.beam_values.specs.declared.arrival.Arrival.{Arrival}
 use Rattle.stateful_core.specs.Cells.{KeyCell, cell_arrivals, logs_of}
 use Rattle.stateful_core.specs.declared.waiting.Waiting.{Waiting}

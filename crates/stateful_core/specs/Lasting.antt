@@ -1,5 +1,5 @@
 -- What is left of key cells, which holds there are, and when there is nothing left.
-use Rattle.std.specs.Prelude.{◌≡◌, ℕ, ◌+◌, ◌*◌, ℤ, ◌≤ℤ◌, List, map, length, Option, Some, None}
+use Rattle.std.specs.Prelude.{ℕ, ◌+◌, ◌*◌, ℤ, ◌≤ℤ◌, List, map, length, Option, Some, None}
 use Rattle.std.specs.List.{All, filter, sum_by}
 use Rattle.beam_values.specs.Marks.{marks_at}
 use Rattle.beam_values.specs.Nodes.{is_stateful}

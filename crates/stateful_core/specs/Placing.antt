@@ -1,5 +1,5 @@
 -- What a commit does to key cells: the job of one is done, and what arrives at Stateful nodes waits.
-use Rattle.std.specs.Prelude.{ℕ, ℤ, Bool, false, if◌then◌else◌, List, [], ◌∷◌, ◌++◌, fold, map, drop, replicate, slice_get, slice_set, unwrap_or, Option, Some, None}
+use Rattle.std.specs.Prelude.{ℕ, ℤ, if◌then◌else◌, List, [], ◌∷◌, ◌++◌, fold, map, drop, replicate, slice_get, slice_set, unwrap_or, Option, Some, None}
 use Rattle.std.specs.Option.{option_map}
 use Rattle.beam_values.specs.Grouping.{key_of}
 use Rattle.beam_values.specs.Marks.{marks_at}

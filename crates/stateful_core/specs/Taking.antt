@@ -2,7 +2,6 @@
 use Rattle.std.specs.Prelude.{◌≡◌, ◌⊎◌, ◌<◌, ◌≤◌, ℕ, zero, suc, ℤ, ◌+◌, min, Bool, true, false, ◌&&◌, ◌||◌, if◌then◌else◌, int_le, nat_lt, List, [], ◌∷◌, length, map, take, fold, slice_get, slice_set, Option, Some, None}
 use Rattle.std.specs.List.{enumerate_from}
 use Rattle.beam_values.specs.Marks.{marks_at}
-use Rattle.beam_values.specs.States.{KeptState}
 use Rattle.beam_values.specs.declared.log.LogInput.{LogInput}
 use Rattle.beam_values.specs.declared.log.LogInput.TheVariants.{Arrived, Fired}
 use Rattle.beam_values.specs.declared.log.Timer.{Timer}

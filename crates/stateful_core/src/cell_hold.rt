@@ -26,7 +26,9 @@ pub fn hold_after(before: &[StageMarks], slot: &Slot, done: &KeyDone) -> Mark
 {
     let from = slot.live.unwrap_or(0) as usize;
     let mark = mark_out(before, slot.node);
-    let timers = slot.timer_holds.after(mark, &slot.timers, &done.timers);
+    let timers = slot
+        .timer_holds
+        .after(mark, slot.timers.get(), done.timers.get());
     hold_from(&slot.waiting, from, &timers)
 }
 

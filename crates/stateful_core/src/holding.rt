@@ -1,4 +1,5 @@
-ghost use Rattle.std.specs.Prelude.{◌≡◌, ◌<◌, [], ◌∷◌, ◌++◌, List as ListOf};
+ghost use Rattle.std.specs.Prelude.{◌≡◌, ◌<◌, ◌<ℤ◌, [], ◌∷◌, ◌++◌, true, List as ListOf};
+ghost use Rattle.watermarks.specs.Holds.{hold_at};
 ghost use Rattle.std.specs.Prelude.{IfOk, if◌then◌else◌, length, map, Some};
 ghost use Rattle.std.specs.Option.{option_map, option_copied};
 ghost use Rattle.std.specs.Int.{int_min};
@@ -13,7 +14,7 @@ ghost use Rattle.stateful_core.specs.Lasting.{arrival_holds};
 ghost use Rattle.stateful_core.specs.Seen.{cell_of, cells_of};
 ghost use Rattle.stateful_core.specs.Trees.{AreRenewed, AreTrees};
 
-use crate::cell_hold::hold_after;
+use crate::cell_hold::{cell_hold, hold_after};
 use crate::finding::is_stateful;
 use crate::putting::arrival_hold;
 use crate::trees::{renew_at, set_entry};
@@ -70,7 +71,8 @@ fn lower_standing(
     }
 }
 
-/// The entry of the cell whose job is done is what it will be, for as long as the least are read.
+/// Mostly other cells hold the node back further than the one whose job is done, and then its entry stays as it
+/// is.
 fn lower_beside(
     least: &mut [Mark],
     trees: &mut Vec<NodeTree>,
@@ -85,10 +87,52 @@ fn lower_beside(
         (Some (done_of done.now)) (cells_of slots.now))) }
     ensures sized { length least.new ≡ length least.old }
 {
+    let slot = &slots[done.cell as usize];
+    lower_trees(least, trees.as_slice());
+    if is_below(least, slot.node, cell_hold(slot)) {
+        lower(least, slot.node, hold_after(before, slot, done));
+        return;
+    }
+    lower_anew(least, trees, slots, before, done);
+}
+
+/// Whether a node is held back further than by this mark.
+fn is_below(least: &[Mark], node: u32, hold: Mark) -> bool
+    ensures { result ≡ true → hold_at least.now node <ℤ hold }
+{
+    match least.get(node as usize) {
+        Some(own) => *own < hold,
+        None => false,
+    }
+}
+
+/// The entry of the cell whose job is done is what it will be, for as long as the least are read.
+fn lower_anew(
+    least: &mut [Mark],
+    trees: &mut Vec<NodeTree>,
+    slots: &[Slot],
+    before: &[StageMarks],
+    done: &KeyDone,
+)
+    requires trees { AreTrees trees.old.items (cells_of slots.now) }
+    requires stands { done.now.cell < length slots.now }
+    ensures trees { AreTrees trees.new.items (cells_of slots.now) }
+    ensures least { AreLeast least.new (key_holds (finish before.now
+        (Some (done_of done.now)) (cells_of slots.now))) }
+    ensures sized { length least.new ≡ length least.old }
+{
     let at = done.cell as usize;
+    hold_none(least);
     set_done(trees, &slots[at], before, done);
     lower_trees(least, trees.as_slice());
     renew_at(trees, slots, at);
+}
+
+fn hold_none(least: &mut [Mark])
+    ensures none { AreLeast least.new [] }
+    ensures sized { length least.new ≡ length least.old }
+{
+    least.fill(Mark::FINAL);
 }
 
 fn set_done(trees: &mut Vec<NodeTree>, slot: &Slot, before: &[StageMarks], done: &KeyDone)
@@ -181,9 +225,9 @@ fn no_holds(alloc: Global, count: usize) -> Result<Vec<Mark>, NoMemory>
     ensures sized { IfOk result (λ least. length least.items ≡ count) }
     ensures none { IfOk result (λ least. AreLeast least.items []) }
 {
-    let mut least = Vec::new(alloc);
+    let mut least = Vec::with_capacity(alloc, count)?;
     for _node in 0..count {
-        least.push(Mark::FINAL)?;
+        least.push_reserved(Mark::FINAL);
     }
     Ok(least)
 }

@@ -86,7 +86,29 @@ impl Keys {
     }
 
     /// The next job: of the lowest node, and there of the lowest cell that has one. Where none has, the
-    /// answer is `None`.
+    /// answer is `None`. No slot works it yet.
+    pub fn next_job(&self, marks: &[StageMarks], bundle: u32) -> Result<Option<KeyTurn>, NoMemory>
+        requires { 1 ≤ bundle }
+        ensures { IfOk result (λ turn. (new : ListOf KeyCell)
+            × IsTakenOrNone marks.now bundle self.now.cells turn new) }
+    {
+        let Some(place) = next_place(self.trees.as_slice(), marks) else {
+            return Ok(None);
+        };
+        let turn = turn_at(self.alloc, self.slots.as_slice(), marks, place, bundle)?;
+        Ok(Some(turn))
+    }
+
+    /// The job of a cell that [`Keys::next_job`] gave is worked from now on. Takes no memory.
+    pub fn start_job(&mut self, cell: u32, bundle: u32)
+        requires { cell < length self.old.cells }
+        ensures { self.new.cells ≡ change (with_job bundle) cell self.old.cells }
+    {
+        start(&mut self.slots, cell as usize, bundle);
+        renew_at(&mut self.trees, self.slots.as_slice(), cell as usize);
+    }
+
+    /// The job that [`Keys::next_job`] gives, which is worked from now on.
     pub fn take_job(
         &mut self,
         marks: &[StageMarks],
@@ -103,19 +125,6 @@ impl Keys {
         let turn = turn_at(self.alloc, self.slots.as_slice(), marks, place, bundle)?;
         start(&mut self.slots, place.at, bundle);
         renew_at(&mut self.trees, self.slots.as_slice(), place.at);
-        Ok(Some(turn))
-    }
-
-    /// What [`Keys::take_job`] would give, which no slot works yet.
-    pub fn next_job(&self, marks: &[StageMarks], bundle: u32) -> Result<Option<KeyTurn>, NoMemory>
-        requires { 1 ≤ bundle }
-        ensures { IfOk result (λ turn. (new : ListOf KeyCell)
-            × IsTakenOrNone marks.now bundle self.now.cells turn new) }
-    {
-        let Some(place) = next_place(self.trees.as_slice(), marks) else {
-            return Ok(None);
-        };
-        let turn = turn_at(self.alloc, self.slots.as_slice(), marks, place, bundle)?;
         Ok(Some(turn))
     }
 

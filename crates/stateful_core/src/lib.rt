@@ -3,9 +3,10 @@
 //!
 //! [`Keys`] is seen as the list of its cells, numbered by first arrival. A cell has the log of its calls, the
 //! state and timers after them, the elements that wait, whether a job of it is worked, and the marks at which
-//! elements and timers hold its node back. One job of a cell is worked at a time: [`Keys::take_job`] takes the
-//! first elements that wait, or else the first timer that is due, [`Keys::give_back`] undoes that after a
-//! failure, and a commit is prepared, which takes all memory, and then placed, which takes none.
+//! elements and timers hold its node back. One job of a cell is worked at a time: [`Keys::next_job`] answers the
+//! first elements that wait, or else the first timer that is due, [`Keys::start_job`] notes that they are worked,
+//! [`Keys::give_back`] undoes that after a failure, and a commit is prepared, which takes all memory, and then
+//! placed, which takes none.
 //!
 //! No arrival looks through the cells: an index leads from its node, window and key to its cell
 //! (`specs/Names.antt`). Preparing a commit notes the numbers that it finds, and placing it goes by them. Nor

@@ -165,7 +165,9 @@ fn finish_slot(slot: &mut Slot, mark: Mark, done: KeyDone)
         entries,
         ..
     } = done;
-    slot.timer_holds = slot.timer_holds.after(mark, &slot.timers, &timers);
+    slot.timer_holds = slot
+        .timer_holds
+        .after(mark, slot.timers.get(), timers.get());
     slot.waiting.remove_oldest(slot.live.unwrap_or(0) as usize);
     put_entries(&mut slot.entries, entries);
     slot.state = state;

@@ -9,7 +9,7 @@ ghost use Rattle.stateful_core.specs.Taking.{next_place, or_sooner, sooner, trie
 
 use crate::putting::mark_in;
 use crate::{KeyTurn, Place, Slot};
-use beam_values::{List, LogInput, Mark, NoMemory, StageMarks, Timer};
+use beam_values::{Boxed, List, LogInput, Mark, NoMemory, StageMarks, Timer};
 use std::alloc::Global;
 use timer_core::Timers;
 
@@ -53,9 +53,9 @@ pub fn turn_of(
         cell: at,
         key: slot.key.copy(alloc)?,
         span: slot.span,
-        inputs: inputs_of(alloc, marks, slot, bundle)?,
-        state: slot.state.copy()?,
-        timers: slot.timers,
+        inputs: Boxed::new(alloc, inputs_of(alloc, marks, slot, bundle)?)?,
+        state: slot.state.share()?,
+        timers: slot.timers.share()?,
         attempts: slot.attempts,
     })
 }
@@ -74,7 +74,7 @@ fn inputs_of(
     if slot.waiting.len() > 0 {
         return slot.waiting.inputs(alloc, bundle as usize);
     }
-    let Some(timer) = due(&slot.timers, mark_in(marks, slot.node)) else {
+    let Some(timer) = due(slot.timers.get(), mark_in(marks, slot.node)) else {
         unreachable!()
     };
     let mut inputs = List::new(alloc);

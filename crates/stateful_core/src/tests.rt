@@ -140,10 +140,12 @@ fn a_hot_key_and_many_others_are_worked(rt: HostRuntime) -> Result<(), Fail> {
         &mut waiting,
     )?;
     for job in 0..73u8 {
-        let Some(turn) = keys.take_job(&marks, 3)? else {
+        let Some(turn) = keys.next_job(&marks, 3)? else {
             break;
         };
-        leave(&mut waiting, key_of(&turn), turn.inputs.len());
+        assert!(rt; (turn.cell as usize) < keys.len());
+        keys.start_job(turn.cell, 3);
+        leave(&mut waiting, key_of(&turn), turn.inputs.get().len());
         let done = done_with(alloc, turn);
         let late = [(HOT, 950 - i64::from(job)), (40 + i64::from(job), 990)];
         let comes: &[(i64, i64)] = if job < 20 { &late } else { &[] };

@@ -77,7 +77,7 @@ fn due_of(slot: &Slot) -> Mark
             if slot.waiting.len() > 0 {
                 return Mark::at(Time::LEAST);
             }
-            first_of_timers(&slot.timers)
+            first_of_timers(slot.timers.get())
         }
     }
 }

@@ -1,13 +1,15 @@
 -- A book may cross threads, and so may a pass; a table may be shared by them.
 use denote.RattleType.{RattleType}
 use denote.Param.Send.{IsSend, IsSync, sendable, view_send, view_sync}
-use denote.Param.SendFields.{as_row_send, as_row_sync, declared_send, declared_sync, variants_send}
+use denote.Param.SendFields.{as_row_send, as_row_sync, declared_send, declared_sync, variants_send, variants_sync}
 use Rattle.std.proofs.Crossing.{crosses}
 use Rattle.turn_desk.proofs.desk.Desk.TheSendSync as desk
 use Rattle.turn_desk.proofs.desk.Pass.TheSendSync as pass
 use Rattle.std.proofs.MapsCrossing.{crosses as maps}
-use Rattle.beam_values.proofs.Crossing.{Arrival-send, Boxed-send, Bytes-send, Cell-send, CommitMarks-send, Dropped-send, Element-send, Entry-send, List-send, List-sync, LogEntry-send, LogInput-send, Pane-send, Plan-send, Plan-sync, Trigger-send, Value-send, Value-sync}
+use Rattle.beam_values.proofs.Crossing.{Arrival-send, Boxed-send, Boxed-sync, Bytes-send, Bytes-sync, Cell-send, CommitMarks-send, Dropped-send, Element-send, Entry-send, List-send, List-sync, LogEntry-send, LogInput-send, Pane-send, Plan-send, Plan-sync, Trigger-send, Value-send, Value-sync}
 use Rattle.beam_containers.specs.contracts.roomy.RoomyList as RoomyList
+use Rattle.beam_values.specs.contracts.element.Element as Element
+use Rattle.beam_values.specs.contracts.log.LogInput as LogInput
 use Rattle.beam_values.specs.contracts.piece.Done as Done
 use Rattle.beam_values.specs.contracts.piece.Piece as Piece
 use Rattle.windowing.specs.contracts.facts.NodeFacts as NodeFacts
@@ -153,17 +155,32 @@ BagRun-sync = view_sync _ _ _ _ _ (declared_sync BagRunInside.the_type (search (
 Bag-send : IsSend Bag.the_row
 Bag-send = view_send _ _ _ _ _ (declared_send BagInside.the_type (search (BagRun-send, BagRun-sync, Boxed-send, List-send, Value-send, as_row_send, sendable) depth 40))
 
+Bag-sync : IsSync Bag.the_row
+Bag-sync = view_sync _ _ _ _ _ (declared_sync BagInside.the_type (search (BagRun-send, BagRun-sync, Boxed-sync, List-sync, Value-sync, as_row_sync, sendable) depth 40))
+
 Form-send : IsSend Form.the_row
 Form-send = variants_send Form.enum (search (Bytes-send, List-send, Value-send, Bag-send, as_row_send, sendable, crosses) depth 40)
+
+Form-sync : IsSync Form.the_row
+Form-sync = variants_sync Form.enum (search (Bytes-sync, List-sync, Value-sync, Bag-sync, as_row_sync, sendable, crosses) depth 40)
 
 FormCell-send : IsSend FormCell.the_row
 FormCell-send = view_send _ _ _ _ _ (declared_send FormCellInside.the_type (search (Form-send, as_row_send, sendable) depth 40))
 
+FormCell-sync : IsSync FormCell.the_row
+FormCell-sync = view_sync _ _ _ _ _ (declared_sync FormCellInside.the_type (search (Form-sync, as_row_sync, sendable) depth 40))
+
 KeyState-send : IsSend KeyState.the_row
 KeyState-send = view_send _ _ _ _ _ (declared_send KeyStateInside.the_type (search (FormCell-send, as_row_send, sendable, crosses) depth 40))
 
+KeyState-sync : IsSync KeyState.the_row
+KeyState-sync = view_sync _ _ _ _ _ (declared_sync KeyStateInside.the_type (search (FormCell-sync, as_row_sync, sendable, crosses) depth 40))
+
 Timers-send : IsSend Timers.the_row
 Timers-send = search (sendable, crosses) depth 40
+
+Timers-sync : IsSync Timers.the_row
+Timers-sync = search (sendable, crosses) depth 40
 
 TimerHolds-send : IsSend TimerHolds.the_row
 TimerHolds-send = search (sendable, crosses) depth 40
@@ -182,7 +199,7 @@ KeyQueue-send = view_send _ _ _ _ _ (declared_send KeyQueueInside.the_type (sear
 
 KeySlot-send : IsSend KeySlot.the_row
 KeySlot-send =
-    declared_send KeySlot.the_type (search (Value-send, LogEntry-send, RoomyList-send, KeyState-send, Timers-send, TimerHolds-send, KeyQueue-send, as_row_send, sendable, crosses) depth 40)
+    declared_send KeySlot.the_type (search (Value-send, LogEntry-send, RoomyList-send, Boxed-send, KeyState-send, KeyState-sync, Timers-send, Timers-sync, TimerHolds-send, KeyQueue-send, as_row_send, sendable, crosses) depth 40)
 
 KeyIndex-send : IsSend KeyIndex.the_row
 KeyIndex-send = declared_send KeyIndex.the_type (search (CellIndex-send, as_row_send, sendable) depth 40)
@@ -210,8 +227,14 @@ Queue-send = search (sendable, crosses) depth 40
 NodeHolds-send : IsSend NodeHolds.the_row
 NodeHolds-send = search (sendable, crosses, maps) depth 40
 
+Element-sync : IsSync Element.the_row
+Element-sync = declared_sync Element.the_type (search (Value-sync, as_row_sync, sendable, crosses) depth 40)
+
+LogInput-sync : IsSync LogInput.the_row
+LogInput-sync = variants_sync LogInput.enum (search (Element-sync, as_row_sync, sendable, crosses) depth 40)
+
 KeyTurn-send : IsSend KeyTurn.the_row
-KeyTurn-send = declared_send KeyTurn.the_type (search (Value-send, LogInput-send, List-send, KeyState-send, Timers-send, as_row_send, sendable, crosses) depth 40)
+KeyTurn-send = declared_send KeyTurn.the_type (search (Value-send, LogInput-send, LogInput-sync, List-send, List-sync, Boxed-send, KeyState-send, KeyState-sync, Timers-send, Timers-sync, as_row_send, sendable, crosses) depth 40)
 
 Piece-send : IsSend Piece.the_row
 Piece-send = search (sendable, crosses) depth 40

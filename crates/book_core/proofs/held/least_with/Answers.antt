@@ -37,7 +37,8 @@ loop-n-preserved c =
     let is : c.lesser.result ≡ int_min (least_in c.args.nodes.now c.loop-n.n) (hold_at c.args.others.now c.loop-n.n) =
     c.lesser.ensures ∙ ap (λ (m : ℤ). int_min m c.mark_at.result) own ∙ ap (int_min (least_in c.args.nodes.now c.loop-n.n)) c.mark_at.ensures in
     record {
-      sized = omega (arith, ap length c.in_ok-push.ensures.items, length-append c.loop-n.least.items (c.lesser.result ∷ []), c.loop-n.invariant.sized);
-      each = λ k less. subst (λ (l : List ℤ). hold_at l k ≡ int_min (least_in c.args.nodes.now k) (hold_at c.args.others.now k)) (sym c.in_ok-push.ensures.items)
+      sized = omega (arith, ap length c.push_reserved.ensures.items, length-append c.loop-n.least.items (c.lesser.result ∷ []), c.loop-n.invariant.sized);
+      room = omega (arith, c.push_reserved.ensures.capacity, c.loop-n.invariant.room);
+      each = λ k less. subst (λ (l : List ℤ). hold_at l k ≡ int_min (least_in c.args.nodes.now k) (hold_at c.args.others.now k)) (sym c.push_reserved.ensures.items)
           (one_more c.loop-n.least.items c.args.nodes.now c.args.others.now c.loop-n.n c.lesser.result c.loop-n.invariant.sized is c.loop-n.invariant.each k less);
     }

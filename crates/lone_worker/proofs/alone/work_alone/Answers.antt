@@ -1,4 +1,4 @@
-use Rattle.std.proofs.Common.{List, map, refl, rules, sym, ap, subst, ◌∙◌, arith}
+use Rattle.std.proofs.Common.{◌⊎◌, inl, inr, List, map, refl, rules, sym, ap, subst, ◌∙◌, arith}
 use Rattle.std.specs.Prelude.{Option}
 use Rattle.beam_values.specs.declared.plan.Plan.{Plan}
 use Rattle.beam_ports.specs.declared.store.Opened.{Opened}
@@ -10,6 +10,7 @@ use Rattle.bundle_work.proofs.Told.{opened_known}
 use Rattle.lone_worker.specs.Alone.{GoesOnOrEnds}
 use Rattle.lone_worker.specs.declared.alone.AloneEnd.{AloneEnd}
 use Rattle.lone_worker.proofs.Counted.{rises_on}
+use Rattle.lone_worker.proofs.Rounds.{ended_from}
 use Rattle.lone_worker.proofs.Leading.{in_after, run_none, run_onward}
 use Rattle.lone_worker.proofs.alone.work_alone.Goals as goal
 
@@ -32,6 +33,7 @@ rounds-init g c =
       same = record { plan = refl; files = refl; options = refl };
       free = c.requires.1.1.1.1.0;
       idle = c.requires.1.1.1.1.1.0;
+      begun = inl refl;
       reading = c.in-Ok.ensures.reading known opened (subst (λ (p : Plan). AreOpened known opened (file_names p) c.as_slice-files.result.now) (sym c.requires.1.1.1.1.1.1.0) shown);
       lengths = c.in-Ok.ensures.lengths ∙ (λ k. opened_lengths (c.requires.1.1.1.1.1.1.0 k) (c.as_slice-files.ensures k)) ∙ c.requires.1.1.1.1.1.1.1.lengths;
       counted = record { calls = omega arith; reads = omega arith };
@@ -63,7 +65,9 @@ pub returns-in-Some-clause-run : goal.returns-in-Some-clause-run
 returns-in-Some-clause-run g c = run_onward g.known c.args.book.now c.rounds.book c.round-end.new.book c.rounds.invariant.run c.round-end.ensures.run
 
 pub returns-in-Some-clause-ended : goal.returns-in-Some-clause-ended
-returns-in-Some-clause-ended g c = subst (λ (e : Option AloneEnd). GoesOnOrEnds c.args.slot c.rounds.book e c.round-end.new.book) c.in-Some.is c.round-end.ensures.end
+returns-in-Some-clause-ended g c =
+    ended_from c.args.book.now c.rounds.book c.round-end.new.book c.in-Some.end c.rounds.invariant.begun
+    (subst (λ (e : Option AloneEnd). GoesOnOrEnds c.args.slot c.rounds.book e c.round-end.new.book) c.in-Some.is c.round-end.ensures.end)
 
 pub returns-in-Some-clause-counted : goal.returns-in-Some-clause-counted
 returns-in-Some-clause-counted g c =
@@ -99,6 +103,7 @@ rounds-preserved g c =
       same = in_after (setting_for g.known b) g.known c.rounds.book new c.round-end.ensures.run i.same;
       free = next.free;
       idle = next.idle;
+      begun = inr next.running;
       reading = c.round-end.ensures.reading;
       lengths = ap (map length_in) c.round-end.ensures.readers ∙ i.lengths;
       counted = record {

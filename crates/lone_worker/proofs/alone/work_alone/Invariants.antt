@@ -1,7 +1,7 @@
-use Rattle.std.proofs.Common.{◌≡◌, map}
+use Rattle.std.proofs.Common.{◌≡◌, ◌⊎◌, map}
 use Rattle.beam_ports.specs.Observed.{observed_store}
 use Rattle.book_core.specs.Left.{rounds_left}
-use Rattle.book_core.specs.Steps.{IsFree, IsIdle}
+use Rattle.book_core.specs.Steps.{IsFree, IsIdle, IsRunning}
 use Rattle.chain_exec.specs.Causes.{observed_shelf}
 use Rattle.known_jobs.specs.Jobs.{setting_for}
 use Rattle.bundle_work.specs.Outside.{IsKitKept}
@@ -18,6 +18,7 @@ invariant-rounds g l = record {
   same : IsBookIn (setting_for g.known l.fn.book) l.book;
   free : IsFree l.book l.slot;
   idle : IsIdle l.book;
+  begun : (l.book ≡ l.fn.book) ⊎ IsRunning l.book;
   reading : IsReading g.known.told (g.S.Store.opened l.kit.store) l.graph l.worker.readers.items l.worker.place l.worker.bench.pager;
   lengths : map length_in l.worker.readers.items ≡ l.fn.book.files;
   counted : AreFailsCounted (observed_shelf g.F.Shelf.strict g.F.Shelf.faults l.fn.kit.shelf l.kit.shelf) (observed_store g.S.Store.files g.S.Store.faults l.fn.kit.store l.kit.store) l.fn.book l.book;

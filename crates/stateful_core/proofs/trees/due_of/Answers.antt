@@ -1,6 +1,7 @@
-use Rattle.std.proofs.Common.{arith, ◌<◌, ◌≤◌, ℤ, length, subst, sym}
+use Rattle.std.proofs.Common.{arith, ◌<◌, ◌≤◌, List, ℤ, length, subst, sym}
+use Rattle.std.specs.Prelude.{Option}
 use Rattle.stateful_core.specs.Seen.{cell_of}
-use Rattle.stateful_core.specs.Trees.{IsDueTime}
+use Rattle.stateful_core.specs.Trees.{IsDueTime, IsTimerDue}
 use Rattle.stateful_core.proofs.Entries.{live_entry, timer_entry, waiting_entry}
 use Rattle.stateful_core.proofs.trees.due_of.Goals as goal
 
@@ -15,4 +16,5 @@ returns-then-len-gt0 c =
 pub returns-else-len-gt0 : goal.returns-else-len-gt0
 returns-else-len-gt0 c =
     let none : length c.args.slot.now.waiting.items ≤ 0 = omega (arith, c.if-len-gt0.false, c.len.ensures) in
-    timer_entry (cell_of c.args.slot.now) c.first_of_timers.result c.in-None.is none c.first_of_timers.ensures
+    timer_entry (cell_of c.args.slot.now) c.first_of_timers.result c.in-None.is none
+    (subst (λ (t : List (Option ℤ)). IsTimerDue t c.first_of_timers.result) c.get.ensures c.first_of_timers.ensures)

@@ -26,7 +26,7 @@ returns-then-end-from-clause-given g c =
     c.claim_end-end.ensures.end in
     let empty : piece.range.from ≡ end = omega (arith, claim.1, c.if-end-from.true, c.from-from.ensures.value) in
     let receipt = c.take_receipt.result in
-    let is = c.take_receipt.ensures.same ∙ c.new.ensures in
+    let is = c.take_receipt.ensures.same ∙ c.expecting.ensures in
     let time = c.take_receipt.ensures.time in
     job_given g.setting plan c.requires.1.1.1.1.1.1.1.1.0 (job.Span claim.0.now) (Some piece.range.from) known claim.0.claimed.is receipt (none_claimed None plan piece end known claim.0 empty receipt is time)
     (none_claimed g.setting.known.told plan piece end known claim.0 empty receipt is time)
@@ -63,7 +63,7 @@ pub work_positions-requires-clause-inside : goal.work_positions-requires-clause-
 work_positions-requires-clause-inside g c κs within = omega (arith, c.from-from.ensures.value, c.if-end-from.false)
 
 pub work_positions-requires-clause-nothing : goal.work_positions-requires-clause-nothing
-work_positions-requires-clause-nothing g c κs within = c.turn_to.ensures.staging ∙ c.new.ensures
+work_positions-requires-clause-nothing g c κs within = c.turn_to.ensures.staging ∙ c.expecting.ensures
 
 pub work_positions-requires-clause-able : goal.work_positions-requires-clause-able
 work_positions-requires-clause-able g c κs within =

@@ -33,7 +33,7 @@ returns-in-Ok-clause-end g c =
     let can = can_commit g.setting b slot (known_at b slot) c.requires.0.plan (known_where (λ known. CanCommitAs g.setting known c.args.receipt) (λ h. h) b slot c.is_sane.ensures.held c.requires.1.0) c.args.receipt
     c.requires.1.0 in
     let made = c.in-Ok.ensures.ok told can.1 in
-    committed_round told b c.commit.new.self slot c.args.receipt made.0 c.requires.1.1.1
+    committed_round told b c.commit.new.self slot c.args.receipt made.0 c.requires.1.1.1.0 c.requires.1.1.1.1
     (c.rounds_are_bounded.ensures.commit told b c.commit.new.self slot c.is_sane.ensures (c.args.receipt, made.0, made.1) (goes_on_at b slot c.requires.1.1.0))
 
 pub returns-in-Ok-clause-calls : goal.returns-in-Ok-clause-calls

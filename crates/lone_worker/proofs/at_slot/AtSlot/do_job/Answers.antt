@@ -38,7 +38,7 @@ commit-requires g c =
     let b = c.args.book.now in
     let mid = c.work_job.new.pass in
     let keeps = claims_keep g.setting c.args.self.now.slot c.rounds_are_bounded.ensures.claim b mid c.in-Ok.ensures.claims in
-    (in_after g.setting g.setting.known b mid keeps.run c.requires.1.1.1.1.0, (c.in-Ok.ensures.given, (c.in-Ok.ensures.goes_on, keeps.others c.requires.1.1.1.1.1.1.0)))
+    (in_after g.setting g.setting.known b mid keeps.run c.requires.1.1.1.1.0, (c.in-Ok.ensures.given, (c.in-Ok.ensures.goes_on, (keeps.stopped ∙ c.requires.1.1.1.1.1.0, keeps.others c.requires.1.1.1.1.1.1.0))))
 
 pub returns-in-Ok-clause-run : goal.returns-in-Ok-clause-run
 returns-in-Ok-clause-run g c =
@@ -53,7 +53,7 @@ returns-in-Ok-clause-end g c =
     let mid = c.work_job.new.pass in
     let keeps = claims_keep g.setting c.args.self.now.slot c.rounds_are_bounded.ensures.claim b mid c.in-Ok.ensures.claims in
     let most : rounds_left mid ≤ rounds_left b = omega (arith, keeps.rounds) in
-    ends_from c.args.self.now.slot b mid c.commit.new.book c.commit.result most c.commit.ensures.end
+    ends_from c.args.self.now.slot b mid c.commit.new.book c.commit.result (keeps.stopped ∙ c.requires.1.1.1.1.1.0) most c.commit.ensures.end
 
 pub returns-in-Ok-clause-fails : goal.returns-in-Ok-clause-fails
 returns-in-Ok-clause-fails g c =
@@ -86,7 +86,7 @@ returns-in-Err-Faulted-clause-end g c =
     let mid = c.work_job.new.pass in
     let keeps = claims_keep g.setting c.args.self.now.slot c.rounds_are_bounded.ensures.claim b mid c.in-Err-Faulted.ensures.claims in
     let most : rounds_left mid ≤ rounds_left b = omega (arith, keeps.rounds) in
-    ends_from c.args.self.now.slot b mid c.give_back.new.book c.give_back.result most c.give_back.ensures.end
+    ends_from c.args.self.now.slot b mid c.give_back.new.book c.give_back.result (keeps.stopped ∙ c.requires.1.1.1.1.1.0) most c.give_back.ensures.end
 
 pub returns-in-Err-Faulted-clause-fails : goal.returns-in-Err-Faulted-clause-fails
 returns-in-Err-Faulted-clause-fails g c =

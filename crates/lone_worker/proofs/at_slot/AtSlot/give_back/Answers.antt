@@ -1,3 +1,4 @@
+use Rattle.std.proofs.Common.{refl}
 use Rattle.book_core.specs.Steps.{Fail, Retried, Spent}
 use Rattle.known_jobs.specs.Calls.{CanFailAs}
 use Rattle.known_jobs.specs.Carried.{can_fail, fails_honestly}
@@ -27,7 +28,7 @@ returns-in-Retry-clause-end g c =
     let b = c.args.book.now in
     let slot = c.args.self.now.slot in
     let step = c.in-Retry.ensures g.setting.known.told in
-    failed_round b c.fail.new.self slot c.args.at c.args.cause Retried step c.requires.1.1.1 (c.rounds_are_bounded.ensures.fail b c.fail.new.self slot c.args.at c.args.cause Retried c.is_sane.ensures step)
+    failed_round b c.fail.new.self slot c.args.at c.args.cause Retried step refl c.requires.1.1.0 c.requires.1.1.1 (c.rounds_are_bounded.ensures.fail b c.fail.new.self slot c.args.at c.args.cause Retried c.is_sane.ensures step)
 
 pub returns-in-Retry-clause-calls : goal.returns-in-Retry-clause-calls
 returns-in-Retry-clause-calls g c = failed_calls c.args.book.now c.fail.new.self c.args.self.now.slot c.args.at c.args.cause Retried (c.in-Retry.ensures g.setting.known.told)

@@ -39,7 +39,7 @@ returns-in-Ok-Job-clause-end g c =
     let slot = c.args.self.now.slot in
     let new = c.take.new.self in
     let makes = subst (λ (t : Taken). Makes b slot Take (answer_of t) new) c.in-Ok-Job.field-0-is c.in-Ok-Job.ensures.ok in
-    ends_from slot b new c.do_job.new.book c.do_job.result (c.rounds_are_bounded.ensures.take b new slot c.in-Ok-Job.job c.is_sane.ensures (makes g.setting.known.told)) c.do_job.ensures.end
+    ends_from slot b new c.do_job.new.book c.do_job.result (taken_leaves b new slot c.in-Ok-Job.job (makes g.setting.known.told)).running (c.rounds_are_bounded.ensures.take b new slot c.in-Ok-Job.job c.is_sane.ensures (makes g.setting.known.told)) c.do_job.ensures.end
 
 pub returns-in-Ok-Job-clause-fails : goal.returns-in-Ok-Job-clause-fails
 returns-in-Ok-Job-clause-fails g c =
@@ -93,7 +93,7 @@ returns-in-Ok-Stopped-clause-end g c =
     let new = c.take.new.self in
     let makes = subst (λ (t : Taken). Makes b slot Take (answer_of t) new) c.in-Ok-Stopped.field-0-is c.in-Ok-Stopped.ensures.ok in
     let step = makes g.setting.known.told in
-    λ running. step.0 (subst (λ (x : SeenBook). IsRunning x) step.2 running)
+    (step.0, step.2)
 
 pub returns-in-Ok-Stopped-clause-fails : goal.returns-in-Ok-Stopped-clause-fails
 returns-in-Ok-Stopped-clause-fails g c =

@@ -2,7 +2,7 @@ use Rattle.std.proofs.Common.{FitsSigned, w64, sym, subst, arith}
 use Rattle.std.specs.List.{AllByRecursion}
 use Rattle.beam_values.specs.Storable.{IsStorable}
 use Rattle.beam_values.proofs.Storable.{Null-fits, Int-fits, Blob-fits, Pair-fits, Seq-fits}
-use Rattle.run_engine.proofs.storable.+looks.Goals as goal
+use Rattle.book_core.proofs.storable.+looks.Goals as goal
 
 pub look_at-returns-in-Null : goal.look_at-returns-in-Null
 look_at-returns-in-Null t c = subst IsStorable (sym c.in-Null.is) Null-fits
