@@ -1,0 +1,12 @@
+pub mod Slotted
+pub mod Noted
+pub mod Steps
+pub mod Traces
+pub mod Drained
+pub mod Claimed
+pub mod Taken
+pub mod Ran
+pub mod Ended
+pub mod Split
+pub mod Onward
+pub mod Idle
