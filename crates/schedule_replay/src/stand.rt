@@ -265,7 +265,7 @@ fn node_of(job: &Job) -> u32
     }
 }
 
-// A range of it is one.
+// What is told of a job that was taken. The ends of its range are in order.
 fn took_job(job: &Job) -> Took
     ensures is { result ≡ took_job job.now }
     ensures ordered { IsOrdered job.now }
