@@ -8,5 +8,14 @@ pub mod Taken
 pub mod Ran
 pub mod Ended
 pub mod Split
+pub mod Reached
+pub mod Printing
+pub mod LiveRanges
+pub mod Unfinished
+pub mod Ends
+pub mod Begun
 pub mod Onward
 pub mod Idle
+pub mod Runs
+pub mod LineWorks
+pub mod Replayed

@@ -2,6 +2,9 @@ pub mod Works
 pub mod Stands
 pub mod Lines
 pub mod Drains
+pub mod Replays
+pub mod Printing
 pub mod Shown
 pub mod Standing
 pub mod Draining
+pub mod Reaching

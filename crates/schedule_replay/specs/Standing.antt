@@ -15,12 +15,14 @@ use Rattle.lone_worker.specs.declared.work.Work.{Work}
 use Rattle.lone_worker.specs.declared.work.ClaimEnd.{ClaimEnd}
 use Rattle.lone_worker.specs.declared.work.ClaimEnd.TheVariants as claim
 use Rattle.schedule_words.specs.Told.{told_text}
+use Rattle.schedule_words.specs.declared.line.Line.{Line}
 use Rattle.schedule_words.specs.declared.told.Claimed.{Claimed}
 use Rattle.schedule_words.specs.declared.told.Claimed.TheVariants as claimed
 use Rattle.schedule_words.specs.declared.told.Told.TheVariants as answered
 use Rattle.schedule_words.specs.declared.told.Took.{Took}
 use Rattle.schedule_replay.specs.Drains.{AreEmittedOver, and_one}
 use Rattle.schedule_replay.specs.Lines.{IsClaimDone, IsCommitDone, IsFailDone, IsRunDone, IsSplitDone, IsTakeDone}
+use Rattle.schedule_replay.specs.Replays.{IsLineDone}
 use Rattle.schedule_replay.specs.Stands.{Stand, work_at}
 use Rattle.schedule_replay.specs.Works.{AreHonestWorks, Counts, Worked}
 use Rattle.schedule_replay.specs.declared.stand.Stand.{Stand as Stood}
@@ -98,3 +100,10 @@ pub record HasCommitted (told : Option (List FileText)) (s new : Stand) (slot pa
 pub record HasFailed (told : Option (List FileText)) (s new : Stand) (slot : ℕ) (spent : Bool) : Type 0 where
   pub steps : List MadeStep
   pub done : IsFailDone told s slot steps [] (told_text (answered.Failed slot spent)) new
+
+-- a line was worked
+pub record IsWorked (base : Base) (shelf : ObservedShelf) (store : ObservedStore) (s new : Stand) (line : Line) (text : List ℕ) : Type 0 where
+  pub steps : List MadeStep
+  pub works : List Worked
+  pub done : IsLineDone base.setting.known.told s line steps works text new
+  pub honest : AreHonest base shelf store works

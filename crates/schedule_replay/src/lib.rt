@@ -1,15 +1,22 @@
-//! One worker at the book of a run, whose slots do what they are told, line by line of a schedule.
+//! A run under a schedule that the user writes: one worker works a book line by line, as its slots are told to.
 //!
-//! A [`Stand`] is where it stands between two lines: the book, and what each slot works. [`Stand::allows`] says whether a
-//! line may be worked there, exact by `specs/Stands.antt`; [`Stand::take`], [`Stand::claim`], [`Stand::run`],
-//! [`Stand::split`], [`Stand::commit`] and [`Stand::fail`] do what a line of that word asks for, by `specs/Lines.antt`: one
-//! step of the book at most, and one work at most, whose fault was counted in that very call. [`Stand::drain`] works lines
-//! of the first slot until it gets no job, by `specs/Drains.antt`. What holds at a stand before and after each call is
-//! `IsStanding` of `specs/Standing.antt`. Read these first, then `stand.rt` and `drain.rt`.
+//! [`replay`] opens a run of a checked plan with as many slots as its options have workers, works the lines of a schedule
+//! one after another with one kit, and gives the text that they print. The layer above may rely on `specs/Replays.antt`:
+//! the text is what these lines, the steps that they made of the book, and the works that failed print, and the ranges of
+//! the book at the end; and a schedule is refused at its first line that is none or isn't allowed where it stands. What a
+//! line may do stands in `specs/Stands.antt`, what it does in `specs/Lines.antt`, and a drain in `specs/Drains.antt`, whose
+//! lines are worked by the same calls. Read these first, then `schedule.rt` and `stand.rt`.
 #![tactic(auto)]
 
 mod drain;
+mod ending;
+pub mod laws;
+mod schedule;
 mod slots;
 mod stand;
 
-pub use stand::Stand;
+pub use beam_text::ScheduleRefusal;
+pub use schedule::{ReplayRefusal, replay};
+
+#[cfg(test)]
+mod tests;
