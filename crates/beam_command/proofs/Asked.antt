@@ -11,7 +11,7 @@ use Rattle.beam_ports.specs.declared.sink.Sink.{Ghosts as SinkGhosts}
 use Rattle.beam_ports.specs.declared.store.Store.{Ghosts as StoreGhosts}
 use Rattle.book_core.specs.Runs.{AreOptions}
 use Rattle.chain_exec.specs.Causes.{ObservedShelf}
-use Rattle.command_words.specs.Commands.{Asked, Help, Panes, Run}
+use Rattle.command_words.specs.Commands.{Asked, Help, Panes, Run, Replay, Make, Drill}
 use Rattle.dofn_traits.specs.declared.shelf.Shelf.{Ghosts as ShelfGhosts}
 use Rattle.bundle_work.specs.Kits.{EachBecomes, observed_shelves, sum_rises, told_by}
 use Rattle.bundle_work.specs.declared.kit.Kit.{Kit}
@@ -20,12 +20,15 @@ use Rattle.run_engine.specs.Openings.{HasFailed, HasLength, IsFirstAbsent, IsOpe
 use Rattle.run_engine.specs.PlanRun.{surroundings_of}
 use Rattle.command_ends.specs.declared.status.Status.{Status}
 use Rattle.command_ends.specs.declared.status.Status.TheVariants as status
-use Rattle.beam_command.specs.Asking.{IsPlanOf}
-use Rattle.beam_command.specs.Ends.{Observed, AreSourcesRefused, IsDocumentRefused, IsEndOf, IsHelpEnd, IsPipelineEnd, IsUnwritten}
+use Rattle.beam_command.specs.Asking.{IsPlanOf, report_of}
+use Rattle.beam_command.specs.Ends.{AreSourcesRefused, IsDocumentRefused, IsEndOf, IsHelpEnd, IsPipelineEnd}
+use Rattle.beam_command.specs.Observing.{Observed, IsUnwritten}
+use Rattle.beam_command.specs.ReplayEnds.{IsMakeEnd, IsReplayEnd}
 use Rattle.command_ends.specs.Notes.{IsLongNoted, StaysOrNoMemory}
 use Rattle.command_ends.specs.PlanFiles.{IsPlanRefused}
 use Rattle.beam_command.specs.Kits.{observed_at, observed_in_use}
 use Rattle.beam_command.specs.Pipelines.{IsGraphEnd}
+use Rattle.beam_command.specs.declared.pipeline.Report.TheVariants.{Rendering}
 use Rattle.beam_command.proofs.Graphs.{spent_since, stopped_since}
 use Rattle.beam_command.proofs.Stores.{rise_since, tells_first}
 
@@ -86,6 +89,7 @@ module _ (files : Option (List FileText)) (first before after : ℕ) (others : L
   refused_since status.Help refused = absurd refused
   refused_since status.Usage refused = absurd refused
   refused_since (status.BadPlan refusal) refused = absurd refused
+  refused_since (status.BadSchedule why) refused = absurd refused
   refused_since (status.WorkFault note) refused = absurd refused
   refused_since status.SinkFault refused = absurd refused
 
@@ -104,7 +108,7 @@ module _ (shelf : ObservedShelf) (told : Option (List FileText)) (less more : �
   unbegun s why = elim why [ inl is ↦ inr (inl (first, plan, is_first, of_first, refused s is)) | inr none ↦ inr (inr none) ]
 
   -- the run of its plan is its own
-  pub pipeline_end : (s : Status) (outcome : Option Outcome) → IsGraphEnd at_run plan options failed s outcome → IsPipelineEnd at_call asked options s outcome
+  pub pipeline_end : (s : Status) (outcome : Option Outcome) → IsGraphEnd at_run plan options (report_of asked) failed s outcome → IsPipelineEnd at_call asked options s outcome
   pipeline_end status.Ok outcome end = (end.1.0, end.1.1, (plan, of, end.0, end.1.2), end.1.3)
   pipeline_end status.SinkFault outcome end = (end.1.0, end.1.1, (plan, of, end.0, end.1.2), end.1.3)
   pipeline_end (status.WorkFault note) outcome end = (
@@ -119,6 +123,7 @@ module _ (shelf : ObservedShelf) (told : Option (List FileText)) (less more : �
   pipeline_end status.Help outcome end = (end.0, end.1, unbegun status.Help end.2)
   pipeline_end status.Usage outcome end = (end.0, end.1, unbegun status.Usage end.2)
   pipeline_end (status.BadPlan refusal) outcome end = (end.0, end.1, unbegun (status.BadPlan refusal) end.2)
+  pipeline_end (status.BadSchedule why) outcome end = (end.0, end.1, unbegun (status.BadSchedule why) end.2)
 
 -- a plan's document that the first store refused
 pub document_end : (observed : Observed) (name : List ℕ) (options : Options) (first : ObservedStore) → slice_get observed.kits.stores 0 ≡ Some first → IsUnwritten observed
@@ -133,6 +138,7 @@ document_end observed name options first is unwritten status.Usage refused = abs
 document_end observed name options first is unwritten (status.WorkFault note) refused = absurd refused
 document_end observed name options first is unwritten status.SinkFault refused = absurd refused
 document_end observed name options first is unwritten (status.FileChanged changed len other) refused = absurd refused
+document_end observed name options first is unwritten (status.BadSchedule why) refused = absurd refused
 
 -- ---- the kits of a pipeline
 
@@ -157,7 +163,7 @@ module _ {F S W : Type 0} (of_shelf : ShelfGhosts F) (of_store : StoreGhosts S) 
       -- the run of the plan that it read, seen from before
       run_of_file : (first new : Kit F S) (others news : List (Kit F S)) (s : Status) (outcome : Option Outcome) → of_store.files store ≡ of_store.files first.store → of_store.faults first.store ≤ of_store.faults store
           → failed ≤ rise (of_store.faults first.store) (of_store.faults store) → IsPlanOf (of_store.files first.store) (Run name options) plan → of_store.faults store ≤ of_store.faults new.store
-          → IsGraphEnd (observed (after (first ∷ others)) (new ∷ news)) plan options failed s outcome
+          → IsGraphEnd (observed (after (first ∷ others)) (new ∷ news)) plan options Rendering failed s outcome
           → IsPipelineEnd (observed (first ∷ others) (new ∷ news)) (Run name options) options s outcome
       run_of_file first new others news s outcome same earlier counted of later end =
           let shelf = observed_shelves of_shelf.strict of_shelf.faults (first ∷ others) (new ∷ news) in
@@ -179,12 +185,12 @@ module _ {F S W : Type 0} (of_shelf : ShelfGhosts F) (of_store : StoreGhosts S) 
               stores = record { files = f; before = of_store.faults store; after = of_store.faults new.store } ∷ rest;
             };
             out = out;
-          }) plan options failed s outcome) same end)
+          }) plan options Rendering failed s outcome) same end)
 
       pub file_end : (kits news : List (Kit F S)) (s : Status) (outcome : Option Outcome) → 0 < length kits → of_store.files store ≡ of_store.files (get_or kits 0 some).store
           → of_store.faults (get_or kits 0 some).store ≤ of_store.faults store → failed ≤ rise (of_store.faults (get_or kits 0 some).store) (of_store.faults store)
           → IsPlanOf (of_store.files (get_or kits 0 some).store) (Run name options) plan → EachBecomes (after kits) news (λ old new. of_store.faults old.store ≤ of_store.faults new.store)
-          → IsGraphEnd (observed (after kits) news) plan options failed s outcome → IsPipelineEnd (observed kits news) (Run name options) options s outcome
+          → IsGraphEnd (observed (after kits) news) plan options Rendering failed s outcome → IsPipelineEnd (observed kits news) (Run name options) options s outcome
       file_end [] news s outcome there same earlier counted of each end = absurd (omega arith)
       file_end (first ∷ others) [] s outcome there same earlier counted of each end = absurd each
       file_end (first ∷ others) (new ∷ news) s outcome there same earlier counted of each end =
@@ -208,6 +214,7 @@ pipeline_unnoted observed asked options (status.NoSource name) outcome long end 
 pipeline_unnoted observed asked options (status.SourceFault kit) outcome long end = (end.0, refl, inr (inr refl))
 pipeline_unnoted observed asked options (status.WorkFault note) outcome long end = (end.0, refl, inr (inr refl))
 pipeline_unnoted observed asked options (status.FileChanged name first other) outcome long end = (end.0, refl, inr (inr refl))
+pipeline_unnoted observed asked options (status.BadSchedule why) outcome long end = (end.0, refl, inr (inr refl))
 pipeline_unnoted observed asked options status.Ok outcome long end = absurd long
 pipeline_unnoted observed asked options status.Help outcome long end = absurd long
 pipeline_unnoted observed asked options status.Usage outcome long end = absurd long
@@ -220,11 +227,39 @@ help_unnoted out (status.NoSource name) long end = end
 help_unnoted out (status.SourceFault kit) long end = end
 help_unnoted out (status.WorkFault note) long end = end
 help_unnoted out (status.FileChanged name first other) long end = end
+help_unnoted out (status.BadSchedule why) long end = end
 help_unnoted out status.Ok long end = end
 help_unnoted out status.Help long end = long
 help_unnoted out status.Usage long end = long
 help_unnoted out status.SinkFault long end = long
 help_unnoted out status.NoMemory long end = long
+
+make_unnoted : (out : ObservedSink) (count number : ℕ) (s : Status) → IsLongNoted s → IsMakeEnd out count number s → ⊥
+make_unnoted out count number (status.BadPlan refusal) long end = end
+make_unnoted out count number (status.NoSource name) long end = end
+make_unnoted out count number (status.SourceFault kit) long end = end
+make_unnoted out count number (status.WorkFault note) long end = end
+make_unnoted out count number (status.FileChanged name first other) long end = end
+make_unnoted out count number (status.BadSchedule why) long end = end
+make_unnoted out count number status.Ok long end = long
+make_unnoted out count number status.Help long end = long
+make_unnoted out count number status.Usage long end = long
+make_unnoted out count number status.SinkFault long end = long
+make_unnoted out count number status.NoMemory long end = long
+
+replay_unnoted : (observed : Observed) (name schedule : List ℕ) (options : Options) (s : Status) → IsLongNoted s → IsReplayEnd observed name schedule options s
+    → IsReplayEnd observed name schedule options status.NoMemory
+replay_unnoted observed name schedule options (status.BadPlan refusal) long end = (end.0, tt)
+replay_unnoted observed name schedule options (status.NoSource absent) long end = (end.0, tt)
+replay_unnoted observed name schedule options (status.SourceFault kit) long end = (end.0, tt)
+replay_unnoted observed name schedule options (status.WorkFault note) long end = (end.0, tt)
+replay_unnoted observed name schedule options (status.FileChanged changed first other) long end = (end.0, tt)
+replay_unnoted observed name schedule options (status.BadSchedule why) long end = (end.0, tt)
+replay_unnoted observed name schedule options status.Ok long end = absurd long
+replay_unnoted observed name schedule options status.Help long end = absurd long
+replay_unnoted observed name schedule options status.Usage long end = absurd long
+replay_unnoted observed name schedule options status.SinkFault long end = absurd long
+replay_unnoted observed name schedule options status.NoMemory long end = absurd long
 
 unnoted : (asked : Option Asked) (observed : Observed) (s : Status) (outcome : Option Outcome) → IsLongNoted s → IsEndOf asked observed s outcome
     → IsEndOf asked observed status.NoMemory None
@@ -232,6 +267,9 @@ unnoted None observed s outcome long end = absurd (subst IsLongNoted end.0 long)
 unnoted (Some Help) observed s outcome long end = absurd (help_unnoted observed.out s long end.0)
 unnoted (Some (Panes file size options)) observed s outcome long end = pipeline_unnoted observed (Panes file size options) options s outcome long end
 unnoted (Some (Run name options)) observed s outcome long end = pipeline_unnoted observed (Run name options) options s outcome long end
+unnoted (Some (Replay name schedule options)) observed s outcome long end = (replay_unnoted observed name schedule options s long end.0, refl)
+unnoted (Some (Make count number)) observed s outcome long end = absurd (make_unnoted observed.out count number s long end.0)
+unnoted (Some (Drill count number options)) observed s outcome long end = pipeline_unnoted observed (Drill count number options) options s outcome long end
 
 -- where there is no memory there is no outcome
 none_without_memory : (asked : Option Asked) (observed : Observed) (outcome : Option Outcome) → IsEndOf asked observed status.NoMemory outcome → outcome ≡ None
@@ -239,6 +277,9 @@ none_without_memory None observed outcome end = end.2
 none_without_memory (Some Help) observed outcome end = end.1
 none_without_memory (Some (Panes file size options)) observed outcome end = end.1
 none_without_memory (Some (Run name options)) observed outcome end = end.1
+none_without_memory (Some (Replay name schedule options)) observed outcome end = end.1
+none_without_memory (Some (Make count number)) observed outcome end = end.1
+none_without_memory (Some (Drill count number options)) observed outcome end = end.1
 
 same_outcome : (asked : Option Asked) (observed : Observed) (s : Status) (outcome left : Option Outcome) → IsEndOf asked observed s outcome
     → (s ≡ status.NoMemory → left ≡ None) → ((s ≡ status.NoMemory → ⊥) → left ≡ outcome) → left ≡ outcome
@@ -251,6 +292,7 @@ same_outcome asked observed (status.NoSource name) outcome left end none stays =
 same_outcome asked observed (status.SourceFault kit) outcome left end none stays = stays (λ is. cc)
 same_outcome asked observed (status.WorkFault note) outcome left end none stays = stays (λ is. cc)
 same_outcome asked observed (status.FileChanged name first other) outcome left end none stays = stays (λ is. cc)
+same_outcome asked observed (status.BadSchedule why) outcome left end none stays = stays (λ is. cc)
 same_outcome asked observed status.SinkFault outcome left end none stays = stays (λ is. cc)
 
 -- the end after its note was written

@@ -16,15 +16,16 @@ use Rattle.book_core.specs.Book.{SeenBook}
 use Rattle.book_core.specs.Runs.{AreTold, HonestlyReached}
 use Rattle.book_core.specs.Work.{Surroundings}
 use Rattle.ended_runs.specs.Unpoisoned.{TakesNoPoison}
-use Rattle.command_words.specs.Commands.{Asked, Help, Panes, Run}
+use Rattle.command_words.specs.Commands.{Asked, Help, Panes, Run, Replay, Make, Drill}
 use Rattle.bundle_work.specs.Openings.{file_names}
 use Rattle.run_engine.specs.Openings.{HasChanged, HasFailed, IsOpeningRefused, failed_before}
 use Rattle.run_engine.specs.PlanRun.{IsStoppedBy, surroundings_of}
 use Rattle.command_ends.specs.declared.status.Status.{Status}
 use Rattle.command_ends.specs.declared.status.Status.TheVariants as status
-use Rattle.beam_command.specs.Asking.{IsPlanOf}
-use Rattle.beam_command.specs.Completeness.{AreFaultsFew, AreKitFaultsFew, AreReadFaultsFew, HasCleanInputs, HasInputs, IsChange, IsEndOfClean, IsEndOfFewFaults, IsStrict, WherePipeline}
-use Rattle.beam_command.specs.Ends.{Observed, AreFound, AreSourcesRefused, IsDocumentRefused, IsEndOf, IsOutcomeOfAsked, IsPipelineEnd}
+use Rattle.beam_command.specs.Asking.{IsPlanOf, IsPlanRead, WherePipeline}
+use Rattle.beam_command.specs.Completeness.{AreFaultsFew, AreKitFaultsFew, AreReadFaultsFew, HasCleanInputs, HasInputs, IsChange, IsEndOfClean, IsEndOfFewFaults, IsStrict}
+use Rattle.beam_command.specs.Ends.{AreSourcesRefused, IsDocumentRefused, IsEndOf, IsOutcomeOfAsked, IsPipelineEnd}
+use Rattle.beam_command.specs.Observing.{Observed, AreFound}
 use Rattle.command_ends.specs.PlanFiles.{IsPlanRefused}
 use Rattle.beam_command.proofs.Stores.{AreOfOne, IsOneOf, told_here}
 
@@ -43,15 +44,22 @@ among P before after names name are all = by before (subst (All P) are all)
     by (first ∷ later) held = by later (All-tail P first (later ++ name ∷ after) held)
 
 module _ (store : ObservedStore) (told : List FileText) (tells : store.files ≡ Some told) where
-  -- the plan that is asked for is one
-  pub plan_is : (asked : Asked) (plan other : Plan) → IsPlanOf (Some told) asked plan → IsPlanOf store.files asked other → other ≡ plan
-  plan_is Help plan other of own = absurd of
-  plan_is (Panes file size options) plan other of own = own ∙ sym of
-  plan_is (Run name options) plan other of own =
+  -- a document has one plan
+  pub read_is : (name : List ℕ) (plan other : Plan) → IsPlanRead (Some told) name plan → IsPlanRead store.files name other → other ≡ plan
+  read_is name plan other of own =
       let meant = of told refl in
       let also = own told tells in
       let text : also.0 ≡ meant.0 = cc (meant.1, also.1) in
       cc (text, meant.2, also.2)
+
+  -- the plan that is asked for is one
+  pub plan_is : (asked : Asked) (plan other : Plan) → IsPlanOf (Some told) asked plan → IsPlanOf store.files asked other → other ≡ plan
+  plan_is Help plan other of own = absurd of
+  plan_is (Panes file size options) plan other of own = own ∙ sym of
+  plan_is (Run name options) plan other of own = read_is name plan other of own
+  plan_is (Replay name schedule options) plan other of own = absurd of
+  plan_is (Make count number) plan other of own = absurd of
+  plan_is (Drill count number options) plan other of own = own ∙ sym of
 
 -- no failures were counted before a whole command
 none_before : (kit : ℕ) → failed_before 0 kit ≡ 0
@@ -73,32 +81,36 @@ module _ (observed : Observed) (of_one : AreOfOne observed.kits) (told : List Fi
       changed.differ (sym also.2 ∙ ap length text ∙ first.2)
 
   module _ (attempts : ℕ) (few : rise observed.kits.store.before observed.kits.store.after < attempts) where
-    plan_read : (name : List ℕ) (options : Options) (plan : Plan) → IsPlanOf (Some told) (Run name options) plan → (first : ObservedStore) → IsOneOf observed.kits.store first → (s : Status)
+    pub plan_read : (name : List ℕ) (plan : Plan) → IsPlanRead (Some told) name plan → (first : ObservedStore) → IsOneOf observed.kits.store first → (s : Status)
         → IsPlanRefused first name attempts s → s ≡ status.NoMemory
-    plan_read name options plan of first one (status.NoSource absent) refused =
+    plan_read name plan of first one (status.NoSource absent) refused =
         let meant = of told refl in
         let none = refused.1 told (told_here observed.kits.store first told one tells) in
         absurd (cc (meant.1, none))
-    plan_read name options plan of first one (status.SourceFault kit) refused = absurd (omega (arith, refused.1, one.counts, few))
-    plan_read name options plan of first one (status.BadPlan refusal) refused =
+    plan_read name plan of first one (status.SourceFault kit) refused = absurd (omega (arith, refused.1, one.counts, few))
+    plan_read name plan of first one (status.BadPlan refusal) refused =
         let meant = of told refl in
         let also = refused told (told_here observed.kits.store first told one tells) in
         let text : also.0 ≡ meant.0 = cc (meant.1, also.1) in
         absurd (cc (text, meant.2, also.2))
-    plan_read name options plan of first one status.NoMemory refused = refl
-    plan_read name options plan of first one status.Ok refused = absurd refused
-    plan_read name options plan of first one status.Help refused = absurd refused
-    plan_read name options plan of first one status.Usage refused = absurd refused
-    plan_read name options plan of first one (status.WorkFault note) refused = absurd refused
-    plan_read name options plan of first one status.SinkFault refused = absurd refused
-    plan_read name options plan of first one (status.FileChanged changed len other) refused = absurd refused
+    plan_read name plan of first one status.NoMemory refused = refl
+    plan_read name plan of first one status.Ok refused = absurd refused
+    plan_read name plan of first one status.Help refused = absurd refused
+    plan_read name plan of first one status.Usage refused = absurd refused
+    plan_read name plan of first one (status.WorkFault note) refused = absurd refused
+    plan_read name plan of first one status.SinkFault refused = absurd refused
+    plan_read name plan of first one (status.FileChanged changed len other) refused = absurd refused
+    plan_read name plan of first one (status.BadSchedule why) refused = absurd refused
 
     document_read : (asked : Asked) (plan : Plan) → IsPlanOf (Some told) asked plan → (s : Status) → IsDocumentRefused observed asked attempts s → s ≡ status.NoMemory
     document_read Help plan of s refused = absurd refused
     document_read (Panes file size options) plan of s refused = absurd refused
-    document_read (Run name options) plan of s refused = plan_read name options plan of refused.0 (of_one 0 refused.0 refused.1) s refused.2
+    document_read (Run name options) plan of s refused = plan_read name plan of refused.0 (of_one 0 refused.0 refused.1) s refused.2
+    document_read (Replay name schedule options) plan of s refused = absurd refused
+    document_read (Make count number) plan of s refused = absurd refused
+    document_read (Drill count number options) plan of s refused = absurd refused
 
-    opened : (plan : Plan) → AreFound (Some told) plan → (s : Status) → IsOpeningRefused observed.kits.stores plan attempts 0 s → s ≡ status.NoMemory
+    pub opened : (plan : Plan) → AreFound (Some told) plan → (s : Status) → IsOpeningRefused observed.kits.stores plan attempts 0 s → s ≡ status.NoMemory
     opened plan found (status.NoSource name) refused =
         let none = (refused.absent told (told_here observed.kits.store refused.store told (of_one refused.kit refused.store refused.at) tells)).1 in
         absurd (named_not_none (first_named name told) none
@@ -112,6 +124,7 @@ module _ (observed : Observed) (of_one : AreOfOne observed.kits) (told : List Fi
     opened plan found status.Usage refused = absurd refused
     opened plan found (status.WorkFault note) refused = absurd refused
     opened plan found status.SinkFault refused = absurd refused
+    opened plan found (status.BadSchedule why) refused = absurd refused
 
     -- with all inputs there, a run that did not begin had no memory
     pub began : (asked : Asked) → HasInputs told asked → (s : Status)
@@ -140,12 +153,18 @@ module _ (observed : Observed) (of_one : AreOfOne observed.kits) (told : List Fi
       no_document Help refused = refused
       no_document (Panes file size with) refused = refused
       no_document (Run plan with) refused = refused.2
+      no_document (Replay plan schedule with) refused = refused
+      no_document (Make count number) refused = refused
+      no_document (Drill count number with) refused = refused
 
   no_end_changes : (asked : Option Asked) (name : List ℕ) (len other : ℕ) (outcome : Option Outcome) → IsEndOf asked observed (status.FileChanged name len other) outcome → ⊥
   no_end_changes None name len other outcome end = absurd (cc (end.0))
   no_end_changes (Some Help) name len other outcome end = absurd end.0
   no_end_changes (Some (Panes file size options)) name len other outcome end = no_pipeline_changes (Panes file size options) options name len other outcome end
   no_end_changes (Some (Run plan options)) name len other outcome end = no_pipeline_changes (Run plan options) options name len other outcome end
+  no_end_changes (Some (Replay plan schedule options)) name len other outcome end = absurd end.0.1
+  no_end_changes (Some (Make count number)) name len other outcome end = absurd end.0
+  no_end_changes (Some (Drill count number options)) name len other outcome end = no_pipeline_changes (Drill count number options) options name len other outcome end
 
   no_change : (asked : Option Asked) (s : Status) (outcome : Option Outcome) → IsEndOf asked observed s outcome → IsChange s → ⊥
   no_change asked (status.FileChanged name len other) outcome end change = no_end_changes asked name len other outcome end
@@ -157,6 +176,7 @@ module _ (observed : Observed) (of_one : AreOfOne observed.kits) (told : List Fi
   no_change asked (status.SourceFault kit) outcome end change = change
   no_change asked (status.WorkFault note) outcome end change = change
   no_change asked status.SinkFault outcome end change = change
+  no_change asked (status.BadSchedule why) outcome end change = change
   no_change asked status.NoMemory outcome end change = change
 
 -- where all stores tell the same files, none has changed
@@ -186,6 +206,7 @@ module _ (observed : Observed) (of_one : AreOfOne observed.kits) (told : List Fi
     completes status.NoMemory outcome end = unbegun status.NoMemory end.2
     completes status.Help outcome end = unbegun status.Help end.2
     completes status.Usage outcome end = unbegun status.Usage end.2
+    completes (status.BadSchedule why) outcome end = unbegun (status.BadSchedule why) end.2
 
 -- with all inputs there and few faults a pipeline comes to its end
 pub complete : (asked : Option Asked) (observed : Observed) → AreOfOne observed.kits → (s : Status) (outcome : Option Outcome) → IsEndOf asked observed s outcome
@@ -196,6 +217,10 @@ complete (Some (Panes file size options)) observed of_one s outcome end = λ tol
     completes observed of_one told tells (Panes file size options) options inputs few s outcome end
 complete (Some (Run name options)) observed of_one s outcome end = λ told tells inputs few.
     completes observed of_one told tells (Run name options) options inputs few s outcome end
+complete (Some (Replay name schedule options)) observed of_one s outcome end = tt
+complete (Some (Make count number)) observed of_one s outcome end = tt
+complete (Some (Drill count number options)) observed of_one s outcome end = λ told tells inputs few.
+    completes observed of_one told tells (Drill count number options) options inputs few s outcome end
 
 -- ---- few faults, whatever the stores tell
 
@@ -217,11 +242,15 @@ module _ (observed : Observed) (of_one : AreOfOne observed.kits) (options : Opti
   by_file name first one (status.WorkFault note) refused = absurd refused
   by_file name first one status.SinkFault refused = absurd refused
   by_file name first one (status.FileChanged changed len other) refused = absurd refused
+  by_file name first one (status.BadSchedule why) refused = absurd refused
 
   by_document : (own : Asked) (s : Status) → IsDocumentRefused observed own options.attempts s → Fits s
   by_document Help s refused = absurd refused
   by_document (Panes file size with) s refused = absurd refused
   by_document (Run name with) s refused = by_file name refused.0 (of_one 0 refused.0 refused.1) s refused.2
+  by_document (Replay name schedule with) s refused = absurd refused
+  by_document (Make count number) s refused = absurd refused
+  by_document (Drill count number with) s refused = absurd refused
 
   by_opening : (plan : Plan) (s : Status) → IsOpeningRefused observed.kits.stores plan options.attempts 0 s → Fits s
   by_opening plan (status.NoSource name) refused = tt
@@ -234,6 +263,7 @@ module _ (observed : Observed) (of_one : AreOfOne observed.kits) (options : Opti
   by_opening plan status.Usage refused = absurd refused
   by_opening plan (status.WorkFault note) refused = absurd refused
   by_opening plan status.SinkFault refused = absurd refused
+  by_opening plan (status.BadSchedule why) refused = absurd refused
 
   before : (own : Asked) (s : Status) → (IsDocumentRefused observed own options.attempts s ⊎ AreSourcesRefused observed own options.attempts s ⊎ (s ≡ status.NoMemory)) → Fits s
   before own s why = elim why [
@@ -252,6 +282,7 @@ module _ (observed : Observed) (of_one : AreOfOne observed.kits) (options : Opti
   ends_few own status.NoMemory outcome end = before own status.NoMemory end.2
   ends_few own status.Help outcome end = before own status.Help end.2
   ends_few own status.Usage outcome end = before own status.Usage end.2
+  ends_few own (status.BadSchedule why) outcome end = before own (status.BadSchedule why) end.2
 
 -- with few faults at the kits nothing of a pipeline failed as often as it may, but for its sink
 pub few_faults : (asked : Option Asked) (observed : Observed) → AreOfOne observed.kits → (s : Status) (outcome : Option Outcome) → IsEndOf asked observed s outcome
@@ -260,6 +291,9 @@ few_faults None observed of_one s outcome end = tt
 few_faults (Some Help) observed of_one s outcome end = tt
 few_faults (Some (Panes file size options)) observed of_one s outcome end = λ few. ends_few observed of_one options few (Panes file size options) s outcome end
 few_faults (Some (Run name options)) observed of_one s outcome end = λ few. ends_few observed of_one options few (Run name options) s outcome end
+few_faults (Some (Replay name schedule options)) observed of_one s outcome end = tt
+few_faults (Some (Make count number)) observed of_one s outcome end = tt
+few_faults (Some (Drill count number options)) observed of_one s outcome end = λ few. ends_few observed of_one options few (Drill count number options) s outcome end
 
 -- ---- a shelf that fails on poison alone
 
@@ -300,6 +334,7 @@ module _ (observed : Observed) (of_one : AreOfOne observed.kits) (s : Status) (o
     strictly_completes status.NoMemory end = unstarted status.NoMemory end.2
     strictly_completes status.Help end = unstarted status.Help end.2
     strictly_completes status.Usage end = unstarted status.Usage end.2
+    strictly_completes (status.BadSchedule why) end = unstarted (status.BadSchedule why) end.2
 
   -- so it comes to its end where it takes no poison and few faults of the store were counted
   pub complete_strict : (asked : Option Asked) → IsEndOf asked observed s outcome
@@ -311,3 +346,7 @@ module _ (observed : Observed) (of_one : AreOfOne observed.kits) (s : Status) (o
       strictly_completes told tells (Panes file size options) options strict inputs few s end
   complete_strict (Some (Run name options)) end = λ strict told tells inputs few.
       strictly_completes told tells (Run name options) options strict inputs few s end
+  complete_strict (Some (Replay name schedule options)) end = tt
+  complete_strict (Some (Make count number)) end = tt
+  complete_strict (Some (Drill count number options)) end = λ strict told tells inputs few.
+      strictly_completes told tells (Drill count number options) options strict inputs few s end

@@ -25,8 +25,9 @@ use Rattle.run_engine.specs.Kits.{ObservedKits}
 use Rattle.run_engine.specs.PlanRun.{IsOutcomeWhere, IsPlanEnd, IsSpent, IsStoppedBy, surroundings_of}
 use Rattle.command_ends.specs.declared.status.Status.{Status}
 use Rattle.command_ends.specs.declared.status.Status.TheVariants as status
-use Rattle.beam_command.specs.Ends.{Observed, AreFound, IsUnwritten}
+use Rattle.beam_command.specs.Observing.{Observed, AreFound, IsUnwritten}
 use Rattle.beam_command.specs.Pipelines.{IsGraphEnd, IsRunPrinted}
+use Rattle.beam_command.specs.declared.pipeline.Report.{Report}
 
 is_found : (o : Option (List ℕ)) (text : List ℕ) → o ≡ Some text → IsSome o
 is_found o text is = ap is_some is
@@ -49,19 +50,20 @@ pub are_found : (files : Option (List FileText)) (opened : ℕ → Option Openin
 are_found files opened plan kept are = λ told is. opened_are_found files told is opened (file_names plan) kept are
 
 -- the text of a run that came to its end was written, or was not
-pub printed_end : (observed : Observed) (plan : Plan) (options : Options) (failed : ℕ) (o : Outcome) (s : Status) (outcome : Option Outcome) → AreFound observed.kits.store.files plan
-    → IsOutcomeWhere (surroundings_of observed.kits) plan options IsEnded o → IsRunPrinted observed.out options.attempts o s outcome
-    → IsGraphEnd observed plan options failed s outcome
-printed_end observed plan options failed o status.Ok outcome there run printed = (there, (o, printed.0, run, printed.1))
-printed_end observed plan options failed o status.SinkFault outcome there run printed = (there, (o, printed.0, run, printed.1))
-printed_end observed plan options failed o status.NoMemory outcome there run printed = (printed.1, printed.0, inr refl)
-printed_end observed plan options failed o status.Help outcome there run printed = absurd printed
-printed_end observed plan options failed o status.Usage outcome there run printed = absurd printed
-printed_end observed plan options failed o (status.BadPlan refusal) outcome there run printed = absurd printed
-printed_end observed plan options failed o (status.NoSource name) outcome there run printed = absurd printed
-printed_end observed plan options failed o (status.SourceFault kit) outcome there run printed = absurd printed
-printed_end observed plan options failed o (status.FileChanged name len other) outcome there run printed = absurd printed
-printed_end observed plan options failed o (status.WorkFault note) outcome there run printed = absurd printed
+pub printed_end : (observed : Observed) (plan : Plan) (options : Options) (report : Report) (failed : ℕ) (o : Outcome) (s : Status) (outcome : Option Outcome) → AreFound observed.kits.store.files plan
+    → IsOutcomeWhere (surroundings_of observed.kits) plan options IsEnded o → IsRunPrinted observed.out options.attempts report o s outcome
+    → IsGraphEnd observed plan options report failed s outcome
+printed_end observed plan options report failed o status.Ok outcome there run printed = (there, (o, printed.0, run, printed.1))
+printed_end observed plan options report failed o status.SinkFault outcome there run printed = (there, (o, printed.0, run, printed.1))
+printed_end observed plan options report failed o status.NoMemory outcome there run printed = (printed.1, printed.0, inr refl)
+printed_end observed plan options report failed o status.Help outcome there run printed = absurd printed
+printed_end observed plan options report failed o status.Usage outcome there run printed = absurd printed
+printed_end observed plan options report failed o (status.BadPlan refusal) outcome there run printed = absurd printed
+printed_end observed plan options report failed o (status.NoSource name) outcome there run printed = absurd printed
+printed_end observed plan options report failed o (status.SourceFault kit) outcome there run printed = absurd printed
+printed_end observed plan options report failed o (status.FileChanged name len other) outcome there run printed = absurd printed
+printed_end observed plan options report failed o (status.WorkFault note) outcome there run printed = absurd printed
+printed_end observed plan options report failed o (status.BadSchedule why) outcome there run printed = absurd printed
 
 -- ---- a run, seen from a call that began before it
 
@@ -111,26 +113,28 @@ module _ (shelf : ObservedShelf) (files : Option (List FileText)) (less more : �
   ended_since plan options (status.NoSource name) outcome end = absurd end
   ended_since plan options (status.SourceFault kit) outcome end = absurd end
   ended_since plan options (status.FileChanged name len other) outcome end = absurd end
+  ended_since plan options (status.BadSchedule why) outcome end = absurd end
 
 -- a run that did not come to its end wrote nothing
-pub unprinted_end : (observed : Observed) (plan : Plan) (options : Options) (failed : ℕ) (s : Status) (outcome : Option Outcome) → IsUnwritten observed
+pub unprinted_end : (observed : Observed) (plan : Plan) (options : Options) (report : Report) (failed : ℕ) (s : Status) (outcome : Option Outcome) → IsUnwritten observed
     → AreFound observed.kits.store.files plan → IsPlanEnd observed.kits plan options s outcome → (s ≡ status.Ok → ⊥)
-    → IsGraphEnd observed plan options failed s outcome
-unprinted_end observed plan options failed status.Ok outcome unwritten there ended none = absurd (none refl)
-unprinted_end observed plan options failed (status.WorkFault note) outcome unwritten there ended none = (unwritten, there, ended.0, ended.1)
-unprinted_end observed plan options failed status.NoMemory outcome unwritten there ended none = (unwritten, ended, inr refl)
-unprinted_end observed plan options failed status.SinkFault outcome unwritten there ended none = absurd ended
-unprinted_end observed plan options failed status.Help outcome unwritten there ended none = absurd ended
-unprinted_end observed plan options failed status.Usage outcome unwritten there ended none = absurd ended
-unprinted_end observed plan options failed (status.BadPlan refusal) outcome unwritten there ended none = absurd ended
-unprinted_end observed plan options failed (status.NoSource name) outcome unwritten there ended none = absurd ended
-unprinted_end observed plan options failed (status.SourceFault kit) outcome unwritten there ended none = absurd ended
-unprinted_end observed plan options failed (status.FileChanged name len other) outcome unwritten there ended none = absurd ended
+    → IsGraphEnd observed plan options report failed s outcome
+unprinted_end observed plan options report failed status.Ok outcome unwritten there ended none = absurd (none refl)
+unprinted_end observed plan options report failed (status.WorkFault note) outcome unwritten there ended none = (unwritten, there, ended.0, ended.1)
+unprinted_end observed plan options report failed status.NoMemory outcome unwritten there ended none = (unwritten, ended, inr refl)
+unprinted_end observed plan options report failed status.SinkFault outcome unwritten there ended none = absurd ended
+unprinted_end observed plan options report failed status.Help outcome unwritten there ended none = absurd ended
+unprinted_end observed plan options report failed status.Usage outcome unwritten there ended none = absurd ended
+unprinted_end observed plan options report failed (status.BadPlan refusal) outcome unwritten there ended none = absurd ended
+unprinted_end observed plan options report failed (status.NoSource name) outcome unwritten there ended none = absurd ended
+unprinted_end observed plan options report failed (status.SourceFault kit) outcome unwritten there ended none = absurd ended
+unprinted_end observed plan options report failed (status.FileChanged name len other) outcome unwritten there ended none = absurd ended
+unprinted_end observed plan options report failed (status.BadSchedule why) outcome unwritten there ended none = absurd ended
 
 -- a run that came to its end, and whose text was written or not
-pub finished_end : (observed : Observed) (plan : Plan) (options : Options) (failed : ℕ) (reached : Status) (own outcome : Option Outcome) (s : Status) → AreFound observed.kits.store.files plan
+pub finished_end : (observed : Observed) (plan : Plan) (options : Options) (report : Report) (failed : ℕ) (reached : Status) (own outcome : Option Outcome) (s : Status) → AreFound observed.kits.store.files plan
     → IsPlanEnd observed.kits plan options reached own → reached ≡ status.Ok
-    → ((o : Outcome) → own ≡ Some o → IsRunPrinted observed.out options.attempts o s outcome) → IsGraphEnd observed plan options failed s outcome
-finished_end observed plan options failed reached own outcome s there ended is printed =
+    → ((o : Outcome) → own ≡ Some o → IsRunPrinted observed.out options.attempts report o s outcome) → IsGraphEnd observed plan options report failed s outcome
+finished_end observed plan options report failed reached own outcome s there ended is printed =
     let end = subst (λ (st : Status). IsPlanEnd observed.kits plan options st own) is ended in
-    printed_end observed plan options failed end.0 s outcome there end.2 (printed end.0 end.1)
+    printed_end observed plan options report failed end.0 s outcome there end.2 (printed end.0 end.1)

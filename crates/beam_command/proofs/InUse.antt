@@ -3,7 +3,6 @@ use Rattle.std.proofs.Common.{◌≡◌, ℕ, zero, suc, ◌+◌, min, List, [],
 use Rattle.std.proofs.Math.Seq.{take-append_seam}
 use Rattle.beam_ports.specs.declared.sink.Sink.{Ghosts as SinkGhosts}
 use Rattle.beam_ports.specs.declared.store.Store.{Ghosts as StoreGhosts}
-use Rattle.beam_values.specs.declared.options.Options.{Options}
 use Rattle.beam_values.specs.declared.outcome.Outcome.{Outcome}
 use Rattle.command_words.specs.Commands.{Asked}
 use Rattle.dofn_traits.specs.declared.shelf.Shelf.{Ghosts as ShelfGhosts}
@@ -11,8 +10,8 @@ use Rattle.bundle_work.specs.Kits.{EachBecomes}
 use Rattle.bundle_work.specs.declared.kit.Kit.{Kit}
 use Rattle.run_engine.specs.Kits.{KeepsKit}
 use Rattle.command_ends.specs.declared.status.Status.{Status}
-use Rattle.beam_command.specs.Ends.{IsPipelineEnd}
-use Rattle.beam_command.specs.Kits.{AreKitsLeft, HasNotBegun, IsOutcomeOfKits, IsOutcomeOfOpened, KeepsShelf, first_files, in_use, observed_at, observed_in_use, workers_of}
+use Rattle.beam_command.specs.Ends.{IsEndOf}
+use Rattle.beam_command.specs.Kits.{AreKitsLeft, HasNotBegun, IsOutcomeOfKits, IsOutcomeOfOpened, KeepsShelf, first_files, in_use, observed_for, observed_in_use, workers_of}
 use Rattle.beam_command.specs.Promises.{IsPlanAsked}
 use Rattle.beam_command.proofs.Kept.{all_same, become_front, become_length, idle_same, keeps_same}
 
@@ -82,9 +81,9 @@ module _ {F S : Type 0} (of_shelf : ShelfGhosts F) (of_store : StoreGhosts S) (a
         → IsOutcomeOfKits of_store asked kits (news ++ back) o
     outcome_left o plan opened = record { plan = plan; opened = subst (λ (own : List (Kit F S)). IsOutcomeOfOpened of_store own o) (sym in_use_after) opened }
 
-    pub end_in_use : {W : Type 0} (of_sink : SinkGhosts W) (out_old out_new : W) (own : Asked) (options : Options) (s : Status) (outcome : Option Outcome)
-        → IsPipelineEnd (observed_at of_shelf of_store of_sink front news out_old out_new) own options s outcome
-        → IsPipelineEnd (observed_in_use of_shelf of_store of_sink asked kits (news ++ back) out_old out_new) own options s outcome
-    end_in_use of_sink out_old out_new own options s outcome end =
-        subst (λ (both : List (Kit F S) × List (Kit F S)). IsPipelineEnd (observed_at of_shelf of_store of_sink both.0 both.1 out_old out_new) own options s outcome)
+    pub end_in_use : {W : Type 0} (of_sink : SinkGhosts W) (out_old out_new : W) (s : Status) (outcome : Option Outcome)
+        → IsEndOf asked (observed_for of_shelf of_store of_sink asked front news out_old out_new) s outcome
+        → IsEndOf asked (observed_in_use of_shelf of_store of_sink asked kits (news ++ back) out_old out_new) s outcome
+    end_in_use of_sink out_old out_new s outcome end =
+        subst (λ (both : List (Kit F S) × List (Kit F S)). IsEndOf asked (observed_for of_shelf of_store of_sink asked both.0 both.1 out_old out_new) s outcome)
         (λ i. (sym in_use_before i, sym in_use_after i)) end

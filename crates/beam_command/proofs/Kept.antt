@@ -26,6 +26,7 @@ use Rattle.run_engine.proofs.Opens.{become_onward, opened_later, same_become}
 use Rattle.command_ends.specs.Notes.{StaysOrNoMemory}
 use Rattle.beam_command.specs.Kits.{AreKitsLeft, HasNotBegun, IsOutcomeOfOpened, KeepsShelf, first_files}
 use Rattle.beam_command.specs.Pipelines.{IsRunPrinted}
+use Rattle.beam_command.specs.declared.pipeline.Report.{Report}
 
 -- ---- what becomes of each
 
@@ -74,34 +75,38 @@ if_same P None a is h = absurd (cc)
 if_same P (Some b) a is h = let same : b ≡ a = cc in subst P (sym same) h
 
 -- the outcome that is handed out after a text was written is the run's
-pub printed_some : (out : ObservedSink) (attempts : ℕ) (o : Outcome) (s : Status) (outcome : Option Outcome) (P : Outcome → Type 0) → P o → IsRunPrinted out attempts o s outcome → IfSome outcome P
-printed_some out attempts o status.Ok outcome P holds printed = if_same P outcome o printed.0 holds
-printed_some out attempts o status.SinkFault outcome P holds printed = if_same P outcome o printed.0 holds
-printed_some out attempts o status.NoMemory outcome P holds printed = if_none P outcome printed.0
-printed_some out attempts o status.Help outcome P holds printed = absurd printed
-printed_some out attempts o status.Usage outcome P holds printed = absurd printed
-printed_some out attempts o (status.BadPlan refusal) outcome P holds printed = absurd printed
-printed_some out attempts o (status.NoSource name) outcome P holds printed = absurd printed
-printed_some out attempts o (status.SourceFault kit) outcome P holds printed = absurd printed
-printed_some out attempts o (status.FileChanged name len other) outcome P holds printed = absurd printed
-printed_some out attempts o (status.WorkFault note) outcome P holds printed = absurd printed
+pub printed_some : (out : ObservedSink) (attempts : ℕ) (report : Report) (o : Outcome) (s : Status) (outcome : Option Outcome) (P : Outcome → Type 0) → P o
+    → IsRunPrinted out attempts report o s outcome → IfSome outcome P
+printed_some out attempts report o status.Ok outcome P holds printed = if_same P outcome o printed.0 holds
+printed_some out attempts report o status.SinkFault outcome P holds printed = if_same P outcome o printed.0 holds
+printed_some out attempts report o status.NoMemory outcome P holds printed = if_none P outcome printed.0
+printed_some out attempts report o status.Help outcome P holds printed = absurd printed
+printed_some out attempts report o status.Usage outcome P holds printed = absurd printed
+printed_some out attempts report o (status.BadPlan refusal) outcome P holds printed = absurd printed
+printed_some out attempts report o (status.NoSource name) outcome P holds printed = absurd printed
+printed_some out attempts report o (status.SourceFault kit) outcome P holds printed = absurd printed
+printed_some out attempts report o (status.FileChanged name len other) outcome P holds printed = absurd printed
+printed_some out attempts report o (status.WorkFault note) outcome P holds printed = absurd printed
+printed_some out attempts report o (status.BadSchedule why) outcome P holds printed = absurd printed
 
-pub printed_begun : (out : ObservedSink) (attempts : ℕ) (o : Outcome) (s : Status) (outcome : Option Outcome) → IsRunPrinted out attempts o s outcome → HasNotBegun s → ⊥
-printed_begun out attempts o status.Ok outcome printed none = none
-printed_begun out attempts o status.SinkFault outcome printed none = none
-printed_begun out attempts o status.NoMemory outcome printed none = none
-printed_begun out attempts o status.Help outcome printed none = printed
-printed_begun out attempts o status.Usage outcome printed none = printed
-printed_begun out attempts o (status.BadPlan refusal) outcome printed none = printed
-printed_begun out attempts o (status.NoSource name) outcome printed none = printed
-printed_begun out attempts o (status.SourceFault kit) outcome printed none = printed
-printed_begun out attempts o (status.FileChanged name len other) outcome printed none = printed
-printed_begun out attempts o (status.WorkFault note) outcome printed none = none
+pub printed_begun : (out : ObservedSink) (attempts : ℕ) (report : Report) (o : Outcome) (s : Status) (outcome : Option Outcome) → IsRunPrinted out attempts report o s outcome → HasNotBegun s
+    → ⊥
+printed_begun out attempts report o status.Ok outcome printed none = none
+printed_begun out attempts report o status.SinkFault outcome printed none = none
+printed_begun out attempts report o status.NoMemory outcome printed none = none
+printed_begun out attempts report o status.Help outcome printed none = printed
+printed_begun out attempts report o status.Usage outcome printed none = printed
+printed_begun out attempts report o (status.BadPlan refusal) outcome printed none = printed
+printed_begun out attempts report o (status.NoSource name) outcome printed none = printed
+printed_begun out attempts report o (status.SourceFault kit) outcome printed none = printed
+printed_begun out attempts report o (status.FileChanged name len other) outcome printed none = printed
+printed_begun out attempts report o (status.WorkFault note) outcome printed none = none
+printed_begun out attempts report o (status.BadSchedule why) outcome printed none = printed
 
 module _ (seen : ObservedKits) (plan : Plan) (options : Options) where
   -- of a run that came to its end, whose text was written or not
-  module _ (reached : Status) (own : Option Outcome) (ended : IsPlanEnd seen plan options reached own) (is : reached ≡ status.Ok) (out : ObservedSink) (attempts : ℕ) (s : Status) (outcome : Option Outcome)
-      (printed : (o : Outcome) → own ≡ Some o → IsRunPrinted out attempts o s outcome) where
+  module _ (reached : Status) (own : Option Outcome) (ended : IsPlanEnd seen plan options reached own) (is : reached ≡ status.Ok) (out : ObservedSink) (attempts : ℕ) (report : Report)
+      (s : Status) (outcome : Option Outcome) (printed : (o : Outcome) → own ≡ Some o → IsRunPrinted out attempts report o s outcome) where
     through : IsPlanEnd seen plan options status.Ok own
     through = subst (λ (st : Status). IsPlanEnd seen plan options st own) is ended
 
@@ -110,10 +115,10 @@ module _ (seen : ObservedKits) (plan : Plan) (options : Options) where
       where
         by : (o : Option Outcome) → own ≡ o → IfSome o P → IfSome outcome P
         by None none h = let never : None ≡ Some through.0 = sym none ∙ through.1 in absurd (cc)
-        by (Some o) same h = printed_some out attempts o s outcome P h (printed o same)
+        by (Some o) same h = printed_some out attempts report o s outcome P h (printed o same)
 
     pub finished_begun : HasNotBegun s → ⊥
-    finished_begun none = printed_begun out attempts through.0 s outcome (printed through.0 through.1) none
+    finished_begun none = printed_begun out attempts report through.0 s outcome (printed through.0 through.1) none
 
   pub run_begun : (s : Status) (outcome : Option Outcome) → IsPlanEnd seen plan options s outcome → HasNotBegun s → ⊥
   run_begun status.Ok outcome end none = none
@@ -126,6 +131,7 @@ module _ (seen : ObservedKits) (plan : Plan) (options : Options) where
   run_begun (status.NoSource name) outcome end none = end
   run_begun (status.SourceFault kit) outcome end none = end
   run_begun (status.FileChanged name len other) outcome end none = end
+  run_begun (status.BadSchedule why) outcome end none = end
 
   -- the outcome of a run is of its plan
   pub run_of_plan : (s : Status) (outcome : Option Outcome) → IsPlanEnd seen plan options s outcome → IfSome outcome (λ o. o.plan ≡ plan)
@@ -139,6 +145,7 @@ module _ (seen : ObservedKits) (plan : Plan) (options : Options) where
   run_of_plan (status.NoSource name) outcome end = absurd end
   run_of_plan (status.SourceFault kit) outcome end = absurd end
   run_of_plan (status.FileChanged name len other) outcome end = absurd end
+  run_of_plan (status.BadSchedule why) outcome end = absurd end
 
 -- ---- the kits of a run
 
@@ -229,7 +236,7 @@ module _ {F S : Type 0} (of_shelf : ShelfGhosts F) (of_store : StoreGhosts S) wh
       )
 
 module _ {F S : Type 0} (of_store : StoreGhosts S) where
-  -- where files were opened at most, no function was called
+  -- where files were opened at most, each shelf is what it was
   pub idle_opened : (olds mids : List (Kit F S)) → EachBecomes olds mids (OpensKit of_store) → EachBecomes olds mids KeepsShelf
   idle_opened olds mids each = become_weaker (OpensKit of_store) KeepsShelf (λ old mid is. is.0) olds mids each
 
@@ -279,4 +286,5 @@ still_some P s before after none stays h = by s refl
     by (status.SourceFault kit) is = kept (stays (λ no. cc))
     by (status.WorkFault note) is = kept (stays (λ no. cc))
     by (status.FileChanged name first other) is = kept (stays (λ no. cc))
+    by (status.BadSchedule why) is = kept (stays (λ no. cc))
     by status.SinkFault is = kept (stays (λ no. cc))

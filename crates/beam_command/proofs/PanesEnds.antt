@@ -30,8 +30,8 @@ use Rattle.book_core.specs.Book.{SeenBook}
 use Rattle.book_core.specs.Facts.{AreKept}
 use Rattle.book_core.specs.Runs.{AreTold, HonestlyReached, IsEnded, Reached}
 use Rattle.book_core.specs.Work.{Surroundings}
-use Rattle.command_words.specs.Commands.{Asked, Help, Panes, Run}
-use Rattle.command_words.specs.Rules.{Asks, ByDefault, ForHelp, ForPanes, ForRun, Given, IsValue}
+use Rattle.command_words.specs.Commands.{Asked, Help, Panes, Run, Replay, Make, Drill}
+use Rattle.command_words.specs.Rules.{Asks, ByDefault, ForHelp, ForPanes, ForRun, ForReplay, ForMake, ForDrill, Given, IsValue}
 use Rattle.command_words.specs.Parts.{Part}
 use Rattle.command_words.specs.declared.setting.Setting.TheVariants.{Attempts}
 use Rattle.ended_runs.specs.Stops.{IsHonestStop}
@@ -43,9 +43,10 @@ use Rattle.command_ends.specs.Statuses.{IsNoSourceOrNoMemory}
 use Rattle.run_engine.specs.PlanRun.{IsStoppedBy, surroundings_of}
 use Rattle.command_ends.specs.declared.status.Status.{Status}
 use Rattle.command_ends.specs.declared.status.Status.TheVariants as status
-use Rattle.beam_command.specs.Asking.{IsPlanOf}
-use Rattle.beam_command.specs.Completeness.{AreReadFaultsFew, AsksForPoison, FailsOnPoison, HasInputs, HasNotFailed, IsEndOfClean, IsEndOfPoison, IsStrict, WherePanes, first_fault}
-use Rattle.beam_command.specs.Ends.{Observed, AreFound, AreSourcesRefused, HasRun, IsDocumentRefused, IsEndOf, IsOutcomeOfAsked, IsPipelineEnd}
+use Rattle.beam_command.specs.Asking.{IsPlanOf, WherePanes}
+use Rattle.beam_command.specs.Completeness.{AreReadFaultsFew, AsksForPoison, FailsOnPoison, HasInputs, HasNotFailed, IsEndOfClean, IsEndOfPoison, IsStrict, first_fault}
+use Rattle.beam_command.specs.Ends.{AreSourcesRefused, HasRun, IsDocumentRefused, IsEndOf, IsOutcomeOfAsked, IsPipelineEnd, IsRun}
+use Rattle.beam_command.specs.Observing.{Observed, AreFound}
 use Rattle.beam_command.specs.Promises.{IsPlanAsked}
 use Rattle.beam_command.proofs.Completeness.{among, began, complete, complete_strict, named_not_none, not_failed, plan_is, unchanged}
 use Rattle.beam_command.proofs.PanesStops.{stop_is_poison}
@@ -95,12 +96,18 @@ abbrev pub HasAttempts : Asked → Type 0
 HasAttempts Help = Unit {0}
 HasAttempts (Panes file size options) = 1 ≤ options.attempts
 HasAttempts (Run name options) = 1 ≤ options.attempts
+HasAttempts (Replay name schedule options) = 1 ≤ options.attempts
+HasAttempts (Make count number) = Unit {0}
+HasAttempts (Drill count number options) = 1 ≤ options.attempts
 
 -- words ask for one attempt at least
 pub some_attempts : (words : List (List ℕ)) (asked : Asked) → Asks words asked → HasAttempts asked
 some_attempts _ _ (ForHelp words asks) = tt
 some_attempts _ _ (ForPanes program words parts file size options are two given some short number) = some_value parts options.attempts given.attempts
 some_attempts _ _ (ForRun program words parts plan options are one given) = some_value parts options.attempts given.attempts
+some_attempts _ _ (ForReplay program words parts plan schedule options are two given) = some_value parts options.attempts given.attempts
+some_attempts _ _ (ForMake program words parts count number are two none count_is number_is) = tt
+some_attempts _ _ (ForDrill program words parts count number options are two given count_is number_is) = some_value parts options.attempts given.attempts
 
 -- ---- the ends of any pipeline over poison
 
@@ -114,13 +121,24 @@ module _ (asked : Option Asked) (observed : Observed) (told : List FileText) (te
       let same = plan_is observed.kits.store told tells own poison.0 o.plan asks kept in
       accounted-no_poison (items told o.plan) o (nothing_left_out (items told o.plan) o run.3.of_book.dead) (account told tells) (subst (λ (p : Plan). HasPoison p (items told p)) (sym same) poison.2)
 
+-- what is so of the outcome of a run that came to its end is so at Ok, where a plan is asked for
+ran : (asked : Option Asked) (plan : Plan) (told : List FileText) (s : Status) (outcome : Option Outcome) (Q : Type 0) → IsPlanAsked (Some told) asked plan
+    → IsRun asked (record { status = s; outcome = outcome }) (λ o. Q) → s ≡ status.Ok → Q
+ran None plan told s outcome Q of run is = absurd of
+ran (Some Help) plan told s outcome Q of run is = absurd of
+ran (Some (Panes file size options)) plan told s outcome Q of run is = (subst (λ (st : Status). HasRun st outcome (λ o. Q)) is run).2
+ran (Some (Run name options)) plan told s outcome Q of run is = (subst (λ (st : Status). HasRun st outcome (λ o. Q)) is run).2
+ran (Some (Replay name schedule options)) plan told s outcome Q of run is = absurd of
+ran (Some (Make count number)) plan told s outcome Q of run is = absurd of
+ran (Some (Drill count number options)) plan told s outcome Q of run is = (subst (λ (st : Status). HasRun st outcome (λ o. Q)) is run).2
+
 -- so no run over poison ends Ok
 pub not_ok : (asked : Option Asked) (observed : Observed)
     → ((own : Asked) (options : Options) (o : Outcome) → asked ≡ Some own → IsOutcomeOfAsked observed own options IsEnded o → WhereTold observed.kits.store.files (λ told. IsAccounted (items told o.plan) o))
     → (s : Status) (outcome : Option Outcome) → IsEndOf asked observed s outcome → WhereTold observed.kits.store.files (λ told. AsksForPoison told asked → s ≡ status.Ok → ⊥)
 not_ok asked observed account s outcome end = λ told tells poison is.
-    let run = promised asked observed (λ o. AsksForPoison told asked → ⊥) (λ own options o same run. unpoisoned asked observed told tells own options o same run (account own options o same run)) s outcome end in
-    (subst (λ (st : Status). HasRun st outcome (λ o. AsksForPoison told asked → ⊥)) is run).2 poison
+    let run = promised asked observed (λ o. ⊥) (λ own options o same run. unpoisoned asked observed told tells own options o same run (account own options o same run) poison) s outcome end in
+    absurd (ran asked poison.0 told s outcome ⊥ poison.1 run is)
 
 -- ---- the ends of `panes`
 
@@ -164,6 +182,7 @@ module _ (observed : Observed) (of_one : AreOfOne observed.kits) (told : List Fi
     not_opened status.Usage refused = absurd refused
     not_opened (status.WorkFault note) refused = absurd refused
     not_opened status.SinkFault refused = absurd refused
+    not_opened (status.BadSchedule why) refused = absurd refused
 
     absent_unbegun : (s : Status) → Begins s → IsNoSourceOrNoMemory file s
     absent_unbegun s why = elim why [
@@ -185,6 +204,7 @@ module _ (observed : Observed) (of_one : AreOfOne observed.kits) (told : List Fi
     absent_ends status.NoMemory outcome end = absent_unbegun status.NoMemory end.2
     absent_ends status.Help outcome end = absent_unbegun status.Help end.2
     absent_ends status.Usage outcome end = absent_unbegun status.Usage end.2
+    absent_ends (status.BadSchedule why) outcome end = absent_unbegun (status.BadSchedule why) end.2
 
   -- ---- a file that is there
 
@@ -214,6 +234,7 @@ module _ (observed : Observed) (of_one : AreOfOne observed.kits) (told : List Fi
       poison_ends status.NoMemory outcome end = inr (unbegun status.NoMemory end.2)
       poison_ends status.Help outcome end = inr (unbegun status.Help end.2)
       poison_ends status.Usage outcome end = inr (unbegun status.Usage end.2)
+      poison_ends (status.BadSchedule why) outcome end = inr (unbegun (status.BadSchedule why) end.2)
 
 -- ---- by what is asked for
 
@@ -223,6 +244,9 @@ module _ (observed : Observed) (of_one : AreOfOne observed.kits) (s : Status) (o
   absent None tried end = tt
   absent (Some Help) tried end = tt
   absent (Some (Run name options)) tried end = tt
+  absent (Some (Replay name schedule options)) tried end = tt
+  absent (Some (Make count number)) tried end = tt
+  absent (Some (Drill count number options)) tried end = tt
   absent (Some (Panes file size options)) tried end = λ whole told tells none.
       absent_ends observed of_one told tells file size options (tried (Panes file size options) refl) whole none s outcome end
 
@@ -246,6 +270,9 @@ module _ (observed : Observed) (of_one : AreOfOne observed.kits) (s : Status) (o
     poison None tried account end = tt
     poison (Some Help) tried account end = tt
     poison (Some (Run name options)) tried account end = tt
+    poison (Some (Replay name schedule options)) tried account end = tt
+    poison (Some (Make count number)) tried account end = tt
+    poison (Some (Drill count number options)) tried account end = tt
     poison (Some (Panes file size options)) tried account end = λ whole strict told tells found asks.
         let own = Panes file size options in
         poison_ends observed of_one told tells file size options (tried own refl) whole found (stopped told tells file size options) strict
@@ -259,6 +286,9 @@ module _ (observed : Observed) (of_one : AreOfOne observed.kits) (s : Status) (o
     clean by_reads None end = tt
     clean by_reads (Some Help) end = tt
     clean by_reads (Some (Run name options)) end = tt
+    clean by_reads (Some (Replay name schedule options)) end = tt
+    clean by_reads (Some (Make count number)) end = tt
+    clean by_reads (Some (Drill count number options)) end = tt
     clean by_reads (Some (Panes file size options)) end = λ few shelf told tells found never.
         let own = Panes file size options in
         let seen : Surroundings = record { told = Some told; strict = true } in

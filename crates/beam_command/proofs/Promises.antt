@@ -1,32 +1,28 @@
 -- What the ends of a command say of its outcome.
-use Rattle.std.proofs.Common.{◌≡◌, ℕ, zero, suc, ℤ, true, List, [], map, Option, Some, None, refl, sym, ap, subst, ◌∙◌}
-use Rattle.std.proofs.lemmas.List.Elements.{All-nil, All-cons}
-use Rattle.beam_values.specs.Nodes.{is_above}
+use Rattle.std.proofs.Common.{◌≡◌, List, map, Option, Some, None, refl, sym, ap, subst, ◌∙◌}
 use Rattle.beam_values.specs.declared.file_text.FileText.{FileText}
 use Rattle.beam_values.specs.declared.options.Options.{Options}
 use Rattle.beam_values.specs.declared.outcome.Outcome.{Outcome}
 use Rattle.beam_values.specs.declared.plan.Plan.{Plan}
 use Rattle.beam_model.specs.Account.{IsAccounted}
 use Rattle.beam_model.specs.Covers.{IsCovered}
-use Rattle.beam_model.specs.Estimators.{AreSoundAbove, IsSoundItem}
-use Rattle.beam_model.specs.Holds.{estimator_of}
 use Rattle.beam_model.specs.Logs.{AreLogsLegal}
-use Rattle.beam_model.specs.Panes.{ArePanesLegal, trigger_of}
-use Rattle.beam_model.specs.Plain.{ArePlainlyWritten, ArePlainlyWrittenWhere}
-use Rattle.beam_model.specs.Plans.{default_trigger, panes_plan}
-use Rattle.beam_model.specs.Positions.{SourceItem, items, item_len}
+use Rattle.beam_model.specs.Panes.{ArePanesLegal}
+use Rattle.beam_model.specs.Plain.{ArePlainlyWrittenWhere}
+use Rattle.beam_model.specs.Positions.{items, item_len}
 use Rattle.beam_ports.specs.Observed.{WhereTold}
 use Rattle.book_core.specs.Book.{SeenBook}
 use Rattle.book_core.specs.Calls.{IsOutcomeOf}
 use Rattle.book_core.specs.Runs.{AreTold, HonestlyReached, IsEnded, IsThrough, Reached}
 use Rattle.book_core.specs.Work.{Surroundings}
-use Rattle.command_words.specs.Commands.{Asked, Help, Panes, Run}
+use Rattle.command_words.specs.Commands.{Asked, Help, Panes, Run, Replay, Make, Drill}
 use Rattle.ended_runs.specs.Storable.{ArePanesStorable}
 use Rattle.command_ends.specs.declared.status.Status.{Status}
 use Rattle.command_ends.specs.declared.status.Status.TheVariants as status
 use Rattle.beam_command.specs.Asking.{IsPlanOf}
-use Rattle.beam_command.specs.Ends.{Observed, AreFound, HasRun, IsEndOf, IsHelpEnd, IsOutcomeOfAsked, IsPipelineEnd}
-use Rattle.beam_command.specs.Promises.{AsksPanes, HasLegalLogs, HasLegalPanes, IsPlanAsked}
+use Rattle.beam_command.specs.Ends.{HasRun, IsEndOf, IsOutcomeOfAsked, IsPipelineEnd, IsRun}
+use Rattle.beam_command.specs.Observing.{Observed, AreFound}
+use Rattle.beam_command.specs.Promises.{HasLegalLogs, HasLegalPanes, IsPlanAsked}
 
 -- ---- from the end of a command to what holds of its outcome
 
@@ -44,27 +40,19 @@ module _ (asked : Option Asked) (observed : Observed) (P : Outcome → Type 0)
   of_pipeline own options is (status.SourceFault kit) outcome end = tt
   of_pipeline own options is (status.WorkFault note) outcome end = tt
   of_pipeline own options is (status.FileChanged name len other) outcome end = tt
+  of_pipeline own options is (status.BadSchedule why) outcome end = tt
   of_pipeline own options is status.NoMemory outcome end = tt
 
-  of_help : (s : Status) (outcome : Option Outcome) → IsHelpEnd observed.out s → outcome ≡ None → HasRun s outcome P
-  of_help status.Ok outcome end none = absurd end
-  of_help status.SinkFault outcome end none = λ o has. cc (none, has)
-  of_help status.Help outcome end none = tt
-  of_help status.Usage outcome end none = tt
-  of_help (status.BadPlan refusal) outcome end none = tt
-  of_help (status.NoSource name) outcome end none = tt
-  of_help (status.SourceFault kit) outcome end none = tt
-  of_help (status.WorkFault note) outcome end none = tt
-  of_help (status.FileChanged name len other) outcome end none = tt
-  of_help status.NoMemory outcome end none = tt
-
-  of_asked : (a : Option Asked) → asked ≡ a → (s : Status) (outcome : Option Outcome) → IsEndOf a observed s outcome → HasRun s outcome P
-  of_asked None is s outcome end = subst (λ (st : Status). HasRun st outcome P) (sym end.0) tt
-  of_asked (Some Help) is s outcome end = of_help s outcome end.0 end.1
+  of_asked : (a : Option Asked) → asked ≡ a → (s : Status) (outcome : Option Outcome) → IsEndOf a observed s outcome → IsRun a (record { status = s; outcome = outcome }) P
+  of_asked None is s outcome end = tt
+  of_asked (Some Help) is s outcome end = tt
   of_asked (Some (Panes file size options)) is s outcome end = of_pipeline (Panes file size options) options is s outcome end
   of_asked (Some (Run name options)) is s outcome end = of_pipeline (Run name options) options is s outcome end
+  of_asked (Some (Replay name schedule options)) is s outcome end = tt
+  of_asked (Some (Make count number)) is s outcome end = tt
+  of_asked (Some (Drill count number options)) is s outcome end = of_pipeline (Drill count number options) options is s outcome end
 
-  pub promised : (s : Status) (outcome : Option Outcome) → IsEndOf asked observed s outcome → HasRun s outcome P
+  pub promised : (s : Status) (outcome : Option Outcome) → IsEndOf asked observed s outcome → IsRun asked (record { status = s; outcome = outcome }) P
   promised s outcome end = of_asked asked refl s outcome end
 
 -- ---- what holds of it
@@ -113,32 +101,3 @@ module _ (asked : Option Asked) (observed : Observed) (own : Asked) (options : O
     plainly law = λ told tells.
         subst (λ (p : Plan). ArePlainlyWrittenWhere (items told p) o) (sym run.3.of_book.plan)
         (law told run.3.book o (reached_told told tells) (run.3.lengths told tells) run.3.is.through run.3.of_book run.3.storable)
-
--- ---- the plan of `panes` has the default trigger and no estimator
-
-trigger_is : (file : List ℕ) (size : ℤ) (node : ℕ) → trigger_of (panes_plan file size) node ≡ default_trigger
-trigger_is file size zero = refl
-trigger_is file size (suc zero) = refl
-trigger_is file size (suc (suc zero)) = refl
-trigger_is file size (suc (suc (suc zero))) = refl
-trigger_is file size (suc (suc (suc (suc zero)))) = refl
-trigger_is file size (suc (suc (suc (suc (suc node))))) = refl
-
-sound_above : (told : List FileText) (file : List ℕ) (size : ℤ) (node : ℕ) → AreSoundAbove (panes_plan file size) (items told (panes_plan file size)) node
-sound_above told file size node =
-    All-cons (λ (item : SourceItem). is_above (panes_plan file size) item.node node ≡ true → IsSoundItem (estimator_of (panes_plan file size) item.node) item) _ []
-    (λ above p q before inside. All-nil _) (All-nil _)
-
-plain_at : (told : List FileText) (file : List ℕ) (size : ℤ) (o : Outcome) → o.plan ≡ panes_plan file size → ArePlainlyWrittenWhere (items told o.plan) o
-    → ArePlainlyWritten (items told o.plan) o
-plain_at told file size o is plain = λ node write stateless.
-    plain node write stateless (λ group above. ap (λ (p : Plan). trigger_of p group) is ∙ trigger_is file size group)
-    (subst (λ (p : Plan). AreSoundAbove p (items told p) node) (sym is) (sound_above told file size node))
-
--- what `panes` writes is plain grouping
-pub panes_plainly : (asked : Option Asked) (files : Option (List FileText)) (o : Outcome) → AsksPanes asked → IsPlanAsked files asked o.plan
-    → WhereTold files (λ told. ArePlainlyWrittenWhere (items told o.plan) o) → WhereTold files (λ told. ArePlainlyWritten (items told o.plan) o)
-panes_plainly None files o asks plan plain = absurd asks
-panes_plainly (Some Help) files o asks plan plain = absurd asks
-panes_plainly (Some (Run name options)) files o asks plan plain = absurd asks
-panes_plainly (Some (Panes file size options)) files o asks plan plain = λ told tells. plain_at told file size o plan (plain told tells)

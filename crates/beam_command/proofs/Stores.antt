@@ -18,7 +18,9 @@ use Rattle.run_engine.specs.Kits.{ObservedKits, OpensKit, observed_each, observe
 use Rattle.run_engine.specs.Openings.{AreOpenedByAll}
 use Rattle.run_engine.specs.PlanRun.{IsPlanEnd}
 use Rattle.command_ends.specs.declared.status.Status.{Status}
-use Rattle.beam_command.specs.Ends.{AreFound}
+use Rattle.command_words.specs.Commands.{Asked, Help, Panes, Run, Replay, Make, Drill}
+use Rattle.beam_command.specs.Kits.{kits_for, without_files}
+use Rattle.beam_command.specs.Observing.{AreFound}
 use Rattle.beam_command.proofs.Graphs.{are_found, ended_since}
 
 -- ---- each store, where all are observed as one
@@ -65,6 +67,31 @@ module _ {F S : Type 0} (of_store : StoreGhosts S) where
   pub are_of_one : (of_shelf : ShelfGhosts F) (olds news : List (Kit F S)) → AreOfOne (observed_kits of_shelf of_store olds news)
   are_of_one of_shelf olds news =
       each_of_one (told_by (map (λ kit. of_store.files kit.store) olds)) (sum_rises (λ kit. of_store.faults kit.store) olds news) olds news (told_by_each (map (λ kit. of_store.files kit.store) olds)) (omega arith)
+
+-- ---- the same, as a command sees its stores
+
+same_store : (a b : ObservedStore) → Some a ≡ Some b → a ≡ b
+same_store a b same = cc
+
+module _ (whole : ObservedStore) where
+  abbrev untold : ObservedStore
+  untold = without_files whole
+
+  each_untold : (stores : List ObservedStore) → EachIsOf stores whole → EachIsOf (map without_files stores) untold
+  each_untold [] each at store is = absurd (cc)
+  each_untold (first ∷ others) each zero store is =
+      let counts : rise first.before first.after ≤ rise whole.before whole.after = (each 0 first refl).counts in
+      subst (IsOneOf untold) (same_store (without_files first) store is) (record { files = inr refl; counts = counts })
+  each_untold (first ∷ others) each (suc at) store is = each_untold others (λ k own has. each (suc k) own has) at store is
+
+pub seen_of_one : (asked : Option Asked) (kits : ObservedKits) → AreOfOne kits → AreOfOne (kits_for asked kits)
+seen_of_one None kits of_one = of_one
+seen_of_one (Some Help) kits of_one = of_one
+seen_of_one (Some (Panes file size options)) kits of_one = of_one
+seen_of_one (Some (Run name options)) kits of_one = of_one
+seen_of_one (Some (Replay name schedule options)) kits of_one = of_one
+seen_of_one (Some (Make count number)) kits of_one = of_one
+seen_of_one (Some (Drill count number options)) kits of_one = each_untold kits.store kits.stores of_one
 
 -- ---- what is observed since an earlier call
 

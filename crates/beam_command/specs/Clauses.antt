@@ -1,8 +1,8 @@
 -- What the clauses of a command speak of, and what they say, each in one word.
-use Rattle.std.specs.Prelude.{◌≡◌, List, [], map, Option, Vec, IfSome}
+use Rattle.std.specs.Prelude.{◌≡◌, ℕ, List, [], map, Option, Vec, IfSome}
 use Rattle.std.specs.declared.alloc.Global.{Global}
 use Rattle.std.specs.declared.string.String.{String}
-use Rattle.beam_ports.specs.Observed.{WhereTold}
+use Rattle.beam_ports.specs.Observed.{ObservedSink, WhereTold}
 use Rattle.beam_ports.specs.declared.sink.Sink.{Ghosts as SinkGhosts}
 use Rattle.beam_ports.specs.declared.store.Store.{Ghosts as StoreGhosts}
 use Rattle.beam_values.specs.declared.file_text.FileText.{FileText}
@@ -15,9 +15,15 @@ use Rattle.command_words.specs.Commands.{Asked, command_of, words_of}
 use Rattle.dofn_traits.specs.declared.shelf.Shelf.{Ghosts as ShelfGhosts}
 use Rattle.bundle_work.specs.declared.kit.Kit.{Kit}
 use Rattle.run_engine.specs.declared.run_end.RunEnd.{RunEnd}
-use Rattle.beam_command.specs.Ends.{Observed, AreFound, IsEndOf}
-use Rattle.beam_command.specs.Kits.{AreKitsLeft, IsOutcomeOfKits, in_use, observed_in_use, told_files}
-use Rattle.beam_command.specs.Promises.{AsksPanes, IsPlanAsked}
+use Rattle.command_ends.specs.Writing.{IsWritten}
+use Rattle.command_ends.specs.declared.status.Status.{Status}
+use Rattle.command_ends.specs.declared.status.Status.TheVariants as status
+use Rattle.beam_command.specs.Asking.{WhereDrill}
+use Rattle.beam_command.specs.Drilling.{IsDrillText}
+use Rattle.beam_command.specs.Observing.{Observed, AreFound}
+use Rattle.beam_command.specs.Ends.{IsEndOf}
+use Rattle.beam_command.specs.Kits.{AreKitsLeft, IsOutcomeOfKits, in_use, observed_in_use, told_files, told_for}
+use Rattle.beam_command.specs.Promises.{AsksPlainPlan, IsPlanAsked}
 
 -- ---- what they speak of
 
@@ -25,13 +31,13 @@ use Rattle.beam_command.specs.Promises.{AsksPanes, IsPlanAsked}
 abbrev pub asked_by : List (String Global) → Option Asked
 asked_by words = command_of (words_of words)
 
--- what is asked for, and the files that the kits in use tell
+-- what is asked for, and what is told of the files that it opens
 pub record Asking : Type 0 where
   pub asked : Option Asked
   pub files : Option (List FileText)
 
 abbrev pub asking : {F S : Type 0} → StoreGhosts S → List (String Global) → Vec (Kit F S) Global → Asking
-asking s words kits = record { asked = asked_by words; files = told_files s.files (in_use (asked_by words) kits.items) }
+asking s words kits = record { asked = asked_by words; files = told_for (asked_by words) (told_files s.files (in_use (asked_by words) kits.items)) }
 
 -- what was observed at the kits in use and at the output
 abbrev pub observed_by : {F S W : Type 0} → ShelfGhosts F → StoreGhosts S → SinkGhosts W → List (String Global) → Vec (Kit F S) Global → Vec (Kit F S) Global → W → W → Observed
@@ -68,8 +74,19 @@ pub record IsPartitioned (o : Outcome) : Type 0 where
 abbrev pub IsAccountedFor : Asking → Outcome → Type 0
 IsAccountedFor asking o = WhereTold asking.files (λ told. IsAccounted (items told o.plan) o)
 
--- Where the files are told: what was written is plain grouping at each Write with the default trigger and sound estimators above it. So it is for `panes` at
--- each Write.
+-- Where the files are told: what was written is plain grouping at each Write with the default trigger and sound estimators above it. So it is for `panes` and
+-- for `drill` at each Write.
 pub record IsPlain (asking : Asking) (o : Outcome) : Type 0 where
   pub where_sound : WhereTold asking.files (λ told. ArePlainlyWrittenWhere (items told o.plan) o)
-  pub panes : AsksPanes asking.asked → WhereTold asking.files (λ told. ArePlainlyWritten (items told o.plan) o)
+  pub always : AsksPlainPlan asking.asked → WhereTold asking.files (λ told. ArePlainlyWritten (items told o.plan) o)
+
+-- ---- what they say of what was printed
+
+-- the text of a drill that came to its end was written, whatever the kits told, counted and did
+abbrev pub IsDrillPrinted : ObservedSink → ℕ → ℕ → ℕ → Status → Type 0
+IsDrillPrinted out attempts count number status.Ok = (text : List ℕ) × IsDrillText count number text × IsWritten out attempts text status.Ok
+IsDrillPrinted out attempts count number status.SinkFault = (text : List ℕ) × IsDrillText count number text × IsWritten out attempts text status.SinkFault
+IsDrillPrinted out attempts count number _ = Unit {0}
+
+abbrev pub PrintsDrill : Option Asked → ObservedSink → RunEnd → Type 0
+PrintsDrill asked out end = WhereDrill asked (λ count number options. IsDrillPrinted out options.attempts count number end.status)

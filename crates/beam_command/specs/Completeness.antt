@@ -1,5 +1,5 @@
 -- How a command must end where little or nothing outside fails: then the files decide.
-use Rattle.std.specs.Prelude.{◌≡◌, ◌⊎◌, true, ℕ, ◌+◌, ◌<◌, ◌≤◌, ℤ, List, Option, Some, None, IsSome}
+use Rattle.std.specs.Prelude.{◌≡◌, ◌⊎◌, true, ℕ, ◌+◌, ◌<◌, ◌≤◌, List, Option, Some, None, IsSome}
 use Rattle.beam_values.specs.Files.{first_named}
 use Rattle.beam_values.specs.declared.fault.Cause.TheVariants.{Call}
 use Rattle.beam_values.specs.declared.fault.FaultNote.{FaultNote}
@@ -12,28 +12,20 @@ use Rattle.beam_ports.specs.Counts.{Rose, rise}
 use Rattle.beam_ports.specs.Observed.{ObservedSink, ObservedStore, WhereTold}
 use Rattle.chain_exec.specs.Causes.{ObservedShelf}
 use Rattle.ended_runs.specs.Unpoisoned.{TakesNoPoison}
-use Rattle.command_words.specs.Commands.{Asked, Panes, Run}
+use Rattle.beam_text.specs.declared.refusal.ScheduleRefusal.{ScheduleRefusal}
+use Rattle.beam_text.specs.declared.refusal.ScheduleRefusal.TheVariants as refusal
+use Rattle.command_words.specs.Commands.{Asked}
 use Rattle.run_engine.specs.Kits.{ObservedKits}
 use Rattle.run_engine.specs.declared.run_end.RunEnd.{RunEnd}
 use Rattle.command_ends.specs.Statuses.{IsNoSourceOrNoMemory}
 use Rattle.command_ends.specs.declared.status.Status.{Status}
 use Rattle.command_ends.specs.declared.status.Status.TheVariants as status
-use Rattle.beam_command.specs.Asking.{IsPlanOf}
-use Rattle.beam_command.specs.Ends.{Observed, AreFound}
+use Rattle.beam_command.specs.Asking.{IsPlanOf, WherePanes, WherePipeline, WhereReplay}
+use Rattle.beam_command.specs.Observing.{Observed, AreFound}
 use Rattle.beam_command.specs.Promises.{IsPlanAsked}
+use Rattle.beam_command.specs.ReplayEnds.{AreInputsOf, IsRefusedOf, Replayed}
 
 -- ---- what is asked for
-
--- this holds of the file, the size and the options, where `panes` is asked for
-abbrev pub WherePanes : Option Asked → (List ℕ → ℤ → Options → Type 0) → Type 0
-WherePanes (Some (Panes file size options)) P = P file size options
-WherePanes _ P = Unit {0}
-
--- this holds of what is asked for and of its options, where it is a pipeline
-abbrev pub WherePipeline : Option Asked → (Asked → Options → Type 0) → Type 0
-WherePipeline (Some (Panes file size options)) P = P (Panes file size options) options
-WherePipeline (Some (Run name options)) P = P (Run name options) options
-WherePipeline _ P = Unit {0}
 
 -- of these files, a position that the plan reads is poison
 abbrev pub AsksForPoison : List FileText → Option Asked → Type 0
@@ -47,6 +39,15 @@ HasInputs told asked = (plan : Plan) × IsPlanOf (Some told) asked plan × AreFo
 abbrev pub HasCleanInputs : List FileText → Asked → Options → Type 0
 HasCleanInputs told asked options =
     (plan : Plan) × IsPlanOf (Some told) asked plan × AreFound (Some told) plan × TakesNoPoison (record { told = Some told; strict = true }) plan options
+
+-- what a replay works on is there: a plan with its files, and a schedule that isn't too long
+abbrev pub HasReplayInputs : List FileText → List ℕ → List ℕ → Type 0
+HasReplayInputs told name schedule = (inputs : Replayed) × AreInputsOf (Some told) name schedule inputs
+
+-- the same, and no line of the schedule is refused
+abbrev pub HasAcceptedSchedule : Observed → List FileText → List ℕ → List ℕ → Options → Type 0
+HasAcceptedSchedule observed told name schedule options =
+    (inputs : Replayed) × AreInputsOf (Some told) name schedule inputs × ((why : ScheduleRefusal) → IsRefusedOf observed.kits options inputs why → ⊥)
 
 -- ---- what doesn't fail, or seldom
 
@@ -99,6 +100,24 @@ IsEndOfFewFaults attempts out (status.FileChanged name len other) = Unit {0}
 IsEndOfFewFaults attempts out status.SinkFault = attempts ≤ rise out.before out.after
 IsEndOfFewFaults attempts out _ = ⊥
 
+-- what the schedule prints was written, or a line of it is refused
+abbrev pub IsEndOfReplay : Status → Type 0
+IsEndOfReplay status.Ok = Unit {0}
+IsEndOfReplay status.NoMemory = Unit {0}
+IsEndOfReplay (status.BadSchedule (refusal.Line number)) = Unit {0}
+IsEndOfReplay (status.BadSchedule (refusal.NotAllowed number)) = Unit {0}
+IsEndOfReplay _ = ⊥
+
+-- no opening or read failed as often as it may, however many calls did; the sink may have
+abbrev pub IsEndOfFewReads : ℕ → ObservedSink → Status → Type 0
+IsEndOfFewReads attempts out status.Ok = Unit {0}
+IsEndOfFewReads attempts out status.NoMemory = Unit {0}
+IsEndOfFewReads attempts out (status.BadPlan refusal) = Unit {0}
+IsEndOfFewReads attempts out (status.NoSource name) = Unit {0}
+IsEndOfFewReads attempts out (status.BadSchedule refusal) = Unit {0}
+IsEndOfFewReads attempts out status.SinkFault = attempts ≤ rise out.before out.after
+IsEndOfFewReads attempts out _ = ⊥
+
 -- two kits opened a file with different lengths
 abbrev pub IsChange : Status → Type 0
 IsChange (status.FileChanged name first other) = Unit {0}
@@ -125,11 +144,19 @@ pub record IsDecided (asked : Option Asked) (observed : Observed) (end : RunEnd)
   -- no run of the plan takes a job that is poison, over strict shelves, and few reads and writes fail
   pub complete_strict : WherePipeline asked (λ own options. IsStrict observed.kits.shelf
       → WhereTold observed.kits.store.files (λ told. HasCleanInputs told own options → AreReadFaultsFew options.attempts observed → IsEndOfClean end.status))
+  -- what a replay works on is there, and few reads and writes fail, however many calls of functions do
+  pub replay : WhereReplay asked (λ name schedule options. AreReadFaultsFew options.attempts observed
+      → WhereTold observed.kits.store.files (λ told. HasReplayInputs told name schedule → IsEndOfReplay end.status))
+  -- the same, of a schedule that is accepted
+  pub replay_accepted : WhereReplay asked (λ name schedule options. AreReadFaultsFew options.attempts observed
+      → WhereTold observed.kits.store.files (λ told. HasAcceptedSchedule observed told name schedule options → IsEndOfClean end.status))
   -- files that all stores tell alike don't change
   pub same_files : WhereTold observed.kits.store.files (λ told. IsChange end.status → ⊥)
 
 -- Whatever the stores tell, where few faults of the kits are counted. With 3 attempts and 2 faults at the kits a pipeline may end NoSource, or SinkFault where the
--- sink counted 3. It can't end SourceFault or WorkFault, each of which takes 3 at the kits.
+-- sink counted 3. It can't end SourceFault or WorkFault, each of which takes 3 at the kits. Of a replay only the faults of its store count.
 abbrev pub EndsWhereFewFail : Option Asked → Observed → RunEnd → Type 0
 EndsWhereFewFail asked observed end =
     WherePipeline asked (λ own options. AreKitFaultsFew options.attempts observed.kits → IsEndOfFewFaults options.attempts observed.out end.status)
+    × WhereReplay asked (λ name schedule options. rise observed.kits.store.before observed.kits.store.after < options.attempts
+    → IsEndOfFewReads options.attempts observed.out end.status)

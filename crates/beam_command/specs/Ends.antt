@@ -1,19 +1,14 @@
 -- How a command may end, and what each end means.
-use Rattle.std.specs.Prelude.{◌≡◌, ◌⊎◌, ℕ, List, Option, Some, None, IsSome, slice_get}
-use Rattle.std.specs.List.{All}
-use Rattle.beam_values.specs.Files.{first_named}
-use Rattle.beam_values.specs.declared.file_text.FileText.{FileText}
+use Rattle.std.specs.Prelude.{◌≡◌, ◌⊎◌, ℕ, List, Option, Some, None, slice_get}
 use Rattle.beam_values.specs.declared.options.Options.{Options}
 use Rattle.beam_values.specs.declared.outcome.Outcome.{Outcome}
 use Rattle.beam_values.specs.declared.plan.Plan.{Plan}
-use Rattle.beam_model.specs.Rendering.{IsRendering}
-use Rattle.beam_ports.specs.Observed.{ObservedStore, ObservedSink, WhereTold}
+use Rattle.beam_model.specs.Rendering.{IsRendering, summary}
+use Rattle.beam_ports.specs.Observed.{ObservedStore, ObservedSink}
 use Rattle.book_core.specs.Book.{SeenBook}
 use Rattle.book_core.specs.Runs.{IsEnded}
-use Rattle.command_words.specs.Commands.{Asked, Help, Panes, Run}
+use Rattle.command_words.specs.Commands.{Asked, Help, Panes, Run, Replay, Make, Drill}
 use Rattle.command_words.specs.HelpText.{help_text}
-use Rattle.bundle_work.specs.Openings.{file_names}
-use Rattle.run_engine.specs.Kits.{ObservedKits}
 use Rattle.run_engine.specs.Openings.{IsOpeningRefused}
 use Rattle.run_engine.specs.PlanRun.{IsOutcomeWhere, IsSpent, IsStoppedBy, surroundings_of}
 use Rattle.run_engine.specs.declared.run_end.RunEnd.{RunEnd}
@@ -21,22 +16,22 @@ use Rattle.command_ends.specs.PlanFiles.{IsPlanRefused}
 use Rattle.command_ends.specs.Writing.{IsWritten}
 use Rattle.command_ends.specs.declared.status.Status.{Status}
 use Rattle.command_ends.specs.declared.status.Status.TheVariants as status
-use Rattle.beam_command.specs.Asking.{IsPlanOf}
-
--- what a command observed at the kits in use and at its output
-pub record Observed : Type 0 where
-  pub kits : ObservedKits
-  pub out : ObservedSink
-
--- nothing was written
-abbrev pub IsUnwritten : Observed → Type 0
-IsUnwritten observed = observed.out.taken_after ≡ observed.out.taken_before
+use Rattle.beam_command.specs.Asking.{IsPlanOf, WherePipeline, report_of}
+use Rattle.beam_command.specs.Observing.{Observed, AreFound, IsUnwritten}
+use Rattle.beam_command.specs.ReplayEnds.{IsMakeEnd, IsReplayEnd, text_attempts}
+use Rattle.beam_command.specs.declared.pipeline.Report.{Report}
+use Rattle.beam_command.specs.declared.pipeline.Report.TheVariants.{Rendering, Summary}
 
 -- ---- what is written
 
--- the rendering of an outcome was written so
-abbrev pub IsPrinted : ObservedSink → ℕ → Status → Outcome → Type 0
-IsPrinted out attempts s o = (text : List ℕ) × IsRendering o text × IsWritten out attempts text s
+-- what is printed of an outcome
+abbrev pub IsReport : Report → Outcome → List ℕ → Type 0
+IsReport Rendering o text = IsRendering o text
+IsReport Summary o text = text ≡ summary o
+
+-- what is printed of it was written so
+abbrev pub IsPrinted : ObservedSink → ℕ → Report → Status → Outcome → Type 0
+IsPrinted out attempts report s o = (text : List ℕ) × IsReport report o text × IsWritten out attempts text s
 
 -- ---- why a command did not come to its end
 
@@ -54,20 +49,16 @@ AreSourcesRefused observed asked attempts s =
 
 -- ---- the ends of a pipeline that is run
 
--- every file that a plan reads is there
-abbrev pub AreFound : Option (List FileText) → Plan → Type 0
-AreFound files plan = WhereTold files (λ told. All (λ name. IsSome (first_named name told)) (file_names plan))
-
 -- the plan that was asked for is there with its files, and the outcome is the data of a book of its run for which P holds
 abbrev pub IsOutcomeOfAsked : Observed → Asked → Options → (SeenBook → Type 0) → Outcome → Type 0
 IsOutcomeOfAsked observed asked options P o =
     (plan : Plan) × IsPlanOf observed.kits.store.files asked plan × AreFound observed.kits.store.files plan
     × IsOutcomeWhere (surroundings_of observed.kits) plan options P o
 
--- the run came to its end, and its rendering was written
+-- the run came to its end, and what is printed of it was written
 abbrev pub IsRunThrough : Observed → Asked → Options → Status → Option Outcome → Type 0
 IsRunThrough observed asked options s outcome =
-    (o : Outcome) × (outcome ≡ Some o) × IsOutcomeOfAsked observed asked options IsEnded o × IsPrinted observed.out options.attempts s o
+    (o : Outcome) × (outcome ≡ Some o) × IsOutcomeOfAsked observed asked options IsEnded o × IsPrinted observed.out options.attempts (report_of asked) s o
 
 abbrev pub IsPipelineEnd : Observed → Asked → Options → Status → Option Outcome → Type 0
 IsPipelineEnd observed asked options status.Ok outcome = IsRunThrough observed asked options status.Ok outcome
@@ -84,13 +75,9 @@ IsPipelineEnd observed asked options s outcome =
 
 -- ---- the ends of a command
 
--- how often a write of the help may fail
-abbrev pub help_attempts : ℕ
-help_attempts = 3
-
 abbrev pub IsHelpEnd : ObservedSink → Status → Type 0
-IsHelpEnd out status.Help = IsWritten out help_attempts help_text status.Help
-IsHelpEnd out status.SinkFault = IsWritten out help_attempts help_text status.SinkFault
+IsHelpEnd out status.Help = IsWritten out text_attempts help_text status.Help
+IsHelpEnd out status.SinkFault = IsWritten out text_attempts help_text status.SinkFault
 IsHelpEnd out _ = ⊥
 
 -- By what the words ask for: the words are no command exactly where the end says so.
@@ -99,6 +86,9 @@ IsEndOf None observed s outcome = (s ≡ status.Usage) × IsUnwritten observed �
 IsEndOf (Some Help) observed s outcome = IsHelpEnd observed.out s × (outcome ≡ None)
 IsEndOf (Some (Panes file size options)) observed s outcome = IsPipelineEnd observed (Panes file size options) options s outcome
 IsEndOf (Some (Run name options)) observed s outcome = IsPipelineEnd observed (Run name options) options s outcome
+IsEndOf (Some (Replay name schedule options)) observed s outcome = IsReplayEnd observed name schedule options s × (outcome ≡ None)
+IsEndOf (Some (Make count number)) observed s outcome = IsMakeEnd observed.out count number s × (outcome ≡ None)
+IsEndOf (Some (Drill count number options)) observed s outcome = IsPipelineEnd observed (Drill count number options) options s outcome
 
 -- P holds of the outcome, where the run came to its end: there is one if its text was written, and may be one if only the sink failed
 abbrev pub HasRun : Status → Option Outcome → (Outcome → Type 0) → Type 0
@@ -106,5 +96,6 @@ HasRun status.Ok outcome P = (o : Outcome) × (outcome ≡ Some o) × P o
 HasRun status.SinkFault outcome P = (o : Outcome) → outcome ≡ Some o → P o
 HasRun s outcome P = Unit {0}
 
-abbrev pub IsRun : RunEnd → (Outcome → Type 0) → Type 0
-IsRun end P = HasRun end.status end.outcome P
+-- the same of the end of a pipeline
+abbrev pub IsRun : Option Asked → RunEnd → (Outcome → Type 0) → Type 0
+IsRun asked end P = WherePipeline asked (λ own options. HasRun end.status end.outcome P)

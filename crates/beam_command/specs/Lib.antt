@@ -1,7 +1,12 @@
+pub mod DrillPlans
 pub mod Asking
+pub mod Observing
+pub mod ReplayEnds
+pub mod Replaying
 pub mod Ends
 pub mod Promises
 pub mod Pipelines
 pub mod Kits
+pub mod Drilling
 pub mod Completeness
 pub mod Clauses

@@ -5,7 +5,7 @@ use Rattle.beam_values.specs.declared.outcome.Outcome.{Outcome}
 use Rattle.beam_values.specs.declared.plan.Plan.{Plan}
 use Rattle.beam_model.specs.Logs.{AreLogsLegal}
 use Rattle.beam_model.specs.Panes.{ArePanesLegal}
-use Rattle.command_words.specs.Commands.{Asked, Help, Panes, Run}
+use Rattle.command_words.specs.Commands.{Asked, Panes, Drill}
 use Rattle.beam_command.specs.Asking.{IsPlanOf}
 
 -- the plan of what is asked for, if anything is
@@ -19,9 +19,9 @@ HasLegalPanes o = ArePanesLegal o.plan o.commits o.cells o.dropped o.panes
 abbrev pub HasLegalLogs : Outcome → Type 0
 HasLegalLogs o = AreLogsLegal o.plan o.commits o.logs
 
--- `panes` is asked for
-abbrev pub AsksPanes : Option Asked → Type 0
-AsksPanes None = ⊥
-AsksPanes (Some Help) = ⊥
-AsksPanes (Some (Panes file size options)) = Unit {0}
-AsksPanes (Some (Run name options)) = ⊥
+-- The pipeline of `panes` or of `drill` is asked for: the triggers of the one are the default ones and it has no estimator; those of the other too, and the times
+-- of made lines rise. So what is said of sound estimators is said of all that they write.
+abbrev pub AsksPlainPlan : Option Asked → Type 0
+AsksPlainPlan (Some (Panes file size options)) = Unit {0}
+AsksPlainPlan (Some (Drill count number options)) = Unit {0}
+AsksPlainPlan _ = ⊥

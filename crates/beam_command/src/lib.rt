@@ -3,11 +3,14 @@
 //! [`beam_main`] is the whole program but for the system's files and streams, and its contract is the
 //! promise of the program: what was printed, what each other end means, that it comes only so, and which
 //! end must come where little or nothing outside fails. The layer above may rely on that alone.
-//! Read `top.rt` first, then `specs/Clauses.antt`, `specs/Ends.antt` and `specs/Completeness.antt`.
+//! [`laws`] says that what a drill prints is a function of its two numbers. Read `top.rt` first, then
+//! `specs/Clauses.antt`, `specs/Ends.antt`, `specs/ReplayEnds.antt` and `specs/Completeness.antt`.
 #![tactic(auto)]
 
+pub mod laws;
 mod pipeline;
 mod plans;
+mod replays;
 mod top;
 
 pub use top::beam_main;

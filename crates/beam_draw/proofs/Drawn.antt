@@ -31,6 +31,7 @@ written_so out text (status.NoSource name) end = absurd end
 written_so out text (status.SourceFault kit) end = absurd end
 written_so out text (status.WorkFault note) end = absurd end
 written_so out text (status.FileChanged name first other) end = absurd end
+written_so out text (status.BadSchedule refusal) end = absurd end
 
 -- a text that is the drawing, and that was written
 pub text_written : (out : ObservedSink) (text drawing : List ℕ) (s : Status) → text ≡ drawing → IsTextEnd out attempts text s → IsTextWritten out drawing s
@@ -50,3 +51,4 @@ drawn_end store out file names plan (status.NoSource name) means named w = absur
 drawn_end store out file names plan (status.SourceFault kit) means named w = absurd w
 drawn_end store out file names plan (status.WorkFault note) means named w = absurd w
 drawn_end store out file names plan (status.FileChanged name first other) means named w = absurd w
+drawn_end store out file names plan (status.BadSchedule refusal) means named w = absurd w

@@ -1,4 +1,6 @@
 pub mod Statuses
 pub mod Writing
 pub mod Notes
+pub mod WholeFiles
 pub mod PlanFiles
+pub mod ScheduleFiles

@@ -7,6 +7,8 @@ use Rattle.beam_values.specs.declared.fault.FaultNote.{FaultNote}
 use Rattle.beam_ports.specs.Counts.{Rose}
 use Rattle.beam_ports.specs.Observed.{ObservedSink}
 use Rattle.beam_ports.specs.Sinks.{then_taken}
+use Rattle.beam_text.specs.declared.refusal.ScheduleRefusal.{ScheduleRefusal}
+use Rattle.beam_text.specs.declared.refusal.ScheduleRefusal.TheVariants as refusal
 use Rattle.plan_reader.specs.Texts.{refusal_text}
 use Rattle.command_ends.specs.declared.status.Status.{Status}
 use Rattle.command_ends.specs.declared.status.Status.TheVariants as status
@@ -28,6 +30,12 @@ work_text note = place_text note ++ attempt_text note
 abbrev pub changed_text : List ℕ → ℕ → ℕ → List ℕ
 changed_text name first other = codes "file changed: " ++ (blob_text name ++ (codes " " ++ (decimal first ++ (codes " " ++ decimal other))))
 
+-- why a schedule is refused
+abbrev pub schedule_text : ScheduleRefusal → List ℕ
+schedule_text (refusal.Line number) = codes "bad schedule: line " ++ decimal number
+schedule_text (refusal.NotAllowed number) = codes "bad schedule: not allowed " ++ decimal number
+schedule_text (refusal.Length len) = codes "bad schedule: length " ++ decimal len
+
 -- without the LF at its end
 abbrev pub note_text : Status → List ℕ
 note_text status.Ok = []
@@ -40,6 +48,7 @@ note_text (status.WorkFault note) = work_text note
 note_text status.SinkFault = codes "sink fault"
 note_text status.NoMemory = codes "no memory"
 note_text (status.FileChanged name first other) = changed_text name first other
+note_text (status.BadSchedule refusal) = schedule_text refusal
 
 abbrev pub note_line : Status → List ℕ
 note_line s = note_text s ++ 10 ∷ []
@@ -65,6 +74,7 @@ IsLongNoted (status.NoSource name) = Unit {0}
 IsLongNoted (status.SourceFault kit) = Unit {0}
 IsLongNoted (status.WorkFault note) = Unit {0}
 IsLongNoted (status.FileChanged name first other) = Unit {0}
+IsLongNoted (status.BadSchedule refusal) = Unit {0}
 IsLongNoted _ = ⊥
 
 -- the end after its note was written: the same, or want of memory for the note

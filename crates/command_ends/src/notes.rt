@@ -3,13 +3,13 @@
 ghost use Rattle.std.specs.Prelude.{◌≡◌, ◌++◌, ℕ, IfOk, OnOk, IfSome, IfNone, ◌⊎◌, decimal};
 ghost use Rattle.beam_ports.specs.Observed.{observed_sink};
 ghost use Rattle.command_ends.specs.Notes.{changed_text, note_line, work_text, place_text};
-ghost use Rattle.command_ends.specs.Notes.{attempt_text, cause_text};
+ghost use Rattle.command_ends.specs.Notes.{attempt_text, cause_text, schedule_text};
 ghost use Rattle.command_ends.specs.Notes.{IsLongNoted, IsNoted, IsNotedUpTo, StaysOrNoMemory};
 
 use crate::status::Status;
 use crate::writing::put;
 use beam_ports::Sink;
-use beam_text::push_blob;
+use beam_text::{ScheduleRefusal, push_blob};
 use beam_values::{Bytes, Cause, FaultNote, List, NoMemory};
 use itoa::Buffer;
 use plan_reader::refusal_text;
@@ -53,6 +53,7 @@ pub fn note_line(alloc: Global, status: &Status) -> Result<Bytes, NoMemory>
         Status::FileChanged { name, first, other } => {
             push_changed(name, *first, *other, &mut line)?
         }
+        Status::BadSchedule(refusal) => push_schedule(*refusal, &mut line)?,
     }
     line.push(b'\n')?;
     Bytes::from_list(alloc, line)
@@ -97,6 +98,20 @@ fn push_changed(name: &Bytes, first: u64, other: u64, line: &mut List<u8>) -> Re
     push_blob(name.as_slice(), line)?;
     push_number(b" ", first, line)?;
     push_number(b" ", other, line)
+}
+
+fn push_schedule(refusal: ScheduleRefusal, line: &mut List<u8>) -> Result<(), NoMemory>
+    ensures { OnOk result (line.new ≡ line.old ++ schedule_text refusal) }
+{
+    match refusal {
+        ScheduleRefusal::Line(number) => {
+            push_number(b"bad schedule: line ", number.into(), line)
+        }
+        ScheduleRefusal::NotAllowed(number) => {
+            push_number(b"bad schedule: not allowed ", number.into(), line)
+        }
+        ScheduleRefusal::Length(len) => push_number(b"bad schedule: length ", len, line),
+    }
 }
 
 fn push_work(note: &FaultNote, line: &mut List<u8>) -> Result<(), NoMemory>

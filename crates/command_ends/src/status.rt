@@ -1,6 +1,7 @@
 ghost use Rattle.std.specs.Prelude.{◌≡◌};
 ghost use Rattle.command_ends.specs.Statuses.{IsNoSourceOrNoMemory, number_of};
 
+use beam_text::ScheduleRefusal;
 use beam_values::{Bytes, FaultNote, NoMemory};
 use plan_reader::PlanRefusal;
 use std::alloc::Global;
@@ -29,6 +30,8 @@ pub enum Status {
     /// A file of this name was opened with different lengths, in bytes: the first kit met the length `first`,
     /// and another kit the length `other`.
     FileChanged { name: Bytes, first: u64, other: u64 },
+    /// The schedule is too long, or has a line that is none or isn't allowed where it stands.
+    BadSchedule(ScheduleRefusal),
 }
 
 impl Status {
@@ -47,6 +50,7 @@ impl Status {
             Status::SinkFault => 7,
             Status::NoMemory => 8,
             Status::FileChanged { .. } => 9,
+            Status::BadSchedule(_) => 10,
         }
     }
 }

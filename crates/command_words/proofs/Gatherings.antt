@@ -1,12 +1,13 @@
 -- What one pass over the words keeps is enough for what they ask.
-use Rattle.std.proofs.Common.{◌≡◌, ℕ, true, false, codes, List, [], ◌∷◌, Option, Some, None, refl, ap, ◌∙◌}
+use Rattle.std.proofs.Common.{◌≡◌, ℕ, Bool, false, if◌then◌else◌, List, [], ◌∷◌, Option, Some, None, refl, ap, ◌∙◌}
 use Rattle.std.specs.Option.{option_map, option_and_then}
-use Rattle.std.specs.Str.{bytes_eq}
 use Rattle.beam_values.specs.declared.options.Options.{Options}
-use Rattle.command_words.specs.Commands.{Asked, asks_help, command_named, value_of_texts, options_of, panes_of, run_of}
-use Rattle.command_words.specs.Few.{Few, Nothing, More, few, with_text}
-use Rattle.command_words.specs.Gathering.{Gathering, gathering_of, with_part, with_parts, value_of_few, options_gathered, panes_of_few, run_of_few, panes_gathered, run_gathered}
+use Rattle.command_words.specs.Commands.{Asked, asked_by, asks_help, command_name, command_named, drill_of, has_no_option, is_none_of, make_of, options_of, panes_of, replay_of, run_of, value_of_texts}
+use Rattle.command_words.specs.Few.{Few, Nothing, More, few, is_nothing, with_text}
+use Rattle.command_words.specs.Gathering.{Gathering, asked_gathered, drill_of_few, gathering_of, has_none_gathered, make_of_few, options_gathered, panes_of_few, replay_of_few, run_of_few, value_of_few, with_part, with_parts}
 use Rattle.command_words.specs.Parts.{Part, parts_of, Chosen, Positional, texts_of, positional_words}
+use Rattle.command_words.specs.declared.name.CommandName.{CommandName}
+use Rattle.command_words.specs.declared.name.CommandName.TheVariants as commands
 use Rattle.command_words.specs.declared.setting.Setting.{Setting}
 use Rattle.command_words.specs.declared.setting.Setting.TheVariants.{Workers, Bundle, Chunk, Attempts}
 
@@ -65,21 +66,49 @@ run_is (a ∷ []) options = refl
 run_is (a ∷ (b ∷ [])) options = refl
 run_is (a ∷ (b ∷ (c ∷ words))) options = refl
 
--- the gathered parts of `panes` ask for the same as the parts themselves
-pub asks_for_panes : (parts : Option (List Part)) (g : Gathering) → Some g ≡ option_map gathering_of parts
-    → panes_gathered g ≡ option_and_then (λ parts. panes_of (positional_words parts) (options_of parts)) parts
-asks_for_panes None g h = cc
-asks_for_panes (Some parts) g h =
-    let same : g ≡ gathering_of parts = cc in
-    ap panes_gathered same ∙ panes_are (positional_words parts) (options_gathered (gathering_of parts)) ∙ ap (panes_of (positional_words parts)) (options_are parts)
+replay_are : (words : List (List ℕ)) (options : Option Options) → replay_of_few (few words) options ≡ replay_of words options
+replay_are [] options = refl
+replay_are (a ∷ []) options = refl
+replay_are (a ∷ (b ∷ [])) options = refl
+replay_are (a ∷ (b ∷ (c ∷ words))) options = refl
 
--- the same of `run`
-pub asks_for_run : (parts : Option (List Part)) (g : Gathering) → Some g ≡ option_map gathering_of parts
-    → run_gathered g ≡ option_and_then (λ parts. run_of (positional_words parts) (options_of parts)) parts
-asks_for_run None g h = cc
-asks_for_run (Some parts) g h =
+make_are : (words : List (List ℕ)) → make_of_few (few words) ≡ make_of words
+make_are [] = refl
+make_are (a ∷ []) = refl
+make_are (a ∷ (b ∷ [])) = refl
+make_are (a ∷ (b ∷ (c ∷ words))) = refl
+
+drill_are : (words : List (List ℕ)) (options : Option Options) → drill_of_few (few words) options ≡ drill_of words options
+drill_are [] options = refl
+drill_are (a ∷ []) options = refl
+drill_are (a ∷ (b ∷ [])) options = refl
+drill_are (a ∷ (b ∷ (c ∷ words))) options = refl
+
+none_are : (texts : List (List ℕ)) → is_nothing (few texts) ≡ is_none_of texts
+none_are [] = refl
+none_are (a ∷ []) = refl
+none_are (a ∷ (b ∷ [])) = refl
+none_are (a ∷ (b ∷ (c ∷ texts))) = refl
+
+no_option_are : (parts : List Part) → has_none_gathered (gathering_of parts) ≡ has_no_option parts
+no_option_are parts = simp none_are
+
+-- what was gathered of parts asks for the same as the parts themselves
+same_asked : (command : CommandName) (parts : List Part) → asked_gathered command (gathering_of parts) ≡ asked_by command parts
+same_asked commands.Panes parts = panes_are (positional_words parts) (options_gathered (gathering_of parts)) ∙ ap (panes_of (positional_words parts)) (options_are parts)
+same_asked commands.Run parts = run_is (positional_words parts) (options_gathered (gathering_of parts)) ∙ ap (run_of (positional_words parts)) (options_are parts)
+same_asked commands.Replay parts = replay_are (positional_words parts) (options_gathered (gathering_of parts)) ∙ ap (replay_of (positional_words parts)) (options_are parts)
+same_asked commands.Make parts =
+    ap (λ (none : Bool). if none then make_of_few (few (positional_words parts)) else None) (no_option_are parts)
+    ∙ ap (λ (asked : Option Asked). if has_no_option parts then asked else None) (make_are (positional_words parts))
+same_asked commands.Drill parts = drill_are (positional_words parts) (options_gathered (gathering_of parts)) ∙ ap (drill_of (positional_words parts)) (options_are parts)
+
+pub asks_gathered : (command : CommandName) (parts : Option (List Part)) (g : Gathering) → Some g ≡ option_map gathering_of parts
+    → asked_gathered command g ≡ option_and_then (asked_by command) parts
+asks_gathered command None g h = cc
+asks_gathered command (Some parts) g h =
     let same : g ≡ gathering_of parts = cc in
-    ap run_gathered same ∙ run_is (positional_words parts) (options_gathered (gathering_of parts)) ∙ ap (run_of (positional_words parts)) (options_are parts)
+    ap (asked_gathered command) same ∙ same_asked command parts
 
 pub asks_for_nothing : (parts : Option (List Part)) (ask : List Part → Option Asked) → None ≡ option_map gathering_of parts → option_and_then ask parts ≡ None
 asks_for_nothing None ask h = refl
@@ -90,10 +119,6 @@ gathers None = refl
 gathers (Some parts) = ap (λ g. Some g) (gathers_all parts)
 
 -- what a command of this name asks for with the words whose parts are these
-pub named_panes : (name : List ℕ) (words : List (List ℕ)) → asks_help name ≡ false → bytes_eq name (codes "panes") ≡ true
-    → command_named name words ≡ option_and_then (λ parts. panes_of (positional_words parts) (options_of parts)) (parts_of words)
-named_panes name words no_help is_panes = rw (no_help, is_panes) refl
-
-pub named_run : (name : List ℕ) (words : List (List ℕ)) → asks_help name ≡ false → bytes_eq name (codes "panes") ≡ false → bytes_eq name (codes "run") ≡ true
-    → command_named name words ≡ option_and_then (λ parts. run_of (positional_words parts) (options_of parts)) (parts_of words)
-named_run name words no_help no_panes is_run = rw (no_help, no_panes, is_run) refl
+pub named_as : (name : List ℕ) (words : List (List ℕ)) (command : CommandName) → asks_help name ≡ false → command_name name ≡ Some command
+    → command_named name words ≡ option_and_then (asked_by command) (parts_of words)
+named_as name words command no_help is = rw (no_help, is) refl

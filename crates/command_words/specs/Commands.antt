@@ -1,5 +1,5 @@
 -- What the words of a command line ask for.
-use Rattle.std.specs.Prelude.{◌≡◌, ◌⊎◌, ℕ, ◌≤◌, ℤ, pos, Bool, ◌&&◌, ◌||◌, nat_le, if◌then◌else◌, List, [], ◌∷◌, map, length, codes, Option, Some, None}
+use Rattle.std.specs.Prelude.{◌≡◌, ◌⊎◌, ℕ, ◌≤◌, ℤ, pos, Bool, true, false, ◌&&◌, ◌||◌, nat_le, if◌then◌else◌, List, [], ◌∷◌, map, length, codes, Option, Some, None}
 use Rattle.std.specs.List.{slice_index_or}
 use Rattle.std.specs.Option.{option_map, option_and_then}
 use Rattle.std.specs.Str.{bytes_eq}
@@ -11,6 +11,8 @@ use Rattle.beam_values.specs.Windows.{or_zero}
 use Rattle.beam_values.specs.declared.options.Options.{Options}
 use Rattle.command_words.specs.Numbers.{number_within}
 use Rattle.command_words.specs.Parts.{Part, parts_of, texts_of, positional_words}
+use Rattle.command_words.specs.declared.name.CommandName.{CommandName}
+use Rattle.command_words.specs.declared.name.CommandName.TheVariants as commands
 use Rattle.command_words.specs.declared.setting.Setting.{Setting}
 use Rattle.command_words.specs.declared.setting.Setting.TheVariants.{Workers, Bundle, Chunk, Attempts}
 
@@ -25,6 +27,12 @@ pub data Asked : Type 0 where
   Panes : List ℕ → ℤ → Options → Asked
   -- the run of a plan
   Run : List ℕ → Options → Asked
+  -- the run of a plan under a schedule
+  Replay : List ℕ → List ℕ → Options → Asked
+  -- so many made lines, after a number
+  Make : ℕ → ℕ → Asked
+  -- a run over these lines
+  Drill : ℕ → ℕ → Options → Asked
 
 -- an option's value is a number from 1 to this one
 abbrev pub greatest_of : Setting → ℕ
@@ -55,6 +63,9 @@ abbrev pub IsAllowed : Asked → Type 0
 IsAllowed Help = Unit {0}
 IsAllowed (Panes file size options) = (1 ≤ length file) × (length file ≤ 4096) × IsLength size × AreOptions options
 IsAllowed (Run plan options) = AreOptions options
+IsAllowed (Replay plan schedule options) = AreOptions options
+IsAllowed (Make count number) = (count ≤ 1000000) × (number ≤ 1000000)
+IsAllowed (Drill count number options) = (count ≤ 1000000) × (number ≤ 1000000) × AreOptions options
 
 -- the value of an option that is given with these texts: at most one
 abbrev pub value_of_texts : Setting → List (List ℕ) → Option ℕ
@@ -90,18 +101,59 @@ abbrev pub run_of : List (List ℕ) → Option Options → Option Asked
 run_of (plan ∷ []) options = option_map (λ options. Run plan options) options
 run_of words options = None
 
+-- PLAN SCHEDULE
+abbrev pub replay_of : List (List ℕ) → Option Options → Option Asked
+replay_of (plan ∷ (schedule ∷ [])) options = option_map (λ options. Replay plan schedule options) options
+replay_of words options = None
+
+-- a count of made lines, or the number that they are made after
+abbrev pub count_of : List ℕ → Option ℕ
+count_of word = number_within 0 1000000 word
+
+-- COUNT NUMBER
+abbrev pub make_of : List (List ℕ) → Option Asked
+make_of (count ∷ (number ∷ [])) = option_and_then (λ count. option_map (λ number. Make count number) (count_of number)) (count_of count)
+make_of words = None
+
+abbrev pub drill_of : List (List ℕ) → Option Options → Option Asked
+drill_of (count ∷ (number ∷ [])) options =
+    option_and_then (λ count. option_and_then (λ number. option_map (λ options. Drill count number options) options) (count_of number)) (count_of count)
+drill_of words options = None
+
+-- of no option there is a text
+abbrev pub is_none_of : List (List ℕ) → Bool
+is_none_of [] = true
+is_none_of (text ∷ texts) = false
+
+abbrev pub has_no_option : List Part → Bool
+has_no_option parts =
+    is_none_of (texts_of Workers parts) && is_none_of (texts_of Bundle parts) && is_none_of (texts_of Chunk parts) && is_none_of (texts_of Attempts parts)
+
 abbrev pub asks_help : List ℕ → Bool
 asks_help word = bytes_eq word (codes "help") || (bytes_eq word (codes "--help") || bytes_eq word (codes "-h"))
+
+-- the command of a name
+abbrev pub command_name : List ℕ → Option CommandName
+command_name name =
+    if bytes_eq name (codes "panes") then Some commands.Panes
+    else (if bytes_eq name (codes "run") then Some commands.Run
+    else (if bytes_eq name (codes "replay") then Some commands.Replay
+    else (if bytes_eq name (codes "make") then Some commands.Make
+    else (if bytes_eq name (codes "drill") then Some commands.Drill
+    else None))))
+
+-- what a command asks for by the parts of its words; one that takes no options is refused with one
+abbrev pub asked_by : CommandName → List Part → Option Asked
+asked_by commands.Panes parts = panes_of (positional_words parts) (options_of parts)
+asked_by commands.Run parts = run_of (positional_words parts) (options_of parts)
+asked_by commands.Replay parts = replay_of (positional_words parts) (options_of parts)
+asked_by commands.Make parts = if has_no_option parts then make_of (positional_words parts) else None
+asked_by commands.Drill parts = drill_of (positional_words parts) (options_of parts)
 
 -- what a command asks for with the words after its name
 abbrev pub command_named : List ℕ → List (List ℕ) → Option Asked
 command_named name words =
-    if asks_help name then Some Help
-    else (if bytes_eq name (codes "panes")
-    then option_and_then (λ parts. panes_of (positional_words parts) (options_of parts)) (parts_of words)
-    else (if bytes_eq name (codes "run")
-    then option_and_then (λ parts. run_of (positional_words parts) (options_of parts)) (parts_of words)
-    else None))
+    if asks_help name then Some Help else option_and_then (λ command. option_and_then (asked_by command) (parts_of words)) (command_name name)
 
 -- What these words ask for, the name of the program first, or none where the rules refuse them.
 abbrev pub command_of : List (List ℕ) → Option Asked

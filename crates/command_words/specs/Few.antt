@@ -1,5 +1,5 @@
 -- How many texts there are, and which, as far as a command asks.
-use Rattle.std.specs.Prelude.{ℕ, List, [], ◌∷◌}
+use Rattle.std.specs.Prelude.{ℕ, Bool, true, false, List, [], ◌∷◌}
 
 -- none, one or two texts, or more of them
 pub data Few : Type 0 where
@@ -20,3 +20,7 @@ with_text Nothing text = One text
 with_text (One a) text = Two a text
 with_text (Two a b) text = More
 with_text More text = More
+
+abbrev pub is_nothing : Few → Bool
+is_nothing Nothing = true
+is_nothing _ = false

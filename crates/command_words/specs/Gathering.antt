@@ -1,13 +1,15 @@
 -- What one pass over the words keeps of them, and what a command asks for by that.
-use Rattle.std.specs.Prelude.{ℕ, if◌then◌else◌, List, [], ◌∷◌, Option, Some, None, Result, Ok, Err}
+use Rattle.std.specs.Prelude.{ℕ, Bool, ◌&&◌, if◌then◌else◌, List, [], ◌∷◌, Option, Some, None, Result, Ok, Err}
 use Rattle.std.specs.Option.{option_map, option_and_then}
 use Rattle.beam_values.specs.declared.options.Options.{Options}
-use Rattle.command_words.specs.Commands.{Asked, Panes, Run, default_of, greatest_of, is_file_name, size_of}
-use Rattle.command_words.specs.Few.{Few, Nothing, One, Two, few, with_text}
+use Rattle.command_words.specs.Commands.{Asked, Panes, Run, Replay, Make, Drill, count_of, default_of, greatest_of, is_file_name, size_of}
+use Rattle.command_words.specs.Few.{Few, Nothing, One, Two, few, is_nothing, with_text}
 use Rattle.command_words.specs.Numbers.{number_within}
 use Rattle.command_words.specs.Parts.{Part, Chosen, Positional, texts_of, positional_words}
 use Rattle.command_words.specs.Shown.{shown_few}
 use Rattle.command_words.specs.declared.gathered.Gathered.{Gathered}
+use Rattle.command_words.specs.declared.name.CommandName.{CommandName}
+use Rattle.command_words.specs.declared.name.CommandName.TheVariants as commands
 use Rattle.command_words.specs.declared.setting.Setting.{Setting}
 use Rattle.command_words.specs.declared.setting.Setting.TheVariants.{Workers, Bundle, Chunk, Attempts}
 use Rattle.command_words.specs.declared.usage.Usage.{Usage}
@@ -77,8 +79,41 @@ abbrev pub run_of_few : Few → Option Options → Option Asked
 run_of_few (One plan) options = option_map (λ options. Run plan options) options
 run_of_few words options = None
 
+abbrev pub replay_of_few : Few → Option Options → Option Asked
+replay_of_few (Two plan schedule) options = option_map (λ options. Replay plan schedule options) options
+replay_of_few words options = None
+
+abbrev pub make_of_few : Few → Option Asked
+make_of_few (Two count number) = option_and_then (λ count. option_map (λ number. Make count number) (count_of number)) (count_of count)
+make_of_few words = None
+
+abbrev pub drill_of_few : Few → Option Options → Option Asked
+drill_of_few (Two count number) options =
+    option_and_then (λ count. option_and_then (λ number. option_map (λ options. Drill count number options) options) (count_of number)) (count_of count)
+drill_of_few words options = None
+
+abbrev pub has_none_gathered : Gathering → Bool
+has_none_gathered gathering = is_nothing gathering.workers && is_nothing gathering.bundle && is_nothing gathering.chunk && is_nothing gathering.attempts
+
 abbrev pub panes_gathered : Gathering → Option Asked
 panes_gathered gathering = panes_of_few gathering.positional (options_gathered gathering)
 
 abbrev pub run_gathered : Gathering → Option Asked
 run_gathered gathering = run_of_few gathering.positional (options_gathered gathering)
+
+abbrev pub replay_gathered : Gathering → Option Asked
+replay_gathered gathering = replay_of_few gathering.positional (options_gathered gathering)
+
+abbrev pub make_gathered : Gathering → Option Asked
+make_gathered gathering = if has_none_gathered gathering then make_of_few gathering.positional else None
+
+abbrev pub drill_gathered : Gathering → Option Asked
+drill_gathered gathering = drill_of_few gathering.positional (options_gathered gathering)
+
+-- what a command asks for by what was gathered
+abbrev pub asked_gathered : CommandName → Gathering → Option Asked
+asked_gathered commands.Panes gathering = panes_gathered gathering
+asked_gathered commands.Run gathering = run_gathered gathering
+asked_gathered commands.Replay gathering = replay_gathered gathering
+asked_gathered commands.Make gathering = make_gathered gathering
+asked_gathered commands.Drill gathering = drill_gathered gathering

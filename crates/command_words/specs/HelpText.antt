@@ -8,4 +8,7 @@ abbrev pub help_text : List ℕ
 help_text =
     line (codes "beam_run panes FILE SIZE [OPTIONS]")
     ++ line (codes "beam_run run PLAN [OPTIONS]")
+    ++ line (codes "beam_run replay PLAN SCHEDULE [OPTIONS]")
+    ++ line (codes "beam_run make COUNT NUMBER")
+    ++ line (codes "beam_run drill COUNT NUMBER [OPTIONS]")
     ++ line (codes "OPTIONS: --workers N --bundle N --chunk N --attempts N")

@@ -3,7 +3,7 @@ use Rattle.std.specs.Prelude.{◌≡◌, ℕ, pos, ◌≤◌, List, [], ◌∷�
 use Rattle.beam_values.specs.Strategies.{greatest_length}
 use Rattle.beam_values.specs.Windows.{or_zero}
 use Rattle.beam_values.specs.declared.options.Options.{Options}
-use Rattle.command_words.specs.Commands.{Asked, Help, Panes, Run, AsksHelp, default_of, greatest_of}
+use Rattle.command_words.specs.Commands.{Asked, Help, Panes, Run, Replay, Make, Drill, AsksHelp, default_of, greatest_of}
 use Rattle.command_words.specs.Grammar.{AreParts}
 use Rattle.command_words.specs.Numbers.{IsNumberWithin, number_of_text}
 use Rattle.command_words.specs.Parts.{Part, positional_words, texts_of}
@@ -23,6 +23,13 @@ pub record AreGiven (parts : List Part) (options : Options) : Type 0 where
   pub chunk : IsValue Chunk parts options.chunk
   pub attempts : IsValue Attempts parts options.attempts
 
+-- no option is given
+pub record HasNoOption (parts : List Part) : Type 0 where
+  pub workers : texts_of Workers parts ≡ []
+  pub bundle : texts_of Bundle parts ≡ []
+  pub chunk : texts_of Chunk parts ≡ []
+  pub attempts : texts_of Attempts parts ≡ []
+
 -- What these words ask for, the name of the program first. `beam_run run p --workers=2` asks for the run of `p` with two workers:
 -- after the command there are `p` as a positional word and workers with `2`.
 pub data Asks : List (List ℕ) → Asked → Type 0 where
@@ -34,6 +41,17 @@ pub data Asks : List (List ℕ) → Asked → Type 0 where
   ForRun : (program : List ℕ) (words : List (List ℕ)) (parts : List Part) (plan : List ℕ) (options : Options)
       → AreParts words parts → positional_words parts ≡ plan ∷ [] → AreGiven parts options
       → Asks (program ∷ (codes "run" ∷ words)) (Run plan options)
+  ForReplay : (program : List ℕ) (words : List (List ℕ)) (parts : List Part) (plan schedule : List ℕ) (options : Options)
+      → AreParts words parts → positional_words parts ≡ plan ∷ (schedule ∷ []) → AreGiven parts options
+      → Asks (program ∷ (codes "replay" ∷ words)) (Replay plan schedule options)
+  ForMake : (program : List ℕ) (words : List (List ℕ)) (parts : List Part) (count number : List ℕ)
+      → AreParts words parts → positional_words parts ≡ count ∷ (number ∷ []) → HasNoOption parts
+      → IsNumberWithin 0 1000000 count → IsNumberWithin 0 1000000 number
+      → Asks (program ∷ (codes "make" ∷ words)) (Make (number_of_text count) (number_of_text number))
+  ForDrill : (program : List ℕ) (words : List (List ℕ)) (parts : List Part) (count number : List ℕ) (options : Options)
+      → AreParts words parts → positional_words parts ≡ count ∷ (number ∷ []) → AreGiven parts options
+      → IsNumberWithin 0 1000000 count → IsNumberWithin 0 1000000 number
+      → Asks (program ∷ (codes "drill" ∷ words)) (Drill (number_of_text count) (number_of_text number) options)
 
 -- by no rule do these words ask for anything
 abbrev pub IsRefused : List (List ℕ) → Type 0

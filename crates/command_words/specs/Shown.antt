@@ -4,7 +4,7 @@ use Rattle.command_words.specs.Commands as asked
 use Rattle.command_words.specs.Few as texts
 use Rattle.command_words.specs.Parts as part
 use Rattle.command_words.specs.declared.command.Command.{Command}
-use Rattle.command_words.specs.declared.command.Command.TheVariants.{Help, Panes, Run}
+use Rattle.command_words.specs.declared.command.Command.TheVariants.{Help, Panes, Run, Replay, Make, Drill}
 use Rattle.command_words.specs.declared.few.Few.{Few}
 use Rattle.command_words.specs.declared.few.Few.TheVariants.{Nothing, One, Two, More}
 use Rattle.command_words.specs.declared.parts.Part.{Part}
@@ -15,6 +15,9 @@ abbrev pub shown_command : Command → asked.Asked
 shown_command Help = asked.Help
 shown_command (Panes file size options) = asked.Panes file.now size options
 shown_command (Run plan options) = asked.Run plan.now options
+shown_command (Replay plan schedule options) = asked.Replay plan.now schedule.now options
+shown_command (Make count number) = asked.Make count number
+shown_command (Drill count number options) = asked.Drill count number options
 
 -- what was read, or none where the words were refused
 abbrev pub shown_answer : Result Command Usage → Option asked.Asked

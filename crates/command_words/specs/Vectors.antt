@@ -1,7 +1,7 @@
 -- Command lines computed, each without the program's name.
 use Rattle.std.specs.Prelude.{◌≡◌, ℕ, pos, List, [], ◌∷◌, Option, Some, None, codes, refl}
 use Rattle.beam_values.specs.declared.options.Options.{Options}
-use Rattle.command_words.specs.Commands.{Asked, Help, Panes, Run, command_of}
+use Rattle.command_words.specs.Commands.{Asked, Help, Panes, Run, Replay, Make, Drill, command_of}
 
 abbrev asked : List (List ℕ) → Option Asked
 asked words = command_of (codes "beam_run" ∷ words)
@@ -92,6 +92,35 @@ unknown_option = refl
 empty_plan_name : asked (codes "run" ∷ [] ∷ []) ≡ Some (Run [] defaults)
 empty_plan_name = refl
 
+-- replay, make and drill
+
+replay_with_options : asked (codes "replay" ∷ codes "--workers=2" ∷ codes "p" ∷ codes "s" ∷ []) ≡ Some (Replay (codes "p") (codes "s") two_workers)
+replay_with_options = refl
+
+replay_without_a_schedule : asked (codes "replay" ∷ codes "p" ∷ []) ≡ None
+replay_without_a_schedule = refl
+
+make_of_nothing : asked (codes "make" ∷ codes "0" ∷ codes "5" ∷ []) ≡ Some (Make 0 5)
+make_of_nothing = refl
+
+make_after_the_end : asked (codes "make" ∷ codes "--" ∷ codes "+2" ∷ codes "999" ∷ []) ≡ Some (Make 2 999)
+make_after_the_end = refl
+
+make_with_an_option : asked (codes "make" ∷ codes "2" ∷ codes "7" ∷ codes "--bundle" ∷ codes "1" ∷ []) ≡ None
+make_with_an_option = refl
+
+make_of_too_many : asked (codes "make" ∷ codes "1000001" ∷ codes "7" ∷ []) ≡ None
+make_of_too_many = refl
+
+drill_without_options : asked (codes "drill" ∷ codes "1000000" ∷ codes "0" ∷ []) ≡ Some (Drill 1000000 0 defaults)
+drill_without_options = refl
+
+drill_after_too_much : asked (codes "drill" ∷ codes "0" ∷ codes "1000001" ∷ []) ≡ None
+drill_after_too_much = refl
+
+drill_of_one_number : asked (codes "drill" ∷ codes "17" ∷ []) ≡ None
+drill_of_one_number = refl
+
 -- help, and no command
 
 help_with_a_word : asked (codes "help" ∷ codes "x" ∷ []) ≡ Some Help
@@ -109,5 +138,5 @@ no_words = refl
 only_the_program : asked [] ≡ None
 only_the_program = refl
 
-command_of_later : asked (codes "make" ∷ codes "1" ∷ codes "2" ∷ []) ≡ None
-command_of_later = refl
+unknown_command : asked (codes "resume" ∷ codes "1" ∷ codes "2" ∷ []) ≡ None
+unknown_command = refl

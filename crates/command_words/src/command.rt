@@ -1,15 +1,17 @@
-ghost use Rattle.std.specs.Prelude.{◌≡◌, ◌≢◌, ◌↔◌, Ok, IfOk, IfSome, IsErr, IsTrue};
+ghost use Rattle.std.specs.Prelude.{◌≡◌, ◌≢◌, ◌≤◌, ◌↔◌, Ok, IfOk, IfSome, IsErr, IsTrue};
 ghost use Rattle.beam_values.specs.Strategies.{IsLength};
 ghost use Rattle.command_words.specs.Commands.{AsksHelp, IsAllowed, asks_help, command_named};
-ghost use Rattle.command_words.specs.Commands.{command_of, is_file_name, size_of, words_of};
-ghost use Rattle.command_words.specs.Gathering.{panes_gathered, run_gathered, shown_gathered};
+ghost use Rattle.command_words.specs.Commands.{command_of, count_of, is_file_name, size_of, words_of};
+ghost use Rattle.command_words.specs.Gathering.{asked_gathered, drill_gathered, make_gathered};
+ghost use Rattle.command_words.specs.Gathering.{panes_gathered, replay_gathered, run_gathered};
+ghost use Rattle.command_words.specs.Gathering.{shown_gathered};
 ghost use Rattle.command_words.specs.Rules.{Asks, IsRefused};
 ghost use Rattle.command_words.specs.Shown.{shown_answer, shown_command};
 
 use crate::few::Few;
 use crate::gathered::{Gathered, gather};
+use crate::name::CommandName;
 use crate::number::number_within;
-use crate::setting::Setting;
 use crate::usage::Usage;
 use beam_values::Options;
 use windowing::GREATEST_LENGTH;
@@ -19,6 +21,9 @@ const GREATEST_SIZE: u64 = GREATEST_LENGTH as u64;
 
 /// The greatest length of a file's name, in bytes.
 const LONGEST_NAME: usize = 4096;
+
+/// The greatest count of made lines, and the greatest number that they are made after.
+const GREATEST_COUNT: u64 = 1_000_000;
 
 /// What a command line asks for.
 #[derive(Clone, Copy, Debug, PartialEq, Eq)]
@@ -37,6 +42,27 @@ pub enum Command<'a> {
     Run {
         /// The name of the plan's file, of any length.
         plan: &'a [u8],
+        options: Options,
+    },
+    /// `replay PLAN SCHEDULE`, with options.
+    Replay {
+        /// The name of the plan's file, of any length.
+        plan: &'a [u8],
+        /// The name of the schedule's file, of any length.
+        schedule: &'a [u8],
+        options: Options,
+    },
+    /// `make COUNT NUMBER`, which takes no options.
+    Make {
+        /// How many lines.
+        count: u64,
+        /// After which number they are made.
+        number: u64,
+    },
+    /// `drill COUNT NUMBER`, with options.
+    Drill {
+        count: u64,
+        number: u64,
         options: Options,
     },
 }
@@ -67,13 +93,25 @@ fn read_command<'a>(name: &str, words: &'a [String]) -> Result<Command<'a>, Usag
     ensures bounds { IfOk result (λ command. IsAllowed (shown_command command)) }
 {
     if asks_help(name) {
-        Ok(Command::Help)
-    } else if name == "panes" {
-        panes(&gather(words)?)
-    } else if name == "run" {
-        run(&gather(words)?)
-    } else {
-        Err(Usage)
+        return Ok(Command::Help);
+    }
+    let command = CommandName::named(name).ok_or(Usage)?;
+    let gathered = gather(words)?;
+    ask(command, &gathered)
+}
+
+// What a command asks for with what was gathered of the words after its name.
+fn ask<'a>(command: CommandName, gathered: &Gathered<'a>) -> Result<Command<'a>, Usage>
+    ensures exact { shown_answer result ≡ asked_gathered command (shown_gathered gathered.now) }
+    ensures no_help { result ≢ Ok Command.Help }
+    ensures bounds { IfOk result (λ command. IsAllowed (shown_command command)) }
+{
+    match command {
+        CommandName::Panes => panes(gathered),
+        CommandName::Run => run(gathered),
+        CommandName::Replay => replay(gathered),
+        CommandName::Make => make(gathered),
+        CommandName::Drill => drill(gathered),
     }
 }
 
@@ -118,6 +156,67 @@ fn run<'a>(gathered: &Gathered<'a>) -> Result<Command<'a>, Usage>
         plan: plan.as_bytes(),
         options,
     })
+}
+
+// `replay PLAN SCHEDULE`
+fn replay<'a>(gathered: &Gathered<'a>) -> Result<Command<'a>, Usage>
+    ensures exact { shown_answer result ≡ replay_gathered (shown_gathered gathered.now) }
+    ensures no_help { result ≢ Ok Command.Help }
+    ensures bounds { IfOk result (λ command. IsAllowed (shown_command command)) }
+{
+    let Few::Two(plan, schedule) = gathered.positional else {
+        return Err(Usage);
+    };
+    let options = gathered.options().ok_or(Usage)?;
+    Ok(Command::Replay {
+        plan: plan.as_bytes(),
+        schedule: schedule.as_bytes(),
+        options,
+    })
+}
+
+// `make COUNT NUMBER`
+fn make<'a>(gathered: &Gathered<'a>) -> Result<Command<'a>, Usage>
+    ensures exact { shown_answer result ≡ make_gathered (shown_gathered gathered.now) }
+    ensures no_help { result ≢ Ok Command.Help }
+    ensures bounds { IfOk result (λ command. IsAllowed (shown_command command)) }
+{
+    if !gathered.has_no_option() {
+        return Err(Usage);
+    }
+    let Few::Two(count, number) = gathered.positional else {
+        return Err(Usage);
+    };
+    let count = count_of(count).ok_or(Usage)?;
+    let number = count_of(number).ok_or(Usage)?;
+    Ok(Command::Make { count, number })
+}
+
+// `drill COUNT NUMBER`
+fn drill<'a>(gathered: &Gathered<'a>) -> Result<Command<'a>, Usage>
+    ensures exact { shown_answer result ≡ drill_gathered (shown_gathered gathered.now) }
+    ensures no_help { result ≢ Ok Command.Help }
+    ensures bounds { IfOk result (λ command. IsAllowed (shown_command command)) }
+{
+    let Few::Two(count, number) = gathered.positional else {
+        return Err(Usage);
+    };
+    let count = count_of(count).ok_or(Usage)?;
+    let number = count_of(number).ok_or(Usage)?;
+    let options = gathered.options().ok_or(Usage)?;
+    Ok(Command::Drill {
+        count,
+        number,
+        options,
+    })
+}
+
+// A count of made lines, or the number that they are made after.
+fn count_of(word: &str) -> Option<u64>
+    ensures exact { result ≡ count_of word.now }
+    ensures within { IfSome result (λ count. count ≤ GREATEST_COUNT) }
+{
+    number_within(word, 0, GREATEST_COUNT)
 }
 
 fn is_file_name(word: &str) -> bool

@@ -1,9 +1,10 @@
 ghost use Rattle.std.specs.Prelude.{◌≡◌, ◌≤◌, map, IfSome};
 ghost use Rattle.std.specs.Option.{option_map};
 ghost use Rattle.command_words.specs.Commands.{AreOptions, greatest_of, words_of};
-ghost use Rattle.command_words.specs.Gathering.{gathering_of, options_gathered, shown_gathered};
-ghost use Rattle.command_words.specs.Gathering.{shown_gathering, value_of_few, with_part};
-ghost use Rattle.command_words.specs.Gathering.{with_parts};
+ghost use Rattle.command_words.specs.Few.{is_nothing};
+ghost use Rattle.command_words.specs.Gathering.{gathering_of, has_none_gathered, options_gathered};
+ghost use Rattle.command_words.specs.Gathering.{shown_gathered, shown_gathering, value_of_few};
+ghost use Rattle.command_words.specs.Gathering.{with_part, with_parts};
 ghost use Rattle.command_words.specs.Parts.{Positional, parts_of};
 ghost use Rattle.command_words.specs.Shown.{shown_few, shown_part};
 
@@ -37,6 +38,22 @@ impl Gathered<'_> {
             attempts: value(Setting::Attempts, self.attempts)? as u32,
         })
     }
+
+    /// Whether no option was given.
+    pub fn has_no_option(&self) -> bool
+        ensures { result ≡ has_none_gathered (shown_gathered self.now) }
+    {
+        is_nothing(self.workers)
+            && is_nothing(self.bundle)
+            && is_nothing(self.chunk)
+            && is_nothing(self.attempts)
+    }
+}
+
+fn is_nothing(texts: Few<'_>) -> bool
+    ensures { result ≡ is_nothing (shown_few texts.entry) }
+{
+    matches!(texts, Few::Nothing)
 }
 
 // The value of an option that has these texts.

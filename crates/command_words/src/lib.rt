@@ -17,6 +17,7 @@ mod few;
 mod gathered;
 mod help;
 pub mod laws;
+mod name;
 mod number;
 mod parts;
 mod setting;

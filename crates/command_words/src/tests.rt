@@ -49,9 +49,35 @@ fn a_command_of_each_kind(rt: HostRuntime) -> Result<(), Fail> {
 }
 
 #[test]
+fn commands_of_schedules_and_made_lines(rt: HostRuntime) -> Result<(), Fail> {
+    let alloc = rt.alloc();
+    let replay = words(alloc, &["replay", "p", "s"])?;
+    let asked = Command::Replay {
+        plan: b"p",
+        schedule: b"s",
+        options: DEFAULT,
+    };
+    assert!(rt; read_words(&replay) == Ok(asked));
+    let make = words(alloc, &["make", "--", "+2", "7"])?;
+    let asked = Command::Make {
+        count: 2,
+        number: 7,
+    };
+    assert!(rt; read_words(&make) == Ok(asked));
+    let drill = words(alloc, &["drill", "17", "3", "--bundle=64"])?;
+    let asked = Command::Drill {
+        count: 17,
+        number: 3,
+        options: DEFAULT,
+    };
+    assert!(rt; read_words(&drill) == Ok(asked));
+    Ok(())
+}
+
+#[test]
 fn no_command(rt: HostRuntime) -> Result<(), Fail> {
     let twice = words(rt.alloc(), &["run", "p", "--bundle=1", "--bundle", "2"])?;
     assert!(rt; read_words(&twice) == Err(Usage));
-    assert_eq!(rt; help_text().len(), 118);
+    assert_eq!(rt; help_text().len(), 223);
     Ok(())
 }

@@ -15,5 +15,5 @@ mod run_end;
 pub use bundle_work::Kit;
 pub use command_ends::{Status, put};
 pub use opening::open_sources;
-pub use plan_run::run_plan;
+pub use plan_run::{first_lengths, run_plan};
 pub use run_end::RunEnd;

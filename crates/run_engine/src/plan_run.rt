@@ -109,8 +109,12 @@ fn table_for<F: Shelf, S: Store>(
     Table::new(alloc, book)
 }
 
-// The length of each item, where these files are opened.
-fn first_lengths(alloc: Global, graph: &Graph, files: &[Opened]) -> Result<List<FileLen>, NoMemory>
+/// The length of each item, where these files are opened.
+pub fn first_lengths(
+    alloc: Global,
+    graph: &Graph,
+    files: &[Opened],
+) -> Result<List<FileLen>, NoMemory>
     ensures exact { IfOk result (λ lengths. lengths ≡ opened_lengths graph.now files.now) }
     ensures items { IfOk result (λ lengths. (told : OptionOf (ListOf FileText))
         (opened : ℕ → OptionOf Opening) → AreOpened told opened (file_names graph.now) files.now

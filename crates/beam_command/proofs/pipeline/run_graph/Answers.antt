@@ -20,8 +20,8 @@ pub returns-in-Ok-clause-outcome : goal.returns-in-Ok-clause-outcome
 returns-in-Ok-clause-outcome g c =
     let run = c.run_plan-status in
     let seen = observed_kits g.F.Shelf g.S.Store c.open_sources.new.kits run.new.kits in
-    finished_some seen c.args.graph c.args.options.now run.result.status run.result.outcome run.ensures.ended c.in-Ok.is _ _ c.finished.result.status c.finished.result.outcome
-    c.finished.ensures _
+    finished_some seen c.args.graph c.args.options.now run.result.status run.result.outcome run.ensures.ended c.in-Ok.is _ _ c.args.report c.finished.result.status
+    c.finished.result.outcome c.finished.ensures _
     (outcome_opened g.F.Shelf g.S.Store c.args.graph c.open_sources.new.kits run.new.kits seen c.args.options.now run.result.status run.result.outcome c.in_default.ensures.opened
     run.ensures.kept run.ensures.ended run.ensures.lengths)
 
@@ -29,7 +29,7 @@ pub returns-in-Ok-clause-idle : goal.returns-in-Ok-clause-idle
 returns-in-Ok-clause-idle g c = λ none.
     let run = c.run_plan-status in
     absurd (finished_begun (observed_kits g.F.Shelf g.S.Store c.open_sources.new.kits run.new.kits) c.args.graph c.args.options.now run.result.status run.result.outcome run.ensures.ended
-    c.in-Ok.is _ _ c.finished.result.status c.finished.result.outcome c.finished.ensures none)
+    c.in-Ok.is _ _ c.args.report c.finished.result.status c.finished.result.outcome c.finished.ensures none)
 
 pub returns-in-Ok-clause-kept : goal.returns-in-Ok-clause-kept
 returns-in-Ok-clause-kept g c =
@@ -40,7 +40,7 @@ returns-in-Ok-clause-ends g c =
     let run = c.run_plan-status in
     let whole = run_opened g.F.Shelf g.S.Store c.args.kits.now c.open_sources.new.kits run.new.kits c.args.graph c.args.options.now run.result.status run.result.outcome c.requires.some
     c.open_sources.ensures.kept c.in_default.ensures.opened run.ensures.ended in
-    finished_end (observed_at g.F.Shelf g.S.Store g.W.Sink c.args.kits.now run.new.kits c.args.out.now c.finished.new.out) c.args.graph c.args.options.now c.args.failed run.result.status
+    finished_end (observed_at g.F.Shelf g.S.Store g.W.Sink c.args.kits.now run.new.kits c.args.out.now c.finished.new.out) c.args.graph c.args.options.now c.args.report c.args.failed run.result.status
     run.result.outcome c.finished.result.outcome c.finished.result.status whole.0 whole.1 c.in-Ok.is c.finished.ensures
 
 pub returns-in_default-status : goal.returns-in_default-status
@@ -50,7 +50,7 @@ returns-in_default-status g c =
     let whole = run_opened g.F.Shelf g.S.Store c.args.kits.now c.open_sources.new.kits run.new.kits c.args.graph c.args.options.now run.result.status run.result.outcome c.requires.some
     c.open_sources.ensures.kept c.in_default.ensures.opened run.ensures.ended in
     record {
-      ends = unprinted_end (observed_at g.F.Shelf g.S.Store g.W.Sink c.args.kits.now run.new.kits c.args.out.now c.args.out.now) c.args.graph c.args.options.now c.args.failed
+      ends = unprinted_end (observed_at g.F.Shelf g.S.Store g.W.Sink c.args.kits.now run.new.kits c.args.out.now c.args.out.now) c.args.graph c.args.options.now c.args.report c.args.failed
           run.result.status run.result.outcome refl whole.0 whole.1 c.in_default-status.not-Ok;
       outcome = outcome_opened g.F.Shelf g.S.Store c.args.graph c.open_sources.new.kits run.new.kits seen c.args.options.now run.result.status run.result.outcome
           c.in_default.ensures.opened run.ensures.kept run.ensures.ended run.ensures.lengths;

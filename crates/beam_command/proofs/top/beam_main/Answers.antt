@@ -1,4 +1,4 @@
-use Rattle.std.proofs.Common.{◌≡◌, List, Option, Some, length, sym, subst, ◌∙◌}
+use Rattle.std.proofs.Common.{◌≡◌, List, Option, Some, length, sym, ap, subst, ◌∙◌}
 use Rattle.std.specs.Prelude.{IfSome}
 use Rattle.bundle_work.specs.declared.kit.Kit.{Kit}
 use Rattle.beam_values.specs.declared.options.Options.{Options}
@@ -8,18 +8,25 @@ use Rattle.beam_model.specs.Positions.{items}
 use Rattle.beam_ports.specs.Observed.{WhereTold}
 use Rattle.book_core.specs.Runs.{IsEnded}
 use Rattle.command_words.specs.Commands.{Asked, words_of}
+use Rattle.run_engine.specs.Kits.{ObservedKits, observed_kits}
+use Rattle.run_engine.specs.PlanRun.{surroundings_of}
 use Rattle.run_engine.specs.declared.run_end.RunEnd.{RunEnd}
 use Rattle.beam_command.specs.Clauses.{Asking, IsOfAsked, IsPartitioned, IsPlain, asked_by, asking}
-use Rattle.beam_command.specs.Ends.{Observed, IsEndOf, IsOutcomeOfAsked, IsRun}
-use Rattle.beam_command.specs.Kits.{AreKitsLeft, IsOutcomeOfKits, in_use, observed_in_use}
+use Rattle.beam_command.specs.Ends.{IsEndOf, IsOutcomeOfAsked, IsRun}
+use Rattle.beam_command.specs.Kits.{AreKitsLeft, IsOutcomeOfKits, in_use, observed_in_use, told_for}
+use Rattle.beam_command.specs.Observing.{Observed}
 use Rattle.beam_command.specs.Promises.{HasLegalLogs, HasLegalPanes}
 use Rattle.beam_command.proofs.Asked.{end_of_same, noted_end}
 use Rattle.beam_command.proofs.Completeness.{complete, complete_strict, few_faults, same_files}
+use Rattle.beam_command.proofs.DrillEnds.{checked_of}
+use Rattle.beam_command.proofs.DrillPrints.{drill_prints}
 use Rattle.beam_command.proofs.InUse.{all_written, written_back}
 use Rattle.beam_command.proofs.Kept.{become_length, left_before_note, still_some}
 use Rattle.beam_command.proofs.PanesEnds.{HasAttempts, absent, clean, not_ok, poison, some_attempts}
-use Rattle.beam_command.proofs.Promises.{accounted, covered, files_found, legal, legally_logged, lengths_kept, panes_plainly, plainly, plan_kept, promised}
-use Rattle.beam_command.proofs.Stores.{AreOfOne, are_of_one}
+use Rattle.beam_command.proofs.PlainPlans.{always_plainly}
+use Rattle.beam_command.proofs.Promises.{accounted, covered, files_found, legal, legally_logged, lengths_kept, plainly, plan_kept, promised}
+use Rattle.beam_command.proofs.ReplayDecided.{few_reads, replay, replay_accepted}
+use Rattle.beam_command.proofs.Stores.{AreOfOne, are_of_one, seen_of_one}
 use Rattle.beam_command.proofs.top.beam_main.Given.{Over}
 use Rattle.beam_command.proofs.top.beam_main.Goals as goal
 
@@ -39,9 +46,14 @@ module _ (g : Over) (c : goal.After-unless_no_memory-outcome g) where
       observed_in_use g.F.Shelf g.S.Store g.W.Sink asked c.args.kits.now.items (written_back c.args.kits.now.len c.args.kits.now.items c.run-status.new.kits) c.args.out.now
       c.run-status.new.out
 
+  -- the same, whatever is asked for
+  abbrev kits : ObservedKits
+  kits = observed_kits g.F.Shelf g.S.Store (in_use asked c.args.kits.now.items) (in_use asked (written_back c.args.kits.now.len c.args.kits.now.items c.run-status.new.kits))
+
   of_one : AreOfOne seen.kits
   of_one =
-      are_of_one g.S.Store g.F.Shelf (in_use asked c.args.kits.now.items) (in_use asked (written_back c.args.kits.now.len c.args.kits.now.items c.run-status.new.kits))
+      seen_of_one asked kits
+      (are_of_one g.S.Store g.F.Shelf (in_use asked c.args.kits.now.items) (in_use asked (written_back c.args.kits.now.len c.args.kits.now.items c.run-status.new.kits)))
 
   counted : length c.run-status.new.kits ≡ length c.as_mut_slice.result.now
   counted = become_length _ _ _ c.run-status.ensures.kits.kept
@@ -70,7 +82,7 @@ module _ (g : Over) (c : goal.After-unless_no_memory-outcome g) where
   tried own is = some_attempts (words_of c.args.words.now) own ((c.words_ask_by_the_rules.ensures (words_of c.args.words.now) own).0 is)
 
   -- P holds of the outcome, where the run came to its end
-  run : (P : Outcome → Type 0) → ((own : Asked) (options : Options) (o : Outcome) → asked ≡ Some own → IsOutcomeOfAsked seen own options IsEnded o → P o) → IsRun end P
+  run : (P : Outcome → Type 0) → ((own : Asked) (options : Options) (o : Outcome) → asked ≡ Some own → IsOutcomeOfAsked seen own options IsEnded o → P o) → IsRun asked end P
   run P holds = promised asked seen P holds end.status end.outcome ends
 
   account : (own : Asked) (options : Options) (o : Outcome) → asked ≡ Some own → IsOutcomeOfAsked seen own options IsEnded o
@@ -112,8 +124,15 @@ returns-clause-plain g c =
     let plain = plainly (asked g c) (seen g c) own options o is was c.honest_runs_are_runs.ensures c.outcomes_are_plainly_written.ensures in
     record {
       where_sound = plain;
-      panes = λ asks. panes_plainly (asked g c) (seen g c).kits.store.files o asks (plan_kept (asked g c) (seen g c) own options o is was) plain;
+      always = λ asks.
+          always_plainly (asked g c) (seen g c).kits.store.files o (checked_of (surroundings_of (seen g c).kits) was.0 options IsEnded o was.3) asks
+          (plan_kept (asked g c) (seen g c) own options o is was) plain;
     })
+
+pub returns-clause-drilled : goal.returns-clause-drilled
+returns-clause-drilled g c =
+    drill_prints (seen g c) c.honest_runs_are_runs.ensures c.cells_are_kept.ensures.writes c.outcomes_are_plainly_written.ensures (asked g c)
+    (λ count number options is. ap (λ (a : Option Asked). told_for a (kits g c).store.files) is) c.noted-status.result c.unless_no_memory-outcome.result (ends g c)
 
 pub returns-clause-opened : goal.returns-clause-opened
 returns-clause-opened g c =
@@ -136,11 +155,16 @@ returns-clause-decided g c =
       not_ok = not_ok (asked g c) (seen g c) (account g c) status outcome (ends g c);
       complete = complete (asked g c) (seen g c) (of_one g c) status outcome (ends g c);
       complete_strict = complete_strict (seen g c) (of_one g c) status outcome by_reads (asked g c) (ends g c);
+      replay = replay (asked g c) (seen g c) (of_one g c) status outcome (ends g c);
+      replay_accepted = replay_accepted (asked g c) (seen g c) (of_one g c) status outcome (ends g c);
       same_files = same_files (asked g c) (seen g c) (of_one g c) status outcome (ends g c);
     }
 
 pub returns-clause-few_faults : goal.returns-clause-few_faults
-returns-clause-few_faults g c = few_faults (asked g c) (seen g c) (of_one g c) c.noted-status.result c.unless_no_memory-outcome.result (ends g c)
+returns-clause-few_faults g c = (
+  few_faults (asked g c) (seen g c) (of_one g c) c.noted-status.result c.unless_no_memory-outcome.result (ends g c),
+  few_reads (asked g c) (seen g c) (of_one g c) c.noted-status.result c.unless_no_memory-outcome.result (ends g c),
+)
 
 pub returns-clause-kits : goal.returns-clause-kits
 returns-clause-kits g c =

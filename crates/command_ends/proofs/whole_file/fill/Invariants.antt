@@ -1,7 +1,7 @@
 use Rattle.std.proofs.Common.{length, ◌-◌, ◌+◌, ◌<◌, ◌≡◌, ◌≤◌, ℕ, List, Some, take}
 use Rattle.beam_ports.specs.Counts.{rise}
 use Rattle.beam_ports.specs.Files.{KeepsOpenings}
-use Rattle.command_ends.proofs.plan_file.fill.Given as goal
+use Rattle.command_ends.proofs.whole_file.fill.Given as goal
 
 abbrev pub invariant-loop-done : goal.invariant-loop-done
 invariant-loop-done g l = record {

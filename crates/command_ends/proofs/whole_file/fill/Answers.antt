@@ -1,7 +1,7 @@
 use Rattle.std.proofs.Common.{◌≡◌, ℕ, List, ◌+◌, ◌++◌, length, take, drop, refl, sym, ap, ◌∙◌, arith, length-append}
 use Rattle.std.proofs.Math.Seq.{take-add, take-append-add}
 use Rattle.beam_ports.proofs.Rises.{rise_grows}
-use Rattle.command_ends.proofs.plan_file.fill.Goals as goal
+use Rattle.command_ends.proofs.whole_file.fill.Goals as goal
 
 -- what was there is the front of the text, and what comes is the text from there on
 filled_more : (front buffer text : List ℕ) (done n : ℕ) → length front ≡ done → front ≡ take done text → take n buffer ≡ take n (drop done text)
