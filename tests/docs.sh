@@ -18,7 +18,7 @@ out/    what rt makes in a crate, and the program
 END
 
 # Documents whose commands no case of commands.cases has to have.
-only_run=' docs/using/ERRORS.md docs/using/PLAN.md docs/using/RECIPES.md docs/using/SCORES.md docs/using/TESTING.md '
+only_run=' docs/using/ERRORS.md docs/using/PLAN.md docs/using/RECIPES.md docs/using/REPLAY.md docs/using/SCORES.md docs/using/TESTING.md '
 
 programs=()
 case "${1-}" in
@@ -308,7 +308,7 @@ check_example() {
 
 check_examples() {
     local output
-    for output in examples/*/output.txt examples/state/*/output.txt; do
+    for output in examples/*/output.txt examples/state/*/output.txt examples/replay/*/output.txt; do
         check_example "$output" "${output%output.txt}plan.json"
     done
     check_example examples/visits.panes.txt examples/visits.tsv

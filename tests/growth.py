@@ -195,6 +195,50 @@ def windows_of_one_key_with_timers(n):
     ) + ["--chunk", "1000000000"]
 
 
+# ---- runs under schedules, and made lines
+
+
+def scheduled(count, *lines):
+    """These lines under which so many made lines are worked."""
+    made = {"work": "Made", "count": count, "number": 7}
+    counted({"fixed": 60_000}, source=made)
+    nodes = json.loads(pathlib.Path("plan").read_text())
+    del nodes["nodes"][0]["files"]
+    pathlib.Path("plan").write_text(json.dumps(nodes))
+    pathlib.Path("schedule").write_text("".join(f"{line}\n" for line in lines))
+    return ["replay", "plan", "schedule"]
+
+
+@shape(30_000)
+def claims_of_a_schedule(n):
+    return [*scheduled(n, "take 0", *["claim 0"] * n, "commit 0", "drain"), "--chunk", "1000000000"]
+
+
+@shape(10_000)
+def commits_of_a_schedule(n):
+    return scheduled(n, *["take 0", "claim 0", "commit 0"] * n, "drain")
+
+
+@shape(5_000)
+def tries_that_fail(n):
+    return scheduled(n, *["take 0", "claim 0", "fail 0", "take 0", "claim 0", "commit 0"] * n)
+
+
+@shape(100_000)
+def a_drain(n):
+    return scheduled(n, "drain")
+
+
+@shape(200_000)
+def a_drill(n):
+    return ["drill", str(n), "7"]
+
+
+@shape(250_000)
+def made_lines(n):
+    return ["make", str(n), "7"]
+
+
 @shape(64)
 def many_files(n):
     names = [f"file{at}" for at in range(n)]
@@ -284,7 +328,7 @@ def run(program, words):
 def measured(program, make, size):
     random.seed(7)
     words = make(size)
-    if "--workers" not in words:
+    if "--workers" not in words and words[0] != "make":
         words = [*words, "--workers", os.environ.get("WORKERS", "1")]
     runs = [run(program, words) for _ in range(RUNS)]
     return min(seconds for seconds, _, _ in runs), min(memory for _, memory, _ in runs), max(status for _, _, status in runs)

@@ -1,8 +1,9 @@
 #!/usr/bin/env bash
 # Runs the plans of a folder and compares what they print: tests/plans.sh FOLDER..
 # For each plan.json at or below a folder, output.txt beside it has what the plan prints. Each line of the file options,
-# where there is one, has the options of a run of its own, and all print the same. Plans run in the folder that this is
-# called from. What differs is shown as a diff, - what was wanted and + what came; the status is then 1, and 2 where there is no plan.
+# where there is one, has the options of a run of its own, and all print the same. Where there is a file schedule beside it, the plan is
+# run under that schedule. Plans run in the folder that this is called from. What differs is shown as a diff, - what was wanted and + what
+# came; the status is then 1, and 2 where there is no plan.
 # The program is beam_run beside the folder tests/, or what BEAM_RUN names.
 set -u
 program=${BEAM_RUN:-$(dirname "$(readlink -f "${BASH_SOURCE[0]}")")/../beam_run}
@@ -18,9 +19,11 @@ good=0 bad=0
 
 # One run: the plan, what it is to print, and its options.
 run() {
-    local plan=$1 wanted=$2 status options=()
+    local plan=$1 wanted=$2 schedule=${1%plan.json}schedule words status options=()
     read -ra options <<<"$3"
-    "$program" run "$plan" "${options[@]}" >"$work/got" 2>"$work/note" </dev/null
+    words=(run "$plan")
+    [ ! -f "$schedule" ] || words=(replay "$plan" "$schedule")
+    "$program" "${words[@]}" "${options[@]}" >"$work/got" 2>"$work/note" </dev/null
     status=$?
     if [ "$status" -eq 0 ] && cmp -s "$wanted" "$work/got"; then
         good=$((good + 1))

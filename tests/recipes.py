@@ -213,15 +213,15 @@ def line_of(record):
 
 
 def printed_texts():
-    """Each text of the worked cases that the program prints, as bytes."""
+    """Each text of panes that the program prints in the worked cases, as bytes. Made lines are none."""
     for name, first in (("commands.cases", "command"), ("texts.cases", "outcome")):
-        text = ""
+        text, has_panes = "", True
         for line in next(ROOT.glob(f"crates/*/data/{name}")).read_text("ascii").splitlines():
             if line.startswith(first):
-                text = ""
+                text, has_panes = "", not line.startswith("command make ")
             elif line.startswith("out "):
                 text += line[len("out "):]
-            elif line == "end" and re.match(r"-?\d|#|log", text):
+            elif line == "end" and has_panes and re.match(r"-?\d|#|log", text):
                 yield re.sub(r'\\(x([0-9a-f]{2})|.)', lambda m: chr(int(m[2], 16)) if m[2] else {"n": "\n", "t": "\t"}.get(m[1], m[1]), text)
                 text = ""
 

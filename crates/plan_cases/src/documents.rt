@@ -48,6 +48,35 @@ pub fn answer_words(case: &mut Case<'_>) {
             case.say_text(plan);
             say_options(&options, case);
         }
+        Ok(
+            Command::Replay {
+                plan,
+                schedule,
+                options,
+            },
+        ) => {
+            case.say("replay");
+            case.say_text(plan);
+            case.say_text(schedule);
+            say_options(&options, case);
+        }
+        Ok(Command::Make { count, number }) => {
+            case.say("make");
+            case.say_number(count);
+            case.say_number(number);
+        }
+        Ok(
+            Command::Drill {
+                count,
+                number,
+                options,
+            },
+        ) => {
+            case.say("drill");
+            case.say_number(count);
+            case.say_number(number);
+            say_options(&options, case);
+        }
     }
 }
 
