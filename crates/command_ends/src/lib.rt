@@ -1,9 +1,10 @@
-//! What commands over plans share: how they end, what they write, and how they read the file of a plan.
+//! What commands over plans share: how they end, what they write, and how they read the files of a plan and of a schedule.
 //!
 //! A command ends with a [`Status`]. Its text is written whole or up to a fault of the sink ([`put`],
 //! [`written`]), and where it doesn't end well a line goes to its notes ([`noted`], [`write_note`]). The
 //! files of a plan document and of a schedule are opened and read by a store whose calls may fail
-//! ([`read_plan_file`], [`read_schedule_file`]). The layer above may rely on the contracts of these calls, in which each store and sink is what was observed of it.
+//! ([`read_plan_file`], [`read_schedule_file`]). The layer above may rely on the contracts of these calls, in
+//! which each store and sink is what was observed of it.
 //! Read `status.rt` first, then `specs/PlanFiles.antt` and `specs/Notes.antt`.
 #![tactic(auto)]
 
