@@ -1,7 +1,5 @@
-use Rattle.std.proofs.Common.{◌≡◌, ℕ, List, refl, sym, ap, ◌∙◌, subst, arith}
+use Rattle.std.proofs.Common.{◌≡◌, ℕ, refl, ap, ◌∙◌, subst, arith}
 use Rattle.std.specs.Prelude.{None, Option, replicate}
-use Rattle.beam_values.specs.declared.file_text.FileText.{FileText}
-use Rattle.book_core.specs.Book.{SeenBook}
 use Rattle.book_core.specs.Runs.{Run}
 use Rattle.book_core.specs.declared.live.Live.{Live}
 use Rattle.lone_worker.specs.declared.work.Work.{Work}

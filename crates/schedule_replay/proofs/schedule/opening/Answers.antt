@@ -1,7 +1,5 @@
-use Rattle.std.proofs.Common.{◌≡◌, ℕ, List, map, sym, ap, ◌∙◌}
-use Rattle.std.specs.Prelude.{None, Option, replicate}
+use Rattle.std.proofs.Common.{map, ap, ◌∙◌}
 use Rattle.book_core.specs.Book.{SeenBook}
-use Rattle.lone_worker.specs.declared.work.Work.{Work}
 use Rattle.schedule_replay.specs.Shown.{shown_slot}
 use Rattle.schedule_replay.proofs.Begun.{shown_free}
 use Rattle.schedule_replay.proofs.schedule.opening.Goals as goal

@@ -1,4 +1,4 @@
-use Rattle.std.proofs.Common.{◌≤◌, List, ℕ, [], length, refl, rules, subst, arith}
+use Rattle.std.proofs.Common.{List, ℕ, [], refl, rules, subst}
 use Rattle.std.proofs.lemmas.Result.{err_from_is_err_and}
 use Rattle.beam_ports.specs.Observed.{observed_store}
 use Rattle.bundle_work.proofs.Answered.{kit_same}
