@@ -2,9 +2,9 @@
 use Rattle.std.proofs.Common.{◌≡◌, ℕ, Bool, false, if◌then◌else◌, List, [], ◌∷◌, Option, Some, None, refl, ap, ◌∙◌}
 use Rattle.std.specs.Option.{option_map, option_and_then}
 use Rattle.beam_values.specs.declared.options.Options.{Options}
-use Rattle.command_words.specs.Commands.{Asked, asked_by, asks_help, command_name, command_named, drill_of, has_no_option, is_none_of, make_of, options_of, panes_of, replay_of, run_of, value_of_texts}
+use Rattle.command_words.specs.Commands.{Asked, asked_by, asks_help, command_name, command_named, combine_of, drill_of, has_no_option, is_none_of, make_of, options_of, panes_of, replay_of, run_of, value_of_texts}
 use Rattle.command_words.specs.Few.{Few, Nothing, More, few, is_nothing, with_text}
-use Rattle.command_words.specs.Gathering.{Gathering, asked_gathered, drill_of_few, gathering_of, has_none_gathered, make_of_few, options_gathered, panes_of_few, replay_of_few, run_of_few, value_of_few, with_part, with_parts}
+use Rattle.command_words.specs.Gathering.{Gathering, asked_gathered, combine_of_few, drill_of_few, gathering_of, has_none_gathered, make_of_few, options_gathered, panes_of_few, replay_of_few, run_of_few, value_of_few, with_part, with_parts}
 use Rattle.command_words.specs.Parts.{Part, parts_of, Chosen, Positional, texts_of, positional_words}
 use Rattle.command_words.specs.declared.name.CommandName.{CommandName}
 use Rattle.command_words.specs.declared.name.CommandName.TheVariants as commands
@@ -84,6 +84,12 @@ drill_are (a ∷ []) options = refl
 drill_are (a ∷ (b ∷ [])) options = refl
 drill_are (a ∷ (b ∷ (c ∷ words))) options = refl
 
+combine_is : (words : List (List ℕ)) (options : Option Options) → combine_of_few (few words) options ≡ combine_of words options
+combine_is [] options = refl
+combine_is (a ∷ []) options = refl
+combine_is (a ∷ (b ∷ [])) options = refl
+combine_is (a ∷ (b ∷ (c ∷ words))) options = refl
+
 none_are : (texts : List (List ℕ)) → is_nothing (few texts) ≡ is_none_of texts
 none_are [] = refl
 none_are (a ∷ []) = refl
@@ -102,6 +108,7 @@ same_asked commands.Make parts =
     ap (λ (none : Bool). if none then make_of_few (few (positional_words parts)) else None) (no_option_are parts)
     ∙ ap (λ (asked : Option Asked). if has_no_option parts then asked else None) (make_are (positional_words parts))
 same_asked commands.Drill parts = drill_are (positional_words parts) (options_gathered (gathering_of parts)) ∙ ap (drill_of (positional_words parts)) (options_are parts)
+same_asked commands.Combine parts = combine_is (positional_words parts) (options_gathered (gathering_of parts)) ∙ ap (combine_of (positional_words parts)) (options_are parts)
 
 pub asks_gathered : (command : CommandName) (parts : Option (List Part)) (g : Gathering) → Some g ≡ option_map gathering_of parts
     → asked_gathered command g ≡ option_and_then (asked_by command) parts

@@ -7,11 +7,11 @@ use Rattle.std.proofs.lemmas.Slice.Eq.{bytes_eq-Decides}
 use Rattle.beam_values.specs.Strategies.{greatest_length}
 use Rattle.beam_values.specs.Windows.{or_zero}
 use Rattle.beam_values.specs.declared.options.Options.{Options}
-use Rattle.command_words.specs.Commands.{Asked, Help, Panes, Run, Replay, Make, Drill, AsksHelp, asked_by, asks_help, command_name, command_of, drill_of, greatest_of, has_no_option, is_file_name, is_none_of, make_of, options_of, panes_of, replay_of, run_of, value_of, value_of_texts}
+use Rattle.command_words.specs.Commands.{Asked, Help, Panes, Run, Replay, Make, Drill, Combine, AsksHelp, asked_by, asks_help, command_name, combine_of, command_of, drill_of, greatest_of, has_no_option, is_file_name, is_none_of, make_of, options_of, panes_of, replay_of, run_of, value_of, value_of_texts}
 use Rattle.command_words.specs.Grammar.{AreParts}
 use Rattle.command_words.specs.Numbers.{IsNumberWithin, is_number_within, number_of_text, number_within}
 use Rattle.command_words.specs.Parts.{Part, parts_of, positional_words, texts_of}
-use Rattle.command_words.specs.Rules.{AreGiven, Asks, ByDefault, ForDrill, ForHelp, ForMake, ForPanes, ForReplay, ForRun, Given, HasNoOption, IsRefused, IsValue}
+use Rattle.command_words.specs.Rules.{AreGiven, Asks, ByDefault, ForCombine, ForDrill, ForHelp, ForMake, ForPanes, ForReplay, ForRun, Given, HasNoOption, IsRefused, IsValue}
 use Rattle.command_words.specs.Shown.{shown_answer, shown_command}
 use Rattle.command_words.specs.declared.command.Command.{Command}
 use Rattle.command_words.specs.declared.command.Command.TheVariants as own
@@ -158,6 +158,10 @@ rules_are_followed _ _ (ForDrill program words parts count number options are tw
     let cs = numbered 0 1000000 count few in
     let ns = numbered 0 1000000 number small in
     rw (read, two, by, cs, ns) refl
+rules_are_followed _ _ (ForCombine program words parts plan options are one given) =
+    let read = grammar_is_read words parts are in
+    let by = are_options parts options given in
+    rw (read, one, by) refl
 
 -- By the definition, and so by the rules.
 
@@ -270,6 +274,21 @@ drill_is program words parts asked (count ∷ []) are positional h = cc
 drill_is program words parts asked (count ∷ (number ∷ [])) are positional h = drill_by program words parts asked count number _ _ _ are positional refl refl refl h
 drill_is program words parts asked (a ∷ (b ∷ (c ∷ more))) are positional h = cc
 
+combine_by : (program : List ℕ) (words : List (List ℕ)) (parts : List Part) (asked : Asked) (plan : List ℕ) (options : Option Options)
+    → AreParts words parts → positional_words parts ≡ plan ∷ [] → options_of parts ≡ options → option_map (λ options. Combine plan options) options ≡ Some asked
+    → Asks (program ∷ (codes "combine" ∷ words)) asked
+combine_by program words parts asked plan None are one by h = cc
+combine_by program words parts asked plan (Some options) are one by h =
+    let is : Combine plan options ≡ asked = cc in
+    subst (Asks (program ∷ (codes "combine" ∷ words))) is (ForCombine program words parts plan options are one (options_are parts options by))
+
+combine_is : (program : List ℕ) (words : List (List ℕ)) (parts : List Part) (asked : Asked) (positional : List (List ℕ))
+    → AreParts words parts → positional_words parts ≡ positional → combine_of positional (options_of parts) ≡ Some asked
+    → Asks (program ∷ (codes "combine" ∷ words)) asked
+combine_is program words parts asked [] are positional h = cc
+combine_is program words parts asked (plan ∷ []) are positional h = combine_by program words parts asked plan _ are positional refl h
+combine_is program words parts asked (a ∷ (b ∷ more)) are positional h = cc
+
 -- commands by their names
 
 abbrev spelled : CommandName → List ℕ
@@ -278,6 +297,7 @@ spelled commands.Run = codes "run"
 spelled commands.Replay = codes "replay"
 spelled commands.Make = codes "make"
 spelled commands.Drill = codes "drill"
+spelled commands.Combine = codes "combine"
 
 asked_is : (program : List ℕ) (words : List (List ℕ)) (parts : List Part) (asked : Asked) (command : CommandName)
     → AreParts words parts → asked_by command parts ≡ Some asked → Asks (program ∷ (spelled command ∷ words)) asked
@@ -286,24 +306,26 @@ asked_is program words parts asked commands.Run are h = run_is program words par
 asked_is program words parts asked commands.Replay are h = replay_is program words parts asked _ are refl h
 asked_is program words parts asked commands.Make are h = make_is program words parts asked _ _ are refl refl h
 asked_is program words parts asked commands.Drill are h = drill_is program words parts asked _ are refl h
+asked_is program words parts asked commands.Combine are h = combine_is program words parts asked _ are refl h
 
 named : (name : List ℕ) (command one : CommandName) → bytes_eq name (spelled one) ≡ true → one ≡ command → spelled command ≡ name
 named name command one same is = subst (λ (c : CommandName). spelled c ≡ name) is (sym ((bytes_eq-Decides name (spelled one)).0 same))
 
-name_by : (name : List ℕ) (command : CommandName) (p r y m d : Bool)
-    → bytes_eq name (codes "panes") ≡ p → bytes_eq name (codes "run") ≡ r → bytes_eq name (codes "replay") ≡ y → bytes_eq name (codes "make") ≡ m → bytes_eq name (codes "drill") ≡ d
+name_by : (name : List ℕ) (command : CommandName) (p r y m d o : Bool)
+    → bytes_eq name (codes "panes") ≡ p → bytes_eq name (codes "run") ≡ r → bytes_eq name (codes "replay") ≡ y → bytes_eq name (codes "make") ≡ m → bytes_eq name (codes "drill") ≡ d → bytes_eq name (codes "combine") ≡ o
     → (if p then Some commands.Panes else (if r then Some commands.Run else (if y then Some commands.Replay
-    else (if m then Some commands.Make else (if d then Some commands.Drill else None))))) ≡ Some command
+    else (if m then Some commands.Make else (if d then Some commands.Drill else (if o then Some commands.Combine else None)))))) ≡ Some command
     → spelled command ≡ name
-name_by name command true r y m d pe re ye me de h = named name command commands.Panes pe cc
-name_by name command false true y m d pe re ye me de h = named name command commands.Run re cc
-name_by name command false false true m d pe re ye me de h = named name command commands.Replay ye cc
-name_by name command false false false true d pe re ye me de h = named name command commands.Make me cc
-name_by name command false false false false true pe re ye me de h = named name command commands.Drill de cc
-name_by name command false false false false false pe re ye me de h = cc
+name_by name command true r y m d o pe re ye me de oe h = named name command commands.Panes pe cc
+name_by name command false true y m d o pe re ye me de oe h = named name command commands.Run re cc
+name_by name command false false true m d o pe re ye me de oe h = named name command commands.Replay ye cc
+name_by name command false false false true d o pe re ye me de oe h = named name command commands.Make me cc
+name_by name command false false false false true o pe re ye me de oe h = named name command commands.Drill de cc
+name_by name command false false false false false true pe re ye me de oe h = named name command commands.Combine oe cc
+name_by name command false false false false false false pe re ye me de oe h = cc
 
 name_is : (name : List ℕ) (command : CommandName) → command_name name ≡ Some command → spelled command ≡ name
-name_is name command h = name_by name command _ _ _ _ _ refl refl refl refl refl h
+name_is name command h = name_by name command _ _ _ _ _ _ refl refl refl refl refl refl h
 
 named_by : (program name : List ℕ) (words : List (List ℕ)) (asked : Asked) (help : Bool) (command : Option CommandName) (read : Option (List Part))
     → asks_help name ≡ help → command_name name ≡ command → parts_of words ≡ read
@@ -339,6 +361,7 @@ help_is_asked _ _ (ForRun program words parts plan options are one given) is = c
 help_is_asked _ _ (ForReplay program words parts plan schedule options are two given) is = cc
 help_is_asked _ _ (ForMake program words parts count number are two none few small) is = cc
 help_is_asked _ _ (ForDrill program words parts count number options are two given few small) is = cc
+help_is_asked _ _ (ForCombine program words parts plan options are one given) is = cc
 
 shows_help : (answer : Result Command Usage) → shown_answer answer ≡ Some Help → answer ≡ Ok own.Help
 shows_help (Ok own.Help) h = refl
@@ -347,6 +370,7 @@ shows_help (Ok (own.Run plan options)) h = cc
 shows_help (Ok (own.Replay plan schedule options)) h = cc
 shows_help (Ok (own.Make count number)) h = cc
 shows_help (Ok (own.Drill count number options)) h = cc
+shows_help (Ok (own.Combine plan options)) h = cc
 shows_help (Err usage) h = cc
 
 pub help_by_the_rules : (words : List (List ℕ)) (answer : Result Command Usage) → shown_answer answer ≡ command_of words → (answer ≡ Ok own.Help) ↔ AsksHelp words

@@ -33,6 +33,8 @@ pub data Asked : Type 0 where
   Make : ℕ → ℕ → Asked
   -- a run over these lines
   Drill : ℕ → ℕ → Options → Asked
+  -- what is combined of a plan
+  Combine : List ℕ → Options → Asked
 
 -- an option's value is a number from 1 to this one
 abbrev pub greatest_of : Setting → ℕ
@@ -66,6 +68,7 @@ IsAllowed (Run plan options) = AreOptions options
 IsAllowed (Replay plan schedule options) = AreOptions options
 IsAllowed (Make count number) = (count ≤ 1000000) × (number ≤ 1000000)
 IsAllowed (Drill count number options) = (count ≤ 1000000) × (number ≤ 1000000) × AreOptions options
+IsAllowed (Combine plan options) = AreOptions options
 
 -- the value of an option that is given with these texts: at most one
 abbrev pub value_of_texts : Setting → List (List ℕ) → Option ℕ
@@ -120,6 +123,10 @@ drill_of (count ∷ (number ∷ [])) options =
     option_and_then (λ count. option_and_then (λ number. option_map (λ options. Drill count number options) options) (count_of number)) (count_of count)
 drill_of words options = None
 
+abbrev pub combine_of : List (List ℕ) → Option Options → Option Asked
+combine_of (plan ∷ []) options = option_map (λ options. Combine plan options) options
+combine_of words options = None
+
 -- of no option there is a text
 abbrev pub is_none_of : List (List ℕ) → Bool
 is_none_of [] = true
@@ -140,7 +147,8 @@ command_name name =
     else (if bytes_eq name (codes "replay") then Some commands.Replay
     else (if bytes_eq name (codes "make") then Some commands.Make
     else (if bytes_eq name (codes "drill") then Some commands.Drill
-    else None))))
+    else (if bytes_eq name (codes "combine") then Some commands.Combine
+    else None)))))
 
 -- what a command asks for by the parts of its words; one that takes no options is refused with one
 abbrev pub asked_by : CommandName → List Part → Option Asked
@@ -149,6 +157,7 @@ asked_by commands.Run parts = run_of (positional_words parts) (options_of parts)
 asked_by commands.Replay parts = replay_of (positional_words parts) (options_of parts)
 asked_by commands.Make parts = if has_no_option parts then make_of (positional_words parts) else None
 asked_by commands.Drill parts = drill_of (positional_words parts) (options_of parts)
+asked_by commands.Combine parts = combine_of (positional_words parts) (options_of parts)
 
 -- what a command asks for with the words after its name
 abbrev pub command_named : List ℕ → List (List ℕ) → Option Asked

@@ -2,7 +2,7 @@
 use Rattle.std.specs.Prelude.{ℕ, Bool, ◌&&◌, if◌then◌else◌, List, [], ◌∷◌, Option, Some, None, Result, Ok, Err}
 use Rattle.std.specs.Option.{option_map, option_and_then}
 use Rattle.beam_values.specs.declared.options.Options.{Options}
-use Rattle.command_words.specs.Commands.{Asked, Panes, Run, Replay, Make, Drill, count_of, default_of, greatest_of, is_file_name, size_of}
+use Rattle.command_words.specs.Commands.{Asked, Panes, Run, Replay, Make, Drill, Combine, count_of, default_of, greatest_of, is_file_name, size_of}
 use Rattle.command_words.specs.Few.{Few, Nothing, One, Two, few, is_nothing, with_text}
 use Rattle.command_words.specs.Numbers.{number_within}
 use Rattle.command_words.specs.Parts.{Part, Chosen, Positional, texts_of, positional_words}
@@ -92,6 +92,10 @@ drill_of_few (Two count number) options =
     option_and_then (λ count. option_and_then (λ number. option_map (λ options. Drill count number options) options) (count_of number)) (count_of count)
 drill_of_few words options = None
 
+abbrev pub combine_of_few : Few → Option Options → Option Asked
+combine_of_few (One plan) options = option_map (λ options. Combine plan options) options
+combine_of_few words options = None
+
 abbrev pub has_none_gathered : Gathering → Bool
 has_none_gathered gathering = is_nothing gathering.workers && is_nothing gathering.bundle && is_nothing gathering.chunk && is_nothing gathering.attempts
 
@@ -110,6 +114,9 @@ make_gathered gathering = if has_none_gathered gathering then make_of_few gather
 abbrev pub drill_gathered : Gathering → Option Asked
 drill_gathered gathering = drill_of_few gathering.positional (options_gathered gathering)
 
+abbrev pub combine_gathered : Gathering → Option Asked
+combine_gathered gathering = combine_of_few gathering.positional (options_gathered gathering)
+
 -- what a command asks for by what was gathered
 abbrev pub asked_gathered : CommandName → Gathering → Option Asked
 asked_gathered commands.Panes gathering = panes_gathered gathering
@@ -117,3 +124,4 @@ asked_gathered commands.Run gathering = run_gathered gathering
 asked_gathered commands.Replay gathering = replay_gathered gathering
 asked_gathered commands.Make gathering = make_gathered gathering
 asked_gathered commands.Drill gathering = drill_gathered gathering
+asked_gathered commands.Combine gathering = combine_gathered gathering

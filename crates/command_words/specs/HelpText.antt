@@ -11,4 +11,5 @@ help_text =
     ++ line (codes "beam_run replay PLAN SCHEDULE [OPTIONS]")
     ++ line (codes "beam_run make COUNT NUMBER")
     ++ line (codes "beam_run drill COUNT NUMBER [OPTIONS]")
+    ++ line (codes "beam_run combine PLAN [OPTIONS]")
     ++ line (codes "OPTIONS: --workers N --bundle N --chunk N --attempts N")

@@ -3,7 +3,7 @@ use Rattle.std.specs.Prelude.{◌≡◌, ℕ, pos, ◌≤◌, List, [], ◌∷�
 use Rattle.beam_values.specs.Strategies.{greatest_length}
 use Rattle.beam_values.specs.Windows.{or_zero}
 use Rattle.beam_values.specs.declared.options.Options.{Options}
-use Rattle.command_words.specs.Commands.{Asked, Help, Panes, Run, Replay, Make, Drill, AsksHelp, default_of, greatest_of}
+use Rattle.command_words.specs.Commands.{Asked, Help, Panes, Run, Replay, Make, Drill, Combine, AsksHelp, default_of, greatest_of}
 use Rattle.command_words.specs.Grammar.{AreParts}
 use Rattle.command_words.specs.Numbers.{IsNumberWithin, number_of_text}
 use Rattle.command_words.specs.Parts.{Part, positional_words, texts_of}
@@ -52,6 +52,9 @@ pub data Asks : List (List ℕ) → Asked → Type 0 where
       → AreParts words parts → positional_words parts ≡ count ∷ (number ∷ []) → AreGiven parts options
       → IsNumberWithin 0 1000000 count → IsNumberWithin 0 1000000 number
       → Asks (program ∷ (codes "drill" ∷ words)) (Drill (number_of_text count) (number_of_text number) options)
+  ForCombine : (program : List ℕ) (words : List (List ℕ)) (parts : List Part) (plan : List ℕ) (options : Options)
+      → AreParts words parts → positional_words parts ≡ plan ∷ [] → AreGiven parts options
+      → Asks (program ∷ (codes "combine" ∷ words)) (Combine plan options)
 
 -- by no rule do these words ask for anything
 abbrev pub IsRefused : List (List ℕ) → Type 0

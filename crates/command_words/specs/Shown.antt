@@ -4,7 +4,7 @@ use Rattle.command_words.specs.Commands as asked
 use Rattle.command_words.specs.Few as texts
 use Rattle.command_words.specs.Parts as part
 use Rattle.command_words.specs.declared.command.Command.{Command}
-use Rattle.command_words.specs.declared.command.Command.TheVariants.{Help, Panes, Run, Replay, Make, Drill}
+use Rattle.command_words.specs.declared.command.Command.TheVariants.{Help, Panes, Run, Replay, Make, Drill, Combine}
 use Rattle.command_words.specs.declared.few.Few.{Few}
 use Rattle.command_words.specs.declared.few.Few.TheVariants.{Nothing, One, Two, More}
 use Rattle.command_words.specs.declared.parts.Part.{Part}
@@ -18,6 +18,7 @@ shown_command (Run plan options) = asked.Run plan.now options
 shown_command (Replay plan schedule options) = asked.Replay plan.now schedule.now options
 shown_command (Make count number) = asked.Make count number
 shown_command (Drill count number options) = asked.Drill count number options
+shown_command (Combine plan options) = asked.Combine plan.now options
 
 -- what was read, or none where the words were refused
 abbrev pub shown_answer : Result Command Usage → Option asked.Asked

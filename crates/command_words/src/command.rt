@@ -2,7 +2,7 @@ ghost use Rattle.std.specs.Prelude.{◌≡◌, ◌≢◌, ◌≤◌, ◌↔◌, 
 ghost use Rattle.beam_values.specs.Strategies.{IsLength};
 ghost use Rattle.command_words.specs.Commands.{AsksHelp, IsAllowed, asks_help, command_named};
 ghost use Rattle.command_words.specs.Commands.{command_of, count_of, is_file_name, size_of, words_of};
-ghost use Rattle.command_words.specs.Gathering.{asked_gathered, drill_gathered, make_gathered};
+ghost use Rattle.command_words.specs.Gathering.{asked_gathered, combine_gathered, drill_gathered, make_gathered};
 ghost use Rattle.command_words.specs.Gathering.{panes_gathered, replay_gathered, run_gathered};
 ghost use Rattle.command_words.specs.Gathering.{shown_gathered};
 ghost use Rattle.command_words.specs.Rules.{Asks, IsRefused};
@@ -65,6 +65,12 @@ pub enum Command<'a> {
         number: u64,
         options: Options,
     },
+    /// `combine PLAN`, with options.
+    Combine {
+        /// The name of the plan's file, of any length.
+        plan: &'a [u8],
+        options: Options,
+    },
 }
 
 /// Reads the words of a command line, the name of the program first. It takes no memory.
@@ -112,6 +118,7 @@ fn ask<'a>(command: CommandName, gathered: &Gathered<'a>) -> Result<Command<'a>,
         CommandName::Replay => replay(gathered),
         CommandName::Make => make(gathered),
         CommandName::Drill => drill(gathered),
+        CommandName::Combine => combine(gathered),
     }
 }
 
@@ -207,6 +214,22 @@ fn drill<'a>(gathered: &Gathered<'a>) -> Result<Command<'a>, Usage>
     Ok(Command::Drill {
         count,
         number,
+        options,
+    })
+}
+
+// `combine PLAN`
+fn combine<'a>(gathered: &Gathered<'a>) -> Result<Command<'a>, Usage>
+    ensures exact { shown_answer result ≡ combine_gathered (shown_gathered gathered.now) }
+    ensures no_help { result ≢ Ok Command.Help }
+    ensures bounds { IfOk result (λ command. IsAllowed (shown_command command)) }
+{
+    let Few::One(plan) = gathered.positional else {
+        return Err(Usage);
+    };
+    let options = gathered.options().ok_or(Usage)?;
+    Ok(Command::Combine {
+        plan: plan.as_bytes(),
         options,
     })
 }

@@ -7,6 +7,7 @@ beam_run run PLAN [OPTIONS]\n\
 beam_run replay PLAN SCHEDULE [OPTIONS]\n\
 beam_run make COUNT NUMBER\n\
 beam_run drill COUNT NUMBER [OPTIONS]\n\
+beam_run combine PLAN [OPTIONS]\n\
 OPTIONS: --workers N --bundle N --chunk N --attempts N\n";
 
 /// What help prints, whole: a line for each command, and one for their options.

@@ -9,6 +9,7 @@ pub enum CommandName {
     Replay,
     Make,
     Drill,
+    Combine,
 }
 
 impl CommandName {
@@ -26,6 +27,8 @@ impl CommandName {
             Some(CommandName::Make)
         } else if name == "drill" {
             Some(CommandName::Drill)
+        } else if name == "combine" {
+            Some(CommandName::Combine)
         } else {
             None
         }
