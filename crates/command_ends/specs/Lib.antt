@@ -1,4 +1,5 @@
 pub mod Statuses
+pub mod Retrying
 pub mod Writing
 pub mod Notes
 pub mod WholeFiles

@@ -9,6 +9,8 @@ use Rattle.beam_ports.specs.Observed.{ObservedSink}
 use Rattle.beam_ports.specs.Sinks.{then_taken}
 use Rattle.beam_text.specs.declared.refusal.ScheduleRefusal.{ScheduleRefusal}
 use Rattle.beam_text.specs.declared.refusal.ScheduleRefusal.TheVariants as refusal
+use Rattle.combine_lift.specs.declared.refusal.LiftRefusal.{LiftRefusal}
+use Rattle.combine_lift.specs.declared.refusal.LiftRefusal.TheVariants as lift
 use Rattle.plan_reader.specs.Texts.{refusal_text}
 use Rattle.command_ends.specs.declared.status.Status.{Status}
 use Rattle.command_ends.specs.declared.status.Status.TheVariants as status
@@ -36,6 +38,13 @@ schedule_text (refusal.Line number) = codes "bad schedule: line " ++ decimal num
 schedule_text (refusal.NotAllowed number) = codes "bad schedule: not allowed " ++ decimal number
 schedule_text (refusal.Length len) = codes "bad schedule: length " ++ decimal len
 
+-- why a plan is not combined
+abbrev pub lift_text : LiftRefusal → List ℕ
+lift_text lift.Shape = codes "not lifted: 1 shape"
+lift_text lift.Part = codes "not lifted: 2 part"
+lift_text lift.Sum = codes "not lifted: 3 sum"
+lift_text lift.Many = codes "not lifted: 4 many"
+
 -- without the LF at its end
 abbrev pub note_text : Status → List ℕ
 note_text status.Ok = []
@@ -49,6 +58,7 @@ note_text status.SinkFault = codes "sink fault"
 note_text status.NoMemory = codes "no memory"
 note_text (status.FileChanged name first other) = changed_text name first other
 note_text (status.BadSchedule refusal) = schedule_text refusal
+note_text (status.NotLifted refusal) = lift_text refusal
 
 abbrev pub note_line : Status → List ℕ
 note_line s = note_text s ++ 10 ∷ []
@@ -75,6 +85,7 @@ IsLongNoted (status.SourceFault kit) = Unit {0}
 IsLongNoted (status.WorkFault note) = Unit {0}
 IsLongNoted (status.FileChanged name first other) = Unit {0}
 IsLongNoted (status.BadSchedule refusal) = Unit {0}
+IsLongNoted (status.NotLifted refusal) = Unit {0}
 IsLongNoted _ = ⊥
 
 -- the end after its note was written: the same, or want of memory for the note

@@ -15,6 +15,7 @@ number_of status.SinkFault = 7
 number_of status.NoMemory = 8
 number_of (status.FileChanged name first other) = 9
 number_of (status.BadSchedule refusal) = 10
+number_of (status.NotLifted refusal) = 11
 
 -- that no file of this name is there, or that there was no memory to say so
 abbrev pub IsNoSourceOrNoMemory : List ℕ → Status → Type 0

@@ -3,7 +3,7 @@
 ghost use Rattle.std.specs.Prelude.{◌≡◌, ◌++◌, ℕ, IfOk, OnOk, IfSome, IfNone, ◌⊎◌, decimal};
 ghost use Rattle.beam_ports.specs.Observed.{observed_sink};
 ghost use Rattle.command_ends.specs.Notes.{changed_text, note_line, work_text, place_text};
-ghost use Rattle.command_ends.specs.Notes.{attempt_text, cause_text, schedule_text};
+ghost use Rattle.command_ends.specs.Notes.{attempt_text, cause_text, lift_text, schedule_text};
 ghost use Rattle.command_ends.specs.Notes.{IsLongNoted, IsNoted, IsNotedUpTo, StaysOrNoMemory};
 
 use crate::status::Status;
@@ -11,6 +11,7 @@ use crate::writing::put;
 use beam_ports::Sink;
 use beam_text::{ScheduleRefusal, push_blob};
 use beam_values::{Bytes, Cause, FaultNote, List, NoMemory};
+use combine_lift::LiftRefusal;
 use itoa::Buffer;
 use plan_reader::refusal_text;
 use std::alloc::Global;
@@ -54,6 +55,7 @@ pub fn note_line(alloc: Global, status: &Status) -> Result<Bytes, NoMemory>
             push_changed(name, *first, *other, &mut line)?
         }
         Status::BadSchedule(refusal) => push_schedule(*refusal, &mut line)?,
+        Status::NotLifted(refusal) => line.extend_from_slice(lift_text(*refusal))?,
     }
     line.push(b'\n')?;
     Bytes::from_list(alloc, line)
@@ -111,6 +113,17 @@ fn push_schedule(refusal: ScheduleRefusal, line: &mut List<u8>) -> Result<(), No
             push_number(b"bad schedule: not allowed ", number.into(), line)
         }
         ScheduleRefusal::Length(len) => push_number(b"bad schedule: length ", len, line),
+    }
+}
+
+fn lift_text(refusal: LiftRefusal) -> &'static [u8]
+    ensures { result.now ≡ lift_text refusal }
+{
+    match refusal {
+        LiftRefusal::Shape => b"not lifted: 1 shape",
+        LiftRefusal::Part => b"not lifted: 2 part",
+        LiftRefusal::Sum => b"not lifted: 3 sum",
+        LiftRefusal::Many => b"not lifted: 4 many",
     }
 }
 

@@ -6,8 +6,9 @@ ghost use Rattle.beam_ports.specs.Files.{KeepsOpenings};
 ghost use Rattle.beam_ports.specs.Observed.{observed_store, WhereTold};
 ghost use Rattle.command_ends.specs.PlanFiles.{AreNamesOf, IsMeaningOf, IsPlanRefused};
 
+use crate::retrying::RetryingStore;
 use crate::status::{Status, no_source};
-use crate::whole_file::{open_whole, read_text};
+use crate::whole_file::read_text;
 use beam_ports::{OpenRefusal, Store};
 use beam_values::{Bytes, List};
 use pipeline_graph::Graph;
@@ -46,23 +47,24 @@ pub fn read_plan_file<S: Store>(
     ensures kept { KeepsOpenings (S.opened store.old) (S.opened store.new) }
     ensures counts { S.faults store.old ≤ S.faults store.new }
 {
-    let opened = match open_whole(store, name, 0, attempts) {
-        Ok(opened) => opened,
+    let mut store = RetryingStore::new(store, 0, attempts);
+    let file = match store.open_file(name) {
+        Ok(file) => file,
         Err(OpenRefusal::Absent) => return Err(no_source(alloc, name)),
         Err(OpenRefusal::Failed) => return Err(Status::SourceFault(0)),
     };
-    if let Some(refusal) = length_refusal(opened.len) {
+    if let Some(refusal) = length_refusal(file.len) {
         return Err(Status::BadPlan(refusal));
     }
-    let text = match read_text(alloc, store, &opened, attempts) {
+    let text = match read_text(alloc, &mut store, &file) {
         Ok(text) => text,
         Err(status) => return Err(status),
     };
-    match read_named_plan(alloc, text.bytes.as_slice()) {
+    match read_named_plan(alloc, text.as_slice()) {
         Ok(NamedPlan { names, graph }) => Ok(PlanRead {
             names,
             graph,
-            failed: text.failed,
+            failed: store.failed(),
         }),
         Err(PlanReadRefusal::Bad(refusal)) => Err(Status::BadPlan(refusal)),
         Err(PlanReadRefusal::NoMemory) => Err(Status::NoMemory),

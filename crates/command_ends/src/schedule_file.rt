@@ -7,14 +7,22 @@ ghost use Rattle.beam_ports.specs.Files.{KeepsOpenings};
 ghost use Rattle.beam_ports.specs.Observed.{observed_store, WhereTold};
 ghost use Rattle.command_ends.specs.ScheduleFiles.{IsScheduleUnread, longest_schedule};
 
+use crate::retrying::RetryingStore;
 use crate::status::{Status, no_source};
-use crate::whole_file::{TextRead, open_whole, read_text};
+use crate::whole_file::read_text;
 use beam_ports::{OpenRefusal, Store};
 use beam_text::ScheduleRefusal;
 use std::alloc::Global;
 
 /// The greatest length of a schedule, in bytes.
 const LONGEST: u64 = 1_048_576;
+
+/// The bytes of a file, and how often the store had failed in the command when they were read.
+#[derive(Debug, Drop)]
+pub struct TextRead {
+    pub bytes: Vec<u8>,
+    pub failed: u32,
+}
 
 /// Opens the file of a schedule and reads it whole, unless it is too long for one. The store has failed `failed` times
 /// before in this command; a call that fails is made again until it has failed `attempts` times.
@@ -30,6 +38,7 @@ pub fn read_schedule_file<S: Store>(
     ensures short { IfOk result (λ read. length read.bytes.items ≤ longest_schedule) }
     ensures failed { IfOk result
         (λ read. read.failed ≤ failed + rise (S.faults store.old) (S.faults store.new)) }
+    ensures before { IfOk result (λ read. failed ≤ read.failed) }
     ensures few { IfOk result (λ read. read.failed < attempts) }
     ensures refused { IfErr result (IsScheduleUnread
         (observed_store S.files S.faults store.old store.new) name.now failed attempts) }
@@ -37,13 +46,23 @@ pub fn read_schedule_file<S: Store>(
     ensures kept { KeepsOpenings (S.opened store.old) (S.opened store.new) }
     ensures counts { S.faults store.old ≤ S.faults store.new }
 {
-    let opened = match open_whole(store, name, failed, attempts) {
-        Ok(opened) => opened,
+    let mut store = RetryingStore::new(store, failed, attempts);
+    if !store.is_patient() {
+        return Err(Status::SourceFault(0));
+    }
+    let file = match store.open_file(name) {
+        Ok(file) => file,
         Err(OpenRefusal::Absent) => return Err(no_source(alloc, name)),
         Err(OpenRefusal::Failed) => return Err(Status::SourceFault(0)),
     };
-    if opened.len > LONGEST {
-        return Err(Status::BadSchedule(ScheduleRefusal::Length(opened.len)));
+    if file.len > LONGEST {
+        return Err(Status::BadSchedule(ScheduleRefusal::Length(file.len)));
     }
-    read_text(alloc, store, &opened, attempts)
+    match read_text(alloc, &mut store, &file) {
+        Ok(bytes) => Ok(TextRead {
+            bytes,
+            failed: store.failed(),
+        }),
+        Err(status) => Err(status),
+    }
 }

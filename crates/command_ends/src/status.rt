@@ -3,6 +3,7 @@ ghost use Rattle.command_ends.specs.Statuses.{IsNoSourceOrNoMemory, number_of};
 
 use beam_text::ScheduleRefusal;
 use beam_values::{Bytes, FaultNote, NoMemory};
+use combine_lift::LiftRefusal;
 use plan_reader::PlanRefusal;
 use std::alloc::Global;
 
@@ -32,6 +33,8 @@ pub enum Status {
     FileChanged { name: Bytes, first: u64, other: u64 },
     /// The schedule is too long, or has a line that is none or isn't allowed where it stands.
     BadSchedule(ScheduleRefusal),
+    /// The plan isn't lifted, or its parts or sums are refused.
+    NotLifted(LiftRefusal),
 }
 
 impl Status {
@@ -51,6 +54,7 @@ impl Status {
             Status::NoMemory => 8,
             Status::FileChanged { .. } => 9,
             Status::BadSchedule(_) => 10,
+            Status::NotLifted(_) => 11,
         }
     }
 }

@@ -2,8 +2,10 @@ ghost use Rattle.std.specs.Prelude.{◌≡◌, ◌<◌, ◌≤◌, ℕ, length, 
 ghost use Rattle.beam_ports.specs.Counts.{rise};
 ghost use Rattle.beam_ports.specs.Observed.{observed_sink};
 ghost use Rattle.beam_ports.specs.Sinks.{then_taken};
+ghost use Rattle.command_ends.specs.Retrying.{IsSinkGivenUp, IsSinkPatient, KeepsWriting, sink_in};
 ghost use Rattle.command_ends.specs.Writing.{IsTextEnd};
 
+use crate::retrying::RetryingSink;
 use crate::status::Status;
 use beam_ports::{Failed, Sink};
 
@@ -17,17 +19,25 @@ pub fn put<W: Sink>(sink: &mut W, text: &[u8], attempts: u32) -> Result<(), Fail
     ensures failed { OnErr result (attempts ≤ rise (W.faults sink.old) (W.faults sink.new)) }
     ensures counts { W.faults sink.old ≤ W.faults sink.new }
 {
+    put_all(&mut RetryingSink::new(sink, attempts), text)
+}
+
+// Writes the whole text, or a part of it until as many writes have failed as may.
+fn put_all<W: Sink>(sink: &mut RetryingSink<'_, W>, text: &[u8]) -> Result<(), Failed>
+    requires { IsSinkPatient sink.old }
+    ensures whole { OnOk result (W.taken (sink_in sink.new)
+        ≡ then_taken (W.taken (sink_in sink.old)) text.now) }
+    ensures part { OnErr result ((n : ℕ) × (n < length text.now)
+        × (W.taken (sink_in sink.new) ≡ then_taken (W.taken (sink_in sink.old)) (take n text.now))) }
+    ensures few { OnOk result (IsSinkPatient sink.new) }
+    ensures given_up { OnErr result (IsSinkGivenUp sink.new) }
+    ensures tried { KeepsWriting W.faults sink.old sink.new }
+{
     let mut done = 0;
-    let mut failed = 0;
     while done < text.len() {
         match sink.write(text.split_at(done).1) {
             Ok(count) => done += count,
-            Err(Failed) => {
-                failed += 1;
-                if failed == attempts {
-                    return Err(Failed);
-                }
-            }
+            Err(Failed) => return Err(Failed),
         }
     }
     Ok(())

@@ -1,17 +1,15 @@
--- Files that are opened one after another, failures that are counted on the way, and kits that open them one after another.
-use Rattle.std.proofs.Common.{◌≡◌, ℕ, zero, suc, ◌+◌, ◌-◌, ◌<◌, ◌≤◌, Bool, true, false, cond, min, List, [], ◌∷◌, ◌++◌, length, get_or, get_or-set_same, take, drop, set, refl, sym, ap, subst, ◌∙◌, append_assoc, length-set, arith}
-use Rattle.std.specs.Prelude.{Option, Some, None, IsSome, IsSomeAnd, nat_le, slice_get, Result, Ok, Err, IfErr}
+-- Files that are opened one after another, and kits that open them one after another.
+use Rattle.std.proofs.Common.{◌≡◌, ℕ, zero, suc, ◌+◌, ◌<◌, ◌≤◌, List, [], ◌∷◌, ◌++◌, length, get_or, get_or-set_same, take, drop, set, refl, sym, ap, subst, ◌∙◌, append_assoc, length-set, arith}
+use Rattle.std.specs.Prelude.{Option, Some, None, IsSome, IsSomeAnd, slice_get, Result, Ok, Err, IfErr}
 use Rattle.std.specs.List.{All, AllByRecursion, flat_map}
 use Rattle.std.proofs.lemmas.List.{append-nil, take_more}
 use Rattle.std.proofs.lemmas.Grind.{flat_map-append}
-use Rattle.std.proofs.lemmas.Bool.Decides.{nat_tests}
 use Rattle.std.proofs.lemmas.List.Elements.{All-nil, All-cons}
 use Rattle.std.proofs.lemmas.Option.{same_Some, slice_get-get_or}
 use Rattle.beam_values.specs.Files.{first_named}
 use Rattle.beam_values.specs.declared.file_text.FileText.{FileText}
 use Rattle.beam_values.specs.declared.plan.Node.{Node}
 use Rattle.beam_values.specs.declared.plan.Plan.{Plan}
-use Rattle.beam_ports.specs.Counts.{Rose, greatest_count, rise}
 use Rattle.beam_ports.specs.Files.{KeepsOpenings, Opening}
 use Rattle.beam_ports.specs.Observed.{ObservedStore, WhereTold, observed_store}
 use Rattle.beam_ports.specs.declared.store.Opened.{Opened}
@@ -20,38 +18,11 @@ use Rattle.bundle_work.specs.Openings.{AreOpened, IsOpenedAs, file_names, names_
 use Rattle.bundle_work.specs.Outside.{IsStoreKept}
 use Rattle.bundle_work.specs.declared.kit.Kit.{Kit}
 use Rattle.run_engine.specs.Kits.{observed_each}
-use Rattle.run_engine.specs.Openings.{AgreeInLength, AreCounted, AreNamesRefused, HasFailed, HasLength, HasSameLength, IsChanged, IsFileRefused, IsNameRefused, IsOpeningRefused, IsOtherRefused}
+use Rattle.run_engine.specs.Openings.{AgreeInLength, AreNamesRefused, HasFailed, HasLength, HasSameLength, IsChanged, IsFaultCounted, IsFileRefused, IsNameRefused, IsOpeningRefused, IsOtherRefused}
+use Rattle.command_ends.specs.Retrying.{GivesUpExactly, IsPatient}
+use Rattle.command_ends.specs.declared.retrying.RetryingStore.{RetryingStore}
 use Rattle.command_ends.specs.declared.status.Status.{Status}
 use Rattle.command_ends.specs.declared.status.Status.TheVariants as status
-
--- ---- counts
-
-pub counted_none : (failures before : ℕ) → AreCounted failures failures before before
-counted_none failures before = λ base first low was. was
-
-pub counted_later : (failures before after : ℕ) → before ≤ after → AreCounted failures failures before after
-counted_later failures before after rises = λ base first low was. by base first low was (nat_le greatest_count before) (nat_le greatest_count after) refl refl
-  where
-    by : (base first : ℕ) → first ≤ before → failures ≤ base + rise first before → (b a : Bool) → nat_le greatest_count before ≡ b → nat_le greatest_count after ≡ a
-        → failures ≤ base + rise first after
-    by base first low was b true is_b is_a = grind (arith, nat_tests)
-    by base first low was true false is_b is_a = grind (arith, nat_tests)
-    by base first low was false false is_b is_a = grind (arith, nat_tests)
-
-pub counted_more : (failures mid later before between after : ℕ) → before ≤ between → AreCounted failures mid before between → AreCounted mid later between after
-    → AreCounted failures later before after
-counted_more failures mid later before between after rises one two = λ base first low was. two base first (omega (arith, low, rises)) (one base first low was)
-
-pub counted_one : (failures later before after : ℕ) → later ≡ min (failures + 1) 4294967295 → before ≤ after → Rose before after
-    → AreCounted failures later before after
-counted_one failures later before after is rises rose = λ base first low was.
-    by base first low was (nat_le greatest_count before) (nat_le greatest_count after) refl refl rose
-  where
-    by : (base first : ℕ) → first ≤ before → failures ≤ base + rise first before → (b a : Bool) → nat_le greatest_count before ≡ b → nat_le greatest_count after ≡ a
-        → 0 < cond (nat_le greatest_count after) greatest_count (after - before) → later ≤ base + rise first after
-    by base first low was b true is_b is_a some = grind (arith, nat_tests)
-    by base first low was true false is_b is_a some = grind (arith, nat_tests)
-    by base first low was false false is_b is_a some = grind (arith, nat_tests)
 
 -- ---- what stays opened
 
@@ -111,10 +82,10 @@ module _ (files : Option (List FileText)) (opened : ℕ → Option Opening) wher
   nth_has_length (other ∷ before) after name [] file are at = absurd are
   nth_has_length (other ∷ before) after name (first ∷ opens) file are at = nth_has_length before after name opens file are.1 at
 
-  module _ (first : List Opened) (before after : List (List ℕ)) (name : List ℕ) (kit attempts failures : ℕ) where
+  module _ (first : List Opened) (before after : List (List ℕ)) (name : List ℕ) (kit : ℕ) where
     -- a name that is refused, behind those that are opened
-    pub name_refused : (opens : List Opened) → AreOpened files opened before opens → (refusal : Status) → IsNameRefused files name kit attempts failures refusal
-        → AreNamesRefused files first (before ++ name ∷ after) kit attempts failures refusal
+    pub name_refused : (opens : List Opened) → AreOpened files opened before opens → (refusal : Status) → IsNameRefused files name kit refusal
+        → AreNamesRefused files first (before ++ name ∷ after) kit refusal
     name_refused opens are (status.NoSource absent) is = (
       before,
       after,
@@ -127,7 +98,7 @@ module _ (files : Option (List FileText)) (opened : ℕ → Option Opening) wher
 
     -- and a file that is not taken
     pub file_refused : (at : ℕ) (file : Opened) → at ≡ length before → IsOpenedAs files opened name file → (refusal : Status) → IsFileRefused first at name file.len refusal
-        → AreNamesRefused files first (before ++ name ∷ after) kit attempts failures refusal
+        → AreNamesRefused files first (before ++ name ∷ after) kit refusal
     file_refused at file place one (status.FileChanged changed met other) is = (
       before,
       after,
@@ -170,24 +141,24 @@ name_within before names after i name inside is =
     ∙ ap (λ t. before ++ (t ++ after)) (sym (item_split names i name inside is))
 
 module _ (files later : Option (List FileText)) (same : later ≡ files) (before names after : List (List ℕ)) (i : ℕ) (name shown : List ℕ) (inside : i < length names) (is : name ≡ get_or names i name)
-    (seen : shown ≡ name) (first : List Opened) (kit attempts failures : ℕ) where
-  whole : (refusal : Status) → AreNamesRefused later first ((before ++ take i names) ++ shown ∷ (drop (i + 1) names ++ after)) kit attempts failures refusal
-      → AreNamesRefused files first (before ++ (names ++ after)) kit attempts failures refusal
+    (seen : shown ≡ name) (first : List Opened) (kit : ℕ) where
+  whole : (refusal : Status) → AreNamesRefused later first ((before ++ take i names) ++ shown ∷ (drop (i + 1) names ++ after)) kit refusal
+      → AreNamesRefused files first (before ++ (names ++ after)) kit refusal
   whole refusal refused =
-      subst (λ (f : Option (List FileText)). AreNamesRefused f first (before ++ (names ++ after)) kit attempts failures refusal) same
-      (subst (λ (l : List (List ℕ)). AreNamesRefused later first l kit attempts failures refusal)
+      subst (λ (f : Option (List FileText)). AreNamesRefused f first (before ++ (names ++ after)) kit refusal) same
+      (subst (λ (l : List (List ℕ)). AreNamesRefused later first l kit refusal)
       (ap (λ (n : List ℕ). (before ++ take i names) ++ n ∷ (drop (i + 1) names ++ after)) seen ∙ name_within before names after i name inside is) refused)
 
   pub names_refused : (opened : ℕ → Option Opening) (opens : List Opened) → AreOpened later opened (before ++ take i names) opens → (refusal : Status)
-      → IsNameRefused later shown kit attempts failures refusal → AreNamesRefused files first (before ++ (names ++ after)) kit attempts failures refusal
+      → IsNameRefused later shown kit refusal → AreNamesRefused files first (before ++ (names ++ after)) kit refusal
   names_refused opened opens are refusal refused =
-      whole refusal (name_refused later opened first (before ++ take i names) (drop (i + 1) names ++ after) shown kit attempts failures opens are refusal refused)
+      whole refusal (name_refused later opened first (before ++ take i names) (drop (i + 1) names ++ after) shown kit opens are refusal refused)
 
   pub files_refused : (told : Option (List FileText)) (was opened : ℕ → Option Opening) (opens : List Opened) (at : ℕ) (file : Opened) → AreOpened told was (before ++ take i names) opens
       → at ≡ length opens → IsOpenedAs later opened shown file → (refusal : Status) → IsFileRefused first at shown file.len refusal
-      → AreNamesRefused files first (before ++ (names ++ after)) kit attempts failures refusal
+      → AreNamesRefused files first (before ++ (names ++ after)) kit refusal
   files_refused told was opened opens at file are place one refusal refused =
-      whole refusal (file_refused later opened first (before ++ take i names) (drop (i + 1) names ++ after) shown kit attempts failures at file
+      whole refusal (file_refused later opened first (before ++ take i names) (drop (i + 1) names ++ after) shown kit at file
       (place ∙ opened_length told was (before ++ take i names) opens are) one refusal refused)
 
 pub names_opened : (files later : Option (List FileText)) → later ≡ files → (opened onward : ℕ → Option Opening) → KeepsOpenings onward opened → (before names : List (List ℕ)) (i : ℕ)
@@ -366,18 +337,24 @@ module _ {F S : Type 0} (faults : S → ℕ) (files : S → Option (List FileTex
   abbrev pub HasOpened : List (List ℕ) → List Opened → Kit F S → Kit F S → Type 0
   HasOpened names first old new = IsOnward old new × AreOpened (files new.store) (opened new.store) names new.files × AgreeInLength first new.files
 
+-- a file that is not taken is no fault of the store
+pub file_exact : {S : Type 0} (store : RetryingStore S) → IsPatient store → (first : List Opened) (at : ℕ) (name : List ℕ) (len : ℕ) (refusal : Status)
+    → IsFileRefused first at name len refusal → GivesUpExactly store refusal
+file_exact store patient first at name len (status.FileChanged changed met other) is = patient
+file_exact store patient first at name len status.NoMemory is = patient
+file_exact store patient first at name len _ is = absurd is
+
 -- ---- why not every kit opened the files
 
 module _ (plan : Plan) (attempts failed : ℕ) (store : ObservedStore) (stores : List ObservedStore) where
-  pub first_refused : (failures : ℕ) → AreCounted failed failures store.before store.after → (refusal : Status) → AreNamesRefused store.files [] (file_names plan) 0 attempts failures refusal
+  pub first_refused : (refusal : Status) → IsFaultCounted store attempts failed refusal → AreNamesRefused store.files [] (file_names plan) 0 refusal
       → IsOpeningRefused (store ∷ stores) plan attempts failed refusal
-  first_refused failures counted (status.NoSource name) is = record { kit = 0; store = store; at = refl; before = is.0; after = is.1; names_are = is.2; absent = is.3 }
-  first_refused failures counted (status.SourceFault at) is =
-      let most : failures ≤ failed + rise store.before store.after = counted failed store.before (omega arith) (omega arith) in
-      subst (λ (k : ℕ). HasFailed (store ∷ stores) attempts failed k) (sym is.0) (record { store = store; at = refl; counted = omega (arith, most, is.1) })
-  first_refused failures counted (status.FileChanged name len other) is = let met : None ≡ Some is.3.file = is.3.met in absurd cc
-  first_refused failures counted status.NoMemory is = tt
-  first_refused failures counted _ is = absurd is
+  first_refused (status.NoSource name) counted is = record { kit = 0; store = store; at = refl; before = is.0; after = is.1; names_are = is.2; absent = is.3 }
+  first_refused (status.SourceFault at) counted is =
+      subst (λ (k : ℕ). HasFailed (store ∷ stores) attempts failed k) (sym is) (record { store = store; at = refl; counted = counted })
+  first_refused (status.FileChanged name len other) counted is = let met : None ≡ Some is.3.file = is.3.met in absurd cc
+  first_refused status.NoMemory counted is = tt
+  first_refused _ counted is = absurd is
 
   pub other_refused : (opened : ℕ → Option Opening) (opens : List Opened) → AreOpened store.files opened (file_names plan) opens → (refusal : Status)
       → IsOtherRefused stores opens (file_names plan) attempts refusal → IsOpeningRefused (store ∷ stores) plan attempts failed refusal
@@ -386,8 +363,7 @@ module _ (plan : Plan) (attempts failed : ℕ) (store : ObservedStore) (stores :
       record { kit = suc is.kit; store = is.store; at = is.at; before = r.0; after = r.1; names_are = r.2; absent = r.3 }
   other_refused opened opens are (status.SourceFault at) is =
       let next : suc is.kit ≡ is.kit + 1 = omega arith in
-      subst (λ (k : ℕ). HasFailed (store ∷ stores) attempts failed k) (next ∙ sym is.refused.0)
-      (record { store = is.store; at = is.at; counted = omega (arith, is.counted, is.refused.1) })
+      subst (λ (k : ℕ). HasFailed (store ∷ stores) attempts failed k) (next ∙ sym is.refused) (record { store = is.store; at = is.at; counted = is.counted })
   other_refused opened opens are (status.FileChanged name len other) is =
       let r = is.refused in
       record {
@@ -413,10 +389,10 @@ module _ {F S : Type 0} (faults : S → ℕ) (files : S → Option (List FileTex
       → IsOpeningRefused (observed_each files faults kits (new ∷ news)) plan attempts failed refusal
   seen refusal is = subst (λ (ks : List (Kit F S)). IsOpeningRefused (observed_each files faults ks (new ∷ news)) plan attempts failed refusal) (sym are) is
 
-  pub each_first_refused : (failures : ℕ) → AreCounted failed failures (faults first.store) (faults new.store) → (refusal : Status)
-      → AreNamesRefused (files first.store) [] (file_names plan) 0 attempts failures refusal → IsOpeningRefused (observed_each files faults kits (new ∷ news)) plan attempts failed refusal
-  each_first_refused failures counted refusal is =
-      seen refusal (first_refused plan attempts failed (observed_store files faults first.store new.store) (observed_each files faults others news) failures counted refusal is)
+  pub each_first_refused : (refusal : Status) → IsFaultCounted (observed_store files faults first.store new.store) attempts failed refusal
+      → AreNamesRefused (files first.store) [] (file_names plan) 0 refusal → IsOpeningRefused (observed_each files faults kits (new ∷ news)) plan attempts failed refusal
+  each_first_refused refusal counted is =
+      seen refusal (first_refused plan attempts failed (observed_store files faults first.store new.store) (observed_each files faults others news) refusal counted is)
 
   pub each_other_refused : (opens : List Opened) → IsStoreKept faults files opened first.store new.store → AreOpened (files new.store) (opened new.store) (file_names plan) new.files
       → opens ≡ new.files → (refusal : Status) → IsOtherRefused (observed_each files faults others news) opens (file_names plan) attempts refusal

@@ -49,14 +49,19 @@ pub record IsChanged (first : List Opened) (at len other : ℕ) : Type 0 where
 
 -- Why the kit of this number did not open every file of these names: one isn't there, and those before it are; or opening failed as often as it may; or a file
 -- has another length than the first kit met; or there was no memory.
-abbrev pub AreNamesRefused : Option (List FileText) → List Opened → List (List ℕ) → ℕ → ℕ → ℕ → Status → Type 0
-AreNamesRefused files first names kit attempts failures (status.NoSource name) =
+abbrev pub AreNamesRefused : Option (List FileText) → List Opened → List (List ℕ) → ℕ → Status → Type 0
+AreNamesRefused files first names kit (status.NoSource name) =
     (before : List (List ℕ)) × (after : List (List ℕ)) × (names ≡ before ++ name ∷ after) × IsFirstAbsent files before name
-AreNamesRefused files first names kit attempts failures (status.SourceFault at) = (at ≡ kit) × (attempts ≤ failures)
-AreNamesRefused files first names kit attempts failures (status.FileChanged name len other) =
+AreNamesRefused files first names kit (status.SourceFault at) = at ≡ kit
+AreNamesRefused files first names kit (status.FileChanged name len other) =
     (before : List (List ℕ)) × (after : List (List ℕ)) × (names ≡ before ++ name ∷ after) × IsChanged first (length before) len other × HasLength files name other
-AreNamesRefused files first names kit attempts failures status.NoMemory = Unit {0}
-AreNamesRefused files first names kit attempts failures _ = ⊥
+AreNamesRefused files first names kit status.NoMemory = Unit {0}
+AreNamesRefused files first names kit _ = ⊥
+
+-- where opening failed as often as it may, each failure was counted, beside those before
+abbrev pub IsFaultCounted : ObservedStore → ℕ → ℕ → Status → Type 0
+IsFaultCounted store attempts failed (status.SourceFault at) = attempts ≤ failed + rise store.before store.after
+IsFaultCounted store attempts failed _ = Unit {0}
 
 -- ---- why not every kit opened the files of a plan, by what was observed at each store
 
@@ -109,18 +114,17 @@ pub record IsOtherRefused (stores : List ObservedStore) (first : List Opened) (n
   pub kit : ℕ
   pub store : ObservedStore
   pub at : slice_get stores kit ≡ Some store
-  pub failures : ℕ
-  pub counted : failures ≤ rise store.before store.after
-  pub refused : AreNamesRefused store.files first names (kit + 1) attempts failures status
+  pub counted : IsFaultCounted store attempts 0 status
+  pub refused : AreNamesRefused store.files first names (kit + 1) status
 
 -- ---- one file
 
 -- why the file of one name was not opened
-abbrev pub IsNameRefused : Option (List FileText) → List ℕ → ℕ → ℕ → ℕ → Status → Type 0
-IsNameRefused files name kit attempts failures (status.NoSource absent) = (absent ≡ name) × WhereTold files (λ told. first_named name told ≡ None)
-IsNameRefused files name kit attempts failures (status.SourceFault at) = (at ≡ kit) × (attempts ≤ failures)
-IsNameRefused files name kit attempts failures status.NoMemory = Unit {0}
-IsNameRefused files name kit attempts failures _ = ⊥
+abbrev pub IsNameRefused : Option (List FileText) → List ℕ → ℕ → Status → Type 0
+IsNameRefused files name kit (status.NoSource absent) = (absent ≡ name) × WhereTold files (λ told. first_named name told ≡ None)
+IsNameRefused files name kit (status.SourceFault at) = at ≡ kit
+IsNameRefused files name kit status.NoMemory = Unit {0}
+IsNameRefused files name kit _ = ⊥
 
 -- why an opened file is not taken: its length is another one, or there was no memory to say so
 abbrev pub IsFileRefused : List Opened → ℕ → List ℕ → ℕ → Status → Type 0
@@ -131,7 +135,3 @@ IsFileRefused first at name len _ = ⊥
 -- the first kit met this length at this place, or nothing
 abbrev pub HasSameLength : List Opened → ℕ → ℕ → Type 0
 HasSameLength first at len = (file : Opened) → slice_get first at ≡ Some file → len ≡ file.len
-
--- failures that were counted before a call and after it: where the first were at most what the count of the store had risen by, so are the later
-abbrev pub AreCounted : ℕ → ℕ → ℕ → ℕ → Type 0
-AreCounted failures later before after = (base first : ℕ) → first ≤ before → failures ≤ base + rise first before → later ≤ base + rise first after

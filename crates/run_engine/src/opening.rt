@@ -1,18 +1,20 @@
 ghost use Rattle.std.specs.Prelude.{◌≡◌, ◌<◌, ◌≤◌, ◌++◌, ℕ, List as ListOf, [], length, OnOk, IfOk};
 ghost use Rattle.std.specs.Prelude.{IfErr, IsErr};
 ghost use Rattle.std.specs.List.{AllByRecursion, flat_map};
+ghost use Rattle.beam_ports.specs.Observed.{observed_store};
 ghost use Rattle.bundle_work.specs.Kits.{EachBecomes};
 ghost use Rattle.bundle_work.specs.Openings.{AreOpened, IsOpenedAs, file_names, names_in};
 ghost use Rattle.bundle_work.specs.Outside.{IsStoreKept};
+ghost use Rattle.command_ends.specs.Retrying.{GivesUpExactly, IsPatient, KeepsTrying, store_in};
 ghost use Rattle.run_engine.specs.Kits.{OpensKit, observed_each};
-ghost use Rattle.run_engine.specs.Openings.{AgreeInLength, AreCounted, AreNamesRefused};
-ghost use Rattle.run_engine.specs.Openings.{AreOpenedByAll, HasSameLength, IsFileRefused};
+ghost use Rattle.run_engine.specs.Openings.{AgreeInLength, AreNamesRefused};
+ghost use Rattle.run_engine.specs.Openings.{AreOpenedByAll, HasSameLength, IsFaultCounted, IsFileRefused};
 ghost use Rattle.run_engine.specs.Openings.{IsNameRefused, IsOpeningRefused, IsOtherRefused};
 
 use beam_ports::{OpenRefusal, Opened, Store};
 use beam_values::{Bytes, List, Node, Options};
 use bundle_work::{Kit, names_in};
-use command_ends::{Status, no_source};
+use command_ends::{RetryingStore, Status, no_source};
 use dofn_traits::Shelf;
 use pipeline_graph::Graph;
 use std::alloc::Global;
@@ -31,6 +33,7 @@ pub fn open_sources<F: Shelf, S: Store>(
     requires attempts { 1 ≤ options.now.attempts }
     requires workers { length kits.old ≤ options.now.workers }
     ensures opened { OnOk result (AreOpenedByAll S.files S.opened graph.now kits.new) }
+    ensures few { OnOk result (0 < length kits.old → failed < options.now.attempts) }
     ensures refused { IfErr result (IsOpeningRefused
         (observed_each S.files S.faults kits.old kits.new) graph.now options.now.attempts failed) }
     ensures none { IsErr result → AllByRecursion (λ kit. kit.files ≡ []) kits.new }
@@ -66,6 +69,7 @@ fn open_each<F: Shelf, S: Store>(
     requires attempts { 1 ≤ attempts }
     requires few { length kits.old ≤ 4294967295 }
     ensures opened { OnOk result (AreOpenedByAll S.files S.opened graph.now kits.new) }
+    ensures few { OnOk result (0 < length kits.old → failed < attempts) }
     ensures refused { IfErr result (IsOpeningRefused
         (observed_each S.files S.faults kits.old kits.new) graph.now attempts failed) }
     ensures kept { EachBecomes kits.old kits.new (OpensKit S.Store) }
@@ -122,23 +126,20 @@ fn open_kit<F: Shelf, S: Store>(
     ensures opened { OnOk result (AreOpened (S.files kit.new.store)
         (S.opened kit.new.store) (file_names graph.now) kit.new.files) }
     ensures lengths { OnOk result (AgreeInLength first.now kit.new.files) }
-    ensures refused { IfErr result (λ status. (failures : ℕ)
-        × AreCounted failed failures (S.faults kit.old.store) (S.faults kit.new.store)
-        × AreNamesRefused (S.files kit.old.store) first.now
-        (file_names graph.now) number attempts failures status) }
+    ensures few { OnOk result (failed < attempts) }
+    ensures refused { IfErr result (AreNamesRefused (S.files kit.old.store) first.now
+        (file_names graph.now) number) }
+    ensures counted { IfErr result (IsFaultCounted
+        (observed_store S.files S.faults kit.old.store kit.new.store) attempts failed) }
     ensures shelf { kit.new.shelf ≡ kit.old.shelf }
     ensures kept { IsStoreKept S.faults S.files S.opened kit.old.store kit.new.store }
 {
     let nodes = graph.plan().nodes.as_slice();
-    match open_nodes(
-        alloc,
-        nodes,
-        attempts,
-        &mut kit.store,
-        number,
-        failed,
-        first,
-    ) {
+    let mut store = RetryingStore::new(&mut kit.store, failed, attempts);
+    if !store.is_patient() {
+        return Err(Status::SourceFault(number));
+    }
+    match open_nodes(alloc, nodes, &mut store, number, first) {
         Ok(files) => {
             kit.files = files;
             Ok(())
@@ -150,36 +151,24 @@ fn open_kit<F: Shelf, S: Store>(
 fn open_nodes<S: Store>(
     alloc: Global,
     nodes: &[Node],
-    attempts: u32,
-    store: &mut S,
+    store: &mut RetryingStore<'_, S>,
     number: u32,
-    failed: u32,
     first: &[Opened],
 ) -> Result<List<Opened>, Status>
-    requires attempts { 1 ≤ attempts }
-    ensures opened { IfOk result (AreOpened (S.files store.new)
-        (S.opened store.new) (flat_map (λ node. names_in node.kind) nodes.now)) }
+    requires { IsPatient store.old }
+    ensures opened { IfOk result (AreOpened (S.files (store_in store.new))
+        (S.opened (store_in store.new)) (flat_map (λ node. names_in node.kind) nodes.now)) }
     ensures lengths { IfOk result (AgreeInLength first.now) }
-    ensures refused { IfErr result (λ status. (failures : ℕ)
-        × AreCounted failed failures (S.faults store.old) (S.faults store.new)
-        × AreNamesRefused (S.files store.old) first.now
-        (flat_map (λ node. names_in node.kind) nodes.now) number attempts failures status) }
-    ensures kept { IsStoreKept S.faults S.files S.opened store.old store.new }
+    ensures few { OnOk result (IsPatient store.new) }
+    ensures refused { IfErr result (AreNamesRefused (S.files (store_in store.old)) first.now
+        (flat_map (λ node. names_in node.kind) nodes.now) number) }
+    ensures exactly { IfErr result (GivesUpExactly store.new) }
+    ensures tried { KeepsTrying S.faults S.files S.opened store.old store.new }
 {
-    let mut failures = failed;
     let mut files = List::new(alloc);
     for node in nodes {
         let names = names_in(&node.kind);
-        match open_names(
-            alloc,
-            names,
-            attempts,
-            store,
-            number,
-            &mut failures,
-            first,
-            &mut files,
-        ) {
+        match open_names(alloc, names, store, number, first, &mut files) {
             Ok(()) => {}
             Err(refusal) => return Err(refusal),
         }
@@ -191,30 +180,29 @@ fn open_nodes<S: Store>(
 fn open_names<S: Store>(
     alloc: Global,
     names: &[Bytes],
-    attempts: u32,
-    store: &mut S,
+    store: &mut RetryingStore<'_, S>,
     number: u32,
-    failures: &mut u32,
     first: &[Opened],
     files: &mut List<Opened>,
 ) -> Result<(), Status>
-    requires attempts { 1 ≤ attempts }
+    requires { IsPatient store.old }
     ensures opened { OnOk result ((before : ListOf (ListOf ℕ))
-        → AreOpened (S.files store.old) (S.opened store.old) before files.old
-        → AreOpened (S.files store.new) (S.opened store.new) (before ++ names.now) files.new) }
+        → AreOpened (S.files (store_in store.old)) (S.opened (store_in store.old)) before files.old
+        → AreOpened (S.files (store_in store.new)) (S.opened (store_in store.new))
+        (before ++ names.now) files.new) }
     ensures lengths { OnOk result
         (AgreeInLength first.now files.old → AgreeInLength first.now files.new) }
+    ensures few { OnOk result (IsPatient store.new) }
     ensures refused { IfErr result (λ status. (before after : ListOf (ListOf ℕ))
-        → AreOpened (S.files store.old) (S.opened store.old) before files.old
-        → AreNamesRefused (S.files store.old) first.now
-        (before ++ (names.now ++ after)) number attempts failures.new status) }
-    ensures counted { AreCounted failures.old failures.new
-        (S.faults store.old) (S.faults store.new) }
-    ensures kept { IsStoreKept S.faults S.files S.opened store.old store.new }
+        → AreOpened (S.files (store_in store.old)) (S.opened (store_in store.old)) before files.old
+        → AreNamesRefused (S.files (store_in store.old)) first.now
+        (before ++ (names.now ++ after)) number status) }
+    ensures exactly { IfErr result (GivesUpExactly store.new) }
+    ensures tried { KeepsTrying S.faults S.files S.opened store.old store.new }
 {
     for name in names {
         let name = name.as_slice();
-        match open_named(alloc, name, attempts, store, number, failures) {
+        match open_named(alloc, name, store, number) {
             Ok(file) => {
                 match compare(alloc, first, files.len(), name, file.len) {
                     Ok(()) => {}
@@ -243,33 +231,24 @@ fn compare(alloc: Global, first: &[Opened], at: usize, name: &[u8], len: u64) ->
     }
 }
 
-// Opens one file, and counts the failures.
 fn open_named<S: Store>(
     alloc: Global,
     name: &[u8],
-    attempts: u32,
-    store: &mut S,
+    store: &mut RetryingStore<'_, S>,
     number: u32,
-    failures: &mut u32,
 ) -> Result<Opened, Status>
-    requires attempts { 1 ≤ attempts }
-    ensures opened { IfOk result (IsOpenedAs (S.files store.new) (S.opened store.new) name.now) }
+    requires { IsPatient store.old }
+    ensures opened { IfOk result (IsOpenedAs (S.files (store_in store.new))
+        (S.opened (store_in store.new)) name.now) }
+    ensures few { OnOk result (IsPatient store.new) }
     ensures refused { IfErr result
-        (IsNameRefused (S.files store.old) name.now number attempts failures.new) }
-    ensures counted { AreCounted failures.old failures.new
-        (S.faults store.old) (S.faults store.new) }
-    ensures kept { IsStoreKept S.faults S.files S.opened store.old store.new }
+        (IsNameRefused (S.files (store_in store.old)) name.now number) }
+    ensures exactly { IfErr result (GivesUpExactly store.new) }
+    ensures tried { KeepsTrying S.faults S.files S.opened store.old store.new }
 {
-    'tries: loop {
-        match store.open_file(name) {
-            Ok(file) => return Ok(file),
-            Err(OpenRefusal::Absent) => return Err(no_source(alloc, name)),
-            Err(OpenRefusal::Failed) => {
-                *failures = failures.saturating_add(1);
-                if *failures >= attempts {
-                    return Err(Status::SourceFault(number));
-                }
-            }
-        }
+    match store.open_file(name) {
+        Ok(file) => Ok(file),
+        Err(OpenRefusal::Absent) => Err(no_source(alloc, name)),
+        Err(OpenRefusal::Failed) => Err(Status::SourceFault(number)),
     }
 }

@@ -10,9 +10,8 @@ returns-in-Ok-clause-refused g c =
 
 pub returns-in-Err-clause-refused : goal.returns-in-Err-clause-refused
 returns-in-Err-clause-refused g c =
-    let refused = c.in-Err.ensures.refused in
     each_first_refused g.S.Store.faults g.S.Store.files g.S.Store.opened c.args.graph.now c.args.attempts c.args.failed c.args.kits.now c.in-Some.others.now c.in-Some.others.now c.in-Some.first.now
-    c.open_kit.new.kit c.in-Some.ensures.cases.0 refused.0 refused.1 c.in-Err.refusal refused.2
+    c.open_kit.new.kit c.in-Some.ensures.cases.0 c.in-Err.refusal c.in-Err.ensures.counted c.in-Err.ensures.refused
 
 pub returns-in-Err-clause-kept : goal.returns-in-Err-clause-kept
 returns-in-Err-clause-kept g c =

@@ -1,8 +1,9 @@
 use Rattle.std.proofs.Common.{List, [], ℕ, ◌+◌, sym, ap, ◌∙◌, subst, ◌++◌, take, drop}
 use Rattle.bundle_work.specs.Openings.{AreOpened}
 use Rattle.beam_ports.specs.declared.store.Opened.{Opened}
+use Rattle.command_ends.proofs.Tries.{trying_onward, trying_same}
 use Rattle.run_engine.specs.Openings.{AgreeInLength, AreNamesRefused}
-use Rattle.run_engine.proofs.Opens.{agree_none, counted_more, counted_none, names_more, names_of, names_whole, store_onward, store_same}
+use Rattle.run_engine.proofs.Opens.{agree_none, names_more, names_of, names_whole}
 use Rattle.run_engine.proofs.opening.open_nodes.Goals as goal
 
 pub loop-node-init : goal.loop-node-init
@@ -10,44 +11,38 @@ loop-node-init g c =
     let store = c.args.store.now in
     let first = c.args.first.now in
     record {
-      opened = subst (λ (files : List Opened). AreOpened (g.S.Store.files store) (g.S.Store.opened store) [] files) (sym c.new-files.ensures) tt;
+      opened = subst (λ (files : List Opened). AreOpened (g.S.Store.files store.store.now) (g.S.Store.opened store.store.now) [] files) (sym c.new-files.ensures) tt;
       lengths = subst (λ (files : List Opened). AgreeInLength first files) (sym c.new-files.ensures) (agree_none first);
-      counted = counted_none c.args.failed (g.S.Store.faults store);
-      kept = store_same g.S.Store.faults g.S.Store.files g.S.Store.opened store;
+      patient = c.requires;
+      tried = trying_same g.S.Store.faults g.S.Store.files g.S.Store.opened store;
     }
 
 pub returns-in-Err-clause-refused : goal.returns-in-Err-clause-refused
 returns-in-Err-clause-refused g c =
-    let faults = g.S.Store.faults in
     let known = c.loop-node.invariant in
     let nodes = c.args.nodes.now in
     let i = c.loop-node.node-index in
     let front = names_of (take i nodes) in
     let after = names_of (drop (i + 1) nodes) in
-    let failures = c.open_names.new.failures in
-    let first = c.args.first.now in (
-      failures,
-      counted_more c.args.failed c.loop-node.failures failures (faults c.args.store.now) (faults c.loop-node.store) (faults c.open_names.new.store) known.kept.counts known.counted c.open_names.ensures.counted,
-      subst (λ (f : _). AreNamesRefused f first (names_of nodes) c.args.number c.args.attempts failures c.in-Err.refusal) known.kept.files
-          (subst (λ (l : List (List ℕ)). AreNamesRefused (g.S.Store.files c.loop-node.store) first l c.args.number c.args.attempts failures c.in-Err.refusal)
-          (ap (λ (n : List (List ℕ)). front ++ (n ++ after)) c.names_in-names.ensures ∙ names_whole nodes i c.node-item.result c.loop-node-test.true c.node-item.is)
-          (c.in-Err.ensures.refused front after known.opened)),
-    )
+    let first = c.args.first.now in
+    subst (λ (f : _). AreNamesRefused f first (names_of nodes) c.args.number c.in-Err.refusal) known.tried.files
+    (subst (λ (l : List (List ℕ)). AreNamesRefused (g.S.Store.files c.loop-node.store.store.now) first l c.args.number c.in-Err.refusal)
+    (ap (λ (n : List (List ℕ)). front ++ (n ++ after)) c.names_in-names.ensures ∙ names_whole nodes i c.node-item.result c.loop-node-test.true c.node-item.is)
+    (c.in-Err.ensures.refused front after known.opened))
 
 pub loop-node-preserved : goal.loop-node-preserved
 loop-node-preserved g c =
-    let faults = g.S.Store.faults in
     let known = c.loop-node.invariant in
     let nodes = c.args.nodes.now in
     let i = c.loop-node.node-index in
     let front = names_of (take i nodes) in
+    let later = c.open_names.new.store.store.now in
     record {
       opened =
-          subst (λ (l : List (List ℕ)). AreOpened (g.S.Store.files c.open_names.new.store) (g.S.Store.opened c.open_names.new.store) l c.open_names.new.files)
+          subst (λ (l : List (List ℕ)). AreOpened (g.S.Store.files later) (g.S.Store.opened later) l c.open_names.new.files)
           (ap (λ (n : List (List ℕ)). front ++ n) c.names_in-names.ensures ∙ names_more nodes i c.node-item.result c.loop-node-test.true c.node-item.is)
           (c.in-Ok.ensures.opened front known.opened);
       lengths = c.in-Ok.ensures.lengths known.lengths;
-      counted = counted_more c.args.failed c.loop-node.failures c.open_names.new.failures (faults c.args.store.now) (faults c.loop-node.store) (faults c.open_names.new.store) known.kept.counts known.counted
-          c.open_names.ensures.counted;
-      kept = store_onward faults g.S.Store.files g.S.Store.opened c.args.store.now c.loop-node.store c.open_names.new.store known.kept c.open_names.ensures.kept;
+      patient = c.in-Ok.ensures.few;
+      tried = trying_onward g.S.Store.faults g.S.Store.files g.S.Store.opened c.args.store.now c.loop-node.store c.open_names.new.store known.tried c.open_names.ensures.tried;
     }

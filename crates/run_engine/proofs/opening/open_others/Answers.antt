@@ -1,5 +1,4 @@
-use Rattle.std.proofs.Common.{◌+◌, ◌≤◌, get_or, arith}
-use Rattle.beam_ports.specs.Counts.{rise}
+use Rattle.std.proofs.Common.{get_or, arith}
 use Rattle.beam_ports.specs.Observed.{observed_store}
 use Rattle.bundle_work.specs.Openings.{AreOpened, file_names}
 use Rattle.run_engine.specs.Openings.{AgreeInLength}
@@ -19,17 +18,14 @@ returns-in-Err-clause-refused g c =
     let files = g.S.Store.files in
     let old = get_or c.loop-at.kits c.loop-at.at c.index-kits-at.result in
     let new = c.open_kit.new.kit in
-    let refused = c.in-Err.ensures.refused in
-    let most : refused.0 ≤ 0 + rise (faults old.store) (faults new.store) = refused.1 0 (faults old.store) (omega arith) (omega arith) in
     record {
       kit = c.loop-at.at;
       store = observed_store files faults old.store new.store;
       at = observed_set files faults c.args.kits.now c.loop-at.kits c.loop-at.at old new
           (next_is (HasOpened faults files g.S.Store.opened (file_names c.args.graph.now) c.args.first.now) c.loop-at.at c.args.kits.now c.loop-at.kits c.index-kits-at.result c.loop-at.invariant
           (omega arith)) (omega arith);
-      failures = refused.0;
-      counted = omega (arith, most);
-      refused = refused.2;
+      counted = c.in-Err.ensures.counted;
+      refused = c.in-Err.ensures.refused;
     }
 
 pub returns-in-Err-clause-kept : goal.returns-in-Err-clause-kept
