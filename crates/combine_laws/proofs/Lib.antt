@@ -1,0 +1,13 @@
+pub mod Lists
+pub mod Keeping
+pub mod FlatValues
+pub mod Places
+pub mod Sources
+pub mod KeptByPlans
+pub mod Reach
+pub mod Folding
+pub mod Panes
+pub mod Bringing
+pub mod Causes
+pub mod PlainCombining
+pub mod LiftedFunction
