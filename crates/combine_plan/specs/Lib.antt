@@ -1,0 +1,7 @@
+pub mod Owning
+pub mod Dealing
+pub mod Folding
+pub mod Lasting
+pub mod Combined
+pub mod Hands
+pub mod Lifting
