@@ -11,7 +11,7 @@ use Rattle.beam_ports.specs.declared.sink.Sink.{Ghosts as SinkGhosts}
 use Rattle.beam_ports.specs.declared.store.Store.{Ghosts as StoreGhosts}
 use Rattle.book_core.specs.Runs.{AreOptions}
 use Rattle.chain_exec.specs.Causes.{ObservedShelf}
-use Rattle.command_words.specs.Commands.{Asked, Help, Panes, Run, Replay, Make, Drill}
+use Rattle.command_words.specs.Commands.{Asked, Help, Panes, Run, Replay, Make, Drill, Combine}
 use Rattle.dofn_traits.specs.declared.shelf.Shelf.{Ghosts as ShelfGhosts}
 use Rattle.bundle_work.specs.Kits.{EachBecomes, observed_shelves, sum_rises, told_by}
 use Rattle.bundle_work.specs.declared.kit.Kit.{Kit}
@@ -21,6 +21,7 @@ use Rattle.run_engine.specs.PlanRun.{surroundings_of}
 use Rattle.command_ends.specs.declared.status.Status.{Status}
 use Rattle.command_ends.specs.declared.status.Status.TheVariants as status
 use Rattle.beam_command.specs.Asking.{IsPlanOf, report_of}
+use Rattle.beam_command.specs.CombineEnds.{IsCombineEnd}
 use Rattle.beam_command.specs.Ends.{AreSourcesRefused, IsDocumentRefused, IsEndOf, IsHelpEnd, IsPipelineEnd}
 use Rattle.beam_command.specs.Observing.{Observed, IsUnwritten}
 use Rattle.beam_command.specs.ReplayEnds.{IsMakeEnd, IsReplayEnd}
@@ -90,6 +91,7 @@ module _ (files : Option (List FileText)) (first before after : ℕ) (others : L
   refused_since status.Usage refused = absurd refused
   refused_since (status.BadPlan refusal) refused = absurd refused
   refused_since (status.BadSchedule why) refused = absurd refused
+  refused_since (status.NotLifted why) refused = absurd refused
   refused_since (status.WorkFault note) refused = absurd refused
   refused_since status.SinkFault refused = absurd refused
 
@@ -124,6 +126,7 @@ module _ (shelf : ObservedShelf) (told : Option (List FileText)) (less more : �
   pipeline_end status.Usage outcome end = (end.0, end.1, unbegun status.Usage end.2)
   pipeline_end (status.BadPlan refusal) outcome end = (end.0, end.1, unbegun (status.BadPlan refusal) end.2)
   pipeline_end (status.BadSchedule why) outcome end = (end.0, end.1, unbegun (status.BadSchedule why) end.2)
+  pipeline_end (status.NotLifted why) outcome end = (end.0, end.1, unbegun (status.NotLifted why) end.2)
 
 -- a plan's document that the first store refused
 pub document_end : (observed : Observed) (name : List ℕ) (options : Options) (first : ObservedStore) → slice_get observed.kits.stores 0 ≡ Some first → IsUnwritten observed
@@ -139,6 +142,7 @@ document_end observed name options first is unwritten (status.WorkFault note) re
 document_end observed name options first is unwritten status.SinkFault refused = absurd refused
 document_end observed name options first is unwritten (status.FileChanged changed len other) refused = absurd refused
 document_end observed name options first is unwritten (status.BadSchedule why) refused = absurd refused
+document_end observed name options first is unwritten (status.NotLifted why) refused = absurd refused
 
 -- ---- the kits of a pipeline
 
@@ -215,6 +219,7 @@ pipeline_unnoted observed asked options (status.SourceFault kit) outcome long en
 pipeline_unnoted observed asked options (status.WorkFault note) outcome long end = (end.0, refl, inr (inr refl))
 pipeline_unnoted observed asked options (status.FileChanged name first other) outcome long end = (end.0, refl, inr (inr refl))
 pipeline_unnoted observed asked options (status.BadSchedule why) outcome long end = (end.0, refl, inr (inr refl))
+pipeline_unnoted observed asked options (status.NotLifted why) outcome long end = (end.0, refl, inr (inr refl))
 pipeline_unnoted observed asked options status.Ok outcome long end = absurd long
 pipeline_unnoted observed asked options status.Help outcome long end = absurd long
 pipeline_unnoted observed asked options status.Usage outcome long end = absurd long
@@ -228,6 +233,7 @@ help_unnoted out (status.SourceFault kit) long end = end
 help_unnoted out (status.WorkFault note) long end = end
 help_unnoted out (status.FileChanged name first other) long end = end
 help_unnoted out (status.BadSchedule why) long end = end
+help_unnoted out (status.NotLifted why) long end = end
 help_unnoted out status.Ok long end = end
 help_unnoted out status.Help long end = long
 help_unnoted out status.Usage long end = long
@@ -241,6 +247,7 @@ make_unnoted out count number (status.SourceFault kit) long end = end
 make_unnoted out count number (status.WorkFault note) long end = end
 make_unnoted out count number (status.FileChanged name first other) long end = end
 make_unnoted out count number (status.BadSchedule why) long end = end
+make_unnoted out count number (status.NotLifted why) long end = end
 make_unnoted out count number status.Ok long end = long
 make_unnoted out count number status.Help long end = long
 make_unnoted out count number status.Usage long end = long
@@ -255,11 +262,27 @@ replay_unnoted observed name schedule options (status.SourceFault kit) long end 
 replay_unnoted observed name schedule options (status.WorkFault note) long end = (end.0, tt)
 replay_unnoted observed name schedule options (status.FileChanged changed first other) long end = (end.0, tt)
 replay_unnoted observed name schedule options (status.BadSchedule why) long end = (end.0, tt)
+replay_unnoted observed name schedule options (status.NotLifted why) long end = (end.0, tt)
 replay_unnoted observed name schedule options status.Ok long end = absurd long
 replay_unnoted observed name schedule options status.Help long end = absurd long
 replay_unnoted observed name schedule options status.Usage long end = absurd long
 replay_unnoted observed name schedule options status.SinkFault long end = absurd long
 replay_unnoted observed name schedule options status.NoMemory long end = absurd long
+
+combine_unnoted : (observed : Observed) (name : List ℕ) (options : Options) (s : Status) → IsLongNoted s → IsCombineEnd observed name options s
+    → IsCombineEnd observed name options status.NoMemory
+combine_unnoted observed name options (status.BadPlan refusal) long end = (end.0, tt)
+combine_unnoted observed name options (status.NoSource absent) long end = (end.0, tt)
+combine_unnoted observed name options (status.SourceFault kit) long end = (end.0, tt)
+combine_unnoted observed name options (status.WorkFault note) long end = (end.0, tt)
+combine_unnoted observed name options (status.FileChanged changed first other) long end = (end.0, tt)
+combine_unnoted observed name options (status.BadSchedule why) long end = (end.0, tt)
+combine_unnoted observed name options (status.NotLifted why) long end = (end.0, tt)
+combine_unnoted observed name options status.Ok long end = absurd long
+combine_unnoted observed name options status.Help long end = absurd long
+combine_unnoted observed name options status.Usage long end = absurd long
+combine_unnoted observed name options status.SinkFault long end = absurd long
+combine_unnoted observed name options status.NoMemory long end = absurd long
 
 unnoted : (asked : Option Asked) (observed : Observed) (s : Status) (outcome : Option Outcome) → IsLongNoted s → IsEndOf asked observed s outcome
     → IsEndOf asked observed status.NoMemory None
@@ -268,6 +291,7 @@ unnoted (Some Help) observed s outcome long end = absurd (help_unnoted observed.
 unnoted (Some (Panes file size options)) observed s outcome long end = pipeline_unnoted observed (Panes file size options) options s outcome long end
 unnoted (Some (Run name options)) observed s outcome long end = pipeline_unnoted observed (Run name options) options s outcome long end
 unnoted (Some (Replay name schedule options)) observed s outcome long end = (replay_unnoted observed name schedule options s long end.0, refl)
+unnoted (Some (Combine name options)) observed s outcome long end = (combine_unnoted observed name options s long end.0, refl)
 unnoted (Some (Make count number)) observed s outcome long end = absurd (make_unnoted observed.out count number s long end.0)
 unnoted (Some (Drill count number options)) observed s outcome long end = pipeline_unnoted observed (Drill count number options) options s outcome long end
 
@@ -278,6 +302,7 @@ none_without_memory (Some Help) observed outcome end = end.1
 none_without_memory (Some (Panes file size options)) observed outcome end = end.1
 none_without_memory (Some (Run name options)) observed outcome end = end.1
 none_without_memory (Some (Replay name schedule options)) observed outcome end = end.1
+none_without_memory (Some (Combine name options)) observed outcome end = end.1
 none_without_memory (Some (Make count number)) observed outcome end = end.1
 none_without_memory (Some (Drill count number options)) observed outcome end = end.1
 
@@ -293,6 +318,7 @@ same_outcome asked observed (status.SourceFault kit) outcome left end none stays
 same_outcome asked observed (status.WorkFault note) outcome left end none stays = stays (λ is. cc)
 same_outcome asked observed (status.FileChanged name first other) outcome left end none stays = stays (λ is. cc)
 same_outcome asked observed (status.BadSchedule why) outcome left end none stays = stays (λ is. cc)
+same_outcome asked observed (status.NotLifted why) outcome left end none stays = stays (λ is. cc)
 same_outcome asked observed status.SinkFault outcome left end none stays = stays (λ is. cc)
 
 -- the end after its note was written

@@ -16,7 +16,7 @@ use Rattle.book_core.specs.Book.{SeenBook}
 use Rattle.book_core.specs.Runs.{AreTold, HonestlyReached}
 use Rattle.book_core.specs.Work.{Surroundings}
 use Rattle.ended_runs.specs.Unpoisoned.{TakesNoPoison}
-use Rattle.command_words.specs.Commands.{Asked, Help, Panes, Run, Replay, Make, Drill}
+use Rattle.command_words.specs.Commands.{Asked, Help, Panes, Run, Replay, Make, Drill, Combine}
 use Rattle.bundle_work.specs.Openings.{file_names}
 use Rattle.run_engine.specs.Openings.{HasChanged, HasFailed, IsOpeningRefused, failed_before}
 use Rattle.run_engine.specs.PlanRun.{IsStoppedBy, surroundings_of}
@@ -58,6 +58,7 @@ module _ (store : ObservedStore) (told : List FileText) (tells : store.files ≡
   plan_is (Panes file size options) plan other of own = own ∙ sym of
   plan_is (Run name options) plan other of own = read_is name plan other of own
   plan_is (Replay name schedule options) plan other of own = absurd of
+  plan_is (Combine name options) plan other of own = absurd of
   plan_is (Make count number) plan other of own = absurd of
   plan_is (Drill count number options) plan other of own = own ∙ sym of
 
@@ -101,12 +102,14 @@ module _ (observed : Observed) (of_one : AreOfOne observed.kits) (told : List Fi
     plan_read name plan of first one status.SinkFault refused = absurd refused
     plan_read name plan of first one (status.FileChanged changed len other) refused = absurd refused
     plan_read name plan of first one (status.BadSchedule why) refused = absurd refused
+    plan_read name plan of first one (status.NotLifted why) refused = absurd refused
 
     document_read : (asked : Asked) (plan : Plan) → IsPlanOf (Some told) asked plan → (s : Status) → IsDocumentRefused observed asked attempts s → s ≡ status.NoMemory
     document_read Help plan of s refused = absurd refused
     document_read (Panes file size options) plan of s refused = absurd refused
     document_read (Run name options) plan of s refused = plan_read name plan of refused.0 (of_one 0 refused.0 refused.1) s refused.2
     document_read (Replay name schedule options) plan of s refused = absurd refused
+    document_read (Combine name options) plan of s refused = absurd refused
     document_read (Make count number) plan of s refused = absurd refused
     document_read (Drill count number options) plan of s refused = absurd refused
 
@@ -125,6 +128,7 @@ module _ (observed : Observed) (of_one : AreOfOne observed.kits) (told : List Fi
     opened plan found (status.WorkFault note) refused = absurd refused
     opened plan found status.SinkFault refused = absurd refused
     opened plan found (status.BadSchedule why) refused = absurd refused
+    opened plan found (status.NotLifted why) refused = absurd refused
 
     -- with all inputs there, a run that did not begin had no memory
     pub began : (asked : Asked) → HasInputs told asked → (s : Status)
@@ -154,6 +158,7 @@ module _ (observed : Observed) (of_one : AreOfOne observed.kits) (told : List Fi
       no_document (Panes file size with) refused = refused
       no_document (Run plan with) refused = refused.2
       no_document (Replay plan schedule with) refused = refused
+      no_document (Combine plan with) refused = refused
       no_document (Make count number) refused = refused
       no_document (Drill count number with) refused = refused
 
@@ -163,6 +168,10 @@ module _ (observed : Observed) (of_one : AreOfOne observed.kits) (told : List Fi
   no_end_changes (Some (Panes file size options)) name len other outcome end = no_pipeline_changes (Panes file size options) options name len other outcome end
   no_end_changes (Some (Run plan options)) name len other outcome end = no_pipeline_changes (Run plan options) options name len other outcome end
   no_end_changes (Some (Replay plan schedule options)) name len other outcome end = absurd end.0.1
+  no_end_changes (Some (Combine plan options)) name len other outcome end = elim end.0.1 [
+    | inl refused ↦ refused.2
+    | inr read ↦ unchanged observed of_one told tells (file_names read.1) name len other read.4.1
+  ]
   no_end_changes (Some (Make count number)) name len other outcome end = absurd end.0
   no_end_changes (Some (Drill count number options)) name len other outcome end = no_pipeline_changes (Drill count number options) options name len other outcome end
 
@@ -177,6 +186,7 @@ module _ (observed : Observed) (of_one : AreOfOne observed.kits) (told : List Fi
   no_change asked (status.WorkFault note) outcome end change = change
   no_change asked status.SinkFault outcome end change = change
   no_change asked (status.BadSchedule why) outcome end change = change
+  no_change asked (status.NotLifted why) outcome end change = change
   no_change asked status.NoMemory outcome end change = change
 
 -- where all stores tell the same files, none has changed
@@ -207,6 +217,7 @@ module _ (observed : Observed) (of_one : AreOfOne observed.kits) (told : List Fi
     completes status.Help outcome end = unbegun status.Help end.2
     completes status.Usage outcome end = unbegun status.Usage end.2
     completes (status.BadSchedule why) outcome end = unbegun (status.BadSchedule why) end.2
+    completes (status.NotLifted why) outcome end = unbegun (status.NotLifted why) end.2
 
 -- with all inputs there and few faults a pipeline comes to its end
 pub complete : (asked : Option Asked) (observed : Observed) → AreOfOne observed.kits → (s : Status) (outcome : Option Outcome) → IsEndOf asked observed s outcome
@@ -218,6 +229,7 @@ complete (Some (Panes file size options)) observed of_one s outcome end = λ tol
 complete (Some (Run name options)) observed of_one s outcome end = λ told tells inputs few.
     completes observed of_one told tells (Run name options) options inputs few s outcome end
 complete (Some (Replay name schedule options)) observed of_one s outcome end = tt
+complete (Some (Combine name options)) observed of_one s outcome end = tt
 complete (Some (Make count number)) observed of_one s outcome end = tt
 complete (Some (Drill count number options)) observed of_one s outcome end = λ told tells inputs few.
     completes observed of_one told tells (Drill count number options) options inputs few s outcome end
@@ -231,7 +243,7 @@ module _ (observed : Observed) (of_one : AreOfOne observed.kits) (options : Opti
   abbrev Fits : Status → Type 0
   Fits s = IsEndOfFewFaults options.attempts observed.out s
 
-  by_file : (name : List ℕ) (first : ObservedStore) → IsOneOf observed.kits.store first → (s : Status) → IsPlanRefused first name options.attempts s → Fits s
+  pub by_file : (name : List ℕ) (first : ObservedStore) → IsOneOf observed.kits.store first → (s : Status) → IsPlanRefused first name options.attempts s → Fits s
   by_file name first one (status.NoSource absent) refused = tt
   by_file name first one (status.SourceFault kit) refused = absurd (omega (arith, refused.1, one.counts, few_reads))
   by_file name first one (status.BadPlan refusal) refused = tt
@@ -243,16 +255,18 @@ module _ (observed : Observed) (of_one : AreOfOne observed.kits) (options : Opti
   by_file name first one status.SinkFault refused = absurd refused
   by_file name first one (status.FileChanged changed len other) refused = absurd refused
   by_file name first one (status.BadSchedule why) refused = absurd refused
+  by_file name first one (status.NotLifted why) refused = absurd refused
 
   by_document : (own : Asked) (s : Status) → IsDocumentRefused observed own options.attempts s → Fits s
   by_document Help s refused = absurd refused
   by_document (Panes file size with) s refused = absurd refused
   by_document (Run name with) s refused = by_file name refused.0 (of_one 0 refused.0 refused.1) s refused.2
   by_document (Replay name schedule with) s refused = absurd refused
+  by_document (Combine name with) s refused = absurd refused
   by_document (Make count number) s refused = absurd refused
   by_document (Drill count number with) s refused = absurd refused
 
-  by_opening : (plan : Plan) (s : Status) → IsOpeningRefused observed.kits.stores plan options.attempts 0 s → Fits s
+  pub by_opening : (plan : Plan) (s : Status) → IsOpeningRefused observed.kits.stores plan options.attempts 0 s → Fits s
   by_opening plan (status.NoSource name) refused = tt
   by_opening plan (status.SourceFault kit) refused = absurd (not_failed observed of_one options.attempts few_reads kit refused)
   by_opening plan (status.FileChanged name len other) refused = tt
@@ -264,6 +278,7 @@ module _ (observed : Observed) (of_one : AreOfOne observed.kits) (options : Opti
   by_opening plan (status.WorkFault note) refused = absurd refused
   by_opening plan status.SinkFault refused = absurd refused
   by_opening plan (status.BadSchedule why) refused = absurd refused
+  by_opening plan (status.NotLifted why) refused = absurd refused
 
   before : (own : Asked) (s : Status) → (IsDocumentRefused observed own options.attempts s ⊎ AreSourcesRefused observed own options.attempts s ⊎ (s ≡ status.NoMemory)) → Fits s
   before own s why = elim why [
@@ -283,6 +298,7 @@ module _ (observed : Observed) (of_one : AreOfOne observed.kits) (options : Opti
   ends_few own status.Help outcome end = before own status.Help end.2
   ends_few own status.Usage outcome end = before own status.Usage end.2
   ends_few own (status.BadSchedule why) outcome end = before own (status.BadSchedule why) end.2
+  ends_few own (status.NotLifted why) outcome end = before own (status.NotLifted why) end.2
 
 -- with few faults at the kits nothing of a pipeline failed as often as it may, but for its sink
 pub few_faults : (asked : Option Asked) (observed : Observed) → AreOfOne observed.kits → (s : Status) (outcome : Option Outcome) → IsEndOf asked observed s outcome
@@ -292,6 +308,7 @@ few_faults (Some Help) observed of_one s outcome end = tt
 few_faults (Some (Panes file size options)) observed of_one s outcome end = λ few. ends_few observed of_one options few (Panes file size options) s outcome end
 few_faults (Some (Run name options)) observed of_one s outcome end = λ few. ends_few observed of_one options few (Run name options) s outcome end
 few_faults (Some (Replay name schedule options)) observed of_one s outcome end = tt
+few_faults (Some (Combine name options)) observed of_one s outcome end = tt
 few_faults (Some (Make count number)) observed of_one s outcome end = tt
 few_faults (Some (Drill count number options)) observed of_one s outcome end = λ few. ends_few observed of_one options few (Drill count number options) s outcome end
 
@@ -335,6 +352,7 @@ module _ (observed : Observed) (of_one : AreOfOne observed.kits) (s : Status) (o
     strictly_completes status.Help end = unstarted status.Help end.2
     strictly_completes status.Usage end = unstarted status.Usage end.2
     strictly_completes (status.BadSchedule why) end = unstarted (status.BadSchedule why) end.2
+    strictly_completes (status.NotLifted why) end = unstarted (status.NotLifted why) end.2
 
   -- so it comes to its end where it takes no poison and few faults of the store were counted
   pub complete_strict : (asked : Option Asked) → IsEndOf asked observed s outcome
@@ -347,6 +365,7 @@ module _ (observed : Observed) (of_one : AreOfOne observed.kits) (s : Status) (o
   complete_strict (Some (Run name options)) end = λ strict told tells inputs few.
       strictly_completes told tells (Run name options) options strict inputs few s end
   complete_strict (Some (Replay name schedule options)) end = tt
+  complete_strict (Some (Combine name options)) end = tt
   complete_strict (Some (Make count number)) end = tt
   complete_strict (Some (Drill count number options)) end = λ strict told tells inputs few.
       strictly_completes told tells (Drill count number options) options strict inputs few s end

@@ -95,6 +95,7 @@ module _ (count number : ℕ) (plan : Plan) (of : plan ≡ drill_plan count numb
       refused attempts failed status.Usage is = absurd is
       refused attempts failed (status.BadPlan why) is = absurd is
       refused attempts failed (status.BadSchedule why) is = absurd is
+      refused attempts failed (status.NotLifted why) is = absurd is
       refused attempts failed (status.WorkFault note) is = absurd is
       refused attempts failed status.SinkFault is = absurd is
 
@@ -122,6 +123,7 @@ module _ (count number : ℕ) (plan : Plan) (of : plan ≡ drill_plan count numb
         ends_over_none (status.FileChanged name len other) outcome end = (end.0, end.1, unbegun options.attempts failed (status.FileChanged name len other) end.2)
         ends_over_none (status.BadPlan why) outcome end = (end.0, end.1, unbegun options.attempts failed (status.BadPlan why) end.2)
         ends_over_none (status.BadSchedule why) outcome end = (end.0, end.1, unbegun options.attempts failed (status.BadSchedule why) end.2)
+        ends_over_none (status.NotLifted why) outcome end = (end.0, end.1, unbegun options.attempts failed (status.NotLifted why) end.2)
         ends_over_none status.NoMemory outcome end = (end.0, end.1, unbegun options.attempts failed status.NoMemory end.2)
         ends_over_none status.Help outcome end = (end.0, end.1, unbegun options.attempts failed status.Help end.2)
         ends_over_none status.Usage outcome end = (end.0, end.1, unbegun options.attempts failed status.Usage end.2)

@@ -17,7 +17,7 @@ use Rattle.book_core.specs.Calls.{IsOutcomeOf}
 use Rattle.book_core.specs.Facts.{AreAtWrites}
 use Rattle.book_core.specs.Runs.{AreTold, HonestlyReached, IsEnded, IsThrough, Reached}
 use Rattle.book_core.specs.Work.{Surroundings}
-use Rattle.command_words.specs.Commands.{Asked, Help, Panes, Run, Replay, Make, Drill}
+use Rattle.command_words.specs.Commands.{Asked, Help, Panes, Run, Replay, Make, Drill, Combine}
 use Rattle.ended_runs.specs.Storable.{ArePanesStorable}
 use Rattle.run_engine.specs.PlanRun.{surroundings_of}
 use Rattle.command_ends.specs.declared.status.Status.{Status}
@@ -65,6 +65,7 @@ module _ (observed : Observed) (runs : (known : Surroundings) (b : SeenBook) →
     printed (status.FileChanged name len other) outcome end = tt
     printed (status.BadPlan why) outcome end = tt
     printed (status.BadSchedule why) outcome end = tt
+    printed (status.NotLifted why) outcome end = tt
     printed status.NoMemory outcome end = tt
     printed status.Help outcome end = tt
     printed status.Usage outcome end = tt
@@ -78,5 +79,6 @@ module _ (observed : Observed) (runs : (known : Surroundings) (b : SeenBook) →
   drill_prints (Some (Panes file size options)) none s outcome end = tt
   drill_prints (Some (Run name options)) none s outcome end = tt
   drill_prints (Some (Replay name schedule options)) none s outcome end = tt
+  drill_prints (Some (Combine name options)) none s outcome end = tt
   drill_prints (Some (Make count number)) none s outcome end = tt
   drill_prints (Some (Drill count number options)) none s outcome end = printed (none count number options refl) count number options s outcome end

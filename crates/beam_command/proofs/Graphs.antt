@@ -64,6 +64,7 @@ printed_end observed plan options report failed o (status.SourceFault kit) outco
 printed_end observed plan options report failed o (status.FileChanged name len other) outcome there run printed = absurd printed
 printed_end observed plan options report failed o (status.WorkFault note) outcome there run printed = absurd printed
 printed_end observed plan options report failed o (status.BadSchedule why) outcome there run printed = absurd printed
+printed_end observed plan options report failed o (status.NotLifted why) outcome there run printed = absurd printed
 
 -- ---- a run, seen from a call that began before it
 
@@ -78,7 +79,7 @@ module _ (shelf : ObservedShelf) (files : Option (List FileText)) (less more : �
   rises : rise 0 less ≤ rise 0 more
   rises = rise_grows 0 less more grows
 
-  counted_since : (cause : Cause) → IsCountedAs shelf in_run.store cause → IsCountedAs shelf in_call.store cause
+  pub counted_since : (cause : Cause) → IsCountedAs shelf in_run.store cause → IsCountedAs shelf in_call.store cause
   counted_since Call counted = counted
   counted_since Read counted = omega (arith, counted, rises)
 
@@ -114,6 +115,7 @@ module _ (shelf : ObservedShelf) (files : Option (List FileText)) (less more : �
   ended_since plan options (status.SourceFault kit) outcome end = absurd end
   ended_since plan options (status.FileChanged name len other) outcome end = absurd end
   ended_since plan options (status.BadSchedule why) outcome end = absurd end
+  ended_since plan options (status.NotLifted why) outcome end = absurd end
 
 -- a run that did not come to its end wrote nothing
 pub unprinted_end : (observed : Observed) (plan : Plan) (options : Options) (report : Report) (failed : ℕ) (s : Status) (outcome : Option Outcome) → IsUnwritten observed
@@ -130,6 +132,7 @@ unprinted_end observed plan options report failed (status.NoSource name) outcome
 unprinted_end observed plan options report failed (status.SourceFault kit) outcome unwritten there ended none = absurd ended
 unprinted_end observed plan options report failed (status.FileChanged name len other) outcome unwritten there ended none = absurd ended
 unprinted_end observed plan options report failed (status.BadSchedule why) outcome unwritten there ended none = absurd ended
+unprinted_end observed plan options report failed (status.NotLifted why) outcome unwritten there ended none = absurd ended
 
 -- a run that came to its end, and whose text was written or not
 pub finished_end : (observed : Observed) (plan : Plan) (options : Options) (report : Report) (failed : ℕ) (reached : Status) (own outcome : Option Outcome) (s : Status) → AreFound observed.kits.store.files plan

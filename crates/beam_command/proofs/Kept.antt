@@ -88,6 +88,7 @@ printed_some out attempts report o (status.SourceFault kit) outcome P holds prin
 printed_some out attempts report o (status.FileChanged name len other) outcome P holds printed = absurd printed
 printed_some out attempts report o (status.WorkFault note) outcome P holds printed = absurd printed
 printed_some out attempts report o (status.BadSchedule why) outcome P holds printed = absurd printed
+printed_some out attempts report o (status.NotLifted why) outcome P holds printed = absurd printed
 
 pub printed_begun : (out : ObservedSink) (attempts : ℕ) (report : Report) (o : Outcome) (s : Status) (outcome : Option Outcome) → IsRunPrinted out attempts report o s outcome → HasNotBegun s
     → ⊥
@@ -102,6 +103,7 @@ printed_begun out attempts report o (status.SourceFault kit) outcome printed non
 printed_begun out attempts report o (status.FileChanged name len other) outcome printed none = printed
 printed_begun out attempts report o (status.WorkFault note) outcome printed none = none
 printed_begun out attempts report o (status.BadSchedule why) outcome printed none = printed
+printed_begun out attempts report o (status.NotLifted why) outcome printed none = printed
 
 module _ (seen : ObservedKits) (plan : Plan) (options : Options) where
   -- of a run that came to its end, whose text was written or not
@@ -132,6 +134,7 @@ module _ (seen : ObservedKits) (plan : Plan) (options : Options) where
   run_begun (status.SourceFault kit) outcome end none = end
   run_begun (status.FileChanged name len other) outcome end none = end
   run_begun (status.BadSchedule why) outcome end none = end
+  run_begun (status.NotLifted why) outcome end none = end
 
   -- the outcome of a run is of its plan
   pub run_of_plan : (s : Status) (outcome : Option Outcome) → IsPlanEnd seen plan options s outcome → IfSome outcome (λ o. o.plan ≡ plan)
@@ -146,6 +149,7 @@ module _ (seen : ObservedKits) (plan : Plan) (options : Options) where
   run_of_plan (status.SourceFault kit) outcome end = absurd end
   run_of_plan (status.FileChanged name len other) outcome end = absurd end
   run_of_plan (status.BadSchedule why) outcome end = absurd end
+  run_of_plan (status.NotLifted why) outcome end = absurd end
 
 -- ---- the kits of a run
 
@@ -287,4 +291,5 @@ still_some P s before after none stays h = by s refl
     by (status.WorkFault note) is = kept (stays (λ no. cc))
     by (status.FileChanged name first other) is = kept (stays (λ no. cc))
     by (status.BadSchedule why) is = kept (stays (λ no. cc))
+    by (status.NotLifted why) is = kept (stays (λ no. cc))
     by status.SinkFault is = kept (stays (λ no. cc))

@@ -9,6 +9,8 @@ pub mod ReplayStops
 pub mod Promises
 mod PlainPlans
 mod Completeness
+mod CombineStops
+mod CombineDecided
 mod ReplayDecided
 mod PanesPoison
 mod PanesStops

@@ -30,8 +30,8 @@ use Rattle.book_core.specs.Book.{SeenBook}
 use Rattle.book_core.specs.Facts.{AreKept}
 use Rattle.book_core.specs.Runs.{AreTold, HonestlyReached, IsEnded, Reached}
 use Rattle.book_core.specs.Work.{Surroundings}
-use Rattle.command_words.specs.Commands.{Asked, Help, Panes, Run, Replay, Make, Drill}
-use Rattle.command_words.specs.Rules.{Asks, ByDefault, ForHelp, ForPanes, ForRun, ForReplay, ForMake, ForDrill, Given, IsValue}
+use Rattle.command_words.specs.Commands.{Asked, Help, Panes, Run, Replay, Make, Drill, Combine}
+use Rattle.command_words.specs.Rules.{Asks, ByDefault, ForHelp, ForPanes, ForRun, ForReplay, ForMake, ForCombine, ForDrill, Given, IsValue}
 use Rattle.command_words.specs.Parts.{Part}
 use Rattle.command_words.specs.declared.setting.Setting.TheVariants.{Attempts}
 use Rattle.ended_runs.specs.Stops.{IsHonestStop}
@@ -97,6 +97,7 @@ HasAttempts Help = Unit {0}
 HasAttempts (Panes file size options) = 1 ≤ options.attempts
 HasAttempts (Run name options) = 1 ≤ options.attempts
 HasAttempts (Replay name schedule options) = 1 ≤ options.attempts
+HasAttempts (Combine name options) = 1 ≤ options.attempts
 HasAttempts (Make count number) = Unit {0}
 HasAttempts (Drill count number options) = 1 ≤ options.attempts
 
@@ -106,6 +107,7 @@ some_attempts _ _ (ForHelp words asks) = tt
 some_attempts _ _ (ForPanes program words parts file size options are two given some short number) = some_value parts options.attempts given.attempts
 some_attempts _ _ (ForRun program words parts plan options are one given) = some_value parts options.attempts given.attempts
 some_attempts _ _ (ForReplay program words parts plan schedule options are two given) = some_value parts options.attempts given.attempts
+some_attempts _ _ (ForCombine program words parts plan options are one given) = some_value parts options.attempts given.attempts
 some_attempts _ _ (ForMake program words parts count number are two none count_is number_is) = tt
 some_attempts _ _ (ForDrill program words parts count number options are two given count_is number_is) = some_value parts options.attempts given.attempts
 
@@ -129,6 +131,7 @@ ran (Some Help) plan told s outcome Q of run is = absurd of
 ran (Some (Panes file size options)) plan told s outcome Q of run is = (subst (λ (st : Status). HasRun st outcome (λ o. Q)) is run).2
 ran (Some (Run name options)) plan told s outcome Q of run is = (subst (λ (st : Status). HasRun st outcome (λ o. Q)) is run).2
 ran (Some (Replay name schedule options)) plan told s outcome Q of run is = absurd of
+ran (Some (Combine name options)) plan told s outcome Q of run is = absurd of
 ran (Some (Make count number)) plan told s outcome Q of run is = absurd of
 ran (Some (Drill count number options)) plan told s outcome Q of run is = (subst (λ (st : Status). HasRun st outcome (λ o. Q)) is run).2
 
@@ -183,6 +186,7 @@ module _ (observed : Observed) (of_one : AreOfOne observed.kits) (told : List Fi
     not_opened (status.WorkFault note) refused = absurd refused
     not_opened status.SinkFault refused = absurd refused
     not_opened (status.BadSchedule why) refused = absurd refused
+    not_opened (status.NotLifted why) refused = absurd refused
 
     absent_unbegun : (s : Status) → Begins s → IsNoSourceOrNoMemory file s
     absent_unbegun s why = elim why [
@@ -205,6 +209,7 @@ module _ (observed : Observed) (of_one : AreOfOne observed.kits) (told : List Fi
     absent_ends status.Help outcome end = absent_unbegun status.Help end.2
     absent_ends status.Usage outcome end = absent_unbegun status.Usage end.2
     absent_ends (status.BadSchedule why) outcome end = absent_unbegun (status.BadSchedule why) end.2
+    absent_ends (status.NotLifted why) outcome end = absent_unbegun (status.NotLifted why) end.2
 
   -- ---- a file that is there
 
@@ -235,6 +240,7 @@ module _ (observed : Observed) (of_one : AreOfOne observed.kits) (told : List Fi
       poison_ends status.Help outcome end = inr (unbegun status.Help end.2)
       poison_ends status.Usage outcome end = inr (unbegun status.Usage end.2)
       poison_ends (status.BadSchedule why) outcome end = inr (unbegun (status.BadSchedule why) end.2)
+      poison_ends (status.NotLifted why) outcome end = inr (unbegun (status.NotLifted why) end.2)
 
 -- ---- by what is asked for
 
@@ -245,6 +251,7 @@ module _ (observed : Observed) (of_one : AreOfOne observed.kits) (s : Status) (o
   absent (Some Help) tried end = tt
   absent (Some (Run name options)) tried end = tt
   absent (Some (Replay name schedule options)) tried end = tt
+  absent (Some (Combine name options)) tried end = tt
   absent (Some (Make count number)) tried end = tt
   absent (Some (Drill count number options)) tried end = tt
   absent (Some (Panes file size options)) tried end = λ whole told tells none.
@@ -271,6 +278,7 @@ module _ (observed : Observed) (of_one : AreOfOne observed.kits) (s : Status) (o
     poison (Some Help) tried account end = tt
     poison (Some (Run name options)) tried account end = tt
     poison (Some (Replay name schedule options)) tried account end = tt
+    poison (Some (Combine name options)) tried account end = tt
     poison (Some (Make count number)) tried account end = tt
     poison (Some (Drill count number options)) tried account end = tt
     poison (Some (Panes file size options)) tried account end = λ whole strict told tells found asks.
@@ -287,6 +295,7 @@ module _ (observed : Observed) (of_one : AreOfOne observed.kits) (s : Status) (o
     clean by_reads (Some Help) end = tt
     clean by_reads (Some (Run name options)) end = tt
     clean by_reads (Some (Replay name schedule options)) end = tt
+    clean by_reads (Some (Combine name options)) end = tt
     clean by_reads (Some (Make count number)) end = tt
     clean by_reads (Some (Drill count number options)) end = tt
     clean by_reads (Some (Panes file size options)) end = λ few shelf told tells found never.

@@ -13,7 +13,7 @@ use Rattle.beam_model.specs.Plain.{ArePlainlyWritten, ArePlainlyWrittenWhere}
 use Rattle.beam_model.specs.Plans.{default_trigger, panes_plan}
 use Rattle.beam_model.specs.Positions.{SourceItem, items}
 use Rattle.beam_ports.specs.Observed.{WhereTold}
-use Rattle.command_words.specs.Commands.{Asked, Help, Panes, Run, Replay, Make, Drill}
+use Rattle.command_words.specs.Commands.{Asked, Help, Panes, Run, Replay, Make, Drill, Combine}
 use Rattle.beam_command.specs.Promises.{AsksPlainPlan, IsPlanAsked}
 use Rattle.beam_command.proofs.DrillPrints.{drill_always}
 
@@ -45,6 +45,7 @@ always_plainly None files o checked asks plan plain = absurd asks
 always_plainly (Some Help) files o checked asks plan plain = absurd asks
 always_plainly (Some (Run name options)) files o checked asks plan plain = absurd asks
 always_plainly (Some (Replay name schedule options)) files o checked asks plan plain = absurd asks
+always_plainly (Some (Combine name options)) files o checked asks plan plain = absurd asks
 always_plainly (Some (Make count number)) files o checked asks plan plain = absurd asks
 always_plainly (Some (Panes file size options)) files o checked asks plan plain = λ told tells. plain_at told file size o plan (plain told tells)
 always_plainly (Some (Drill count number options)) files o checked asks plan plain = drill_always count number files o checked plan plain

@@ -15,7 +15,7 @@ use Rattle.book_core.specs.Book.{SeenBook}
 use Rattle.book_core.specs.Calls.{IsOutcomeOf}
 use Rattle.book_core.specs.Runs.{AreTold, HonestlyReached, IsEnded, IsThrough, Reached}
 use Rattle.book_core.specs.Work.{Surroundings}
-use Rattle.command_words.specs.Commands.{Asked, Help, Panes, Run, Replay, Make, Drill}
+use Rattle.command_words.specs.Commands.{Asked, Help, Panes, Run, Replay, Make, Drill, Combine}
 use Rattle.ended_runs.specs.Storable.{ArePanesStorable}
 use Rattle.command_ends.specs.declared.status.Status.{Status}
 use Rattle.command_ends.specs.declared.status.Status.TheVariants as status
@@ -41,6 +41,7 @@ module _ (asked : Option Asked) (observed : Observed) (P : Outcome → Type 0)
   of_pipeline own options is (status.WorkFault note) outcome end = tt
   of_pipeline own options is (status.FileChanged name len other) outcome end = tt
   of_pipeline own options is (status.BadSchedule why) outcome end = tt
+  of_pipeline own options is (status.NotLifted why) outcome end = tt
   of_pipeline own options is status.NoMemory outcome end = tt
 
   of_asked : (a : Option Asked) → asked ≡ a → (s : Status) (outcome : Option Outcome) → IsEndOf a observed s outcome → IsRun a (record { status = s; outcome = outcome }) P
@@ -49,6 +50,7 @@ module _ (asked : Option Asked) (observed : Observed) (P : Outcome → Type 0)
   of_asked (Some (Panes file size options)) is s outcome end = of_pipeline (Panes file size options) options is s outcome end
   of_asked (Some (Run name options)) is s outcome end = of_pipeline (Run name options) options is s outcome end
   of_asked (Some (Replay name schedule options)) is s outcome end = tt
+  of_asked (Some (Combine name options)) is s outcome end = tt
   of_asked (Some (Make count number)) is s outcome end = tt
   of_asked (Some (Drill count number options)) is s outcome end = of_pipeline (Drill count number options) options is s outcome end
 

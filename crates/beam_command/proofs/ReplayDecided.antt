@@ -9,7 +9,7 @@ use Rattle.beam_ports.specs.Counts.{rise}
 use Rattle.beam_ports.specs.Observed.{ObservedStore, WhereTold}
 use Rattle.beam_text.specs.declared.refusal.ScheduleRefusal.{ScheduleRefusal}
 use Rattle.beam_text.specs.declared.refusal.ScheduleRefusal.TheVariants as refusal
-use Rattle.command_words.specs.Commands.{Asked, Help, Panes, Run, Replay, Make, Drill}
+use Rattle.command_words.specs.Commands.{Asked, Help, Panes, Run, Replay, Make, Drill, Combine}
 use Rattle.run_engine.specs.Openings.{IsOpeningRefused}
 use Rattle.command_ends.specs.ScheduleFiles.{HasLengthOf, IsScheduleUnread, longest_schedule}
 use Rattle.command_ends.specs.declared.status.Status.{Status}
@@ -47,6 +47,7 @@ module _ (observed : Observed) (of_one : AreOfOne observed.kits) (told : List Fi
     schedule_read first one status.NoMemory unread = refl
     schedule_read first one status.Ok unread = absurd unread
     schedule_read first one status.Help unread = absurd unread
+    schedule_read first one (status.NotLifted unlifted) unread = absurd unread
     schedule_read first one status.Usage unread = absurd unread
     schedule_read first one (status.BadPlan why) unread = absurd unread
     schedule_read first one (status.WorkFault note) unread = absurd unread
@@ -87,6 +88,7 @@ module _ (observed : Observed) (of_one : AreOfOne observed.kits) (told : List Fi
     replayed (status.WorkFault note) end = absurd end.1
     replayed (status.FileChanged changed len other) end = absurd end.1
     replayed status.Help end = absurd end.1
+    replayed (status.NotLifted unlifted) end = absurd end.1
     replayed status.Usage end = absurd end.1
 
   -- ---- a schedule that is accepted
@@ -124,6 +126,7 @@ module _ (observed : Observed) (of_one : AreOfOne observed.kits) (told : List Fi
     cleanly_replayed (status.WorkFault note) end = absurd end.1
     cleanly_replayed (status.FileChanged changed len other) end = absurd end.1
     cleanly_replayed status.Help end = absurd end.1
+    cleanly_replayed (status.NotLifted unlifted) end = absurd end.1
     cleanly_replayed status.Usage end = absurd end.1
 
 -- where its plan, its schedule and its files are there, a replay prints or refuses a line
@@ -137,6 +140,7 @@ replay (Some (Run name options)) observed of_one s outcome end = tt
 replay (Some (Replay name schedule options)) observed of_one s outcome end = λ few told tells inputs. replayed observed of_one told tells name schedule options few inputs s end.0
 replay (Some (Make count number)) observed of_one s outcome end = tt
 replay (Some (Drill count number options)) observed of_one s outcome end = tt
+replay (Some (Combine name options)) observed of_one s outcome end = tt
 
 -- and where no line is refused, it prints
 pub replay_accepted : (asked : Option Asked) (observed : Observed) → AreOfOne observed.kits → (s : Status) (outcome : Option Outcome) → IsEndOf asked observed s outcome
@@ -150,6 +154,7 @@ replay_accepted (Some (Replay name schedule options)) observed of_one s outcome 
     cleanly_replayed observed of_one told tells name schedule options few accepted s end.0
 replay_accepted (Some (Make count number)) observed of_one s outcome end = tt
 replay_accepted (Some (Drill count number options)) observed of_one s outcome end = tt
+replay_accepted (Some (Combine name options)) observed of_one s outcome end = tt
 
 -- ---- whatever the stores tell
 
@@ -170,6 +175,7 @@ module _ (observed : Observed) (of_one : AreOfOne observed.kits) (name schedule 
   ends_of_few status.SinkFault end = end.2.0
   ends_of_few status.NoMemory end = tt
   ends_of_few (status.BadSchedule why) end = tt
+  ends_of_few (status.NotLifted why) end = end.1
   ends_of_few (status.BadPlan why) end = tt
   ends_of_few (status.NoSource absent) end = tt
   ends_of_few (status.SourceFault kit) end = absurd (no_fault kit end.1)
@@ -188,3 +194,4 @@ few_reads (Some (Run name options)) observed of_one s outcome end = tt
 few_reads (Some (Replay name schedule options)) observed of_one s outcome end = λ few. ends_of_few observed of_one name schedule options few s end.0
 few_reads (Some (Make count number)) observed of_one s outcome end = tt
 few_reads (Some (Drill count number options)) observed of_one s outcome end = tt
+few_reads (Some (Combine name options)) observed of_one s outcome end = tt

@@ -42,6 +42,7 @@ module _ (first before after failed : ℕ) (earlier : first ≤ before) (later :
     by_status status.NoMemory why = tt
     by_status status.Ok why = absurd why
     by_status status.Help why = absurd why
+    by_status (status.NotLifted unlifted) why = absurd why
     by_status status.Usage why = absurd why
     by_status (status.BadPlan refusal) why = absurd why
     by_status (status.WorkFault note) why = absurd why

@@ -209,6 +209,7 @@ module _ {F S : Type 0} (f : ShelfGhosts F) (s : StoreGhosts S) where
     graph_stopped kits mids one each failed status.NoMemory is = tt
     graph_stopped kits mids one each failed status.Ok is = absurd is
     graph_stopped kits mids one each failed status.Help is = absurd is
+    graph_stopped kits mids one each failed (status.NotLifted unlifted) is = absurd is
     graph_stopped kits mids one each failed status.Usage is = absurd is
     graph_stopped kits mids one each failed (status.BadPlan refusal) is = absurd is
     graph_stopped kits mids one each failed (status.NoSource name) is = absurd is
@@ -232,6 +233,7 @@ module _ {F S : Type 0} (f : ShelfGhosts F) (s : StoreGhosts S) where
   opening_stopped kits news one plan options schedule failed status.NoMemory is = is
   opening_stopped kits news one plan options schedule failed status.Ok is = is
   opening_stopped kits news one plan options schedule failed status.Help is = is
+  opening_stopped kits news one plan options schedule failed (status.NotLifted unlifted) is = is
   opening_stopped kits news one plan options schedule failed status.Usage is = is
   opening_stopped kits news one plan options schedule failed (status.BadPlan refusal) is = is
   opening_stopped kits news one plan options schedule failed (status.NoSource name) is = is

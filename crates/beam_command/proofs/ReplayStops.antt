@@ -50,6 +50,7 @@ module _ (kits : ObservedKits) (first : ObservedStore) (is_first : slice_get kit
   files_stop status.NoMemory why = tt
   files_stop status.Ok why = elim why [ inl never ↦ never | inr missed ↦ missed.2 ]
   files_stop status.Help why = elim why [ inl never ↦ never | inr missed ↦ missed.2 ]
+  files_stop (status.NotLifted unlifted) why = elim why [ inl never ↦ never | inr missed ↦ missed.2 ]
   files_stop status.Usage why = elim why [ inl never ↦ never | inr missed ↦ missed.2 ]
   files_stop (status.WorkFault note) why = elim why [ inl never ↦ never | inr missed ↦ missed.2 ]
   files_stop status.SinkFault why = elim why [ inl never ↦ never | inr missed ↦ missed.2 ]
@@ -99,6 +100,7 @@ module _ {F S : Type 0} (f : ShelfGhosts F) (s : StoreGhosts S) where
     kit_stop status.NoMemory is = tt
     kit_stop status.Ok is = is
     kit_stop status.Help is = is
+    kit_stop (status.NotLifted unlifted) is = is
     kit_stop status.Usage is = is
     kit_stop (status.WorkFault note) is = is
     kit_stop status.SinkFault is = is
@@ -163,6 +165,7 @@ module _ (observed : Observed) (name schedule : List ℕ) (options : Options) wh
   written_end text is (status.WorkFault note) end = absurd end
   written_end text is (status.FileChanged changed len other) end = absurd end
   written_end text is (status.BadSchedule why) end = absurd end
+  written_end text is (status.NotLifted why) end = absurd end
 
   pub stopped_end : IsUnwritten observed → (s : Status) → IsReplayStopped observed.kits name schedule options s → IsReplayEnd observed name schedule options s
   stopped_end unwritten status.Ok why = absurd why
@@ -176,6 +179,7 @@ module _ (observed : Observed) (name schedule : List ℕ) (options : Options) wh
   stopped_end unwritten (status.WorkFault note) why = (unwritten, why)
   stopped_end unwritten (status.FileChanged changed len other) why = (unwritten, why)
   stopped_end unwritten (status.BadSchedule refusal) why = (unwritten, why)
+  stopped_end unwritten (status.NotLifted refusal) why = (unwritten, why)
 
 -- ---- whether work began
 
@@ -191,6 +195,7 @@ written_begun observed attempts text (status.SourceFault kit) end none = end
 written_begun observed attempts text (status.WorkFault note) end none = none
 written_begun observed attempts text (status.FileChanged changed len other) end none = end
 written_begun observed attempts text (status.BadSchedule why) end none = end
+written_begun observed attempts text (status.NotLifted why) end none = end
 
 -- a line that stopped a replay, or want of memory in it
 pub kit_begun : {F S : Type 0} (f : ShelfGhosts F) (s : StoreGhosts S) (old new : Kit F S) (plan : Plan) (options : Options) (schedule : List ℕ) (why : Status)
@@ -201,6 +206,7 @@ kit_begun f s old new plan options schedule (status.BadSchedule (refusal.NotAllo
 kit_begun f s old new plan options schedule status.NoMemory is none = none
 kit_begun f s old new plan options schedule status.Ok is none = is
 kit_begun f s old new plan options schedule status.Help is none = is
+kit_begun f s old new plan options schedule (status.NotLifted unlifted) is none = is
 kit_begun f s old new plan options schedule status.Usage is none = is
 kit_begun f s old new plan options schedule (status.BadPlan refusal) is none = is
 kit_begun f s old new plan options schedule (status.NoSource absent) is none = is

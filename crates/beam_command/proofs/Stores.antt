@@ -18,7 +18,7 @@ use Rattle.run_engine.specs.Kits.{ObservedKits, OpensKit, observed_each, observe
 use Rattle.run_engine.specs.Openings.{AreOpenedByAll}
 use Rattle.run_engine.specs.PlanRun.{IsPlanEnd}
 use Rattle.command_ends.specs.declared.status.Status.{Status}
-use Rattle.command_words.specs.Commands.{Asked, Help, Panes, Run, Replay, Make, Drill}
+use Rattle.command_words.specs.Commands.{Asked, Help, Panes, Run, Replay, Make, Drill, Combine}
 use Rattle.beam_command.specs.Kits.{kits_for, without_files}
 use Rattle.beam_command.specs.Observing.{AreFound}
 use Rattle.beam_command.proofs.Graphs.{are_found, ended_since}
@@ -90,6 +90,7 @@ seen_of_one (Some Help) kits of_one = of_one
 seen_of_one (Some (Panes file size options)) kits of_one = of_one
 seen_of_one (Some (Run name options)) kits of_one = of_one
 seen_of_one (Some (Replay name schedule options)) kits of_one = of_one
+seen_of_one (Some (Combine name options)) kits of_one = of_one
 seen_of_one (Some (Make count number)) kits of_one = of_one
 seen_of_one (Some (Drill count number options)) kits of_one = each_untold kits.store kits.stores of_one
 
@@ -122,7 +123,7 @@ module _ {F S : Type 0} (of_shelf : ShelfGhosts F) (of_store : StoreGhosts S) wh
   tellings_same (old ∷ olds) (mid ∷ mids) stay = λ i. stay.0.1.files i ∷ tellings_same olds mids stay.1 i
 
   -- the count of all stores rose by as much at least
-  rises_since : (olds mids news : List (Kit F S)) → EachBecomes olds mids Stays → sum_rises (λ kit. of_store.faults kit.store) mids news ≤ sum_rises (λ kit. of_store.faults kit.store) olds news
+  pub rises_since : (olds mids news : List (Kit F S)) → EachBecomes olds mids Stays → sum_rises (λ kit. of_store.faults kit.store) mids news ≤ sum_rises (λ kit. of_store.faults kit.store) olds news
   rises_since [] [] news stay = omega arith
   rises_since [] (mid ∷ mids) news stay = absurd stay
   rises_since (old ∷ olds) [] news stay = absurd stay
@@ -130,10 +131,10 @@ module _ {F S : Type 0} (of_shelf : ShelfGhosts F) (of_store : StoreGhosts S) wh
   rises_since (old ∷ olds) (mid ∷ mids) (new ∷ news) stay =
       omega (arith, rises_since olds mids news stay.1, rise_since (of_store.faults old.store) (of_store.faults mid.store) (of_store.faults new.store) stay.0.1.counts)
 
-  shelves_since : (olds mids news : List (Kit F S)) → EachBecomes olds mids Stays → observed_shelves of_shelf.strict of_shelf.faults mids news ≡ observed_shelves of_shelf.strict of_shelf.faults olds news
+  pub shelves_since : (olds mids news : List (Kit F S)) → EachBecomes olds mids Stays → observed_shelves of_shelf.strict of_shelf.faults mids news ≡ observed_shelves of_shelf.strict of_shelf.faults olds news
   shelves_since olds mids news stay = λ i. record { strict = strict_same olds mids stay i; before = 0; after = calls_same olds mids news stay i }
 
-  told_since : (olds mids : List (Kit F S)) → EachBecomes olds mids Stays → told_by (map (λ kit. of_store.files kit.store) mids) ≡ told_by (map (λ kit. of_store.files kit.store) olds)
+  pub told_since : (olds mids : List (Kit F S)) → EachBecomes olds mids Stays → told_by (map (λ kit. of_store.files kit.store) mids) ≡ told_by (map (λ kit. of_store.files kit.store) olds)
   told_since olds mids stay = ap told_by (tellings_same olds mids stay)
 
   -- a run with the kits after their files were opened, seen from the call that opened them
@@ -149,7 +150,7 @@ module _ {F S : Type 0} (of_shelf : ShelfGhosts F) (of_store : StoreGhosts S) wh
       (observed_each of_store.files of_store.faults mids news) each (rises_since olds mids news stay) plan options s outcome end)
 
   -- files that all have opened are there
-  opened_are_there : (olds mids : List (Kit F S)) (plan : Plan) → 0 < length olds → EachBecomes olds mids Stays → AreOpenedByAll of_store.files of_store.opened plan mids
+  pub opened_are_there : (olds mids : List (Kit F S)) (plan : Plan) → 0 < length olds → EachBecomes olds mids Stays → AreOpenedByAll of_store.files of_store.opened plan mids
       → AreFound (told_by (map (λ kit. of_store.files kit.store) olds)) plan
   opened_are_there [] mids plan some stay are = absurd (omega arith)
   opened_are_there (old ∷ olds) [] plan some stay are = absurd stay

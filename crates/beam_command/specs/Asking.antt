@@ -6,7 +6,7 @@ use Rattle.beam_values.specs.declared.plan.Plan.{Plan}
 use Rattle.beam_model.specs.Plans.{panes_plan}
 use Rattle.beam_ports.specs.Observed.{WhereTold}
 use Rattle.command_ends.specs.PlanFiles.{IsMeaningOf}
-use Rattle.command_words.specs.Commands.{Asked, Panes, Run, Replay, Drill}
+use Rattle.command_words.specs.Commands.{Asked, Panes, Run, Replay, Drill, Combine}
 use Rattle.beam_command.specs.DrillPlans.{drill_plan}
 use Rattle.beam_command.specs.declared.pipeline.Report.{Report}
 use Rattle.beam_command.specs.declared.pipeline.Report.TheVariants.{Rendering, Summary}
@@ -23,13 +23,18 @@ abbrev pub WhereReplay : Option Asked → (List ℕ → List ℕ → Options →
 WhereReplay (Some (Replay name schedule options)) P = P name schedule options
 WhereReplay _ P = Unit {0}
 
+-- this holds of the name of the plan and of the options, where `combine` is
+abbrev pub WhereCombine : Option Asked → (List ℕ → Options → Type 0) → Type 0
+WhereCombine (Some (Combine name options)) P = P name options
+WhereCombine _ P = Unit {0}
+
 -- this holds of the two numbers and of the options, where `drill` is
 abbrev pub WhereDrill : Option Asked → (ℕ → ℕ → Options → Type 0) → Type 0
 WhereDrill (Some (Drill count number options)) P = P count number options
 WhereDrill _ P = Unit {0}
 
 -- This holds of what is asked for and of its options, where it is a pipeline that is run to its end: its outcome is handed out. A replay runs one as far as its
--- schedule goes, and hands none out.
+-- schedule goes, and hands none out; what is combined has no panes to hand out.
 abbrev pub WherePipeline : Option Asked → (Asked → Options → Type 0) → Type 0
 WherePipeline (Some (Panes file size options)) P = P (Panes file size options) options
 WherePipeline (Some (Run name options)) P = P (Run name options) options

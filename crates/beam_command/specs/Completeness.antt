@@ -5,6 +5,7 @@ use Rattle.beam_values.specs.declared.fault.Cause.TheVariants.{Call}
 use Rattle.beam_values.specs.declared.fault.FaultNote.{FaultNote}
 use Rattle.beam_values.specs.declared.file_text.FileText.{FileText}
 use Rattle.beam_values.specs.declared.options.Options.{Options}
+use Rattle.beam_values.specs.declared.plan.FnKind.{FnKind}
 use Rattle.beam_values.specs.declared.plan.Plan.{Plan}
 use Rattle.beam_model.specs.Positions.{items}
 use Rattle.beam_model.specs.Spread.{HasPoison}
@@ -20,7 +21,10 @@ use Rattle.run_engine.specs.declared.run_end.RunEnd.{RunEnd}
 use Rattle.command_ends.specs.Statuses.{IsNoSourceOrNoMemory}
 use Rattle.command_ends.specs.declared.status.Status.{Status}
 use Rattle.command_ends.specs.declared.status.Status.TheVariants as status
-use Rattle.beam_command.specs.Asking.{IsPlanOf, WherePanes, WherePipeline, WhereReplay}
+use Rattle.combine_lift.specs.Lifting.{IsLiftable}
+use Rattle.combine_lift.specs.declared.refusal.LiftRefusal.TheVariants as lift
+use Rattle.combine_laws.specs.Combined.{HasFunction, IsSomePoison, MeetsMany, MeetsPart, MeetsSum}
+use Rattle.beam_command.specs.Asking.{IsPlanOf, IsPlanRead, WhereCombine, WherePanes, WherePipeline, WhereReplay}
 use Rattle.beam_command.specs.Observing.{Observed, AreFound}
 use Rattle.beam_command.specs.Promises.{IsPlanAsked}
 use Rattle.beam_command.specs.ReplayEnds.{AreInputsOf, IsRefusedOf, Replayed}
@@ -39,6 +43,33 @@ HasInputs told asked = (plan : Plan) × IsPlanOf (Some told) asked plan × AreFo
 abbrev pub HasCleanInputs : List FileText → Asked → Options → Type 0
 HasCleanInputs told asked options =
     (plan : Plan) × IsPlanOf (Some told) asked plan × AreFound (Some told) plan × TakesNoPoison (record { told = Some told; strict = true }) plan options
+
+-- a position of the plan of this file is poison
+abbrev pub ReadsPoison : List FileText → List ℕ → Type 0
+ReadsPoison told name = (plan : Plan) × IsPlanRead (Some told) name plan × HasPoison plan (items told plan)
+
+-- the plan is there and isn't lifted
+abbrev pub HasUnliftedPlan : List FileText → List ℕ → Type 0
+HasUnliftedPlan told name = (plan : Plan) × IsPlanRead (Some told) name plan × (IsLiftable plan → ⊥)
+
+-- what is combined is there: a plan that is lifted, with its files; each part is one that its function takes, each sum fits, and there are not too many
+pub record HasLiftedInputs (told : List FileText) (name : List ℕ) : Type 0 where
+  pub plan : Plan
+  pub read : IsPlanRead (Some told) name plan
+  pub found : AreFound (Some told) plan
+  pub liftable : IsLiftable plan
+  pub group : ℕ
+  pub function : ℕ
+  pub work : FnKind
+  pub has : HasFunction plan group function work
+  pub parts : MeetsPart plan (items told plan) group work → ⊥
+  pub sums : MeetsSum plan (items told plan) group work → ⊥
+  pub few : MeetsMany plan (items told plan) group → ⊥
+
+-- the same, and nothing is poison: no position, and no chain of what is combined
+pub record HasCleanLiftedInputs (told : List FileText) (name : List ℕ) : Type 0 where
+  pub inputs : HasLiftedInputs told name
+  pub clean : IsSomePoison inputs.plan (items told inputs.plan) inputs.group inputs.function inputs.work → ⊥
 
 -- what a replay works on is there: a plan with its files, and a schedule that isn't too long
 abbrev pub HasReplayInputs : List FileText → List ℕ → List ℕ → Type 0
@@ -100,6 +131,11 @@ IsEndOfFewFaults attempts out (status.FileChanged name len other) = Unit {0}
 IsEndOfFewFaults attempts out status.SinkFault = attempts ≤ rise out.before out.after
 IsEndOfFewFaults attempts out _ = ⊥
 
+-- the same of a plan that is to be combined: it may not be lifted, or its parts not be taken
+abbrev pub IsEndOfFewLifted : ℕ → ObservedSink → Status → Type 0
+IsEndOfFewLifted attempts out (status.NotLifted why) = Unit {0}
+IsEndOfFewLifted attempts out s = IsEndOfFewFaults attempts out s
+
 -- what the schedule prints was written, or a line of it is refused
 abbrev pub IsEndOfReplay : Status → Type 0
 IsEndOfReplay status.Ok = Unit {0}
@@ -107,6 +143,10 @@ IsEndOfReplay status.NoMemory = Unit {0}
 IsEndOfReplay (status.BadSchedule (refusal.Line number)) = Unit {0}
 IsEndOfReplay (status.BadSchedule (refusal.NotAllowed number)) = Unit {0}
 IsEndOfReplay _ = ⊥
+
+-- the plan isn't lifted
+abbrev pub IsEndOfUnlifted : Status → Type 0
+IsEndOfUnlifted s = (s ≡ status.NotLifted lift.Shape) ⊎ (s ≡ status.NoMemory)
 
 -- no opening or read failed as often as it may, however many calls did; the sink may have
 abbrev pub IsEndOfFewReads : ℕ → ObservedSink → Status → Type 0
@@ -150,6 +190,18 @@ pub record IsDecided (asked : Option Asked) (observed : Observed) (end : RunEnd)
   -- the same, of a schedule that is accepted
   pub replay_accepted : WhereReplay asked (λ name schedule options. AreReadFaultsFew options.attempts observed
       → WhereTold observed.kits.store.files (λ told. HasAcceptedSchedule observed told name schedule options → IsEndOfClean end.status))
+  -- nothing is combined of which a position is poison
+  pub not_combined : WhereCombine asked (λ name options.
+      WhereTold observed.kits.store.files (λ told. ReadsPoison told name → end.status ≡ status.Ok → ⊥))
+  -- the plan that is to be combined is there and isn't lifted, and few reads fail
+  pub unlifted : WhereCombine asked (λ name options. rise observed.kits.store.before observed.kits.store.after < options.attempts
+      → WhereTold observed.kits.store.files (λ told. HasUnliftedPlan told name → IsEndOfUnlifted end.status))
+  -- what is combined is there, and few faults are counted
+  pub combined : WhereCombine asked (λ name options. AreFaultsFew options.attempts observed
+      → WhereTold observed.kits.store.files (λ told. HasLiftedInputs told name → IsEndOfClean end.status))
+  -- the same where nothing is poison, over strict shelves, and few reads and writes fail
+  pub combined_strict : WhereCombine asked (λ name options. AreReadFaultsFew options.attempts observed → IsStrict observed.kits.shelf
+      → WhereTold observed.kits.store.files (λ told. HasCleanLiftedInputs told name → IsEndOfClean end.status))
   -- files that all stores tell alike don't change
   pub same_files : WhereTold observed.kits.store.files (λ told. IsChange end.status → ⊥)
 
@@ -158,5 +210,6 @@ pub record IsDecided (asked : Option Asked) (observed : Observed) (end : RunEnd)
 abbrev pub EndsWhereFewFail : Option Asked → Observed → RunEnd → Type 0
 EndsWhereFewFail asked observed end =
     WherePipeline asked (λ own options. AreKitFaultsFew options.attempts observed.kits → IsEndOfFewFaults options.attempts observed.out end.status)
+    × WhereCombine asked (λ name options. AreKitFaultsFew options.attempts observed.kits → IsEndOfFewLifted options.attempts observed.out end.status)
     × WhereReplay asked (λ name schedule options. rise observed.kits.store.before observed.kits.store.after < options.attempts
     → IsEndOfFewReads options.attempts observed.out end.status)

@@ -7,7 +7,7 @@ use Rattle.beam_model.specs.Rendering.{IsRendering, summary}
 use Rattle.beam_ports.specs.Observed.{ObservedStore, ObservedSink}
 use Rattle.book_core.specs.Book.{SeenBook}
 use Rattle.book_core.specs.Runs.{IsEnded}
-use Rattle.command_words.specs.Commands.{Asked, Help, Panes, Run, Replay, Make, Drill}
+use Rattle.command_words.specs.Commands.{Asked, Help, Panes, Run, Replay, Make, Drill, Combine}
 use Rattle.command_words.specs.HelpText.{help_text}
 use Rattle.run_engine.specs.Openings.{IsOpeningRefused}
 use Rattle.run_engine.specs.PlanRun.{IsOutcomeWhere, IsSpent, IsStoppedBy, surroundings_of}
@@ -17,6 +17,7 @@ use Rattle.command_ends.specs.Writing.{IsWritten}
 use Rattle.command_ends.specs.declared.status.Status.{Status}
 use Rattle.command_ends.specs.declared.status.Status.TheVariants as status
 use Rattle.beam_command.specs.Asking.{IsPlanOf, WherePipeline, report_of}
+use Rattle.beam_command.specs.CombineEnds.{IsCombineEnd}
 use Rattle.beam_command.specs.Observing.{Observed, AreFound, IsUnwritten}
 use Rattle.beam_command.specs.ReplayEnds.{IsMakeEnd, IsReplayEnd, text_attempts}
 use Rattle.beam_command.specs.declared.pipeline.Report.{Report}
@@ -87,6 +88,7 @@ IsEndOf (Some Help) observed s outcome = IsHelpEnd observed.out s × (outcome �
 IsEndOf (Some (Panes file size options)) observed s outcome = IsPipelineEnd observed (Panes file size options) options s outcome
 IsEndOf (Some (Run name options)) observed s outcome = IsPipelineEnd observed (Run name options) options s outcome
 IsEndOf (Some (Replay name schedule options)) observed s outcome = IsReplayEnd observed name schedule options s × (outcome ≡ None)
+IsEndOf (Some (Combine name options)) observed s outcome = IsCombineEnd observed name options s × (outcome ≡ None)
 IsEndOf (Some (Make count number)) observed s outcome = IsMakeEnd observed.out count number s × (outcome ≡ None)
 IsEndOf (Some (Drill count number options)) observed s outcome = IsPipelineEnd observed (Drill count number options) options s outcome
 

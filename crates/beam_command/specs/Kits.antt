@@ -6,7 +6,8 @@ use Rattle.beam_ports.specs.declared.store.Store.{Ghosts as StoreGhosts}
 use Rattle.beam_values.specs.declared.file_text.FileText.{FileText}
 use Rattle.beam_values.specs.declared.outcome.Outcome.{Outcome}
 use Rattle.beam_text.specs.declared.refusal.ScheduleRefusal.TheVariants as refusal
-use Rattle.command_words.specs.Commands.{Asked, Panes, Run, Replay, Drill}
+use Rattle.combine_lift.specs.declared.refusal.LiftRefusal.TheVariants as lift
+use Rattle.command_words.specs.Commands.{Asked, Panes, Run, Replay, Drill, Combine}
 use Rattle.dofn_traits.specs.declared.shelf.Shelf.{Ghosts as ShelfGhosts}
 use Rattle.bundle_work.specs.Kits.{EachBecomes, told_by}
 use Rattle.bundle_work.specs.declared.kit.Kit.{Kit}
@@ -26,6 +27,7 @@ workers_of (Some (Panes file size options)) = options.workers
 workers_of (Some (Run name options)) = options.workers
 workers_of (Some (Replay name schedule options)) = 1
 workers_of (Some (Drill count number options)) = options.workers
+workers_of (Some (Combine name options)) = options.workers
 workers_of _ = 0
 
 -- the kits in use are the first ones, one for each worker as far as there are kits
@@ -88,6 +90,7 @@ HasNotBegun (status.NoSource name) = Unit {0}
 HasNotBegun (status.SourceFault kit) = Unit {0}
 HasNotBegun (status.FileChanged name first other) = Unit {0}
 HasNotBegun (status.BadSchedule (refusal.Length len)) = Unit {0}
+HasNotBegun (status.NotLifted lift.Shape) = Unit {0}
 HasNotBegun _ = ⊥
 
 -- the shelf is what it was

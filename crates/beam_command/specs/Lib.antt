@@ -3,6 +3,7 @@ pub mod Asking
 pub mod Observing
 pub mod ReplayEnds
 pub mod Replaying
+pub mod CombineEnds
 pub mod Ends
 pub mod Promises
 pub mod Pipelines

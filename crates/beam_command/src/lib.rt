@@ -4,9 +4,11 @@
 //! promise of the program: what was printed, what each other end means, that it comes only so, and which
 //! end must come where little or nothing outside fails. The layer above may rely on that alone.
 //! [`laws`] says that what a drill prints is a function of its two numbers. Read `top.rt` first, then
-//! `specs/Clauses.antt`, `specs/Ends.antt`, `specs/ReplayEnds.antt` and `specs/Completeness.antt`.
+//! `specs/Clauses.antt`, `specs/Ends.antt`, `specs/ReplayEnds.antt`, `specs/CombineEnds.antt` and
+//! `specs/Completeness.antt`.
 #![tactic(auto)]
 
+mod combines;
 pub mod laws;
 mod pipeline;
 mod plans;

@@ -20,6 +20,7 @@ ghost use Rattle.beam_command.specs.Clauses.{asked_by, asking, observed_by, Ends
 ghost use Rattle.beam_command.specs.Clauses.{EndsWithOpened, IsAccountedFor, IsOfAsked};
 ghost use Rattle.beam_command.specs.Clauses.{IsPartitioned, IsPlain, LeavesKits, PrintsDrill};
 
+use crate::combines::run_combine;
 use crate::pipeline::{Report, ended, run_graph};
 use crate::plans::{drill_graph, panes_graph};
 use crate::replays::run_replay;
@@ -188,6 +189,11 @@ fn run<R: Threads + Wait + Sync, F: Shelf, S: Store, W: Sink, G: Gate>(
         ) => {
             let (used, _unused) = kits.split_at_mut(1);
             ended(run_replay(alloc, plan, schedule, &options, used, out))
+        }
+        Ok(Command::Combine { plan, options }) => {
+            let count = kits.len().min(options.workers as usize);
+            let (used, _unused) = kits.split_at_mut(count);
+            ended(run_combine(rt, alloc, plan, &options, used, out))
         }
         Ok(Command::Make { count, number }) => ended(make(alloc, count, number, out)),
         Ok(

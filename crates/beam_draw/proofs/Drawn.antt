@@ -32,6 +32,7 @@ written_so out text (status.SourceFault kit) end = absurd end
 written_so out text (status.WorkFault note) end = absurd end
 written_so out text (status.FileChanged name first other) end = absurd end
 written_so out text (status.BadSchedule refusal) end = absurd end
+written_so out text (status.NotLifted refusal) end = absurd end
 
 -- a text that is the drawing, and that was written
 pub text_written : (out : ObservedSink) (text drawing : List ℕ) (s : Status) → text ≡ drawing → IsTextEnd out attempts text s → IsTextWritten out drawing s
@@ -52,3 +53,4 @@ drawn_end store out file names plan (status.SourceFault kit) means named w = abs
 drawn_end store out file names plan (status.WorkFault note) means named w = absurd w
 drawn_end store out file names plan (status.FileChanged name first other) means named w = absurd w
 drawn_end store out file names plan (status.BadSchedule refusal) means named w = absurd w
+drawn_end store out file names plan (status.NotLifted refusal) means named w = absurd w

@@ -17,6 +17,7 @@ use Rattle.beam_command.specs.Kits.{AreKitsLeft, IsOutcomeOfKits, in_use, observ
 use Rattle.beam_command.specs.Observing.{Observed}
 use Rattle.beam_command.specs.Promises.{HasLegalLogs, HasLegalPanes}
 use Rattle.beam_command.proofs.Asked.{end_of_same, noted_end}
+use Rattle.beam_command.proofs.CombineDecided.{combined, combined_strict, few_lifted, not_combined, unlifted}
 use Rattle.beam_command.proofs.Completeness.{complete, complete_strict, few_faults, same_files}
 use Rattle.beam_command.proofs.DrillEnds.{checked_of}
 use Rattle.beam_command.proofs.DrillPrints.{drill_prints}
@@ -157,12 +158,17 @@ returns-clause-decided g c =
       complete_strict = complete_strict (seen g c) (of_one g c) status outcome by_reads (asked g c) (ends g c);
       replay = replay (asked g c) (seen g c) (of_one g c) status outcome (ends g c);
       replay_accepted = replay_accepted (asked g c) (seen g c) (of_one g c) status outcome (ends g c);
+      not_combined = not_combined (asked g c) (seen g c) (of_one g c) status outcome (ends g c);
+      unlifted = unlifted (asked g c) (seen g c) (of_one g c) status outcome (ends g c);
+      combined = combined (asked g c) (seen g c) (of_one g c) status outcome (ends g c);
+      combined_strict = combined_strict (asked g c) (seen g c) (of_one g c) status outcome (ends g c);
       same_files = same_files (asked g c) (seen g c) (of_one g c) status outcome (ends g c);
     }
 
 pub returns-clause-few_faults : goal.returns-clause-few_faults
 returns-clause-few_faults g c = (
   few_faults (asked g c) (seen g c) (of_one g c) c.noted-status.result c.unless_no_memory-outcome.result (ends g c),
+  few_lifted (asked g c) (seen g c) (of_one g c) c.noted-status.result c.unless_no_memory-outcome.result (ends g c),
   few_reads (asked g c) (seen g c) (of_one g c) c.noted-status.result c.unless_no_memory-outcome.result (ends g c),
 )
 

@@ -2,7 +2,7 @@ use Rattle.std.proofs.Common.{◌≡◌, ◌<◌, ℤ, to_z, of_z, w64, min, len
 use Rattle.std.proofs.lemmas.Int.{ints}
 use Rattle.beam_values.specs.declared.file_text.FileText.{FileText}
 use Rattle.beam_model.specs.Plans.{panes_plan}
-use Rattle.command_words.specs.Commands.{Asked, IsAllowed, Panes, Run, Replay, Drill}
+use Rattle.command_words.specs.Commands.{Asked, IsAllowed, Panes, Run, Replay, Drill, Combine}
 use Rattle.command_words.specs.Shown.{shown_command}
 use Rattle.command_words.specs.declared.command.Command.{Command}
 use Rattle.bundle_work.specs.Kits.{EachBecomes}
@@ -124,6 +124,34 @@ returns-in-Ok-Replay g c =
           (observed_at g.F.Shelf g.S.Store g.W.Sink front after c.args.out.now c.run_replay.new.out) end.status end.outcome) (sym ended) (known.ends, refl)));
       opened = if_none _ _ (ap (λ (end : RunEnd). end.outcome) ended);
       kits = kits_left g.F.Shelf g.S.Store asked 1 many kits front back after halves.ensures.value split known.kept _
+          (subst (λ (s : Status). HasNotBegun s → EachBecomes front after KeepsShelf) (sym is_status) known.idle);
+    }
+
+pub returns-in-Ok-Combine : goal.returns-in-Ok-Combine
+returns-in-Ok-Combine g c =
+    let asks = c.in-Ok-Combine in
+    let kits = c.args.kits.now in
+    let halves = c.split_at_mut-used-in-Ok-Combine in
+    let front = halves.result.0.now in
+    let back = halves.result.1.now in
+    let after = c.run_combine.new.kits in
+    let status = c.run_combine.result in
+    let known = c.run_combine.ensures in
+    let asked = asked_by c.args.words.now in
+    let is : asked ≡ Some (Combine asks.plan.now asks.options) = sym asks.ensures.exact ∙ ap (λ (k : Command). Some (shown_command k)) asks.field-0-is in
+    let workers = asks.options.workers in
+    let many : workers_of asked ≡ workers = ap workers_of is in
+    let split : length front ≡ min (length kits) workers = omega (arith, halves.ensures.front_len, c.min-count-in-Ok-Combine.ensures) in
+    let ended = c.ended-in-Ok-Combine.ensures in
+    let is_status = ap (λ (end : RunEnd). end.status) ended in
+    record {
+      ends = end_in_use g.F.Shelf g.S.Store asked workers many kits front back after halves.ensures.value split known.kept g.W.Sink c.args.out.now c.run_combine.new.out _ _
+          (subst (λ (a : Option Asked). IsEndOf a (observed_for g.F.Shelf g.S.Store g.W.Sink a front after c.args.out.now c.run_combine.new.out) c.ended-in-Ok-Combine.result.status
+          c.ended-in-Ok-Combine.result.outcome) (sym is)
+          (subst (λ (end : RunEnd). IsEndOf (Some (Combine asks.plan.now asks.options))
+          (observed_at g.F.Shelf g.S.Store g.W.Sink front after c.args.out.now c.run_combine.new.out) end.status end.outcome) (sym ended) (known.ends, refl)));
+      opened = if_none _ _ (ap (λ (end : RunEnd). end.outcome) ended);
+      kits = kits_left g.F.Shelf g.S.Store asked workers many kits front back after halves.ensures.value split known.kept _
           (subst (λ (s : Status). HasNotBegun s → EachBecomes front after KeepsShelf) (sym is_status) known.idle);
     }
 
