@@ -77,6 +77,11 @@ pub fn answer_words(case: &mut Case<'_>) {
             case.say_number(number);
             say_options(&options, case);
         }
+        Ok(Command::Combine { plan, options }) => {
+            case.say("combine");
+            case.say_text(plan);
+            say_options(&options, case);
+        }
     }
 }
 
