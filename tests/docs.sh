@@ -2,6 +2,7 @@
 # Checks the documents against the repository, and prints each failure as FILE:LINE: WHAT; the status is then 1.
 # Needs no network, and takes a few seconds. It looks for
 # - links, files and names that are nowhere, and names that aren't in the file that is told with them;
+# - lines of more than 160 characters, but in blocks of cases;
 # - a block headed ```case FILE```, which stands word for word in FILE, of data/ in one of the programs of cases;
 # - a line `$ ./beam_run ..` in a block with its output below, which is a case of commands.cases over the same files
 #   (a last line `..` leaves the rest of the output out), and so are the outputs of examples/ but those of examples/scores.
@@ -103,6 +104,7 @@ read_documents() {
     function start(file) { code = 0; fence = 0; cases = 0; block = 0; blank = 1; end_shown() }
     FNR == 1 { if (code) printf "say\t%s: a code span is not closed\n", last; start() ; text = "" }
     { last = FILENAME ":" FNR }
+    length > 160 && !cases { printf "say\t%s: a line of %d characters, more than 160\n", last, length }
     # Fences.
     /^ *```/ {
         if (fence) { fence = 0; cases = 0; end_shown() }

@@ -124,6 +124,42 @@ def early_panes(n):
     return counted({"fixed": 10**9}, early=1)
 
 
+def combined(windows):
+    """Sums of each key and window, by `combine`."""
+    words = plan(
+        {"kind": "pardo", "work": "KeyField"},
+        {"kind": "pardo", "work": "FieldInt"},
+        {"kind": "window", "windows": windows},
+        {"kind": "group"},
+        {"kind": "pardo", "work": "SumSeq"},
+    )
+    return ["combine", *words[1:]]
+
+
+@shape(400_000)
+def combined_sums(n):
+    timed((at * 10 for at in range(n)), key=lambda at: f"k{at % 100}", part=lambda at: at)
+    return combined({"fixed": 60_000})
+
+
+@shape(100_000, sorts=True)
+def combined_keys_a_line(n):
+    timed(range(n), key=lambda at: f"k{at}", part=lambda at: at)
+    return combined("global")
+
+
+@shape(10_000)
+def combined_sliding_windows(n):
+    timed((at * 10 for at in range(n)), key=lambda at: f"k{at % 100}", part=lambda at: at)
+    return combined({"sliding": [100_000, 1000]})
+
+
+@shape(40_000)
+def combined_bundles_a_line(n):
+    timed((at * 10 for at in range(n)), key=lambda at: f"k{at % 100}", part=lambda at: at)
+    return [*combined({"fixed": 60_000}), "--bundle", "1", "--chunk", "16"]
+
+
 def stateful(work, source=None, **node):
     """A function with state on what comes with each key."""
     nodes = [{"kind": "pardo", "work": "KeyField"}]

@@ -61,6 +61,20 @@ def stateful(work, line, *before, **node):
     return words
 
 
+def combined(line):
+    """A sum of each key by `combine`, over so many lines."""
+
+    def words(count, folder):
+        path = folder / "lines.tsv"
+        with open(path, "w") as file:
+            file.writelines(line(at) for at in range(count))
+        functions = [{"kind": "pardo", "work": name} for name in ("KeyField", "FieldInt")]
+        (folder / "plan.json").write_text(plan([str(path)], *functions, {"kind": "group"}, {"kind": "pardo", "work": "SumSeq"}))
+        return ["combine", str(folder / "plan.json"), "--workers", "1"]
+
+    return words
+
+
 def filtered(count, folder):
     """A run that keeps nothing, each of whose lines is a bundle."""
     path = folder / "lines.tsv"
@@ -81,6 +95,7 @@ TRIED = {
     "each key and window of a stateful node": (
         stateful("Dedupe", lambda at: f"{at}\tk{at}\tx\n"), ("each call of a stateful node", "what such a call gives"),
     ),
+    "each key and window that is combined": (combined(lambda at: f"{at}\tk{at}\t1\n"), ()),
 }
 UNITS = {"each byte of a part above 22": 250}
 

@@ -1,7 +1,7 @@
 #!/usr/bin/env python3
 """Runs random small plans with several workers, and compares each run with the one of a single worker.
 
-    tests/random_runs.py ./beam_run [--runs N] [--seed S] [--seconds N] [--load]
+    tests/random_runs.py ./beam_run [--runs N] [--seed S] [--seconds N] [--load] [--combine]
 
 Run number i is made from the seed S + i alone, so `--runs 1 --seed` with the seed of a difference repeats it; what it ran is kept
 in a folder that is named then. `--load` keeps all processors busy meanwhile. A run that takes more than `--seconds` counts as one that
@@ -25,7 +25,14 @@ alone   One worker reads in the order of the files. Without an estimator no time
         same text. Several workers are compared as in `inputs`.
 settled The same, and what is put out at the end doesn't depend on the order of the elements either: what is written is compared too.
 
-`tests/run_model.py` works out what one worker prints, and compares it with the same plans.
+With `--combine` it runs `combine` by several workers on random plans that can be combined, or just can't:
+
+combined  What `combine` prints is the text of `run` by one worker, without the plan's estimators: nothing is late then.
+poison    One line is poison, or what a sum gives is for the functions below it. The end is that of `run`, but that of a batch of panes the note
+          tells the sum's node and item 0.
+refused   A plan of another form, parts that are no numbers, or a sum that leaves 64 bits: status 11 with the note of that.
+
+`tests/run_model.py` works out what one worker prints, and what `combine` prints, and compares it with the same plans.
 """
 import argparse
 import json
@@ -33,6 +40,7 @@ import multiprocessing
 import os
 import pathlib
 import random
+import re
 import subprocess
 import sys
 import tempfile
@@ -41,6 +49,8 @@ import run_model
 
 KEYS = ["a", "b", "c", "dd", "key", ""]
 STRATEGIES = ["fixed", "sliding", "sessions", "global"]
+APART = ["fixed", "sliding", "global"]  # windows that don't merge
+WORKERS = [1, 2, 3, 4, 4, 8, 16]
 STATEFUL = ["inputs", "alone", "settled"]  # how plans with stateful nodes are compared
 TEXT, NUMBER, DIGITS = "text", "number", "digits"
 LINE = "line"  # a text `key TAB digits`
@@ -454,9 +464,139 @@ STATEFUL_KINDS = [alone_plan, alone_plan, settled_plan, inputs_plan, inputs_plan
 KINDS = [text_plan] * 6 + [panes_plan, two_groups_plan, two_groups_plan, early_plan, unsound_plan, poison_plan, poison_panes_plan, *STATEFUL_KINDS]
 
 
-def random_plan(choose):
+# ---- plans for combine
+
+
+def before_group(plan):
+    """What comes to the only Group: of one source or several, with functions, windows and branches that end before it."""
+    choose = plan.choose
+    if choose.random() < 0.15:
+        ends = [count_source(plan)]
+    else:
+        # Estimators have no say, so they needn't be sound.
+        any_timed = lambda plan: timed_source(plan, sound=choose.random() < 0.5)
+        ends = [choose.choice([any_timed, any_timed, lines_source, made_source])(plan) for _ in range(choose.choice([1, 1, 2, 3]))]
+    if len(ends) > 1 or choose.random() < 0.1:
+        inputs = [end.name for end in ends]
+        ends = [End(plan.add("flatten", inputs + [choose.choice(inputs)] * (choose.random() < 0.2)), ends[0].form)]
+    end = ends[0]
+    if choose.random() < 0.6:
+        end = add_key(plan, end)
+        if end.form == pair(TEXT, DIGITS) and choose.random() < 0.8:
+            end = End(plan.add("pardo", [end.name], work="FieldInt"), pair(TEXT, NUMBER))
+    for _ in range(choose.randrange(4)):
+        grown = add_window(plan, end, APART) if choose.random() < 0.5 or not changes(end) else add_function(plan, end)
+        # Some nodes lead nowhere.
+        end = end if choose.random() < 0.1 else grown
+    return end
+
+
+def folded(plan, end, works=("SumSeq", "CountSeq", "MaxSeq")):
+    """The only Group and its function. The default trigger may be written out."""
+    choose = plan.choose
+    key, part = key_and_part(end.form)
+    default = {"late": 1, "lateness": 0, "mode": "discarding"}
+    name = plan.add("group", [end.name], **{word: default[word] for word in default if choose.random() < 0.2})
+    work = choose.choice([work for work in works if part == NUMBER or work == "CountSeq"] or list(works))
+    return End(plan.add("pardo", [name], work=work), pair(key, NUMBER), end.windows, True)
+
+
+def behind_fold(plan, end):
+    """Writes of what is folded, and of what functions and windows make of it."""
+    choose, ends = plan.choose, [end]
+    for _ in range(choose.choice([0, 0, 1, 2, 4])):
+        at = choose.randrange(len(ends))
+        grown = add_window(plan, ends[at]) if choose.random() < 0.3 or not changes(ends[at]) else add_function(plan, ends[at])
+        ends = ends + [grown] if choose.random() < 0.5 else ends[:at] + [grown] + ends[at + 1 :]
+    add_writes(plan, ends)
+
+
+def combined_plan(plan):
+    plan.compared = "combined"
+    behind_fold(plan, folded(plan, before_group(plan)))
+
+
+def poison_line_plan(plan):
+    """One line that is no timed line, or a part that is no number."""
+    choose = plan.choose
+    plan.compared = "poison"
+    end = add_key(plan, timed_source(plan))
+    end = End(plan.add("pardo", [end.name], work="FieldInt"), pair(TEXT, NUMBER))
+    lines = plan.files["f0"].splitlines()
+    lines.insert(choose.randrange(len(lines) + 1), choose.choice(["no time", "!", "1000\ta\tno number"]))
+    plan.files["f0"] = "".join(line + "\n" for line in lines)
+    behind_fold(plan, folded(plan, add_window(plan, end, APART)))
+
+
+def poison_sum_plan(plan):
+    """What a sum gives is no text, so KeyField takes none of it."""
+    plan.compared = "poison"
+    end = End(plan.add("pardo", [add_key(plan, full_source(plan)).name], work="FieldInt"), pair(TEXT, NUMBER))
+    end = folded(plan, add_window(plan, end, APART))
+    below = plan.add("pardo", [end.name], work=plan.choose.choice(["KeyField", "Words"]))
+    add_writes(plan, [end] if plan.choose.random() < 0.5 else [end, End(below, TEXT)])
+
+
+def full_source(plan):
+    """A source that gives something."""
+    end = made_source(plan)
+    plan.nodes[-1]["count"] = 40
+    return end
+
+
+def part_plan(plan):
+    """Parts of the Group that are no numbers."""
+    plan.compared = "refused 2 part"
+    end = add_window(plan, add_key(plan, full_source(plan)), APART)
+    behind_fold(plan, folded(plan, end, ["SumSeq", "MaxSeq"]))
+
+
+def sum_plan(plan):
+    """A sum that 64 bits don't hold, of parts that each fit."""
+    choose = plan.choose
+    plan.compared = "refused 3 sum"
+    sign = choose.choice(["", "-"])
+    lines = [f"{choose.randrange(1000)}\ta\t{sign}{choose.choice([2**63 - 1, 2**62 + 1])}" for _ in range(choose.choice([2, 3]))]
+    lines += [f"{choose.randrange(1000)}\tb\t{choose.randrange(-100, 100)}" for _ in range(choose.randrange(20))]
+    choose.shuffle(lines)
+    end = End(plan.add("source", [], work="TimedLines", files=[write_lines(plan, lines)]), LINE)
+    end = End(plan.add("pardo", [add_key(plan, end).name], work="FieldInt"), pair(TEXT, NUMBER))
+    behind_fold(plan, folded(plan, add_window(plan, end, ["global"]), ["SumSeq"]))
+
+
+def other_shape_plan(plan):
+    """A plan that breaks one rule of those that can be combined."""
+    choose = plan.choose
+    plan.compared = "refused 1 shape"
+    end, broken = before_group(plan), choose.choice(["trigger", "sessions", "stateful", "past", "follower", "function", "second", "none"])
+    if broken == "sessions":
+        end = add_window(plan, end, ["sessions"])
+    if broken == "past":
+        plan.add("write", [end.name])
+    if broken == "stateful":
+        end = add_stateful(plan, end)
+    if broken == "none":
+        add_writes(plan, [end])
+        return
+    end = folded(plan, end)
+    group = next(node for node in plan.nodes if node["kind"] == "group")
+    if broken == "trigger":
+        group.update(choose.choice([{"early": 1}, {"late": 2}, {"lateness": 1}, {"mode": "accumulating"}]))
+    if broken == "follower":
+        plan.add(*choose.choice([("write", [group["name"]]), ("flatten", [group["name"]])]))
+    if broken == "function":
+        plan.nodes[-1]["work"] = "Unseq"
+    if broken == "second":
+        end = add_group(plan, end)
+    behind_fold(plan, End(end.name, TEXT if broken == "function" else end.form, end.windows, True))
+
+
+COMBINE_KINDS = [combined_plan] * 10 + [poison_line_plan, poison_sum_plan, part_plan, sum_plan, other_shape_plan, other_shape_plan]
+
+
+def random_plan(choose, kinds=KINDS):
     plan = Plan(choose)
-    choose.choice(KINDS)(plan)
+    choose.choice(kinds)(plan)
     return plan
 
 
@@ -475,8 +615,8 @@ class Program:
         self.path = str(pathlib.Path(path).resolve())
         self.seconds = seconds
 
-    def run(self, folder, options):
-        words = [self.path, "run", "plan.json", *options]
+    def run(self, folder, options, command="run", plan="plan.json"):
+        words = [self.path, command, plan, *options]
         try:
             done = subprocess.run(words, cwd=folder, capture_output=True, timeout=self.seconds)
         except subprocess.TimeoutExpired:
@@ -565,14 +705,37 @@ def first_difference(program, folder, choose, plan):
     return None
 
 
-def try_seed(program, seed):
+def first_difference_combined(program, folder, choose, plan):
+    """What differs between `combine` and what it should print, by several numbers of workers, or nothing."""
+    if plan.compared.startswith("refused "):
+        wanted = Ended(11, b"", f"not lifted: {plan.compared.removeprefix('refused ')}\n".encode())
+    else:
+        for node in plan.nodes:
+            node.pop("estimator", None)
+        (folder / "unhurried.json").write_text(plan.document())
+        wanted = program.run(folder, ["--workers", "1"], plan="unhurried.json")
+        # The sums go on as one job.
+        group = next(at for at, node in enumerate(plan.nodes) if node["kind"] == "group")
+        wanted.note = re.sub(rb"node %d item \d+" % group, b"node %d item 0" % (group + 1), wanted.note)
+        if wanted.status != (6 if plan.compared == "poison" else 0):
+            return f"run ends with status {wanted.status}, note {wanted.note!r}"
+    for workers in (choose.choice(WORKERS), choose.choice(WORKERS)):
+        options = random_options(choose, plan, workers)
+        got = program.run(folder, options, "combine")
+        if (got.status, got.out, got.note) != (wanted.status, wanted.out, wanted.note):
+            what = "the texts" if got.status == wanted.status else f"status {got.status}, {wanted.status} is wanted"
+            return f"{what}, notes {got.note!r} and {wanted.note!r}; combine {' '.join(options)}"
+    return None
+
+
+def try_seed(program, seed, combine=False):
     """How the plan of the seed was compared, and what differs; the plan stays in a folder then."""
     choose = random.Random(seed)
-    plan = random_plan(choose)
+    plan = random_plan(choose, COMBINE_KINDS if combine else KINDS)
     with tempfile.TemporaryDirectory(prefix="random_runs_") as name:
         folder = pathlib.Path(name)
         write_plan(plan, folder)
-        found = first_difference(program, folder, choose, plan)
+        found = (first_difference_combined if combine else first_difference)(program, folder, choose, plan)
         if found is None:
             return plan.compared, None
     kept = pathlib.Path(tempfile.mkdtemp(prefix=f"random_runs_{seed}_"))
@@ -599,12 +762,13 @@ def main():
     words.add_argument("--seed", type=int, default=1)
     words.add_argument("--seconds", type=float, default=120)
     words.add_argument("--load", action="store_true", help="keeps all processors busy meanwhile")
+    words.add_argument("--combine", action="store_true", help="compares combine with run")
     words = words.parse_args()
     program = Program(words.program, words.seconds)
     busy = busy_processes() if words.load else []
     counts, differences = {}, 0
     for seed in range(words.seed, words.seed + words.runs):
-        compared, found = try_seed(program, seed)
+        compared, found = try_seed(program, seed, words.combine)
         counts[compared] = counts.get(compared, 0) + 1
         if found is not None:
             differences += 1

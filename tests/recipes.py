@@ -106,11 +106,13 @@ CASES = [
          "1969-12-31T23:59:59.9999Z", "1970-01-01t00:00:00z", "1970-01-01T00:00:00.5+00:01", "2024-02-29T00:00:00Z",
          "2023-02-29T00:00:00Z", "1970-01-01T24:00:00Z", "1970-01-01T00:00:60Z", "1970-01-01T00:00Z", "19700101T000000Z", "1970-01-01T00:00:00+24:00")),
      "-1\tu\t\n0\tu\t\n-59500\tu\t\n1709164800000\tu\t\n", 1, ":10: "),
+    ("json_to_timed.py", ["FILE", "at", "user", "page"], "x\n" + '{"at":5,"user":"u","page":"p"}\n' + "y\n", "5000\tu\tp\n", 1, ": 2 lines left out\n"),
     ("json_to_timed.py", ["FILE", "at", "user", "page"], '\ufeff{"at":5,"user":"u","page":"\udcff"}\n', "5000\tu\t\udcff\n", 0, ""),
     ("csv_to_timed.py", ["FILE", "t", "k", "p"],
      '\ufefft,k,p\r\n2023-11-14T22:13:20Z,"a,""b",1\r\n1700000000,k,\r\n1700000000123,k\r\n1700000000.9999,k,"x\ny"\r\nsoon,k,1\r\n',
      '1700000000000\ta,"b\t1\n1700000000000\tk\t\n1700000000999\tk\tx y\n', 1, ":4: not as many fields"),
     ("csv_to_timed.py", ["FILE", "t", "k", "p", ";"], "p;k;t\n1,5;a;0\n", "0\ta\t1,5\n", 0, ""),
+    ("csv_to_timed.py", ["FILE", "t", "k", "p"], "t,k,p\nsoon,k,1\n0,a,1\n", "0\ta\t1\n", 1, ": 1 row left out\n"),
     ("csv_to_timed.py", ["FILE", "t", "k", "q"], "t,k,p\n", "", 1, "no column ['q']"),
 ]
 ACCESS = (
@@ -259,12 +261,13 @@ def main():
     awks = [awk for awk in ("mawk", "gawk", "busybox") if shutil.which(awk)]
     for awk in awks:
         words = [awk, "awk"] if awk == "busybox" else [awk]
-        faults.append(fault_of([*words, "-f", str(RECIPES / "access.awk")], ACCESS, TIMED, 1, ":4: no line of an access log"))
+        for note in (":4: no line of an access log", ": 1 line left out\n"):
+            faults.append(fault_of([*words, "-f", str(RECIPES / "access.awk")], ACCESS, TIMED, 1, note))
         faults.extend(good_lines_fault(words))
     faults = [*filter(None, faults), *line_faults(), *text_faults(), *memory_fault()]
     for fault in faults:
         print(fault)
-    count = len(CASES) + len(LINES) + len(awks) * (4 + 2 * (len(BAD) + len(NO_NUMBERS)))
+    count = len(CASES) + len(LINES) + len(awks) * (5 + 2 * (len(BAD) + len(NO_NUMBERS)))
     print(f"recipes: {count} cases, awk is {' and '.join(awks) or 'not here'}, {len(faults)} wrong")
     return 1 if faults else 0
 

@@ -2,11 +2,15 @@
 """What `run` prints by one worker, worked out from the rules of docs/model and docs/using alone, by no code of the program.
 
     tests/run_model.py plan.json [--bundle N] [--chunk N] [--attempts N]     prints it, and ends with its status
-    tests/run_model.py --cases FILE [FILE ..]       compares it with the commands `run` of files of cases
+    tests/run_model.py --combine plan.json [the same]       prints what `combine` does
+    tests/run_model.py --cases FILE [FILE ..]       compares it with the commands `run` and `combine` of files of cases
     tests/run_model.py --beside ./beam_run [--runs N] [--seed S] [--stateful]      and with runs of random plans of random_runs.py
+    tests/run_model.py --beside ./beam_run --combine [--runs N] [--seed S]      and with `combine` of random plans by several workers
 
 One worker takes batches of panes first, then jobs of keys, then pieces, each in their order, so the rules determine the whole text,
 whatever the estimators and triggers are. The model is as plain as it can be, and slow: after each commit it looks at all cells.
+What `combine` prints, it works out without watermarks and tables: it lists the parts of each key and window, and folds them at the end. Of two things
+that are wrong several workers may tell another one.
 The plan has to be one that the program accepts. Where something differs the status is 1.
 """
 import argparse
@@ -676,6 +680,64 @@ def answer(document, read, bundle=64, chunk=65536, attempts=3):
     return 0, run.rendering(), ""
 
 
+# ---- what `combine` prints
+
+
+FOLDING = "SumSeq", "CountSeq", "MaxSeq"
+DEFAULT_TRIGGER = {"early": None, "late": 1, "lateness": 0, "mode": "discarding"}
+
+
+def is_lifted(plan):
+    """Whether a Group and its function are combined: the rules of a check list, one after another."""
+    groups = [at for at, node in enumerate(plan.nodes) if node["kind"] == "group"]
+    if len(groups) != 1 or any(node["kind"] == "stateful" for node in plan.nodes):
+        return False
+    group = plan.nodes[groups[0]]
+    if any(group.get(key, usual) != usual for key, usual in DEFAULT_TRIGGER.items()) or merges(plan.strategies[plan.inputs[groups[0]][0]]):
+        return False
+    taking = [plan.nodes[at].get("work") for at in plan.followers[groups[0]]]
+    return len(taking) == 1 and taking[0] in FOLDING and not any(is_written_past(plan, at) for at in plan.items)
+
+
+def is_written_past(plan, at):
+    """Whether a Write takes what a node puts out, with no Group between."""
+    kinds = [(to, plan.nodes[to]["kind"]) for to in plan.followers[at]]
+    return any(kind == "write" or kind != "group" and is_written_past(plan, to) for to, kind in kinds)
+
+
+def combined(document, read, bundle=64, chunk=65536, attempts=3):
+    """The status, the text and the note of `combine` by one worker."""
+    plan = Plan(document, read)
+    if not is_lifted(plan):
+        return 11, "", "not lifted: 1 shape\n"
+    run, parts = Run(plan, bundle, chunk, attempts), {}
+    group = next(at for at, node in enumerate(plan.nodes) if node["kind"] == "group")
+    function = plan.followers[group][0]
+    fault = lambda node, item, poison: (6, "", f"work fault: node {node} item {item} at {poison.at} attempt {attempts} call\n")
+    for piece in run.pieces:
+        while piece.start < piece.end:
+            try:
+                arrivals, _, piece.start = run.read(piece)
+            except Poison as poison:
+                return fault(piece.node, piece.item, poison)
+            for _, element in arrivals:
+                key, part = element.key_and_part()
+                if plan.nodes[function]["work"] != "CountSeq" and not is_number(part):
+                    return 11, "", "not lifted: 2 part\n"
+                parts.setdefault((element.span, spelled(key)), []).append((key, part))
+    for (span, _), pairs in sorted(parts.items()):
+        try:
+            value, = outputs(plan.nodes[function], (pairs[0][0], [part for _, part in pairs]))
+        except Poison:
+            return 11, "", "not lifted: 3 sum\n"
+        try:
+            for to, element in plan.chain(function, Element(value, last_time(span), span, (ON_TIME, 0))):
+                run.written.setdefault(to, []).append(element)
+        except Poison as poison:
+            return fault(function, 0, poison)
+    return 0, run.rendering(), ""
+
+
 # ---- what any number of workers print
 
 
@@ -773,11 +835,19 @@ class Case:
             self.fails |= kind in ("fail", "kit")
 
     def is_modelled(self):
-        return self.words[:1] == ["run"] and not self.fails and (self.status == 0 or self.note.endswith(b" call\n"))
+        if self.words[:1] not in (["run"], ["combine"]) or self.fails:
+            return False
+        return self.status in (0, 11) or self.note.endswith(b" call\n")
 
     def difference(self):
         numbers = {word[2:]: int(number) for word, number in zip(self.words, self.words[1:]) if word in ("--bundle", "--chunk", "--attempts")}
-        status, out, note = answer(self.files[self.words[1]], self.files.get, **numbers)
+        plan = self.words[self.words.index("--") + 1] if "--" in self.words else self.words[1]
+        if self.words[0] == "combine":
+            # A plan that isn't lifted is told before a file of it is opened.
+            read = lambda name: self.files.get(name, b"")
+            status, out, note = combined(self.files[plan], read, **numbers)
+        else:
+            status, out, note = answer(self.files[plan], self.files.get, **numbers)
         if (status, out.encode(), note.encode()) != (self.status, self.out, self.note):
             return f"the model gives status {status}\n{out}{note}"
         return None
@@ -814,21 +884,24 @@ def compare_cases(paths):
 # ---- beside the program
 
 
-def compare(program, runs, seed, stateful):
+def compare(program, runs, seed, stateful, combine):
     import random_runs
 
     program = random_runs.Program(program, 120)
+    kinds = random_runs.COMBINE_KINDS if combine else random_runs.STATEFUL_KINDS if stateful else random_runs.KINDS
     differences = 0
     for number in range(seed, seed + runs):
         choose = random.Random(number)
         plan = random_runs.Plan(choose)
-        choose.choice(random_runs.STATEFUL_KINDS if stateful else random_runs.KINDS)(plan)
+        choose.choice(kinds)(plan)
         bundle, chunk, attempts = choose.choice([1, 2, 7, 64]), choose.choice([7, 64, 1000, 65536]), choose.choice([1, 2, 3])
-        wanted = answer(plan.document(), lambda name: plan.files[name].encode(), bundle, chunk, attempts)
-        words = ["--workers", "1", "--bundle", str(bundle), "--chunk", str(chunk), "--attempts", str(attempts)]
+        workers = choose.choice(random_runs.WORKERS) if combine else 1
+        read = lambda name: plan.files[name].encode()
+        wanted = combined(plan.document(), read, bundle, chunk, attempts) if combine else answer(plan.document(), read, bundle, chunk, attempts)
+        words = ["--workers", str(workers), "--bundle", str(bundle), "--chunk", str(chunk), "--attempts", str(attempts)]
         with tempfile.TemporaryDirectory(prefix="run_model_") as name:
             random_runs.write_plan(plan, pathlib.Path(name))
-            ended = program.run(name, words)
+            ended = program.run(name, words, "combine" if combine else "run")
         if (ended.status, ended.out.decode(), ended.note.decode()) != wanted:
             differences += 1
             kept = pathlib.Path(tempfile.mkdtemp(prefix=f"run_model_{number}_"))
@@ -850,15 +923,18 @@ def main():
     words.add_argument("--runs", type=int, default=500)
     words.add_argument("--seed", type=int, default=1)
     words.add_argument("--stateful", action="store_true", help="plans with stateful nodes alone")
+    words.add_argument("--combine", action="store_true", help="combine in place of run")
     words = words.parse_args()
     if words.cases:
         return compare_cases(words.cases)
     if words.beside:
-        return compare(words.beside, words.runs, words.seed, words.stateful)
+        return compare(words.beside, words.runs, words.seed, words.stateful, words.combine)
     if not words.plan:
         sys.exit(__doc__)
     read = lambda name: pathlib.Path(name).read_bytes()
-    status, out, note = answer(pathlib.Path(words.plan).read_text(), read, words.bundle, words.chunk, words.attempts)
+    document = pathlib.Path(words.plan).read_text()
+    prints = combined if words.combine else answer
+    status, out, note = prints(document, read, words.bundle, words.chunk, words.attempts)
     sys.stdout.write(out)
     sys.stderr.write(note)
     return status
