@@ -1,5 +1,5 @@
 # An access log in the common or combined form: milliseconds, path, bytes. A request of one word, as "-", is its own path.
-# A line of another form, or with a time that there isn't, is named on standard error, and the status is then 1.
+# A line of another form, or with a time that there isn't, is named on standard error and counted, and the status is then 1.
 BEGIN { for (i = 1; i <= 12; i++) month[substr("JanFebMarAprMayJunJulAugSepOctNovDec", 3 * i - 2, 3)] = i }
 # days from 1970-01-01 to a date of the Gregorian calendar
 function days(y, m, d) {
@@ -26,5 +26,8 @@ match(line, /\[[0-9][0-9]\/[A-Z][a-z][a-z]\/[0-9][0-9][0-9][0-9]:[0-9][0-9]:[0-9
         next
     }
 }
-{ printf "%s:%d: no line of an access log: %s\n", FILENAME, FNR, line > "/dev/stderr"; status = 1 }
-END { exit status }
+{ printf "%s:%d: no line of an access log: %s\n", FILENAME, FNR, line > "/dev/stderr"; bad++ }
+END {
+    if (bad) printf "%s: %d line%s left out\n", FILENAME, bad, bad == 1 ? "" : "s" > "/dev/stderr"
+    exit bad > 0
+}

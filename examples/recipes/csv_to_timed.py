@@ -2,7 +2,7 @@
 
 TIME, KEY and PART are names of columns, as the first line has them; DELIMITER is a comma where it is absent. A time is
 a text in RFC 3339 with a zone, or a number: of seconds below 100000000000, else of milliseconds. A row that has no such
-time, or more or fewer fields than the first, is named on standard error, and the status is then 1.
+time, or more or fewer fields than the first, is named on standard error and counted, and the status is then 1.
 """
 import csv
 import datetime
@@ -33,7 +33,7 @@ def milliseconds(time):
 
 
 sys.stdout.reconfigure(encoding="utf-8", errors="surrogateescape")
-status = 0
+bad = 0
 with open(name, newline="", encoding="utf-8-sig", errors="surrogateescape") as file:
     rows = csv.DictReader(file, delimiter=delimiter)
     missing = [column for column in columns if column not in (rows.fieldnames or [])]
@@ -47,5 +47,6 @@ with open(name, newline="", encoding="utf-8-sig", errors="surrogateescape") as f
             print(milliseconds(time), key, part, sep="\t")
         except ValueError as fault:
             print(f"{name}:{rows.line_num}: {fault}", file=sys.stderr)
-            status = 1
-sys.exit(status)
+            bad += 1
+if bad:
+    sys.exit(f"{name}: {bad} row{'s' * (bad > 1)} left out")

@@ -26,7 +26,7 @@ function fault(line,    tab, rest) {
     if (!tab) return "no part"
     return is_number(substr(rest, tab + 1)) ? "" : "no number"
 }
-function count() { if (bad) printf "%s: %d lines left out\n", name, bad > "/dev/stderr" }
+function count() { if (bad) printf "%s: %d line%s left out\n", name, bad, bad == 1 ? "" : "s" > "/dev/stderr" }
 FNR == 1 { count(); bad = 0; name = FILENAME; sub(/^\357\273\277/, "") }
 {
     sub(/\r$/, "")

@@ -2,7 +2,7 @@
 
 TIME, KEY and PART are keys of the records; one as user.id is the key id in the record user. A time is a text in RFC 3339
 with a zone, or a number: of seconds below 100000000000, else of milliseconds. A line that is no such record is named on
-standard error, and the status is then 1.
+standard error and counted, and the status is then 1.
 """
 import datetime
 import decimal
@@ -41,7 +41,7 @@ if len(sys.argv) != 5:
 name, *paths = sys.argv[1:]
 paths = [path.split(".") for path in paths]
 sys.stdout.reconfigure(encoding="utf-8", errors="surrogateescape")
-status = 0
+bad = 0
 with open(name, encoding="utf-8-sig", errors="surrogateescape") as file:
     for number, line in enumerate(file, 1):
         try:
@@ -50,5 +50,6 @@ with open(name, encoding="utf-8-sig", errors="surrogateescape") as file:
             print(milliseconds(time), text(key), text(part), sep="\t")
         except (ValueError, KeyError, TypeError, OverflowError) as fault:
             print(f"{name}:{number}: {type(fault).__name__}: {fault}: {line.rstrip()[:200]}", file=sys.stderr)
-            status = 1
-sys.exit(status)
+            bad += 1
+if bad:
+    sys.exit(f"{name}: {bad} line{'s' * (bad > 1)} left out")
