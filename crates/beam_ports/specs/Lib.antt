@@ -1,7 +1,9 @@
 pub mod Counts
+pub mod Exact
 pub mod Files
 pub mod Messages
 pub mod Observed
 pub mod Sinks
+pub mod ShrunkMemory
 pub mod StoreMemory
 pub mod SinkMemory

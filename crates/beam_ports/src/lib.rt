@@ -13,6 +13,7 @@ mod gate;
 mod memory_sink;
 mod memory_store;
 mod refusal;
+mod shrunk_store;
 mod sink;
 mod store;
 
@@ -21,5 +22,6 @@ pub use gate::{Gate, GatePoint, OpenGate};
 pub use memory_sink::MemorySink;
 pub use memory_store::MemoryStore;
 pub use refusal::{Failed, OpenRefusal};
+pub use shrunk_store::ShrunkStore;
 pub use sink::Sink;
 pub use store::{Opened, Store};

@@ -1,4 +1,4 @@
-ghost use Rattle.std.specs.Prelude.{◌≡◌, ◌<◌, ◌≤◌, [], Some, length, min, IsTrue, IsErr, IfOk};
+ghost use Rattle.std.specs.Prelude.{◌≡◌, ◌<◌, ◌≤◌, [], Some, length, min, true, IsTrue, IsErr, IfOk};
 ghost use Rattle.beam_ports.specs.StoreMemory.{is_listed};
 ghost use Rattle.beam_ports.specs.SinkMemory.{after_write};
 
@@ -71,6 +71,8 @@ impl MemorySink {
 
 impl Sink for MemorySink {
     ghost faults = { λ sink. sink.faults };
+
+    ghost counts_exactly = { true };
 
     ghost taken = { λ sink. Some sink.taken };
 

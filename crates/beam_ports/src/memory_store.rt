@@ -1,4 +1,4 @@
-ghost use Rattle.std.specs.Prelude.{◌≡◌, ◌<◌, ◌≤◌, Some, length, position};
+ghost use Rattle.std.specs.Prelude.{◌≡◌, ◌<◌, ◌≤◌, Some, length, position, true};
 ghost use Rattle.std.specs.Option.{ForSome};
 ghost use Rattle.beam_values.specs.Files.{is_named};
 ghost use Rattle.beam_ports.specs.StoreMemory.{is_listed, after_call, listed_opening, opened_at};
@@ -73,7 +73,7 @@ impl MemoryStore {
     }
 }
 
-fn index_of(files: &[FileText], name: &[u8]) -> Option<usize>
+pub(crate) fn index_of(files: &[FileText], name: &[u8]) -> Option<usize>
     ensures { result ≡ position (is_named name.now) files.now }
 {
     files.iter().position(|file| file.name.as_slice() == name)
@@ -95,7 +95,7 @@ fn open_at(files: &[FileText], index: Option<usize>) -> Result<Opened, OpenRefus
     }
 }
 
-fn read_text(text: &[u8], at: u64, buf: &mut [u8]) -> usize
+pub(crate) fn read_text(text: &[u8], at: u64, buf: &mut [u8]) -> usize
     ensures count { result ≡ count_read text.now at (length buf.old) }
     ensures buffer { buf.new ≡ buffer_read text.now at buf.old }
 {
@@ -108,6 +108,8 @@ fn read_text(text: &[u8], at: u64, buf: &mut [u8]) -> usize
 
 impl Store for MemoryStore {
     ghost faults = { λ store. store.faults };
+
+    ghost counts_exactly = { true };
 
     ghost files = { λ store. Some store.files };
 

@@ -1,6 +1,7 @@
-ghost use Rattle.std.specs.Prelude.{◌≡◌, ◌≤◌, ℕ, List, Option, Some, length, drop, IsSome};
-ghost use Rattle.std.specs.Prelude.{IsSomeAnd, IsErrOf, IfOk, OnErr};
+ghost use Rattle.std.specs.Prelude.{◌≡◌, ◌≤◌, ℕ, Bool, true, List, Option, Some, length, drop};
+ghost use Rattle.std.specs.Prelude.{IsSome, IsSomeAnd, IsErrOf, IfOk, OnErr};
 ghost use Rattle.beam_ports.specs.Counts.{Rose};
+ghost use Rattle.beam_ports.specs.Exact.{after_answer, after_opening};
 ghost use Rattle.beam_ports.specs.Files.{Opening, KeepsOpenings, OpensText, IsRead};
 ghost use Rattle.beam_values.specs.Files.{first_named};
 ghost use Rattle.beam_values.specs.declared.file_text.FileText.{FileText};
@@ -19,6 +20,9 @@ pub trait Store: Send {
     /// How often the store has failed.
     ghost faults: { Self → ℕ };
 
+    /// Whether that count rises by one at each failed call, and at no other.
+    ghost counts_exactly: { Bool };
+
     /// The files, where the store tells them.
     ghost files: { Self → Option (List FileText) };
 
@@ -32,6 +36,8 @@ pub trait Store: Send {
         ensures counts { faults self.old ≤ faults self.new }
         ensures failed { IsErrOf result OpenRefusal.Failed
             → Rose (faults self.old) (faults self.new) }
+        ensures exact { counts_exactly ≡ true
+            → faults self.new ≡ after_opening (faults self.old) result }
         ensures absent { IsErrOf result OpenRefusal.Absent → (told : List FileText)
             → files self.old ≡ Some told → first_named name.now told ≡ None }
         ensures has_length { IfOk result
@@ -48,6 +54,8 @@ pub trait Store: Send {
         ensures kept { KeepsOpenings (opened self.old) (opened self.new) }
         ensures counts { faults self.old ≤ faults self.new }
         ensures failed { OnErr result (Rose (faults self.old) (faults self.new)) }
+        ensures exact { counts_exactly ≡ true
+            → faults self.new ≡ after_answer (faults self.old) result }
         ensures fits { IfOk result (λ n. n ≤ length buf.old) }
         ensures rest { IfOk result (λ n. drop n buf.new ≡ drop n buf.old) }
         ensures read { IfOk result (λ n. (opening : Opening)

@@ -1,7 +1,7 @@
 ghost use Rattle.std.specs.Prelude.{◌≡◌, ◌↔◌, ◌-◌, ◌<◌, ◌≤◌, [], ◌∷◌, ◌++◌, length, map, min, drop};
-ghost use Rattle.std.specs.Prelude.{slice_index, None, IfOk, OnOk, OnErr};
+ghost use Rattle.std.specs.Prelude.{slice_index, None, true, IfOk, OnOk, OnErr};
 ghost use Rattle.std.specs.IoError.{error_kind};
-ghost use Rattle.beam_ports.specs.Counts.{Rose};
+ghost use Rattle.beam_ports.specs.Counts.{Rose, raised};
 ghost use Rattle.system_ports.specs.Lengths.{untold_opening};
 
 use beam_ports::{Failed, List, NoMemory, OpenRefusal, Opened, Store};
@@ -189,7 +189,7 @@ impl<R: Files<File = File> + AllocGlobal + Drop> FsStore<R> {
     }
 
     fn count_fault(&mut self)
-        ensures lengths { self.new.lengths ≡ self.old.lengths }
+        ensures counted { self.new ≡ record self.old { faults = raised self.old.faults } }
         ensures counts { self.old.faults ≤ self.new.faults }
         ensures rose { Rose self.old.faults self.new.faults }
     {
@@ -199,6 +199,8 @@ impl<R: Files<File = File> + AllocGlobal + Drop> FsStore<R> {
 
 impl<R: Files<File = File> + AllocGlobal + Drop + Send> Store for FsStore<R> {
     ghost faults = { λ store. store.faults };
+
+    ghost counts_exactly = { true };
 
     ghost files = { λ _. None };
 

@@ -1,5 +1,6 @@
-ghost use Rattle.std.specs.Prelude.{◌≡◌, ◌<◌, ◌≤◌, length, None, IfOk, OnErr};
+ghost use Rattle.std.specs.Prelude.{◌≡◌, ◌<◌, ◌≤◌, length, None, true, IfOk, OnErr};
 ghost use Rattle.beam_ports.specs.Counts.{Rose};
+ghost use Rattle.beam_ports.specs.Exact.{after_answer};
 
 use beam_ports::{Failed, Sink};
 use std::io;
@@ -42,6 +43,7 @@ fn write_once<W: io::Write>(writer: &mut W, faults: &mut u64, bytes: &[u8]) -> R
     ensures fits { IfOk result (λ n. n ≤ length bytes.now) }
     ensures counts { faults.old ≤ faults.new }
     ensures failed { OnErr result (Rose faults.old faults.new) }
+    ensures exact { faults.new ≡ after_answer faults.old result }
 {
     match writer.write(bytes) {
         Ok(count) if count > 0 => Ok(count),
@@ -73,6 +75,8 @@ impl<W: io::Write + Drop> ErrSink<W> {
 impl<W: io::Write + Drop> Sink for OutSink<W> {
     ghost faults = { λ sink. sink };
 
+    ghost counts_exactly = { true };
+
     ghost taken = { λ _. None };
 
     fn write(&mut self, bytes: &[u8]) -> Result<usize, Failed> {
@@ -82,6 +86,8 @@ impl<W: io::Write + Drop> Sink for OutSink<W> {
 
 impl<W: io::Write + Drop> Sink for ErrSink<W> {
     ghost faults = { λ sink. sink };
+
+    ghost counts_exactly = { true };
 
     ghost taken = { λ _. None };
 

@@ -11,6 +11,7 @@ open_file-tells c =
       kept = search rules;
       counts = search rules;
       failed = search rules;
+      exact = λ counts. search rules;
       absent = λ refused told is. absent c.args.self.now c.args.name.now c.result c.ensures.answer refused told (cc);
       has_length = has_length c.args.self.now c.new.self.now c.args.name.now c.result c.ensures.answer kept;
       first = first c.args.self.now c.new.self.now c.args.name.now c.result c.ensures.answer kept;
