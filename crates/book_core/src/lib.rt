@@ -23,8 +23,6 @@ mod outcome;
 mod queue;
 mod results;
 mod storable;
-#[cfg(test)]
-mod tests;
 mod working;
 
 pub use book::Book;

@@ -26,6 +26,3 @@ mod usage;
 pub use command::{Command, read_words};
 pub use help::help_text;
 pub use usage::Usage;
-
-#[cfg(test)]
-mod tests;

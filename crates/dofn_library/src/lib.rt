@@ -112,6 +112,3 @@ macro_rules! add_functions {
         added
     }};
 }
-
-#[cfg(test)]
-mod tests;

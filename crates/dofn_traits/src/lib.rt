@@ -22,6 +22,3 @@ pub use dofn::DoFn;
 pub use shelf::Shelf;
 pub use splittable::SplittableFn;
 pub use stateful::StatefulFn;
-
-#[cfg(test)]
-mod tests;

@@ -21,8 +21,6 @@ mod placing;
 mod refusal;
 mod settings;
 mod sources;
-#[cfg(test)]
-mod tests;
 mod text;
 mod windows;
 mod words;

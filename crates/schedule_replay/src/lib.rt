@@ -17,6 +17,3 @@ mod stand;
 
 pub use beam_text::ScheduleRefusal;
 pub use schedule::{ReplayRefusal, replay};
-
-#[cfg(test)]
-mod tests;

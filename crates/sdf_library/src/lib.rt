@@ -35,6 +35,3 @@ pub type Count = Strict<work::Count>;
 
 /// [`work::Made`] as an object.
 pub type Made = Strict<work::Made>;
-
-#[cfg(test)]
-mod tests;

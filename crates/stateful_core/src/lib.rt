@@ -35,8 +35,6 @@ mod queue;
 mod routing;
 mod slot;
 mod taking;
-#[cfg(test)]
-mod tests;
 mod timer_holds;
 mod trees;
 mod waiting;

@@ -22,8 +22,6 @@ mod help;
 mod pass;
 mod stance;
 mod table;
-#[cfg(test)]
-mod tests;
 mod turns;
 
 pub use pass::{Table, WorkerPass};

@@ -1,6 +1,0 @@
-use Rattle.std.proofs.Common.{ap, ◌∙◌}
-use Rattle.beam_values.specs.Checked.{reads_file}
-use Rattle.sdf_library.proofs.tests.emitted.Goals as goal
-
-pub call-requires-clause-view : goal.call-requires-clause-view
-call-requires-clause-view g c = c.in-Ok-look.ensures.serves.view _ _ (ap reads_file c.loop-p.invariant.work ∙ c.requires.reads)
