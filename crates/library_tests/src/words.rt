@@ -78,6 +78,6 @@ fn commands_of_schedules_and_made_lines(rt: HostRuntime) -> Result<(), Fail> {
 fn no_command(rt: HostRuntime) -> Result<(), Fail> {
     let twice = words(rt.alloc(), &["run", "p", "--bundle=1", "--bundle", "2"])?;
     assert!(rt; read_words(&twice) == Err(Usage));
-    assert_eq!(rt; help_text().len(), 223);
+    assert_eq!(rt; help_text().len(), 255);
     Ok(())
 }
