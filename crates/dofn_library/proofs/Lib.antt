@@ -6,6 +6,7 @@ pub mod JoinedParts
 pub mod Lookups
 pub mod NumbersIn
 pub mod SameValues
+pub mod ScriptedCalls
 pub mod StableSorts
 pub mod Strictness
 pub mod Words

@@ -1,12 +1,13 @@
 //! The functions of pipelines as objects: what each gives of an element (Beam Programming Guide, ParDo),
 //! and with state what it leaves and gives (State and Timers).
 //!
-//! Every type here is strict: it gives exactly what `emits` and `steps` of `beam_model` say, fails on
+//! Every function here is strict: it gives exactly what `emits` and `steps` of `beam_model` say, fails on
 //! poison alone and before it asks for any memory, and counts one fault for each such call and none
 //! else. The layer above may rely on this, which [`Strict`] says once for all of them by the clauses of
 //! its calls. A call borrows its input: what it gives shares the parts of pairs, and a key that is made
-//! of bytes is shared with the equal ones made lately (`shared_keys.rt`). Read `strict.rt`,
-//! `element_work.rt` and `state_work.rt` first; `work/` has what each function does.
+//! of bytes is shared with the equal ones made lately (`shared_keys.rt`). [`Scripted`] alone may fail
+//! otherwise: it stands round any function of elements, and fails at the calls that it was given. Read
+//! `strict.rt`, `element_work.rt` and `state_work.rt` first; `work/` has what each function does.
 #![tactic(auto)]
 
 mod arguments;
@@ -14,6 +15,7 @@ mod batches;
 mod element_work;
 mod kept;
 mod numbers;
+mod scripted;
 mod shapes;
 mod shared_keys;
 mod sides;
@@ -23,6 +25,7 @@ mod texts;
 pub mod work;
 
 pub use element_work::ElementWork;
+pub use scripted::Scripted;
 pub use shared_keys::SharedKeys;
 pub use state_work::StateWork;
 pub use strict::Strict;
