@@ -115,3 +115,6 @@ macro_rules! add_functions {
         added
     }};
 }
+
+#[cfg(test)]
+mod tests;

@@ -14,14 +14,14 @@ use std::marker::Model;
 /// Contracts see the other one, the numbers of the failing calls, how many calls there were and how many
 /// of them were listed. A call takes no memory but what the other one takes.
 #[derive(Drop)]
-pub struct Scripted<D: DoFn> {
+pub struct Scripted<D> {
     inner: D,
     failing: List<u64>,
     calls: u64,
     faults: u64,
 }
 
-impl<D: DoFn> Model for Scripted<D> {
+impl<D> Model for Scripted<D> {
     ghost use Rattle.dofn_library.specs.Scripts.{Script};
 
     ghost Value = { Script D };
@@ -34,7 +34,7 @@ impl<D: DoFn> Model for Scripted<D> {
     } };
 }
 
-impl<D: DoFn> Scripted<D> {
+impl<D> Scripted<D> {
     /// Takes no memory. The calls are numbered from 0, through all bundles; those whose numbers are in
     /// `failing` fail, whatever they are given.
     pub fn new(inner: D, failing: List<u64>) -> Scripted<D>
