@@ -37,7 +37,7 @@ pub mod Settling
 pub mod CountedPanes
 pub mod QuietRounds
 pub mod KeptSane
-mod RisenMarks
+pub mod RisenMarks
 mod PlainRounds
 mod PlainPlacing
 mod WindowSessions

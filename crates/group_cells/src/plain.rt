@@ -16,8 +16,6 @@ pub mod arrivals;
 pub mod keys;
 pub mod nodes;
 pub mod placing;
-#[cfg(test)]
-mod tests;
 
 use crate::arrivals::others_of;
 use crate::plain::arrivals::{dropped_of, taken_of};

@@ -5,11 +5,11 @@ ghost use Rattle.beam_values.specs.Checked.{IsChecked};
 ghost use Rattle.beam_values.specs.declared.arrival.Arrival.{Arrival as ArrivalOf};
 ghost use Rattle.group_cells.specs.Commits.{HasGap};
 
-use crate::plain::PlainGroups;
 use beam_values::{
     Args, Arrival, Boxed, Bytes, Element, Estimator, List, Mark, Mode, NoMemory, Node, NodeKind,
     PaneTag, Plan, SourceKind, Span, StageMarks, Time, Timing, Trigger, Value,
 };
+use group_cells::PlainGroups;
 use std::alloc::Global;
 use std::test::Fail;
 use watermarks::stage_marks;

@@ -2,7 +2,7 @@ use Rattle.std.proofs.Common.{◌≡◌, ℕ, zero, suc, [], ◌∷◌, refl}
 use Rattle.beam_values.specs.Times.{final_mark}
 use Rattle.watermarks.specs.Holds.{hold_at}
 use Rattle.group_cells.proofs.RisenMarks.{rises_to_final}
-use Rattle.group_cells.proofs.plain.tests.a_group_takes_elements_and_fires_at_the_end.Goals as goal
+use Rattle.book_tests.proofs.groups.a_group_takes_elements_and_fires_at_the_end.Goals as goal
 
 all_final : (n : ℕ) → hold_at (final_mark ∷ final_mark ∷ final_mark ∷ []) n ≡ final_mark
 all_final zero = refl
