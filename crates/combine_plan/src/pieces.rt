@@ -44,15 +44,23 @@ fn cut_item(
     Ok(())
 }
 
-/// Deals pieces to so many hands, one after another: the rich parts of a file and the poor ones come to all.
+// How many runs of pieces a hand gets at least, where there are so many pieces.
+const RUNS: usize = 8;
+
+// The most pieces in a run.
+const LONGEST_RUN: usize = 16;
+
+/// Deals pieces to so many hands, in runs, one after another: the rich parts of a file and the poor ones come to all, and
+/// the block that is read behind a piece serves the next one.
 pub fn deal(alloc: Global, pieces: &[Piece], count: usize) -> Result<Vec<List<Piece>>, NoMemory>
     requires { 0 < count }
     ensures count { IfOk result (λ hands. length hands.items ≡ count) }
     ensures dealt { IfOk result (λ hands. AreDealt pieces.now hands.items) }
 {
     let mut hands = empty_hands(alloc, count)?;
+    let run = (pieces.len() / count / RUNS).clamp(1, LONGEST_RUN);
     for (at, piece) in pieces.iter().enumerate() {
-        give(&mut hands, at % count, *piece)?;
+        give(&mut hands, at / run % count, *piece)?;
     }
     Ok(hands)
 }

@@ -1,4 +1,4 @@
-use Rattle.std.proofs.Common.{◌<◌, ◌%◌, length, ◌∷◌, [], ◌++◌, List, sym, ap, ◌∙◌, subst, take, arith}
+use Rattle.std.proofs.Common.{◌<◌, ◌/◌, ◌%◌, length, ◌∷◌, [], ◌++◌, List, sym, ap, ◌∙◌, subst, take, arith}
 use Rattle.std.proofs.lemmas.List.{take_more}
 use Rattle.beam_values.specs.declared.piece.Piece.{Piece}
 use Rattle.combine_plan.specs.Dealing.{AreDealt}
@@ -12,7 +12,7 @@ loop-at-preserved c =
     let piece = c.index-pieces-at.result in
     let more = take_more pieces c.loop-at.at piece c.loop-at-test.true in
     let next = ap (λ (p : Piece). take c.loop-at.at pieces ++ p ∷ []) (sym c.index-pieces-at.is) in
-    let within : c.loop-at.at % c.args.count < length c.loop-at.hands.items = omega (arith, i.count, c.requires) in
+    let within : c.loop-at.at / c.clamp-run.result % c.args.count < length c.loop-at.hands.items = omega (arith, i.count, c.requires) in
     record {
       count = c.give.ensures.count ∙ i.count;
       dealt = subst (λ (l : List Piece). AreDealt l c.give.new.hands.items) (sym (more ∙ next)) (dealt_more _ piece (take c.loop-at.at pieces) _ _ within c.in_ok-give.ensures.given i.dealt);
