@@ -1,21 +1,17 @@
 -- The parts of a commit: what is left of its range, where its range goes among those that are done, what is written, and where panes wait.
-use Rattle.std.proofs.Common.{◌≡◌, ℕ, suc, ◌+◌, ◌-◌, ◌*◌, ◌/◌, ◌≤◌, ◌<◌, Bool, true, false, cond, List, [], ◌∷◌, ◌++◌, length, map, take, drop, get_or, refl, sym, ap, subst, ◌∙◌, append_assoc, arith}
-use Rattle.std.specs.Prelude.{Option, Some, None, not, nat_lt, max, min, insert, slice_get, unwrap_or, ◌==◌}
+use Rattle.std.proofs.Common.{◌≡◌, ℕ, suc, ◌+◌, ◌-◌, ◌*◌, ◌/◌, ◌≤◌, ◌<◌, Bool, true, false, cond, List, [], ◌∷◌, ◌++◌, length, map, take, drop, refl, sym, ap, subst, ◌∙◌, append_assoc, arith}
+use Rattle.std.specs.Prelude.{Option, Some, None, not, nat_lt, max, min, slice_get, unwrap_or, ◌==◌}
 use Rattle.std.specs.List.{All, AllWithin, filter, enumerate_from, sum_by}
-use Rattle.std.specs.List.Sorted.{IsSorted, IsPartitionPoint, IsPartitionedBy}
 use Rattle.std.specs.Ordering.{is_lt}
 use Rattle.std.proofs.lemmas.Bool.{false≢true}
 use Rattle.std.proofs.lemmas.Bool.Decides.{nat_tests}
-use Rattle.std.proofs.lemmas.List.{append-nil, get_or-drop, get_or-take, length-drop, length-take-le, take-append-drop}
-use Rattle.std.proofs.lemmas.List.Elements.{All-head, All-tail}
-use Rattle.std.proofs.lemmas.List.Sorted.{sorted_far}
+use Rattle.std.proofs.lemmas.List.{append-nil, get_or-drop, get_or-take, length-drop, length-take-le}
 use Rattle.beam_values.specs.Intervals.{Offsets}
 use Rattle.beam_values.specs.Nodes.{is_group, is_write, is_group_kind, is_write_kind}
 use Rattle.beam_values.specs.Tracking.{Tracked, split_point_of, residual, primary, first_unattempted}
 use Rattle.beam_values.specs.declared.arrival.Arrival.{Arrival}
 use Rattle.beam_values.specs.declared.cell.Pane.{Pane}
 use Rattle.beam_values.specs.declared.marks.StageMarks.{StageMarks}
-use Rattle.beam_values.specs.declared.piece.Done.{Done}
 use Rattle.beam_values.specs.declared.piece.Piece.{Piece}
 use Rattle.beam_values.specs.declared.plan.Node.{Node}
 use Rattle.beam_values.specs.declared.plan.NodeKind.{NodeKind}
@@ -24,9 +20,8 @@ use Rattle.beam_values.specs.declared.plan.Plan.{Plan}
 use Rattle.bundle_commit.specs.declared.job.Receipt.{Receipt}
 use Rattle.group_cells.specs.Commits.{is_at_group}
 use Rattle.book_core.specs.Book.{tracker_of}
-use Rattle.book_core.specs.Changes.{as_waiting, done_cmp, done_of, fired_at, residual_of, with_done, with_fired}
+use Rattle.book_core.specs.Changes.{as_waiting, done_of, fired_at, residual_of, with_fired}
 use Rattle.book_core.specs.declared.live.WaitingPane.{WaitingPane}
-use Rattle.book_core.proofs.Formed.{done_total}
 
 -- ---- what is left of a range
 
@@ -87,48 +82,17 @@ done_is piece attempted after e =
     ap (λ (t : Tracked). record { node = piece.node; item = piece.item; range = t.range })
     (e ∙ ap (primary (tracker_of piece attempted)) (checkpoint_at piece attempted))
 
--- ---- where a range goes
-
-behind_lower : (new : Done) (front back : List Done) → All (λ d. is_lt (done_cmp d new) ≡ true) front → with_done new (front ++ back) ≡ front ++ with_done new back
-behind_lower new [] back h = refl
-behind_lower new (d ∷ front) back h =
-    ap (λ (t : Bool). cond t (d ∷ with_done new (front ++ back)) (new ∷ d ∷ front ++ back)) (All-head (λ x. is_lt (done_cmp x new) ≡ true) d front h)
-    ∙ ap (λ (l : List Done). d ∷ l) (behind_lower new front back (All-tail (λ x. is_lt (done_cmp x new) ≡ true) d front h))
-
-before_others : (new : Done) (back : List Done) → All (λ d. is_lt (done_cmp d new) ≡ false) back → with_done new back ≡ new ∷ back
-before_others new [] h = refl
-before_others new (d ∷ back) h = ap (λ (t : Bool). cond t (d ∷ with_done new back) (new ∷ d ∷ back)) (All-head (λ x. is_lt (done_cmp x new) ≡ false) d back h)
+-- ---- parts of a list
 
 module _ {X : Type 0} (P : X → Type 0) (xs : List X) (i : ℕ) where
-  All-take_within : i ≤ length xs → AllWithin P xs 0 i → All P (take i xs)
+  pub All-take_within : i ≤ length xs → AllWithin P xs 0 i → All P (take i xs)
   All-take_within inside all = λ k d below.
       let inside_too : k < i = omega (arith, length-take-le i xs inside) in
       subst P (sym (get_or-take i xs k d inside_too)) (all k d (omega arith) inside_too)
 
-  All-drop_within : i ≤ length xs → AllWithin P xs i (length xs) → All P (drop i xs)
+  pub All-drop_within : i ≤ length xs → AllWithin P xs i (length xs) → All P (drop i xs)
   All-drop_within inside all = λ k d below.
       subst P (sym (get_or-drop i xs k d)) (all (i + k) d (omega arith) (omega (arith, length-drop i xs)))
-
-pub placed_done : (done : List Done) (new : Done) (i : ℕ) → i ≤ length done
-    → IsPartitionPoint (λ y. is_lt (done_cmp y new) ≡ true) (λ y. is_lt (done_cmp y new) ≡ false) done i
-    → insert done i new ≡ with_done new done
-placed_done done new i inside parts =
-    let front = take i done in
-    let back = drop i done in
-    sym (ap (with_done new) (sym (take-append-drop i done))
-    ∙ behind_lower new front back (All-take_within (λ y. is_lt (done_cmp y new) ≡ true) done i inside parts.0)
-    ∙ ap (λ (l : List Done). front ++ l) (before_others new back (All-drop_within (λ y. is_lt (done_cmp y new) ≡ false) done i inside parts.1)))
-
-pub parted_done : (done : List Done) (new : Done) → IsSorted done_cmp done → IsPartitionedBy (λ y. is_lt (done_cmp y new)) done
-parted_done done new up i j d below within holds = by_test (is_lt (done_cmp (get_or done i d) new)) refl
-  where
-    weak : Rattle.std.specs.Cmp.IsStrictWeakOrder (λ (x y : Done). is_lt (done_cmp x y))
-    weak = Rattle.std.proofs.lemmas.List.Sorted.ranks_by done_total (λ (d : Done). d)
-
-    by_test : (t : Bool) → is_lt (done_cmp (get_or done i d) new) ≡ t → is_lt (done_cmp (get_or done i d) new) ≡ true
-    by_test true e = e
-    by_test false e =
-        absurd (false≢true (sym (weak.chain (get_or done j d) (get_or done i d) new (sorted_far (λ (x y : Done). is_lt (done_cmp x y)) weak done up i j d below within) e) ∙ holds))
 
 -- ---- what is written
 

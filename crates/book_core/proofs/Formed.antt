@@ -52,7 +52,7 @@ done_total =
 done_lt : Done → Done → Bool
 done_lt a b = is_lt (done_cmp a b)
 
-abbrev NoneBelow : Done → List Done → Type 0
+abbrev pub NoneBelow : Done → List Done → Type 0
 NoneBelow d [] = Unit {0}
 NoneBelow d (x ∷ xs) = is_lt (done_cmp x d) ≡ false
 
@@ -63,11 +63,11 @@ sorted_more x (y ∷ ys) low up (suc k) d from within =
     let e : suc (k + 1) ≡ suc k + 1 = omega arith in
     subst (λ (n : ℕ). is_lt (done_cmp (get_or (x ∷ y ∷ ys) n d) (get_or (y ∷ ys) k d)) ≡ false) e (up k d (omega arith) (omega arith))
 
-sorted_first : (x : Done) (xs : List Done) → IsSorted done_cmp (x ∷ xs) → NoneBelow x xs
+pub sorted_first : (x : Done) (xs : List Done) → IsSorted done_cmp (x ∷ xs) → NoneBelow x xs
 sorted_first x [] up = tt
 sorted_first x (y ∷ ys) up = up 0 x (omega arith) (omega arith)
 
-sorted_rest : (x : Done) (xs : List Done) → IsSorted done_cmp (x ∷ xs) → IsSorted done_cmp xs
+pub sorted_rest : (x : Done) (xs : List Done) → IsSorted done_cmp (x ∷ xs) → IsSorted done_cmp xs
 sorted_rest x xs up k d from within =
     let e : suc k + 1 ≡ suc (k + 1) = omega arith in
     subst (λ (n : ℕ). is_lt (done_cmp (get_or (x ∷ xs) n d) (get_or xs k d)) ≡ false) e (up (suc k) d (omega arith) (omega arith))

@@ -62,6 +62,7 @@ pub mod Rounds
 pub mod LeftAlways
 pub mod Rooms
 pub mod CommitParts
+mod DonePlaces
 pub mod CommitRooms
 pub mod CommitFired
 pub mod CommitHolds

@@ -158,13 +158,13 @@ fn put_done(done: &mut RoomyList<Done>, range: Option<Done>)
     }
 }
 
-// Behind the ranges that are lower.
+// Behind the ranges that are lower or equal: of equal ranges, which empty ones may be, none is moved for another.
 fn place_of(done: &[Done], range: &Done) -> usize
     requires { IsSorted done_cmp done.now }
     ensures within { result ≤ length done.now }
     ensures place { insert done.now result range.now ≡ with_done range.now done.now }
 {
-    done.partition_point(|other| cmp_done(other, range).is_lt())
+    done.partition_point(|other| cmp_done(other, range).is_le())
 }
 
 /// The order of the ranges of an outcome.
