@@ -6,7 +6,7 @@ use Rattle.beam_values.specs.declared.options.Options.{Options}
 use Rattle.beam_values.specs.declared.piece.FileLen.{FileLen}
 use Rattle.beam_values.specs.declared.plan.Plan.{Plan}
 use Rattle.book_core.specs.Book.{SeenBook}
-use Rattle.book_core.specs.Facts.{AreCellsKept, AreKept, AreKeptOf, AreSeenBefore, IsAttemptedWithin, IsBalanced, IsEarlyBook}
+use Rattle.book_core.specs.Facts.{AreCellsKept, AreKept, AreKeptOf, AreSeenBefore, IsBalanced, IsEarlyBook}
 use Rattle.book_core.specs.Jobs.{next_job}
 use Rattle.book_core.specs.Runs.{HonestRun, HonestlyReached, IsOpening, IsThrough, MadeStep, Reached, Run, opened}
 use Rattle.book_core.specs.Sane.{AreKeptWith, IsSane}
@@ -18,7 +18,7 @@ use Rattle.book_core.proofs.CellsAlways.{StrategiesOfPlans, keeps_celled}
 use Rattle.book_core.proofs.EarlyAlways.{keeps_early}
 use Rattle.book_core.proofs.EarlyEnds.{WindowsOfKind}
 use Rattle.book_core.proofs.Ended.{SettingsOfPlans, kept_through}
-use Rattle.book_core.proofs.SaneAlways.{opened_sane, sane_always, step_sane}
+use Rattle.book_core.proofs.SaneAlways.{sane_always, step_sane}
 use Rattle.book_core.proofs.SeenAlways.{AreWithin, keeps_seen}
 
 -- ---- whatever the files are

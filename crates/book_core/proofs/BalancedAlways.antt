@@ -3,8 +3,6 @@ use Rattle.std.proofs.Common.{◌≡◌, ℕ, Bool, true, false, List, [], ◌�
 use Rattle.std.specs.Prelude.{Some, None}
 use Rattle.std.specs.List.{flat_map}
 use Rattle.beam_values.specs.Bags.{IsSameBag}
-use Rattle.beam_values.specs.Checked.{IsChecked}
-use Rattle.beam_values.specs.Nodes.{is_stateful}
 use Rattle.beam_values.proofs.Bags.{bag_append, bag_flat_map, bag_from_same, bag_refl, bag_sym, bag_trans}
 use Rattle.beam_values.specs.declared.arrival.Arrival.{Arrival}
 use Rattle.beam_values.specs.declared.cell.Cell.{Cell}

@@ -1,6 +1,6 @@
 -- What came to the Groups stays legal and has its gaps, whatever the files are: from the opening on.
-use Rattle.std.proofs.Common.{◌≡◌, ℕ, suc, ◌+◌, true, List, [], ◌∷◌, ◌++◌, length, map, refl, sym, ap, subst, ◌∙◌, length-append, append_assoc, arith}
-use Rattle.std.specs.Prelude.{Option, Some, None}
+use Rattle.std.proofs.Common.{◌≡◌, ℕ, List, [], ◌∷◌, ◌++◌, length, map, refl, sym, ap, subst, ◌∙◌, length-append, append_assoc, arith}
+use Rattle.std.specs.Prelude.{Option, Some}
 use Rattle.std.specs.List.{filter}
 use Rattle.std.proofs.lemmas.List.Elements.{All-nil}
 use Rattle.beam_values.specs.Bags.{IsSameBag}
@@ -15,7 +15,7 @@ use Rattle.beam_values.specs.declared.marks.StageMarks.{StageMarks}
 use Rattle.beam_values.specs.declared.plan.Plan.{Plan}
 use Rattle.beam_model.specs.Panes.{Taken, taken_by, ArePanesLegal}
 use Rattle.bundle_commit.specs.declared.job.Receipt.{Receipt}
-use Rattle.group_cells.specs.Commits.{HasLength, HaveGaps, NeverFalls, as_commit, dropped_arrival, is_dropped, is_taken, taken_arrival}
+use Rattle.group_cells.specs.Commits.{HasLength, HaveGaps, NeverFalls, as_commit, is_taken, taken_arrival}
 use Rattle.group_cells.proofs.AllKeys.{keep_legal}
 use Rattle.group_cells.proofs.FirstCommit.{nothing_legal}
 use Rattle.group_cells.proofs.KeptGaps.{gaps_stay}

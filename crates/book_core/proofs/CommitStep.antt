@@ -1,13 +1,11 @@
 -- A commit, as its parts are written, is the step, and what is kept of the book's indexes.
-use Rattle.std.proofs.Common.{◌≡◌, ℕ, suc, ◌+◌, ◌≤◌, ◌<◌, ℤ, Bool, true, false, cond, List, [], ◌∷◌, ◌++◌, length, map, refl, sym, ap, subst, ◌∙◌, append_assoc, length-append, arith}
-use Rattle.std.specs.Prelude.{Option, Some, None, nat_lt, slice_get, slice_set, unwrap_or, option_to_list}
+use Rattle.std.proofs.Common.{◌≡◌, ℕ, suc, ◌+◌, ◌≤◌, ◌<◌, ℤ, Bool, true, false, cond, List, [], ◌∷◌, ◌++◌, length, map, refl, sym, ap, subst, ◌∙◌, length-append, arith}
+use Rattle.std.specs.Prelude.{Option, Some, None, nat_lt, slice_set, option_to_list}
 use Rattle.std.specs.Int.{int_min}
-use Rattle.std.specs.Option.{option_map}
 use Rattle.std.specs.List.{All, filter, enumerate_from}
 use Rattle.std.proofs.lemmas.Int.{ints}
 use Rattle.std.proofs.lemmas.List.{length-map, length-set}
 use Rattle.std.proofs.lemmas.List.Elements.{All-weaker}
-use Rattle.beam_values.specs.Marks.{AreMarks}
 use Rattle.beam_values.specs.Nodes.{is_group, is_stateful, is_write}
 use Rattle.beam_values.specs.declared.arrival.Arrival.{Arrival}
 use Rattle.beam_values.specs.declared.cell.Cell.{Cell}
@@ -43,7 +41,7 @@ use Rattle.book_core.proofs.KeysKept.{all_many, all_waiting, few_counted}
 use Rattle.book_core.proofs.LeastHolds.{least_of_both}
 use Rattle.book_core.proofs.CommitParts.{written_same}
 use Rattle.book_core.proofs.HeldMarks.{least_held, marks_as}
-use Rattle.book_core.proofs.HeldOnce.{group_within, get_at_end}
+use Rattle.book_core.proofs.HeldOnce.{group_within}
 use Rattle.book_core.proofs.HoldBags.{least_of_all, least_of_bag}
 use Rattle.book_core.proofs.Holding.{bag_held}
 use Rattle.book_core.proofs.Limits.{pieces_after, batches_after}

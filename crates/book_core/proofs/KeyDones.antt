@@ -1,14 +1,14 @@
 -- What a commit of a key job leaves waiting, and what a refused one hands back.
-use Rattle.std.proofs.Common.{◌≡◌, ℕ, zero, suc, ◌+◌, ◌-◌, ◌≤◌, Bool, true, false, cond, List, [], ◌∷◌, length, map, take, drop, refl, sym, ap, subst, ◌∙◌, arith}
+use Rattle.std.proofs.Common.{◌≡◌, ℕ, zero, suc, ◌+◌, ◌-◌, ◌≤◌, cond, List, [], ◌∷◌, length, map, take, refl, sym, ap, subst, ◌∙◌, arith}
 use Rattle.std.specs.Prelude.{Option, Some, None, slice_get, unwrap_or}
-use Rattle.std.specs.List.{All, count_by, sum_by}
+use Rattle.std.specs.List.{count_by}
 use Rattle.std.specs.Option.{option_map}
 use Rattle.std.proofs.lemmas.List.{length-drop, length-take-le}
 use Rattle.std.proofs.lemmas.List.Sums.{sum_by-cons}
 use Rattle.beam_values.specs.declared.file_text.FileText.{FileText}
 use Rattle.beam_values.specs.declared.log.LogEntry.{LogEntry}
 use Rattle.beam_values.specs.declared.log.LogInput.{LogInput}
-use Rattle.beam_values.specs.declared.log.LogInput.TheVariants.{Arrived, Fired}
+use Rattle.beam_values.specs.declared.log.LogInput.TheVariants.{Arrived}
 use Rattle.beam_values.specs.declared.log.Timer.{Timer}
 use Rattle.beam_values.specs.States.{KeptState}
 use Rattle.beam_values.specs.declared.plan.Node.{Node}

@@ -1,5 +1,5 @@
 -- The least hold of a node, of holds of two kinds together.
-use Rattle.std.proofs.Common.{◌≡◌, ℕ, ℤ, Bool, true, false, cond, List, [], ◌∷◌, ◌++◌, map, refl, sym, ap, ◌∙◌, arith}
+use Rattle.std.proofs.Common.{◌≡◌, ℕ, ℤ, false, List, [], ◌∷◌, ◌++◌, map, refl, sym, ap, ◌∙◌, arith}
 use Rattle.std.specs.Prelude.{◌==◌, ◌≤ℤ◌, fold}
 use Rattle.std.specs.Int.{int_min}
 use Rattle.std.specs.List.{All, filter}

@@ -1,7 +1,7 @@
 -- A commit of a plan without Groups: no arrival is at one, none fires, and the marks are those of the nodes' holds.
-use Rattle.std.proofs.Common.{◌≡◌, ℕ, zero, suc, ◌<◌, ℤ, ◌≤ℤ◌, Bool, true, false, cond, List, [], ◌∷◌, ◌++◌, length, map, take, refl, sym, ap, subst, ◌∙◌, arith}
+use Rattle.std.proofs.Common.{◌≡◌, ℕ, zero, suc, ℤ, ◌≤ℤ◌, Bool, true, false, cond, List, [], ◌∷◌, ◌++◌, length, map, take, refl, sym, ap, subst, ◌∙◌, arith}
 use Rattle.std.proofs.lemmas.Int.{ints}
-use Rattle.std.specs.Prelude.{Option, Some, None, not, ◌||◌, ◌&&◌, fold, slice_get, unwrap_or}
+use Rattle.std.specs.Prelude.{Option, not, ◌||◌, ◌&&◌, fold, slice_get, unwrap_or}
 use Rattle.std.specs.Int.{int_min}
 use Rattle.std.specs.List.{filter, list_any}
 use Rattle.std.specs.Option.{option_map}
@@ -12,7 +12,7 @@ use Rattle.std.proofs.lemmas.List.Elements.{All-nil}
 use Rattle.beam_values.proofs.Bags.{bag_refl}
 use Rattle.beam_values.specs.Bags.{IsSameBag}
 use Rattle.beam_values.specs.Cells.{pane_cmp}
-use Rattle.beam_values.specs.Marks.{AreMarks, mark_into, marks_at, node_marks}
+use Rattle.beam_values.specs.Marks.{AreMarks, mark_into, marks_at}
 use Rattle.beam_values.specs.Nodes.{is_group, is_group_kind}
 use Rattle.beam_values.specs.Times.{final_mark}
 use Rattle.beam_values.specs.declared.arrival.Arrival.{Arrival}

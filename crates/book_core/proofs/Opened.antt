@@ -1,12 +1,12 @@
 -- A book is opened: its pieces, what holds its nodes back, and the marks of these.
-use Rattle.std.proofs.Common.{◌≡◌, ℕ, ◌+◌, ◌≤◌, ◌<◌, zero, suc, ℤ, List, [], ◌∷◌, ◌++◌, map, length, reverse, replicate, take, drop, get_or, refl, sym, ap, subst, ◌∙◌, arith, length-append}
+use Rattle.std.proofs.Common.{◌≡◌, ℕ, ◌+◌, ◌<◌, zero, suc, ℤ, List, [], ◌∷◌, ◌++◌, map, length, reverse, replicate, take, drop, get_or, refl, sym, ap, subst, ◌∙◌, arith}
 use Rattle.std.specs.Prelude.{slice_get, unwrap_or, Option, Some, None}
 use Rattle.std.specs.Option.{option_map}
-use Rattle.std.specs.List.{All, sum_by, flat_map, enumerate_from, fold}
+use Rattle.std.specs.List.{All, sum_by, flat_map, enumerate_from}
 use Rattle.std.proofs.lemmas.List.{take_more, map-append, append-nil}
 use Rattle.std.proofs.Math.Seq.{take-append_seam}
 use Rattle.std.proofs.lemmas.List.Sums.{sum_by-cons, sum_by-append}
-use Rattle.std.proofs.lemmas.List.Elements.{All-nil, All-cons, All-head, All-tail, All-append, All-map}
+use Rattle.std.proofs.lemmas.List.Elements.{All-nil, All-cons, All-head, All-tail, All-append}
 use Rattle.std.proofs.lemmas.Option.{slice_get-map}
 use Rattle.beam_values.specs.Bags.{IsSameBag}
 use Rattle.beam_values.proofs.Bags.{sum_by-map, bag_map, bag_sym, bag_middle, bag_from_same, bag_trans, bag_refl}

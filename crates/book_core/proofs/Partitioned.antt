@@ -27,8 +27,7 @@ use Rattle.book_core.specs.Steps.{Action, Enroll, Take, Claim, Split, Commit, Fa
 use Rattle.book_core.specs.Work.{worked_to}
 use Rattle.book_core.specs.declared.live.Live.{Live}
 use Rattle.book_core.specs.declared.live.Live.TheVariants as live
-use Rattle.book_core.specs.Runs.{Reached, IsOpening}
-use Rattle.book_core.proofs.Kept.{reached_has}
+use Rattle.book_core.specs.Runs.{IsOpening}
 use Rattle.book_core.proofs.Slots.{set_weighs, All-slice_get}
 use Rattle.book_core.proofs.Taking.{take_cases}
 use Rattle.book_core.proofs.Weighing.{piece_at, slot_weight, live_weighs, with_piece_weighs, with_pieces_weigh, with_done_weighs, cut_weighs, empty_weighs}

@@ -1,6 +1,6 @@
 -- What commits leave stays sane: the cells, panes and dropped elements at their Groups, and what was written at Writes.
 use Rattle.std.proofs.Common.{◌≡◌, ℕ, ◌+◌, ◌-◌, ◌<◌, ◌≤◌, Bool, true, false, List, [], ◌∷◌, ◌++◌, length, map, refl, sym, ap, subst, ◌∙◌, length-append, arith}
-use Rattle.std.specs.Prelude.{Option, Some, None, ◌&&◌, not, slice_get, unwrap_or}
+use Rattle.std.specs.Prelude.{Option, Some, None, not, slice_get, unwrap_or}
 use Rattle.std.specs.List.{All, filter}
 use Rattle.std.specs.List.Sorted.{IsSorted}
 use Rattle.std.specs.Option.{option_map}
@@ -29,7 +29,6 @@ use Rattle.book_core.specs.Book.{SeenBook, last_marks}
 use Rattle.book_core.specs.Changes.{with_slot, committed, failed, given_back, counted, stopped_where, ends_run, note_of, written_by}
 use Rattle.book_core.specs.Facts.{AreAtWrites, AreHeldOnce, IsWellFormed}
 use Rattle.book_core.specs.Jobs.{Next, next_job}
-use Rattle.book_core.specs.Runs.{IsOpening}
 use Rattle.book_core.specs.Sane.{AreCellsSane, AreDroppedAtGroups, ArePanesSane}
 use Rattle.book_core.specs.declared.live.Live.{Live}
 use Rattle.book_core.specs.declared.live.Live.TheVariants as live

@@ -3,7 +3,7 @@ use Rattle.std.proofs.Common.{◌≡◌, ℕ, ◌<◌, ◌≤◌, Bool, true, fa
 use Rattle.std.specs.Prelude.{Option, Some, None, nat_lt, slice_set}
 use Rattle.std.specs.List.{All, flat_map}
 use Rattle.std.proofs.lemmas.Bool.{ltb-true}
-use Rattle.std.proofs.lemmas.List.Elements.{All-nil, All-cons, All-head, All-tail, All-append, All-set, All-weaker}
+use Rattle.std.proofs.lemmas.List.Elements.{All-nil, All-cons, All-head, All-tail, All-append, All-weaker}
 use Rattle.beam_values.specs.Times.{least_time}
 use Rattle.beam_values.specs.Tracking.{first_unattempted}
 use Rattle.beam_values.specs.declared.fault.Cause.{Cause}
@@ -18,7 +18,7 @@ use Rattle.split_core.specs.Order.{with_piece}
 use Rattle.split_core.proofs.Ordered.{All-with_piece}
 use Rattle.book_core.specs.Book.{SeenBook, piece_of, live_pieces}
 use Rattle.book_core.specs.Changes.{with_slot, cut_to, rest_of, split_off, given_back, tried_piece, counted, stopped_where, ends_run, note_of, pending_after, residual_of, with_residual}
-use Rattle.book_core.specs.Facts.{AreSeenBefore, IsAttemptedWithin, IsSeenOf}
+use Rattle.book_core.specs.Facts.{IsAttemptedWithin, IsSeenOf}
 use Rattle.book_core.specs.Jobs.{Next, attempted_of, job_of, with_key}
 use Rattle.book_core.specs.Runs.{IsOpening, opened, pieces_of}
 use Rattle.book_core.specs.Steps.{IsWorking}

@@ -1,26 +1,24 @@
 -- A live range is split: what is kept of the book's indexes.
-use Rattle.std.proofs.Common.{◌≡◌, ℕ, ◌+◌, ◌≤◌, ◌<◌, Bool, true, false, cond, List, ◌∷◌, length, refl, sym, ap, subst, ◌∙◌, arith, length-append}
+use Rattle.std.proofs.Common.{◌≡◌, ℕ, ◌+◌, ◌≤◌, ◌<◌, Bool, true, false, cond, List, ◌∷◌, length, refl, sym, ap, subst, ◌∙◌, arith}
 use Rattle.std.specs.Prelude.{slice_get, slice_set, nat_lt, min, Option, Some, None}
-use Rattle.std.specs.List.{flat_map}
 use Rattle.std.proofs.lemmas.Bool.Decides.{nat_tests}
 use Rattle.std.proofs.lemmas.List.{length-set}
 use Rattle.beam_values.specs.Intervals.{Offsets}
-use Rattle.beam_values.specs.Marks.{AreMarks}
 use Rattle.beam_values.specs.Tracking.{Tracked, split_point_of, residual, primary}
 use Rattle.beam_values.specs.declared.piece.Piece.{Piece}
 use Rattle.beam_model.specs.Holds.{Hold, piece_hold}
 use Rattle.split_core.specs.Order.{with_piece}
 use Rattle.split_core.proofs.Ordered.{length-with_piece}
 use Rattle.watermarks.specs.Holds.{SeenHolds}
-use Rattle.book_core.specs.Book.{SeenBook, piece_of, live_pieces, tracker_of, last_marks}
+use Rattle.book_core.specs.Book.{SeenBook, live_pieces, tracker_of}
 use Rattle.book_core.specs.Calls.{Makes}
 use Rattle.book_core.specs.Changes.{with_slot, split_off, cut_to, rest_of}
-use Rattle.book_core.specs.Indexes.{IsIndexed, AreHeldIn, marks_in, least_in, own_holds}
+use Rattle.book_core.specs.Indexes.{IsIndexed, AreHeldIn, marks_in, own_holds}
 use Rattle.book_core.specs.Sane.{IsSane}
 use Rattle.book_core.specs.Steps.{Split, SplitAt, IsWithinLimits}
 use Rattle.book_core.specs.declared.live.Live.{Live}
 use Rattle.book_core.specs.declared.live.Live.TheVariants as live
-use Rattle.book_core.proofs.HeldMarks.{held_within, held_as, marks_as, least_held, least_twice}
+use Rattle.book_core.proofs.HeldMarks.{held_within, held_as}
 use Rattle.book_core.proofs.Holding.{bag_held, free_holds, split_holds}
 use Rattle.book_core.proofs.Limits.{pieces_after, batches_after}
 use Rattle.book_core.proofs.SaneAlways.{step_sane}

@@ -1,7 +1,6 @@
 -- Steps that hold nothing back anew: enroll, claim and stop.
 use Rattle.std.proofs.Common.{◌≡◌, ℕ, ◌+◌, ◌<◌, List, [], ◌∷◌, ◌++◌, length, refl, sym, ap, subst, arith, length-append}
 use Rattle.std.specs.Prelude.{slice_get, slice_set, Option, Some, None}
-use Rattle.std.specs.List.{flat_map}
 use Rattle.std.specs.Option.{option_or}
 use Rattle.std.proofs.lemmas.List.Sums.{sum_by-cons, sum_by-append}
 use Rattle.std.proofs.lemmas.Option.{slice_get_within}
@@ -10,7 +9,7 @@ use Rattle.beam_values.specs.declared.outcome.StopCause.{StopCause}
 use Rattle.beam_values.specs.declared.outcome.StopCause.TheVariants as stop
 use Rattle.beam_values.specs.declared.piece.Piece.{Piece}
 use Rattle.watermarks.specs.Holds.{SeenHolds}
-use Rattle.book_core.specs.Book.{SeenBook, piece_of, tracker_of}
+use Rattle.book_core.specs.Book.{SeenBook, tracker_of}
 use Rattle.book_core.specs.Calls.{CanClaim, Makes}
 use Rattle.book_core.specs.Changes.{with_slot, or_stopped}
 use Rattle.book_core.specs.Facts.{IsAttemptedWithin}

@@ -20,7 +20,7 @@ use Rattle.beam_values.specs.declared.plan.Plan.{Plan}
 use Rattle.bundle_commit.specs.declared.job.Job.{Job}
 use Rattle.bundle_commit.specs.declared.job.Job.TheVariants as job
 use Rattle.watermarks.specs.Holds.{SeenHolds}
-use Rattle.book_core.specs.Book.{SeenBook, HeldPane, held_in, piece_of, batch_of, live_pieces, live_batches, queue_at, pane_at}
+use Rattle.book_core.specs.Book.{SeenBook, HeldPane, held_in, piece_of, batch_of, live_batches, queue_at, pane_at}
 use Rattle.book_core.specs.Calls.{Makes, answer_of}
 use Rattle.book_core.specs.Changes.{with_slot}
 use Rattle.book_core.specs.DueAt.{IsBatchAt, IsDueAs}
@@ -42,13 +42,10 @@ use Rattle.book_core.proofs.Holding.{bag_held}
 use Rattle.book_core.proofs.Limits.{pieces_after, batches_after, take_within}
 use Rattle.book_core.proofs.SaneAlways.{step_sane}
 use Rattle.book_core.proofs.Slotted.{All-append_left}
-use Rattle.std.specs.Prelude.{min}
 use Rattle.std.specs.Option.{option_map}
-use Rattle.beam_values.specs.declared.marks.StageMarks.{StageMarks}
 use Rattle.stateful_core.specs.Cells.{KeyCell}
-use Rattle.stateful_core.specs.Taking.{IsTaken, change, turn_of, with_job}
+use Rattle.stateful_core.specs.Taking.{IsTaken, change, with_job}
 use Rattle.stateful_core.specs.declared.key_job.KeyTurn.{KeyTurn}
-use Rattle.stateful_core.specs.declared.place.Place.{Place}
 use Rattle.book_core.specs.Book.{last_marks, waiting_in}
 use Rattle.book_core.proofs.KeyChanges.{change_weighs}
 use Rattle.book_core.proofs.Taking.{first_is_due}

@@ -13,7 +13,7 @@ use Rattle.beam_values.specs.Marks.{marks_at}
 use Rattle.beam_values.specs.Nodes.{is_group, is_group_kind}
 use Rattle.beam_values.specs.Spelling.{spelling}
 use Rattle.beam_values.specs.Strategies.{greatest_length}
-use Rattle.beam_values.specs.Times.{final_mark, greatest_time}
+use Rattle.beam_values.specs.Times.{final_mark}
 use Rattle.beam_values.specs.declared.cell.Cell.{Cell}
 use Rattle.beam_values.specs.declared.cell.Entry.{Entry}
 use Rattle.beam_values.specs.declared.cell.Pane.{Pane}

@@ -1,6 +1,6 @@
 -- Panes wait in the order in which they fired: from the opening on.
-use Rattle.std.proofs.Common.{◌≡◌, ℕ, zero, suc, ◌+◌, ◌<◌, ◌≤◌, Bool, true, false, not, cond, List, [], ◌∷◌, ◌++◌, length, map, take, drop, refl, sym, ap, subst, ◌∙◌, arith}
-use Rattle.std.specs.Prelude.{Option, Some, None, ◌==◌, slice_get, slice_set, unwrap_or}
+use Rattle.std.proofs.Common.{◌≡◌, ℕ, zero, suc, ◌+◌, ◌<◌, ◌≤◌, Bool, true, false, not, cond, List, [], ◌∷◌, ◌++◌, length, map, take, drop, refl, sym, ap, subst, arith}
+use Rattle.std.specs.Prelude.{Option, Some, None, ◌==◌, slice_set, unwrap_or}
 use Rattle.std.specs.List.{All, filter, flat_map, enumerate_from}
 use Rattle.std.proofs.lemmas.List.Elements.{All-nil, All-cons, All-head, All-tail, All-append, All-filter, All-set, All-take, All-weaker}
 use Rattle.std.proofs.lemmas.Option.{slice_get_within}
@@ -10,14 +10,12 @@ use Rattle.beam_values.specs.declared.fault.Cause.TheVariants.{Call, Read}
 use Rattle.beam_values.specs.declared.fault.FaultNote.{FaultNote}
 use Rattle.beam_values.specs.declared.file_text.FileText.{FileText}
 use Rattle.beam_values.specs.declared.marks.StageMarks.{StageMarks}
-use Rattle.beam_values.specs.declared.piece.Piece.{Piece}
 use Rattle.beam_values.specs.declared.plan.Node.{Node}
 use Rattle.group_cells.proofs.Counting.{All-unmap}
 use Rattle.book_core.specs.Book.{SeenBook, HeldPane, batch_of, held_at, held_in, last_marks, live_batches, queue_at, queued}
 use Rattle.book_core.specs.Changes.{as_waiting, fired_at, with_fired, with_slot, given_back, tried_batch, counted, stopped_where, ends_run, note_of}
 use Rattle.book_core.specs.Facts.{AreHeldOnce, IsHeldPane}
 use Rattle.book_core.specs.Jobs.{Next, first_pane, with_key}
-use Rattle.book_core.specs.Runs.{IsOpening}
 use Rattle.book_core.specs.Sane.{AreWaitingInOrder, AscendByPane}
 use Rattle.book_core.specs.Steps.{IsWorking}
 use Rattle.book_core.specs.declared.live.Batch.{Batch}
@@ -30,7 +28,7 @@ use Rattle.book_core.proofs.OpenedPieces.{enrolled_of}
 use Rattle.book_core.proofs.Queues.{queued_from}
 use Rattle.book_core.proofs.Slots.{All-slice_get}
 use Rattle.book_core.proofs.Slotted.{All-append_left, All-append_right, All-flat_at, All-flat_set}
-use Rattle.book_core.proofs.Taking.{IsAmong, IsOldest, take_cases}
+use Rattle.book_core.proofs.Taking.{IsOldest, take_cases}
 
 -- ---- lists of panes
 

@@ -1,5 +1,5 @@
 -- How the book's own indexes agree with its data: the marks that hold each node back, and the room that is kept for what is worked.
-use Rattle.std.specs.Prelude.{◌≡◌, Bool, true, false, ℕ, ◌<◌, ◌≤◌, ℤ, List, [], ◌∷◌, ◌++◌, length, map, slice_get, unwrap_or, Option, None}
+use Rattle.std.specs.Prelude.{◌≡◌, Bool, true, false, ℕ, ◌<◌, ◌≤◌, ℤ, List, [], ◌∷◌, ◌++◌, length, map, slice_get, unwrap_or, Option}
 use Rattle.std.specs.Int.{int_min}
 use Rattle.std.specs.Option.{option_map}
 use Rattle.beam_values.specs.Bags.{IsSameBag}

@@ -3,7 +3,7 @@
 --
 -- Of a source 0, a Group 1 and a Write 2 over one file of 27 bytes, `[0, 10)` may be done, `[10, 27)` be worked with 2 attempts where 2 calls failed and 3 are
 -- allowed, and the panes 0 and 2 wait at the Group, in this order.
-use Rattle.std.specs.Prelude.{◌≡◌, ℕ, ◌<◌, ◌≤◌, true, List, [], ◌∷◌, ◌++◌, length}
+use Rattle.std.specs.Prelude.{◌≡◌, ◌<◌, true, List, [], ◌∷◌, ◌++◌, length}
 use Rattle.std.specs.List.{All}
 use Rattle.std.specs.List.Sorted.{IsSorted}
 use Rattle.beam_values.specs.Cells.{pane_cmp}

@@ -1,7 +1,6 @@
 use Rattle.std.proofs.Common.{List, length, sym, subst, ap, ◌∙◌}
 use Rattle.std.specs.Option.{option_copied, option_map}
 use Rattle.beam_values.specs.declared.marks.StageMarks.{StageMarks}
-use Rattle.beam_values.specs.declared.plan.Plan.{Plan}
 use Rattle.group_cells.specs.Commits.{AreRounds, IsCommitted}
 use Rattle.stateful_core.specs.Cells.{key_holds}
 use Rattle.stateful_core.specs.Opening.{done_of}

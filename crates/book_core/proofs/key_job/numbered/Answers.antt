@@ -1,5 +1,5 @@
-use Rattle.std.proofs.Common.{◌≡◌, get_or, ap, arith, sym, ◌∙◌}
-use Rattle.book_core.proofs.Writes.{written_all, written_more}
+use Rattle.std.proofs.Common.{get_or, ap, arith, sym}
+use Rattle.book_core.proofs.Writes.{written_more}
 use Rattle.stateful_core.specs.KeyWork.{numbered_entry}
 use Rattle.book_core.proofs.key_job.numbered.Goals as goal
 

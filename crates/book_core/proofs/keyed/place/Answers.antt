@@ -1,7 +1,6 @@
 use Rattle.std.proofs.Common.{◌≡◌, false, List, [], length, sym, ap, ◌∙◌, arith}
 use Rattle.std.specs.Option.{option_map}
 use Rattle.beam_values.specs.declared.arrival.Arrival.{Arrival}
-use Rattle.stateful_core.specs.Cells.{KeyCell}
 use Rattle.stateful_core.specs.Opening.{done_of}
 use Rattle.stateful_core.specs.Placing.{place}
 use Rattle.book_core.specs.KeyCells.{cells_in, has_stateful}

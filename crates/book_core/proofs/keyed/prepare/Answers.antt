@@ -1,7 +1,6 @@
 use Rattle.std.proofs.Common.{◌≡◌, false, List, [], refl, sym, ap, ◌∙◌}
 use Rattle.std.specs.Option.{option_copied, option_map}
 use Rattle.std.proofs.lemmas.Result.{IfOk-weaker}
-use Rattle.beam_model.specs.Holds.{Hold}
 use Rattle.stateful_core.specs.Cells.{KeyCell, key_holds}
 use Rattle.stateful_core.specs.Opening.{done_of}
 use Rattle.stateful_core.specs.Placing.{place}

@@ -1,5 +1,4 @@
 use Rattle.book_core.proofs.AllKept.{kept_always, opened_kept, reached_kept_with}
-use Rattle.book_core.proofs.Cases.{AreAlways}
 use Rattle.book_core.proofs.Gaps.{keyed_long}
 use Rattle.book_core.proofs.laws.books_are_kept.Goals as goal
 

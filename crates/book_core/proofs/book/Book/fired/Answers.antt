@@ -1,6 +1,4 @@
 use Rattle.std.proofs.Common.{rules}
-use Rattle.std.specs.Prelude.{None}
-use Rattle.book_core.specs.Inside.{data_of}
 use Rattle.book_core.proofs.book.Book.fired.Goals as goal
 
 pub overflow_cast-result : goal.overflow_cast-result

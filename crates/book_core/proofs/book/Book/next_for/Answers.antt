@@ -1,5 +1,5 @@
 use Rattle.std.proofs.Common.{List, length, arith, sym, subst, ap}
-use Rattle.std.specs.Prelude.{Option, None}
+use Rattle.std.specs.Prelude.{Option}
 use Rattle.std.specs.List.{All}
 use Rattle.book_core.specs.Book.{SeenBook}
 use Rattle.book_core.specs.Facts.{IsAttemptedWithin}

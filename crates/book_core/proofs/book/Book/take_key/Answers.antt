@@ -1,6 +1,6 @@
 use Rattle.std.proofs.Common.{◌≡◌, ◌<◌, length, refl, sym, subst, ap, ◌∙◌}
 use Rattle.std.proofs.lemmas.Option.{slice_get_within}
-use Rattle.std.specs.Prelude.{List, [], Option, Some, None}
+use Rattle.std.specs.Prelude.{List, [], Option, None}
 use Rattle.beam_values.specs.declared.marks.StageMarks.{StageMarks}
 use Rattle.stateful_core.specs.Taking.{IsTaken, IsTakenOrNone, change, with_job}
 use Rattle.stateful_core.specs.declared.key_job.KeyTurn.{KeyTurn}
