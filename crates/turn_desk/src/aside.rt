@@ -13,13 +13,18 @@ const SPINS: u32 = 63;
 const YIELDS: u32 = 16;
 
 impl<V: Held> Desk<V> {
-    /// The pass takes jobs from now on, and may park.
-    pub fn enter(&self, pass: &mut Pass<V>)
+    /// Where so many passes are active, or four if that is more, no other one enters or is let in until one leaves.
+    pub fn limit_active(&self, most: u64) {
+        self.parking.limit_active(most);
+    }
+
+    /// The pass takes jobs from now on, and may park: at once, where enough others are active.
+    pub fn enter<R: Wait>(&self, rt: &R, pass: &mut Pass<V>)
         requires desk { IsPassOf self.now pass.old }
         ensures desk { IsPassOf self.now pass.new }
         ensures note { note_of pass.new ≡ note_of pass.old }
     {
-        self.parking.enter(&mut pass.waits);
+        self.parking.enter(rt, &mut pass.waits);
     }
 
     /// Before a job: where the pass's turns mostly had to wait, it parks until another pass lets it in. So passes that take
@@ -43,7 +48,7 @@ impl<V: Held> Desk<V> {
         }
     }
 
-    /// The pass has a job of this kind. Where a phase of other jobs has begun, all passes are let in again.
+    /// The pass has a job of this kind. Where a phase of other jobs has begun, passes are let in again.
     pub fn turn_to<R: Wait>(&self, rt: &R, pass: &mut Pass<V>, kind: u32)
         requires desk { IsPassOf self.now pass.old }
         ensures desk { IsPassOf self.now pass.new }

@@ -20,6 +20,10 @@ const FIRST_WINDOW: u32 = 16;
 // holds one worker until another got on doesn't wait for a parked one.
 const START: u64 = 64;
 
+// So many passes may be active at least, however few processors there are: as many as a run has workers where it isn't told,
+// and more than a gate may hold.
+const LEAST_ACTIVE: u64 = 4;
+
 // So many calm windows of one pass in a row let in another one, at first and at most.
 const LEAST_NEED: u64 = 2;
 
@@ -138,6 +142,8 @@ pub struct Parking {
     state: AtomicU64,
     // How many passes were split off.
     passes: AtomicU64,
+    // From how many active ones on none is let in until one has ended.
+    most_active: AtomicU64,
     // How many calm windows in a row let one in, and whether that ever was.
     calm_needed: AtomicU64,
     ever_let_in: AtomicBool,
@@ -149,6 +155,7 @@ impl Parking {
         Parking {
             state: AtomicU64::new(0),
             passes: AtomicU64::new(0),
+            most_active: AtomicU64::new(u64::MAX),
             calm_needed: AtomicU64::new(LEAST_NEED),
             ever_let_in: AtomicBool::new(false),
             bells: Bells::new(),
@@ -160,11 +167,22 @@ impl Parking {
         Waits::new(self.passes.fetch_add(1, Ordering::SeqCst))
     }
 
-    /// The pass is active from now on. One for which there is no bell takes no part.
-    pub fn enter(&self, waits: &mut Waits) {
-        if !waits.is_in && waits.number < COUNT as u64 {
-            waits.is_in = true;
-            self.state.fetch_add(ACTIVE, Ordering::SeqCst);
+    /// Where so many passes are active, another one waits.
+    pub fn limit_active(&self, most: u64) {
+        let most = most.max(LEAST_ACTIVE);
+        self.most_active.store(most, Ordering::SeqCst);
+    }
+
+    /// The pass is active from now on, or parks where enough others are. One for which there is no bell takes no part.
+    pub fn enter<R: Wait>(&self, rt: &R, waits: &mut Waits) {
+        if waits.is_in || waits.number >= COUNT as u64 {
+            return;
+        }
+        let has_room = self.has_room();
+        waits.is_in = true;
+        self.state.fetch_add(ACTIVE, Ordering::SeqCst);
+        if !has_room {
+            self.park(rt, waits);
         }
     }
 
@@ -185,7 +203,7 @@ impl Parking {
             waits.is_new = false;
             self.need(self.calm_needed() / 2);
         }
-        if u64::from(waits.calm) >= self.calm_needed() && self.has_parked() {
+        if u64::from(waits.calm) >= self.calm_needed() && self.has_parked() && self.has_room() {
             waits.calm = 0;
             self.ever_let_in.store(true, Ordering::SeqCst);
             self.let_in(rt);
@@ -198,11 +216,11 @@ impl Parking {
         waits.is_in && waits.has_started() && self.park(rt, waits)
     }
 
-    /// The pass has a job of this kind. Where another phase of the run has begun, all are let in.
+    /// The pass has a job of this kind. Where another phase of the run has begun, as many are let in as may be active.
     pub fn turn_to<R: Wait>(&self, rt: &R, waits: &mut Waits, kind: u32) {
         if waits.begins_phase(kind) {
             self.need(LEAST_NEED);
-            self.let_all_in(rt);
+            self.fill(rt);
         }
     }
 
@@ -227,6 +245,10 @@ impl Parking {
 
     fn has_parked(&self) -> bool {
         self.state.load(Ordering::SeqCst) & PARKED != 0
+    }
+
+    fn has_room(&self) -> bool {
+        self.state.load(Ordering::SeqCst) / ACTIVE < self.most_active.load(Ordering::SeqCst)
     }
 
     // Sleeps until it is let in. The first one never parks, nor does the last one that is active.
@@ -261,6 +283,14 @@ impl Parking {
             self.bells.forget(number);
         }
         stands_aside
+    }
+
+    fn fill<R: Wait>(&self, rt: &R) {
+        for _ in rt.forever() {
+            if !self.has_room() || !self.let_in(rt) {
+                break;
+            }
+        }
     }
 
     fn let_all_in<R: Wait>(&self, rt: &R) {

@@ -18,6 +18,7 @@ use pipeline_graph::Graph;
 use retry_core::FaultShare;
 use std::alloc::Global;
 use std::sync::Wait;
+use std::thread;
 use std::thread::Threads;
 use worker_table::{Table, WorkerPass};
 
@@ -66,6 +67,7 @@ pub fn work_all<R: Threads + Wait + Sync, F: Shelf, S: Store, G: Gate>(
         → (note_of_pass pass.new ≡ note_of_pass pass.old) × (kits.new ≡ kits.old) }
 {
     let count = kits.len();
+    limit_to_processors(rt, table);
     let mut ends = Vec::with_capacity(alloc, count)?;
     let mut seats = Vec::with_capacity(alloc, count)?;
     seat_all(table, pass, count, &mut seats);
@@ -82,6 +84,13 @@ pub fn work_all<R: Threads + Wait + Sync, F: Shelf, S: Store, G: Gate>(
     let share = gather(table, pass, seats, &mut ends);
     let ends = List::from_vec(ends);
     Ok(AllEnd { ends, share })
+}
+
+// More workers than processors would only wait for one another.
+fn limit_to_processors<R: Threads>(rt: &R, table: &Table) {
+    if let Ok(processors) = thread::available_parallelism(rt) {
+        table.limit_active(processors.get() as u64);
+    }
 }
 
 // A seat for each kit, with a pass of its own.

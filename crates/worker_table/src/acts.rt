@@ -46,11 +46,8 @@ impl Act for Enrolling {
         book.enroll()
     }
 
-    fn after(answer: &Result<u32, NoMemory>) -> Stance {
-        match answer {
-            Ok(_) => Stance::Enters,
-            Err(NoMemory) => Stance::Stays,
-        }
+    fn before(&self) -> Stance {
+        Stance::Enters
     }
 }
 

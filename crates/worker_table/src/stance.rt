@@ -28,7 +28,7 @@ impl Stance {
     {
         match self {
             Stance::Stays => {}
-            Stance::Enters => desk.enter(pass),
+            Stance::Enters => desk.enter(rt, pass),
             Stance::StepsAside => desk.step_aside(rt, pass),
             Stance::Rests => desk.rest(rt, pass),
             Stance::TurnsTo(kind) => desk.turn_to(rt, pass, kind),

@@ -44,6 +44,11 @@ impl Table {
         Ok((Table { desk }, pass))
     }
 
+    /// Where so many passes work, or four if that is more, the others wait until one of these ends or steps aside.
+    pub fn limit_active(&self, most: u64) {
+        self.desk.limit_active(most);
+    }
+
     /// Splits off a pass, which has no slot.
     pub fn split_pass(&self, pass: &mut WorkerPass) -> WorkerPass
         requires table { IsOf self.now pass.old }
