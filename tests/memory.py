@@ -88,7 +88,10 @@ def filtered(count, folder):
 TRIED = {
     "each line grouped": (grouped(lambda at: f"{at % 60000}\tkey\t{at}\n"), ()),
     "each key and window": (grouped(lambda at: f"0\tk{at}\tx\n"), ("each line grouped",)),
-    "each byte of a part above 22": (grouped(lambda at: f"{at % 60000}\tkey\t{at:0272}\n"), ("each line grouped",)),
+    "each part of more than 22 bytes": (grouped(lambda at: f"{at % 60000}\tkey\t{at:028}\n"), ("each line grouped",)),
+    "each byte of a part above 22": (
+        grouped(lambda at: f"{at % 60000}\tkey\t{at:0272}\n"), ("each line grouped", "each part of more than 22 bytes"),
+    ),
     "each bundle": (filtered, ()),
     "each call of a stateful node": (stateful("LatestThenEmit", lambda at: f"{at}\tkey\t{at}\n", number=1000), ()),
     "what such a call gives": (stateful("RunningSum", lambda at: f"{at}\tkey\t1\n", "FieldInt"), ("each call of a stateful node",)),
