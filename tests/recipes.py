@@ -113,6 +113,8 @@ CASES = [
      '1700000000000\ta,"b\t1\n1700000000000\tk\t\n1700000000999\tk\tx y\n', 1, ":4: not as many fields"),
     ("csv_to_timed.py", ["FILE", "t", "k", "p", ";"], "p;k;t\n1,5;a;0\n", "0\ta\t1,5\n", 0, ""),
     ("csv_to_timed.py", ["FILE", "t", "k", "p"], "t,k,p\nsoon,k,1\n0,a,1\n", "0\ta\t1\n", 1, ": 1 row left out\n"),
+    ("csv_to_timed.py", ["FILE", "-", "k", "p"], "k,-,p\na,9,1\nb,9\nc,9,\n", "0\ta\t1\n0\tc\t\n", 1, ":3: not as many fields"),
+    ("csv_to_timed.py", ["FILE", "-", "k", "q"], "k,p\n", "", 1, "no column ['q']"),
     ("csv_to_timed.py", ["FILE", "t", "k", "q"], "t,k,p\n", "", 1, "no column ['q']"),
 ]
 ACCESS = (
@@ -121,6 +123,7 @@ ACCESS = (
     '1.2.3.4 - - [29/Feb/2024:00:00:00 -0130] "-" 400 7\n'
     '1.2.3.4 - - [30/Feb/2024:00:00:00 +0000] "GET / HTTP/1.1" 200 7\n'
 )
+KEYS = {"status": ("200", "200", "400"), "method": ("GET", "GET", "-"), "host": ("1.2.3.4",) * 3}
 TIMED = '1700000001000\t/index.html\t512\n1700000002000\t/a\\"b\t0\n1709170200000\t-\t7\n'
 
 # What TimedLines takes, and FieldInt of it, at the bounds of times and numbers.
@@ -263,11 +266,15 @@ def main():
         words = [awk, "awk"] if awk == "busybox" else [awk]
         for note in (":4: no line of an access log", ": 1 line left out\n"):
             faults.append(fault_of([*words, "-f", str(RECIPES / "access.awk")], ACCESS, TIMED, 1, note))
+        for key, wanted in KEYS.items():
+            timed = "".join(f"{at}\t{word}\t{size}\n" for word, (at, _, size) in zip(wanted, map(str.split, TIMED.splitlines())))
+            faults.append(fault_of([*words, "-v", f"key={key}", "-f", str(RECIPES / "access.awk")], ACCESS, timed, 1, ": 1 line left out"))
+        faults.append(fault_of([*words, "-v", "key=size", "-f", str(RECIPES / "access.awk")], ACCESS, "", 2, "key is path, status"))
         faults.extend(good_lines_fault(words))
     faults = [*filter(None, faults), *line_faults(), *text_faults(), *memory_fault()]
     for fault in faults:
         print(fault)
-    count = len(CASES) + len(LINES) + len(awks) * (5 + 2 * (len(BAD) + len(NO_NUMBERS)))
+    count = len(CASES) + len(LINES) + len(awks) * (5 + len(KEYS) + 1 + 2 * (len(BAD) + len(NO_NUMBERS)))
     print(f"recipes: {count} cases, awk is {' and '.join(awks) or 'not here'}, {len(faults)} wrong")
     return 1 if faults else 0
 

@@ -1,5 +1,10 @@
 # An access log in the common or combined form: milliseconds, path, bytes. A request of one word, as "-", is its own path.
+# With -v key=status, method or host that stands in place of the path; the method of a request of one word is "-".
 # A line of another form, or with a time that there isn't, is named on standard error and counted, and the status is then 1.
+BEGIN {
+    if (key == "") key = "path"
+    if (key !~ /^(path|status|method|host)$/) { print "key is path, status, method or host" > "/dev/stderr"; exit unknown = 2 }
+}
 BEGIN { for (i = 1; i <= 12; i++) month[substr("JanFebMarAprMayJunJulAugSepOctNovDec", 3 * i - 2, 3)] = i }
 # days from 1970-01-01 to a date of the Gregorian calendar
 function days(y, m, d) {
@@ -22,12 +27,18 @@ match(line, /\[[0-9][0-9]\/[A-Z][a-z][a-z]\/[0-9][0-9][0-9][0-9]:[0-9][0-9]:[0-9
     if (RLENGTH > 0 && (t[2] in month) && is_time(t[3], month[t[2]], t[1], t[4], t[5], t[6], t[7]) && answer[1] ~ /^[0-9]+$/ && answer[2] ~ /^([0-9]+|-)$/) {
         zone = (substr(t[7], 2, 2) * 60 + substr(t[7], 4, 2)) * (substr(t[7], 1, 1) == "-" ? -1 : 1)
         at = ((days(t[3], month[t[2]], t[1]) * 24 + t[4]) * 60 + t[5] - zone) * 60 + t[6]
-        printf("%.0f\t%s\t%s\n", at * 1000, n > 1 ? request[2] : request[1], answer[2] == "-" ? 0 : answer[2])
+        split(line, host, " ")
+        field["path"] = n > 1 ? request[2] : request[1]
+        field["method"] = n > 1 ? request[1] : "-"
+        field["status"] = answer[1]
+        field["host"] = host[1]
+        printf("%.0f\t%s\t%s\n", at * 1000, field[key], answer[2] == "-" ? 0 : answer[2])
         next
     }
 }
 { printf "%s:%d: no line of an access log: %s\n", FILENAME, FNR, line > "/dev/stderr"; bad++ }
 END {
+    if (unknown) exit unknown
     if (bad) printf "%s: %d line%s left out\n", FILENAME, bad, bad == 1 ? "" : "s" > "/dev/stderr"
     exit bad > 0
 }

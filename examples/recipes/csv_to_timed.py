@@ -1,8 +1,9 @@
 """Turns a CSV file into timed lines: csv_to_timed.py FILE TIME KEY PART [DELIMITER]
 
 TIME, KEY and PART are names of columns, as the first line has them; DELIMITER is a comma where it is absent. A time is
-a text in RFC 3339 with a zone, or a number: of seconds below 100000000000, else of milliseconds. A row that has no such
-time, or more or fewer fields than the first, is named on standard error and counted, and the status is then 1.
+a text in RFC 3339 with a zone, or a number: of seconds below 100000000000, else of milliseconds. Where TIME is - all rows
+have the time 0. A row that has no such time, or more or fewer fields than the first, is named on standard error and
+counted, and the status is then 1.
 """
 import csv
 import datetime
@@ -36,15 +37,16 @@ sys.stdout.reconfigure(encoding="utf-8", errors="surrogateescape")
 bad = 0
 with open(name, newline="", encoding="utf-8-sig", errors="surrogateescape") as file:
     rows = csv.DictReader(file, delimiter=delimiter)
-    missing = [column for column in columns if column not in (rows.fieldnames or [])]
+    timeless = columns[0] == "-"
+    missing = [column for column in columns[timeless:] if column not in (rows.fieldnames or [])]
     if missing:
         sys.exit(f"{name}: no column {missing}, but {rows.fieldnames}")
     for row in rows:
-        time, key, part = (str(row[column]).translate(BLANKS) for column in columns)
+        time, key, part = (str(row.get(column)).translate(BLANKS) for column in columns)
         try:
             if None in row or None in row.values():
                 raise ValueError("not as many fields as the first line has")
-            print(milliseconds(time), key, part, sep="\t")
+            print(0 if timeless else milliseconds(time), key, part, sep="\t")
         except ValueError as fault:
             print(f"{name}:{rows.line_num}: {fault}", file=sys.stderr)
             bad += 1
