@@ -1,0 +1,7 @@
+mod Lists
+mod Needs
+pub mod NormalForms
+mod Reaching
+mod Rising
+mod Stairs
+pub mod Trees

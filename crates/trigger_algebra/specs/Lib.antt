@@ -1,0 +1,4 @@
+pub mod Holding
+pub mod Messages
+pub mod Refusing
+pub mod Staircases
