@@ -1,0 +1,2 @@
+mod StableSorts
+pub mod SameValues
