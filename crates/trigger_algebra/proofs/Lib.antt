@@ -1,6 +1,7 @@
 mod Lists
 mod Needs
 pub mod NormalForms
+mod OneStaircase
 mod Reaching
 mod Rising
 mod Stairs

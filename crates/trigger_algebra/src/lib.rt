@@ -7,12 +7,14 @@
 //! `specs/Refusing.antt`, and the staircase in `specs/Staircases.antt`. Read `normal_form.rt` first.
 #![tactic(auto)]
 
+mod laws;
 mod need;
 mod normal_form;
 mod refusal;
 mod refusing;
 mod when;
 
+pub use laws::staircases_met_alike_are_the_same;
 pub use normal_form::normal;
 pub use refusal::{NormalRefusal, WhenRefusal};
 pub use refusing::are_numbers_within;
