@@ -41,6 +41,7 @@ impl View {
         }
     }
 
+    /// Puts a value behind the others.
     pub fn add(&mut self, v: Value) -> Result<(), NoMemory>
         ensures ok { OnOk result (self.new ≡ self.old ++ v ∷ []) }
         ensures err { OnErr result (self.new ≡ self.old) }

@@ -2,3 +2,4 @@ pub mod Holding
 pub mod Messages
 pub mod Refusing
 pub mod Staircases
+mod Vectors

@@ -15,6 +15,7 @@ pub enum Need {
 }
 
 impl Need {
+    /// Whether it is met earlier than the other one.
     pub fn is_less(self, other: Need) -> bool
         ensures { result ≡ is_less self other }
     {

@@ -1,5 +1,5 @@
-ghost use Rattle.std.specs.Prelude.{◌≡◌, ◌≤◌, ◌++◌, ◌↔◌, ℕ, ℤ, true, Some, None, [], IfOk, OnOk, OnErr, length};
-ghost use Rattle.std.specs.Prelude.{flat_map, fold};
+ghost use Rattle.std.specs.Prelude.{◌≡◌, ◌≤◌, ◌++◌, ◌↔◌, ℕ, ℤ, true, IfOk, OnOk, flat_map, fold};
+ghost use Rattle.std.specs.Prelude.{length};
 ghost use Rattle.beam_values.specs.Checked.{are_bars_allowed};
 ghost use Rattle.beam_values.specs.Firing.{met};
 ghost use Rattle.trigger_algebra.specs.declared.refusal.WhenRefusal.{WhenRefusal};
@@ -14,7 +14,7 @@ use crate::{NormalRefusal, When};
 use beam_values::{Bar, List, NoMemory};
 use std::alloc::Global;
 
-/// The staircase of a tree.
+/// The staircase of a tree: bars of which one is met exactly where the tree holds.
 pub fn normal(alloc: Global, when: &When) -> Result<List<Bar>, NormalRefusal>
     ensures exact { IfOk result (λ bars. bars ≡ normal_of when.now) }
     // Where something is unseen, a bar is met exactly where the tree holds.
@@ -36,6 +36,7 @@ pub fn normal(alloc: Global, when: &When) -> Result<List<Bar>, NormalRefusal>
     Ok(stairs(alloc, when)?)
 }
 
+// A bar wherever the need of the tree falls, which it does only at the count of a leaf.
 fn stairs(alloc: Global, when: &When) -> Result<List<Bar>, NoMemory>
     ensures bars { IfOk result (λ bars. bars ≡ normal_of when.now) }
     ensures words { OnOk result (AreWords (rising (counts_of when.now))) }

@@ -1,8 +1,7 @@
-//! Which trees are no triggers. No call takes memory. The depth is judged first, and no deeper than the limit, so that the other
-//! looks are at trees of few levels.
+//! Which trees are no triggers. No call takes memory. The depth is judged first, and no deeper than
+//! the limit, so that the other looks are at trees of few levels.
 
-ghost use Rattle.std.specs.Prelude.{◌≡◌, ◌-◌, if◌then◌else◌, nat_le, Some, None};
-ghost use Rattle.std.specs.Prelude.{length, map};
+ghost use Rattle.std.specs.Prelude.{◌≡◌, ◌-◌, if◌then◌else◌, nat_le, length, map};
 ghost use Rattle.std.specs.List.{flat_map, list_all, list_any};
 ghost use Rattle.trigger_algebra.specs.Refusing.{are_numbers_within, counts_of, depth, greatest_of};
 ghost use Rattle.trigger_algebra.specs.Refusing.{has_empty, leaves, refusal_of};
