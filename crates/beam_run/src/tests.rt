@@ -75,13 +75,14 @@ fn words(alloc: Global, texts: &[&str]) -> Result<Vec<String>, NoMemory> {
     Ok(words)
 }
 
-fn store(alloc: Global, text: &[u8]) -> Result<MemoryStore, NoMemory> {
+// A store over the file `f`. Of its calls, counted from 0, those listed fail.
+fn store(alloc: Global, text: &[u8], failing: &[u64]) -> Result<MemoryStore, NoMemory> {
     let mut files = List::new(alloc);
     files.push(FileText {
         name: Bytes::from_slice(alloc, b"f")?,
         bytes: Bytes::from_slice(alloc, text)?,
     })?;
-    Ok(MemoryStore::new(files, List::new(alloc)))
+    Ok(MemoryStore::new(files, List::from_slice(alloc, failing)?))
 }
 
 // Run this one with each allocation failing in turn: `tests/every_allocation_fails.sh`. The sinks have
@@ -91,7 +92,7 @@ fn four_lines_give_their_panes_or_no_memory(rt: HostRuntime) -> Result<(), Fail>
     let alloc = rt.alloc();
     let words = words(alloc, &["beam_run", "panes", "f", "60000"]);
     let mut stores = Vec::new(alloc);
-    let (Ok(store), Ok(words)) = (store(alloc, FOUR_LINES), words) else {
+    let (Ok(store), Ok(words)) = (store(alloc, FOUR_LINES, &[]), words) else {
         // Memory was short before the command began.
         return Ok(());
     };
@@ -115,7 +116,7 @@ fn four_lines_give_their_panes_or_no_memory(rt: HostRuntime) -> Result<(), Fail>
     Ok(())
 }
 
-// Each line is a bundle.
+// Each line is a bundle. The first read fails, and the bundle that it refuses is finished too.
 #[test]
 fn functions_are_told_of_each_bundle(rt: HostRuntime) -> Result<(), Fail> {
     let alloc = rt.alloc();
@@ -131,7 +132,7 @@ fn functions_are_told_of_each_bundle(rt: HostRuntime) -> Result<(), Fail> {
         bundled.push(Bundled { object, started })?;
     }
     let mut parts = Vec::new(alloc);
-    let store = store(alloc, FOUR_LINES)?;
+    let store = store(alloc, FOUR_LINES, &[1])?;
     parts.push(Parts {
         fns: bundled,
         splits,
@@ -232,7 +233,7 @@ fn panes_of_two_workers<R: Threads + Wait + Abort + Sync, G: Gate>(
 ) -> Result<MemorySink, Fail> {
     let mut stores = Vec::new(alloc);
     for _ in 0..2 {
-        stores.push(store(alloc, text)?)?;
+        stores.push(store(alloc, text, &[])?)?;
     }
     let words = words(alloc, &["beam_run", "panes", "f", "60000"])?;
     let mut note = [0u8; 64];
