@@ -815,6 +815,8 @@ def comes_from_group(plan, at):
 
 # ---- beside the cases
 
+REPEATED = re.compile(r"\{(\d+)\*([^{}]*)\}")
+
 
 class Case:
     """A block that runs a command: its words, its files and what is wanted."""
@@ -832,7 +834,7 @@ class Case:
         elif kind in ("out", "note"):
             setattr(self, kind, getattr(self, kind) + unescaped(rest))
         else:
-            self.fails |= kind in ("fail", "kit")
+            self.fails |= kind in ("fail", "kit", "first")
 
     def is_modelled(self):
         if self.words[:1] not in (["run"], ["combine"]) or self.fails:
@@ -856,7 +858,8 @@ class Case:
 def cases_of(path):
     """The blocks of a file that run a command, each with its line."""
     case = None
-    for at, line in enumerate(pathlib.Path(path).read_text().splitlines(), 1):
+    text = REPEATED.sub(lambda part: int(part[1]) * part[2], pathlib.Path(path).read_text())
+    for at, line in enumerate(text.splitlines(), 1):
         if line.startswith("command "):
             case, start = Case(line.split(" ")[1:]), at
         elif line == "end" and case is not None:

@@ -16,6 +16,9 @@ pub struct Case<'a> {
     // What stands before the next part of the answer.
     separator: &'static [u8],
     fault: Option<&'static str>,
+    // The number of this run, and how long the longest text is of which the runs read the fronts.
+    k: usize,
+    longest: usize,
     alloc: Global,
 }
 
@@ -29,6 +32,8 @@ impl<'a> Case<'a> {
             answer: List::new(alloc),
             separator: b"",
             fault: None,
+            k: 0,
+            longest: 0,
             alloc,
         }
     }
@@ -265,6 +270,51 @@ impl<'a> Case<'a> {
                 0
             }
         }
+    }
+}
+
+/// The runs of a case that reads the first `k` bytes of a text: one for each `k` below the length of that text.
+impl<'a> Case<'a> {
+    /// The run of this `k`, as new.
+    pub fn run_of(alloc: Global, k: usize) -> Case<'a> {
+        let mut run = Case::new(alloc);
+        run.k = k;
+        run
+    }
+
+    /// Whether there is a run after this one.
+    pub fn goes_on(&self) -> bool {
+        self.k < self.longest.saturating_sub(1)
+    }
+
+    /// The first `k` bytes of the text.
+    pub fn front_of<'t>(&mut self, text: &'t [u8]) -> &'t [u8] {
+        self.longest = self.longest.max(text.len());
+        &text[..self.k.min(text.len())]
+    }
+
+    /// A text, or `first k` and a text, for the first `k` bytes of that one.
+    pub fn text_or_front(&mut self) -> Bytes {
+        if self.shows(b'"') {
+            return self.text();
+        }
+        if self.word() != "first" || self.word() != "k" {
+            self.fail("only the first k bytes of a text can be read");
+        }
+        let text = self.text();
+        let mut front = Bytes::new(self.alloc);
+        let part = self.front_of(text.as_slice());
+        self.push_to(&mut front, part);
+        front
+    }
+
+    /// A number, or `k`, or `k+` and a number, for the sum of both.
+    pub fn number_or_k(&mut self) -> u64 {
+        if !self.takes(b'k') {
+            return self.number();
+        }
+        let more = if self.takes(b'+') { self.number() } else { 0 };
+        (self.k as u64).saturating_add(more)
     }
 }
 

@@ -1,7 +1,7 @@
 use std::alloc::{AllocError, Global};
 
 /// The most that a part of a text is repeated.
-const MOST_TIMES: u32 = 20_000;
+const MOST_TIMES: u32 = 2_000_000;
 
 /// A text with each `{COUNT*PART}` written out: the part so many times. Braces round anything else stay.
 pub fn expanded(alloc: Global, text: &str) -> Result<String, AllocError> {

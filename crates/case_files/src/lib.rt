@@ -13,6 +13,7 @@ mod expanded;
 mod nodes;
 mod running;
 mod settings;
+mod stores;
 mod values;
 
 pub use case::Case;
@@ -24,4 +25,5 @@ pub use running::{
 pub use settings::{
     read_estimator, read_mark, read_marks, read_strategy, read_trigger, say_mark, say_strategy,
 };
+pub use stores::shrunk_store;
 pub use values::read_value;

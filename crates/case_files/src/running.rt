@@ -37,7 +37,7 @@ impl Tally {
 }
 
 /// The lines of a file of cases that aren't empty and don't begin with `#`.
-#[derive(Drop)]
+#[derive(Clone, Drop)]
 pub struct Script<'a> {
     lines: Lines<'a>,
     number: u64,

@@ -1,10 +1,10 @@
 ghost use Rattle.std.specs.Prelude.{◌<◌, length};
 
 use beam_command::beam_main;
-use beam_ports::{Gate, MemorySink, MemoryStore, OpenGate, Sink, Store};
-use beam_values::{Bytes, Duplicate, FileText, List, NoMemory};
-use case_files::{Case, Script};
-use dofn_library::{BatchUntil, Dedupe, LatestThenEmit, RunningSum, add_functions};
+use beam_ports::{Gate, MemorySink, MemoryStore, OpenGate, ShrunkStore, Sink, Store};
+use beam_values::{Bytes, Duplicate, FileText, FnKind, List, NoMemory};
+use case_files::{Case, Script, read_function, shrunk_store};
+use dofn_library::{BatchUntil, Dedupe, LatestThenEmit, RunningSum, Scripted, add_functions};
 use dofn_traits::{BoxShelf, DoFn, Shelf, SplittableFn, StatefulFn};
 use itoa::Buffer;
 use run_engine::Kit;
@@ -29,12 +29,17 @@ struct Setting {
     most_taken: usize,
 }
 
-// So many kits, each with a store of its own over the same files.
+// So many kits, each with a store of its own over the same files, and the calls of the store and of a function that fail.
 #[derive(Drop)]
 struct KitSetting {
     count: u32,
     files: List<FileText>,
+    // How long the store says that each file is, and whether it says more than there is.
+    lengths: List<u64>,
+    is_shrunk: bool,
     failing_reads: List<u64>,
+    function: Option<FnKind>,
+    failing_calls: List<u64>,
 }
 
 impl KitSetting {
@@ -42,7 +47,11 @@ impl KitSetting {
         KitSetting {
             count: 1,
             files: List::new(alloc),
+            lengths: List::new(alloc),
+            is_shrunk: false,
             failing_reads: List::new(alloc),
+            function: None,
+            failing_calls: List::new(alloc),
         }
     }
 }
@@ -52,6 +61,8 @@ impl KitSetting {
 struct Wanted {
     status: u8,
     out: Bytes,
+    // Whether only the first `k` bytes of `out` are written.
+    is_front: bool,
     notes: Bytes,
 }
 
@@ -74,6 +85,7 @@ pub fn answer_command<'a, R: Threads + Wait + Sync>(
     let mut wanted = Wanted {
         status: 0,
         out: Bytes::new(alloc),
+        is_front: false,
         notes: Bytes::new(alloc),
     };
     read_words(case, &mut setting);
@@ -122,20 +134,38 @@ fn read_lines<'a>(
 
 fn read_line(case: &mut Case<'_>, setting: &mut Setting, wanted: &mut Wanted) {
     match case.word() {
-        "file" => {
-            let name = case.text();
-            let bytes = case.text();
-            case.keep(&mut setting.kit.files, FileText { name, bytes });
-        }
+        "file" => read_file(case, &mut setting.kit),
         "kits" => setting.kit.count = case.number(),
         "kit" => next_kit(case, setting),
         "fail" => read_failing(case, setting),
         "take" => setting.most_taken = case.number(),
         "status" => wanted.status = case.number(),
         "out" => read_more(case, &mut wanted.out),
+        "first" => wanted.is_front = case.word() == "k" && case.word() == "out",
         "note" => read_more(case, &mut wanted.notes),
         _ => case.fail("a command has no such line"),
     }
+}
+
+// A file, and the length that the store says of it where that isn't its own.
+fn read_file(case: &mut Case<'_>, kit: &mut KitSetting) {
+    let name = case.text();
+    let bytes = case.text_or_front();
+    let len = if case.is_over() {
+        bytes.len() as u64
+    } else {
+        kit.is_shrunk = true;
+        read_said(case)
+    };
+    case.keep(&mut kit.lengths, len);
+    case.keep(&mut kit.files, FileText { name, bytes });
+}
+
+fn read_said(case: &mut Case<'_>) -> u64 {
+    if case.word() != "says" {
+        case.fail("a file says a length");
+    }
+    case.number()
 }
 
 // The lines that follow belong to a kit of their own.
@@ -158,13 +188,17 @@ fn read_failing(case: &mut Case<'_>, setting: &mut Setting) {
         "store" => &mut setting.kit.failing_reads,
         "out" => &mut setting.failing_writes,
         "notes" => &mut setting.failing_notes,
-        _ => return case.fail("calls fail of store, out or notes"),
+        "function" => {
+            setting.kit.function = Some(read_function(case));
+            &mut setting.kit.failing_calls
+        }
+        _ => return case.fail("calls fail of store, out, notes or a function"),
     };
     for _ in 0..case.left() {
         if case.is_over() {
             break;
         }
-        let call = case.number();
+        let call = case.number_or_k();
         case.keep(calls, call);
     }
 }
@@ -172,7 +206,11 @@ fn read_failing(case: &mut Case<'_>, setting: &mut Setting) {
 fn expect(case: &mut Case<'_>, wanted: &Wanted) {
     case.expect(Buffer::new().format(wanted.status).as_bytes());
     case.expect(b" ");
-    case.expect(wanted.out.as_slice());
+    let mut out = wanted.out.as_slice();
+    if wanted.is_front {
+        out = case.front_of(out);
+    }
+    case.expect(out);
     case.expect(b" ");
     case.expect(wanted.notes.as_slice());
 }
@@ -200,28 +238,80 @@ fn run<R: Threads + Wait + Sync>(rt: &R, setting: Setting, case: &mut Case<'_>) 
     } = setting;
     let mut out = MemorySink::new(alloc, most_taken.max(1), failing_writes);
     let mut notes = MemorySink::new(alloc, USUAL_WRITE, failing_notes);
-    run_all(
-        rt,
-        words.as_slice(),
-        kits.as_slice(),
-        &mut out,
-        &mut notes,
-        case,
-    );
+    let (words, kits) = (words.as_slice(), kits.as_slice());
+    if kits.iter().any(|kit| kit.is_shrunk) {
+        run_all::<R, ShrunkStore>(rt, words, kits, &mut out, &mut notes, case);
+    } else {
+        run_all::<R, MemoryStore>(rt, words, kits, &mut out, &mut notes, case);
+    }
+}
+
+/// A store that a case can describe.
+trait CaseStore: Store + Drop {
+    /// The store of a kit, or `None` and a fault of the case.
+    fn of_kit(kit: &KitSetting, case: &mut Case<'_>) -> Option<Self>;
+}
+
+impl CaseStore for MemoryStore {
+    fn of_kit(kit: &KitSetting, case: &mut Case<'_>) -> Option<MemoryStore> {
+        let files = copied_files(kit, case);
+        let failing = copied_numbers(&kit.failing_reads, case);
+        Some(MemoryStore::new(files, failing))
+    }
+}
+
+impl CaseStore for ShrunkStore {
+    fn of_kit(kit: &KitSetting, case: &mut Case<'_>) -> Option<ShrunkStore> {
+        if !kit.failing_reads.is_empty() {
+            case.fail("a store fails at its calls, or where a file is shorter than it says");
+        }
+        let files = copied_files(kit, case);
+        let lengths = copied_numbers(&kit.lengths, case);
+        shrunk_store(files, lengths, case)
+    }
+}
+
+fn copied_files(kit: &KitSetting, case: &mut Case<'_>) -> List<FileText> {
+    let alloc = case.alloc();
+    let mut files = List::new(alloc);
+    for file in kit.files.as_slice() {
+        match copied(alloc, file) {
+            Ok(file) => case.keep(&mut files, file),
+            Err(refused) => case.no_memory(refused),
+        }
+    }
+    files
+}
+
+fn copied(alloc: Global, file: &FileText) -> Result<FileText, NoMemory> {
+    Ok(FileText {
+        name: file.name.duplicate(alloc)?,
+        bytes: file.bytes.duplicate(alloc)?,
+    })
+}
+
+fn copied_numbers(numbers: &List<u64>, case: &mut Case<'_>) -> List<u64> {
+    match numbers.duplicate(case.alloc()) {
+        Ok(copy) => copy,
+        Err(refused) => {
+            case.no_memory(refused);
+            List::new(case.alloc())
+        }
+    }
 }
 
 // What a kit is made of.
 #[derive(Drop)]
-struct Parts<D, P, T> {
+struct Parts<D, P, T, S> {
     fns: List<D>,
     splits: List<P>,
     states: List<T>,
-    store: MemoryStore,
+    store: S,
 }
 
 // Runs the command with a kit of boxes for each that is set. It leaves at one place alone: a way out in the
 // middle would drop all the boxes there, and each such place is dear to prove.
-fn run_all<R: Threads + Wait + Sync>(
+fn run_all<R: Threads + Wait + Sync, S: CaseStore>(
     rt: &R,
     words: &[String],
     settings: &[KitSetting],
@@ -241,24 +331,42 @@ fn run_all<R: Threads + Wait + Sync>(
             case.all_kept(
                 add_boxes!(alloc, states; Dedupe, RunningSum, BatchUntil, LatestThenEmit),
             );
+            let fns = scripted(setting, fns, case);
             add_parts(setting, fns, splits, states, &mut parts, case);
         }
     }
-    run_with(rt, words, parts, out, notes, case);
+    run_with::<R, _, _, _, S>(rt, words, parts, out, notes, case);
+}
+
+// The functions, of which the one that the setting names fails at its calls.
+fn scripted<D: DoFn + Drop>(
+    setting: &KitSetting,
+    fns: List<D>,
+    case: &mut Case<'_>,
+) -> List<Scripted<D>> {
+    let mut all = List::new(case.alloc());
+    for object in fns.into_vec() {
+        let failing = if setting.function == Some(object.kind()) {
+            copied_numbers(&setting.failing_calls, case)
+        } else {
+            List::new(case.alloc())
+        };
+        case.keep(&mut all, Scripted::new(object, failing));
+    }
+    all
 }
 
 // The parts of one more kit, with a store of its own.
-fn add_parts<D: Drop, P: Drop, T: Drop>(
+fn add_parts<D: Drop, P: Drop, T: Drop, S: CaseStore>(
     setting: &KitSetting,
     fns: List<D>,
     splits: List<P>,
     states: List<T>,
-    parts: &mut Vec<Parts<D, P, T>>,
+    parts: &mut Vec<Parts<D, P, T, S>>,
     case: &mut Case<'_>,
 ) {
-    let store = match store_of(case.alloc(), setting) {
-        Ok(store) => store,
-        Err(refused) => return case.no_memory(refused),
+    let Some(store) = S::of_kit(setting, case) else {
+        return;
     };
     let own = Parts {
         fns,
@@ -271,22 +379,11 @@ fn add_parts<D: Drop, P: Drop, T: Drop>(
     }
 }
 
-fn store_of(alloc: Global, kit: &KitSetting) -> Result<MemoryStore, NoMemory> {
-    let mut files = List::new(alloc);
-    for file in kit.files.as_slice() {
-        files.push(FileText {
-            name: file.name.duplicate(alloc)?,
-            bytes: file.bytes.duplicate(alloc)?,
-        })?;
-    }
-    Ok(MemoryStore::new(files, kit.failing_reads.duplicate(alloc)?))
-}
-
 // Runs the command with a kit of each of these parts.
-fn run_with<R: Threads + Wait + Sync, D: DoFn, P: SplittableFn, T: StatefulFn>(
+fn run_with<R: Threads + Wait + Sync, D: DoFn, P: SplittableFn, T: StatefulFn, S: Store + Drop>(
     rt: &R,
     words: &[String],
-    parts: Vec<Parts<D, P, T>>,
+    parts: Vec<Parts<D, P, T, S>>,
     out: &mut MemorySink,
     notes: &mut MemorySink,
     case: &mut Case<'_>,
@@ -298,9 +395,9 @@ fn run_with<R: Threads + Wait + Sync, D: DoFn, P: SplittableFn, T: StatefulFn>(
     run_kits(rt, words, &mut kits, out, notes, case);
 }
 
-fn add_kit<D: DoFn, P: SplittableFn, T: StatefulFn>(
-    part: Parts<D, P, T>,
-    kits: &mut Vec<Kit<BoxShelf<D, P, T>, MemoryStore>>,
+fn add_kit<D: DoFn, P: SplittableFn, T: StatefulFn, S: Store + Drop>(
+    part: Parts<D, P, T, S>,
+    kits: &mut Vec<Kit<BoxShelf<D, P, T>, S>>,
     case: &mut Case<'_>,
 ) {
     let Parts {
@@ -315,9 +412,9 @@ fn add_kit<D: DoFn, P: SplittableFn, T: StatefulFn>(
     }
 }
 
-fn keep_kit<F: Shelf + Drop>(
-    kit: Kit<F, MemoryStore>,
-    kits: &mut Vec<Kit<F, MemoryStore>>,
+fn keep_kit<F: Shelf + Drop, S: Store + Drop>(
+    kit: Kit<F, S>,
+    kits: &mut Vec<Kit<F, S>>,
     case: &mut Case<'_>,
 ) {
     if kits.push(kit).is_err() {
@@ -325,10 +422,10 @@ fn keep_kit<F: Shelf + Drop>(
     }
 }
 
-fn run_kits<R: Threads + Wait + Sync, F: Shelf>(
+fn run_kits<R: Threads + Wait + Sync, F: Shelf, S: Store>(
     rt: &R,
     words: &[String],
-    kits: &mut Vec<Kit<F, MemoryStore>>,
+    kits: &mut Vec<Kit<F, S>>,
     out: &mut MemorySink,
     notes: &mut MemorySink,
     case: &mut Case<'_>,

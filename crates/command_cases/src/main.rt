@@ -43,16 +43,24 @@ fn run_file<R: Files + Print + AllocGlobal + Threads + Wait + Sync>(
     Ok(tally)
 }
 
-// Runs the case that begins with the line.
+// Runs the case that begins with the line, each run of it over the same lines, up to one that doesn't pass.
 fn passes<'a, R: Print + AllocGlobal + Threads + Wait + Sync>(
     rt: &R,
     name: &str,
     line: &'a str,
     script: &mut Script<'a>,
 ) -> io::Result<bool> {
+    let block = script.clone()?;
     let mut case = Case::new(rt.alloc());
-    case.read(line);
-    answer(rt, script, &mut case);
+    for k in 0..usize::MAX {
+        *script = block.clone()?;
+        case = Case::run_of(rt.alloc(), k);
+        case.read(line);
+        answer(rt, script, &mut case);
+        if !case.passes() || !case.goes_on() {
+            break;
+        }
+    }
     is_shown_to_pass(rt, name, script, &case)
 }
 
