@@ -1,5 +1,5 @@
 -- Four lists side by side, cut in two.
-use Rattle.std.proofs.Common.{◌≡◌, ◌+◌, List, [], ◌∷◌, ◌++◌, length, sym, subst, arith}
+use Rattle.std.proofs.Common.{◌≡◌, List, [], ◌∷◌, ◌++◌, length, sym, subst, arith}
 use Rattle.bundle_work.specs.Pairs.{AreBoth, EachPairBecomes}
 
 module _ {A B : Type 0} (P : A → A → B → B → Type 0) where

@@ -41,8 +41,9 @@ use Rattle.sdf_library.specs.Paging.{Paged}
 use Rattle.known_jobs.specs.Calls.{CanCommitAs, holds_end}
 use Rattle.known_jobs.specs.Jobs.{KnownJob, Setting}
 use Rattle.bundle_work.specs.Bundles.{CanRead, HasClaimed, HasClaimedTo, IsJobRefused, IsPieceEnd, IsPieceRefused, IsPieceWorked, IsWorkRefused, item_of}
-use Rattle.bundle_work.specs.Reading.{HasTurned, IsPagerFor, IsReading, fresh_pager, AreReaders, AreReadersOf, AreToldReaders, IsReaderOf, is_reader_for, length_in}
+use Rattle.bundle_work.specs.Reading.{HasTurned, IsPagerFor, IsReading, IsReleased, StaysReading, fresh_pager, AreReaders, AreReadersOf, AreToldReaders, IsReaderOf, is_reader_for, length_in}
 use Rattle.bundle_work.specs.declared.reading.Reader.{Reader}
+use Rattle.bundle_work.specs.declared.bundles.Worker.{Worker}
 use Rattle.bundle_work.proofs.Jobs.{job_given, job_refused}
 use Rattle.bundle_work.proofs.PieceWork.{fit_none, fit_plausible, seen_over_quiet}
 
@@ -296,6 +297,29 @@ pub reading_same : (files : Option (List FileText)) (opened : ℕ → Option Ope
 reading_same files opened plan readers later place at pager new a b c is =
     subst (λ (l : List Reader). IsReading files opened plan l at new) (sym a)
     (subst (λ (k : ℕ). IsReading files opened plan readers k new) (sym b) (subst (λ (p : Paged). IsReading files opened plan readers place p) (sym c) is))
+
+-- ---- a worker that gives up what it holds
+
+released_pager : (opened : ℕ → Option Opening) (plan : Plan) (reader : Reader) (pager : Paged) → IsPagerFor opened plan reader pager → IsPagerFor opened plan reader (record pager { base = 0; bytes = [] })
+released_pager opened plan reader pager is = record {
+  file = is.file;
+  len = is.len;
+  able = record {
+    source = is.able.source;
+    counted = is.able.counted;
+    held = λ source here reads. let of = is.able.held source here reads in record { opened = of.opened; held = λ text told whole. refl; quiet = of.quiet };
+  };
+}
+
+-- it reads what it read
+pub released_reading : (worker later : Worker) → IsReleased worker later → StaysReading worker later
+released_reading worker later is = record {
+  readers = ap (λ (w : Worker). w.readers.items) is;
+  reading = λ told opened plan was.
+      reading_same told opened plan worker.readers.items later.readers.items worker.place later.place (record worker.bench.pager { base = 0; bytes = [] }) later.bench.pager
+      (ap (λ (w : Worker). w.readers.items) is) (ap (λ (w : Worker). w.place) is) (ap (λ (w : Worker). w.bench.pager) is)
+      (record { all = was.all; last = λ reader at. released_pager opened plan reader worker.bench.pager (was.last reader at) });
+}
 
 -- ---- what is given for a piece whose positions were worked with its reader, or why that was refused
 

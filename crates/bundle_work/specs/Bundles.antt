@@ -1,5 +1,5 @@
 -- What a worker's work on one job brings, or why it was refused.
-use Rattle.std.specs.Prelude.{◌≡◌, ℕ, ◌<◌, ◌≤◌, ℤ, ◌≤ℤ◌, ◌+ℤ◌, true, Bool, List, [], Option, Some, None, IsSome, Result, OnOk, IfErr}
+use Rattle.std.specs.Prelude.{◌≡◌, ℕ, ◌<◌, ◌≤◌, ◌≤ℤ◌, ◌+ℤ◌, true, Bool, List, [], Option, Some, None, IsSome, Result, OnOk, IfErr}
 use Rattle.std.specs.Option.{ForSome}
 use Rattle.beam_values.specs.Strategies.{greatest_length}
 use Rattle.beam_values.specs.Times.{greatest_time}

@@ -2,6 +2,7 @@
 use Rattle.std.specs.Prelude.{◌≡◌, ℕ, ◌+◌, ◌||◌, Bool, true, false, not, List, [], ◌∷◌, ◌++◌, length, map, take, drop, Option, Some, None, IsSomeAnd, ◌⊎◌, slice_get}
 use Rattle.std.specs.List.{enumerate_from}
 use Rattle.beam_values.specs.Checked.{reads_file}
+use Rattle.beam_values.specs.Times.{least_time}
 use Rattle.beam_values.specs.declared.file_text.FileText.{FileText}
 use Rattle.beam_values.specs.declared.piece.FileLen.{FileLen}
 use Rattle.beam_values.specs.declared.piece.Piece.{Piece}
@@ -23,6 +24,7 @@ use Rattle.sdf_library.specs.Paging.{Paged}
 use Rattle.bundle_work.specs.Bundles.{CanRead}
 use Rattle.bundle_work.specs.Openings.{names_in}
 use Rattle.bundle_work.specs.declared.reading.Reader.{Reader}
+use Rattle.bundle_work.specs.declared.bundles.Worker.{Worker}
 
 -- ---- the readers of a plan, before anything is read
 
@@ -113,3 +115,22 @@ pub record HasTurned (piece : Piece) (readers : List Reader) (place later : ℕ)
   pub at : slice_get readers later ≡ Some reader
   pub is_for : is_reader_for piece reader ≡ true
   pub held : ((later ≡ place) × (new ≡ pager)) ⊎ (new ≡ fresh_pager reader)
+
+-- ---- a worker that gives up what it holds
+
+-- Of the item that was read last nothing is held, and nothing is staged. Of the lists that are used again nothing is said; all else is as it was.
+abbrev pub IsReleased : Worker → Worker → Type 0
+IsReleased worker later =
+    later ≡ record worker {
+      bench = record worker.bench {
+        pager = record worker.bench.pager { base = 0; bytes = [] };
+        buffers = later.bench.buffers;
+        staging = record { arrivals = []; seen = least_time; logged = None };
+      };
+    }
+
+-- the worker has the same readers, and reads what it read, whatever that is
+pub record StaysReading (worker later : Worker) : Type 0 where
+  pub readers : later.readers.items ≡ worker.readers.items
+  pub reading : (told : Option (List FileText)) (opened : ℕ → Option Opening) (plan : Plan)
+      → IsReading told opened plan worker.readers.items worker.place worker.bench.pager → IsReading told opened plan later.readers.items later.place later.bench.pager

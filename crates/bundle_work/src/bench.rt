@@ -1,7 +1,7 @@
 //! Positions of an item, worked one after another and then claimed by one claim of the last of them.
-ghost use Rattle.std.specs.Prelude.{◌≡◌, ◌≤◌, ◌<◌, ◌≤ℤ◌, ◌∷◌, length, All, IfOk, IfErr, OnOk, OnErr};
-ghost use Rattle.std.specs.Prelude.{IsTrue};
-ghost use Rattle.beam_values.specs.Times.{greatest_time};
+ghost use Rattle.std.specs.Prelude.{◌≡◌, ◌≤◌, ◌<◌, ◌≤ℤ◌, [], ◌∷◌, None, length, All, IfOk, IfErr};
+ghost use Rattle.std.specs.Prelude.{IsTrue, OnOk, OnErr};
+ghost use Rattle.beam_values.specs.Times.{greatest_time, least_time};
 ghost use Rattle.beam_model.specs.Positions.{Emission};
 ghost use Rattle.beam_model.specs.Spread.{emission_outputs};
 ghost use Rattle.chain_exec.specs.Causes.{observed_shelf};
@@ -121,6 +121,20 @@ impl Bench {
             staging: Staging::new(alloc, Time::LEAST),
             trail: Trail::new(alloc)?,
         })
+    }
+
+    /// Gives up the bytes of the item that was read last, what is staged and the lists that are used again, and their
+    /// memory. Takes none.
+    pub fn release(&mut self)
+        ensures { self.new ≡ record self.old {
+          pager = record self.old.pager { base = 0; bytes = [] };
+          buffers = self.new.buffers;
+          staging = record { arrivals = []; seen = least_time; logged = None };
+        } }
+    {
+        self.pager.release();
+        self.buffers = Buffers::new(self.alloc);
+        self.staging = Staging::new(self.alloc, Time::LEAST);
     }
 
     /// What was staged, of which a worker takes hold. What was seen is a time.

@@ -20,8 +20,8 @@ ghost use Rattle.bundle_work.specs.Bundles.{CanRead, HasClaimedTo, IsFit, IsJobR
 ghost use Rattle.bundle_work.specs.Bundles.{IsPieceEnd, StaysAble, counts_of};
 ghost use Rattle.bundle_work.specs.Openings.{AreOpened, file_names};
 ghost use Rattle.bundle_work.specs.Outside.{IsKitKept};
-ghost use Rattle.bundle_work.specs.Reading.{HasTurned, IsReading, is_reader_for, length_in};
-ghost use Rattle.bundle_work.specs.Reading.{opened_lengths};
+ghost use Rattle.bundle_work.specs.Reading.{HasTurned, IsReading, IsReleased, StaysReading};
+ghost use Rattle.bundle_work.specs.Reading.{is_reader_for, length_in, opened_lengths};
 
 use crate::bench::{Bench, Progress, Stretch, longer};
 use crate::claims::Claims;
@@ -80,6 +80,15 @@ impl Worker {
             more: 0,
             bundle: options.bundle,
         })
+    }
+
+    /// Gives up what is held only so that the next job takes less: the bytes of the item that was read last, what is
+    /// staged, and the lists that are used again. What the next job needs is read and made anew. Takes no memory.
+    pub fn release(&mut self)
+        ensures released { IsReleased self.old self.new }
+        ensures reading { StaysReading self.old self.new }
+    {
+        self.bench.release();
     }
 
     /// Works a job that was just taken, of a piece a bundle of its positions; the functions are told when the bundle

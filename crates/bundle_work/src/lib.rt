@@ -7,7 +7,8 @@
 //! job failed, which was counted by the shelf or the store and is honest to tell of it; or there was no memory. Where it
 //! answers Ok a position of the range was attempted, if it has one. Elements are worked between claims, a stretch of them
 //! before the claim of its last position; what turns out to be another's is dropped again. Nothing that is promised depends
-//! on how large pieces, bundles and stretches are. [`each_pair`] does a job at each place of two slices, in threads.
+//! on how large pieces, bundles and stretches are. [`Worker::release`] gives up what is held only to be faster, and the
+//! worker goes on as before. [`each_pair`] does a job at each place of two slices, in threads.
 //!
 //! Read `claims.rt` first, then `bundles.rt`, `bench.rt` and `reading.rt`.
 #![tactic(auto)]

@@ -1,9 +1,10 @@
 -- How workers end, and what is counted of their fails.
-use Rattle.std.specs.Prelude.{◌≡◌, ◌⊎◌, ℕ, ◌+◌, ◌≤◌, Bool, false, List, [], ◌∷◌, ◌++◌, length, unwrap_or, Option, Some, None}
+use Rattle.std.specs.Prelude.{◌≡◌, ◌⊎◌, ℕ, ◌+◌, ◌≤◌, Bool, true, false, List, [], ◌∷◌, ◌++◌, length, map, unwrap_or, Option, Some, None}
 use Rattle.std.specs.List.{sum_by}
 use Rattle.beam_values.specs.declared.fault.Cause.{Cause}
 use Rattle.beam_values.specs.declared.fault.FaultNote.{FaultNote}
 use Rattle.beam_values.specs.declared.file_text.FileText.{FileText}
+use Rattle.beam_values.specs.declared.plan.Plan.{Plan}
 use Rattle.beam_ports.specs.Counts.{Rose, rise}
 use Rattle.beam_ports.specs.Files.{Opening}
 use Rattle.beam_ports.specs.Observed.{ObservedStore, observed_store}
@@ -21,6 +22,8 @@ use Rattle.known_jobs.specs.Jobs.{Setting}
 use Rattle.worker_table.specs.Passes.{IsOf, entry_of, note_of_pass, setting_of, slot_of}
 use Rattle.worker_table.specs.declared.pass.Table.{Table}
 use Rattle.bundle_work.specs.Outside.{IsKitKept}
+use Rattle.bundle_work.specs.Reading.{IsReading, length_in}
+use Rattle.bundle_work.specs.declared.bundles.Worker.{Worker}
 use Rattle.bundle_work.specs.declared.kit.Kit.{Kit}
 use Rattle.worker_loop.specs.declared.workers.WorkerEnd.{WorkerEnd}
 use Rattle.worker_loop.specs.declared.workers.WorkerEnd.TheVariants as end
@@ -78,6 +81,27 @@ pub record FailsOnce (shelf : ObservedShelf) (store : ObservedStore) (entry late
 abbrev pub CountsOn : FaultShare → FaultShare → Entry → Entry → Type 0
 CountsOn share later entry entry_later =
     (first : FaultShare) → share ≡ share_with first entry.calls entry.reads → later ≡ share_with first entry_later.calls entry_later.reads
+
+-- and both
+pub record HasCounted (shelf : ObservedShelf) (store : ObservedStore) (before after : FaultShare) (entry later : Entry) : Type 0 where
+  pub fails : FailsOnce shelf store entry later
+  pub share : CountsOn before after entry later
+
+-- What a worker needs to go on: it has the plan and, as far as shelves are known to be strict, a strict shelf; and its readers are those of the plan, with the
+-- lengths of the items.
+pub record IsAtWork {F S : Type 0} (is_strict : F → Bool) (opened_by : S → ℕ → Option Opening) (setting : Setting) (graph : Plan) (kit : Kit F S) (worker : Worker) : Type 0 where
+  pub plan : graph ≡ setting.plan
+  pub strict : setting.known.strict ≡ true → is_strict kit.shelf ≡ true
+  pub reading : IsReading setting.known.told (opened_by kit.store) graph worker.readers.items worker.place worker.bench.pager
+  pub lengths : map length_in worker.readers.items ≡ setting.files
+
+-- what a job leaves of a worker and of its kit
+pub record StaysAtWork {F S : Type 0} (faults_of : F → ℕ) (is_strict : F → Bool) (fails_of : S → ℕ) (files_of : S → Option (List FileText)) (opened_by : S → ℕ → Option Opening)
+    (setting : Setting) (graph : Plan) (kit after : Kit F S) (worker later : Worker) : Type 0 where
+  pub reading : IsReading setting.known.told (opened_by after.store) graph later.readers.items later.place later.bench.pager
+  pub readers : later.readers.items ≡ worker.readers.items
+  pub kept : IsKitKept faults_of is_strict fails_of files_of opened_by kit.shelf after.shelf kit.store after.store
+  pub files : after.files ≡ kit.files
 
 -- ---- all workers
 

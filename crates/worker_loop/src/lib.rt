@@ -1,5 +1,6 @@
 //! Workers that take jobs at one table, work them with kits of their own, and commit them or give them back, until no job
-//! is left or the book is stopped.
+//! is left or the book is stopped. Where a commit finds no memory, a worker gives up what it holds only to be faster, and
+//! commits the same receipt once more.
 //!
 //! [`work`] is one worker, and [`work_all`] one worker for each kit, in threads of their own. The layer above may rely
 //! on this. A worker finishes only where a take of its own found no job left; else the book is stopped when it ends. Each
@@ -12,7 +13,6 @@
 #![tactic(auto)]
 
 mod crew;
-mod shop;
 mod turns;
 mod workers;
 

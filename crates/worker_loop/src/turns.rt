@@ -17,7 +17,8 @@ impl<'a, R: Wait, G: Gate> Claims for Turns<'a, R, G> {
     type Pass = WorkerPass;
 
     ghost use Rattle.std.specs.Prelude.{IsSome};
-    ghost use Rattle.worker_table.specs.Passes.{IsOf, job_known, note_of_pass, slot_of};
+    ghost use Rattle.worker_table.specs.Passes.{IsOf, job_known, note_of_pass, setting_of};
+    ghost use Rattle.worker_table.specs.Passes.{slot_of};
     ghost use Rattle.worker_loop.specs.Laws.{OnlyClaims};
     ghost use Rattle.worker_loop.specs.Laws.{claims_onward, claims_same};
 
@@ -25,12 +26,14 @@ impl<'a, R: Wait, G: Gate> Claims for Turns<'a, R, G> {
 
     ghost known = { λ turns pass. job_known pass };
 
-    ghost stays = { λ turns first last. OnlyClaims (note_of_pass first) (note_of_pass last) };
+    ghost stays = { λ turns first last. OnlyClaims (setting_of turns.table.now)
+        (note_of_pass first) (note_of_pass last) };
 
-    ghost stays_same = { λ turns pass. claims_same (note_of_pass pass) };
+    ghost stays_same = { λ turns pass. claims_same (setting_of turns.table.now)
+        (note_of_pass pass) };
 
-    ghost stays_on = { λ turns first next last.
-        claims_onward (note_of_pass first) (note_of_pass next) (note_of_pass last) };
+    ghost stays_on = { λ turns first next last. claims_onward (setting_of turns.table.now)
+        (note_of_pass first) (note_of_pass next) (note_of_pass last) };
 
     fn claim_end(&self, pass: &mut WorkerPass, p: u64) -> u64 {
         self.gate.pass(self.slot, GatePoint::Claim);

@@ -1,28 +1,28 @@
 //! One worker, with a kit of its own.
-ghost use Rattle.std.specs.Prelude.{◌≡◌, ◌≤◌, map, None, Some, IsSome, true, false};
+ghost use Rattle.std.specs.Prelude.{◌≡◌, ◌≤◌, None, Some, false};
 ghost use Rattle.beam_ports.specs.Counts.{greatest_count};
 ghost use Rattle.beam_ports.specs.Observed.{observed_store};
 ghost use Rattle.book_core.specs.Steps.{Fail};
 ghost use Rattle.chain_exec.specs.Causes.{observed_shelf};
 ghost use Rattle.retry_core.specs.Shares.{share_after};
-ghost use Rattle.known_jobs.specs.Calls.{CanCommitAs, CanFailAs, IsJobIn};
-ghost use Rattle.worker_table.specs.Calls.{KeepsSlot};
+ghost use Rattle.known_jobs.specs.Calls.{CanCommitAs, CanFailAs};
+ghost use Rattle.worker_table.specs.Calls.{AfterCommit, AfterHelp, GoesOnAs, KeepsSlot};
 ghost use Rattle.known_jobs.specs.Calls.{calls_after, reads_after};
 ghost use Rattle.worker_table.specs.Passes.{IsOf, entry_of, job_known, note_of_pass, setting_of};
 ghost use Rattle.worker_table.specs.Passes.{slot_of};
 ghost use Rattle.worker_table.specs.Turns.{KeepsOthers};
 ghost use Rattle.bundle_work.specs.Kits.{IsKitFor};
-ghost use Rattle.bundle_work.specs.Outside.{IsKitKept};
-ghost use Rattle.bundle_work.specs.Reading.{IsReading, length_in};
-ghost use Rattle.worker_loop.specs.Workers.{AreFailsCounted, CountsOn, EndsAs, FailsOnce};
-ghost use Rattle.worker_loop.specs.Workers.{GoesOnOrEnds, share_with};
+ghost use Rattle.bundle_work.specs.Reading.{StaysReading};
+ghost use Rattle.worker_loop.specs.Rounds.{HasFailed, HasGivenUp, HasHandedIn, HasLooked};
+ghost use Rattle.worker_loop.specs.Rounds.{HasPlaced, HasWorked, IsRound};
+ghost use Rattle.worker_loop.specs.Workers.{EndsAs, GoesOnOrEnds, HasCounted, IsAtWork};
+ghost use Rattle.worker_loop.specs.Workers.{IsKitDone, StaysAtWork, share_with};
 
-use crate::shop::Shop;
 use crate::turns::Turns;
 use beam_ports::{Gate, GatePoint, Store};
 use beam_values::{Cause, NoMemory, Options};
-use book_core::{Failure, Taken};
-use bundle_commit::{Job, Receipt};
+use book_core::{Failure, Taken, Unplaced};
+use bundle_commit::Receipt;
 use bundle_work::{Kit, Worker};
 use chain_exec::ExecRefusal;
 use dofn_traits::Shelf;
@@ -45,8 +45,9 @@ pub enum WorkerEnd {
 }
 
 /// Works jobs of a table until none is left or the book is stopped. Where it finds no memory, it stops the
-/// book. What is promised is how it ended, what it counted and what it leaves of its pass and its kit. No clause
-/// says that it enrolls first, nor that it names its slot to the gate.
+/// book; a commit that finds none is tried once more, and a split that finds none is done without. What is promised is
+/// in which turns it worked, how it ended, what it counted and what it leaves of its pass and its kit. No clause says
+/// that it names its slot to the gate.
 pub fn work<R: Wait, F: Shelf, S: Store, G: Gate>(
     rt: &R,
     alloc: Global,
@@ -65,77 +66,40 @@ pub fn work<R: Wait, F: Shelf, S: Store, G: Gate>(
     requires kit { IsKitFor F.strict S.files S.opened (setting_of table.now) kit.old }
     ensures table { IsOf table.now pass.new }
     ensures ended { EndsAs (setting_of table.now) result (entry_of pass.new) }
+    ensures turns { HasWorked (setting_of table.now)
+        (note_of_pass pass.old) (note_of_pass pass.new) result }
     ensures others { KeepsOthers (note_of_pass pass.old) (note_of_pass pass.new) }
     ensures share { share.new
         ≡ share_with share.old (entry_of pass.new).calls (entry_of pass.new).reads }
-    ensures counted { AreFailsCounted (observed_shelf F.strict F.faults kit.old.shelf kit.new.shelf)
-        (observed_store S.files S.faults kit.old.store kit.new.store) (entry_of pass.new) }
-    ensures kept { IsKitKept F.faults F.strict S.faults S.files S.opened
-        kit.old.shelf kit.new.shelf kit.old.store kit.new.store }
-    ensures files { kit.new.files ≡ kit.old.files }
+    ensures kit { IsKitDone F.strict F.faults S.files S.faults S.opened
+        kit.old kit.new (entry_of pass.new) }
 {
-    let shop = Shop {
-        alloc,
-        table,
-        graph,
-        options,
-        gate,
+    counts_have_64_bits(share);
+    let Ok(slot) = table.enroll(rt, pass) else {
+        return give_up(rt, table, pass);
     };
-    shop.work(rt, pass, kit, share)
-}
-
-impl<'a, G: Gate> Shop<'a, G> {
-    /// [`work`] with what the workers share.
-    pub fn work<R: Wait, F: Shelf, S: Store>(
-        &self,
-        rt: &R,
-        pass: &mut WorkerPass,
-        kit: &mut Kit<F, S>,
-        share: &mut FaultShare,
-    ) -> WorkerEnd
-        requires table { IsOf self.now.table.now pass.old }
-        requires slot { slot_of pass.old ≡ None }
-        requires owes { (entry_of pass.old).owes_split ≡ false }
-        requires plan { self.now.graph.now ≡ (setting_of self.now.table.now).plan }
-        requires kit { IsKitFor F.strict S.files S.opened (setting_of self.now.table.now) kit.old }
-        ensures table { IsOf self.now.table.now pass.new }
-        ensures ended { EndsAs (setting_of self.now.table.now) result (entry_of pass.new) }
-        ensures others { KeepsOthers (note_of_pass pass.old) (note_of_pass pass.new) }
-        ensures share { share.new
-            ≡ share_with share.old (entry_of pass.new).calls (entry_of pass.new).reads }
-        ensures counted { AreFailsCounted
-            (observed_shelf F.strict F.faults kit.old.shelf kit.new.shelf)
-            (observed_store S.files S.faults kit.old.store kit.new.store) (entry_of pass.new) }
-        ensures kept { IsKitKept F.faults F.strict S.faults S.files S.opened
-            kit.old.shelf kit.new.shelf kit.old.store kit.new.store }
-        ensures files { kit.new.files ≡ kit.old.files }
-    {
-        counts_have_64_bits(share);
-        let Ok(slot) = self.table.enroll(rt, pass) else {
-            return give_up(rt, self.table, pass);
-        };
-        let files = kit.files.as_slice();
-        let Ok(mut worker) = Worker::new(self.alloc, self.graph, files, self.options) else {
-            return give_up(rt, self.table, pass);
-        };
-        let turns = Turns {
-            rt,
-            table: self.table,
-            gate: self.gate,
-            slot,
-        };
-        for _ in rt.forever() {
-            let end = turns.round(self.graph, pass, kit, &mut worker, share);
-            if let Some(end) = end {
-                return end;
-            }
+    let files = kit.files.as_slice();
+    let Ok(mut worker) = Worker::new(alloc, graph, files, options) else {
+        return give_up(rt, table, pass);
+    };
+    let turns = Turns {
+        rt,
+        table,
+        gate,
+        slot,
+    };
+    for _ in rt.forever() {
+        let end = turns.round(graph, pass, kit, &mut worker, share);
+        if let Some(end) = end {
+            return end;
         }
-        unreachable!()
     }
+    unreachable!()
 }
 
 impl<'a, R: Wait, G: Gate> Turns<'a, R, G> {
-    // Takes a job and works it. Where there is none while other slots work, the one with the most left is helped.
+    // Takes a job, works it, and commits it or gives it back. Where there is none while other slots work, the one with
+    // the most left is helped.
     fn round<F: Shelf, S: Store>(
         &self,
         graph: &Graph,
@@ -145,102 +109,90 @@ impl<'a, R: Wait, G: Gate> Turns<'a, R, G> {
         share: &mut FaultShare,
     ) -> Option<WorkerEnd>
         requires table { IsOf self.now.table.now pass.old }
-        requires slot { IsSome (slot_of pass.old) }
+        requires slot { slot_of pass.old ≡ Some self.now.slot }
         requires free { job_known pass.old ≡ None }
         requires owes { (entry_of pass.old).owes_split ≡ false }
-        requires plan { graph.now ≡ (setting_of self.now.table.now).plan }
-        requires strict { (setting_of self.now.table.now).known.strict ≡ true
-            → F.strict kit.old.shelf ≡ true }
-        requires reading { IsReading (setting_of self.now.table.now).known.told
-            (S.opened kit.old.store) graph.now worker.old.readers.items
-            worker.old.place worker.old.bench.pager }
-        requires lengths { map length_in worker.old.readers.items
-            ≡ (setting_of self.now.table.now).files }
+        requires able { IsAtWork F.strict S.opened
+            (setting_of self.now.table.now) graph.now kit.old worker.old }
         ensures table { IsOf self.now.table.now pass.new }
         ensures end { GoesOnOrEnds (setting_of self.now.table.now) result (entry_of pass.new) }
+        ensures turns { IsRound (setting_of self.now.table.now)
+            (note_of_pass pass.old) (note_of_pass pass.new) self.now.slot result }
         ensures others { KeepsOthers (note_of_pass pass.old) (note_of_pass pass.new) }
         ensures slot { slot_of pass.new ≡ slot_of pass.old }
-        ensures fails { FailsOnce (observed_shelf F.strict F.faults kit.old.shelf kit.new.shelf)
+        ensures counted { HasCounted (observed_shelf F.strict F.faults kit.old.shelf kit.new.shelf)
             (observed_store S.files S.faults kit.old.store kit.new.store)
-            (entry_of pass.old) (entry_of pass.new) }
-        ensures share { CountsOn share.old share.new (entry_of pass.old) (entry_of pass.new) }
-        ensures reading { IsReading (setting_of self.now.table.now).known.told
-            (S.opened kit.new.store) graph.now worker.new.readers.items
-            worker.new.place worker.new.bench.pager }
-        ensures readers { worker.new.readers.items ≡ worker.old.readers.items }
-        ensures kept { IsKitKept F.faults F.strict S.faults S.files S.opened
-            kit.old.shelf kit.new.shelf kit.old.store kit.new.store }
-        ensures files { kit.new.files ≡ kit.old.files }
+            share.old share.new (entry_of pass.old) (entry_of pass.new) }
+        ensures stays { StaysAtWork F.faults F.strict S.faults S.files S.opened
+            (setting_of self.now.table.now) graph.now kit.old kit.new worker.old worker.new }
     {
         self.gate.pass(self.slot, GatePoint::Job);
         match self.table.take_job(self.rt, pass) {
-            Ok(Taken::Job(job)) => self.do_job(graph, pass, kit, worker, &job, share),
-            Ok(Taken::Nothing) => self.help(pass),
+            Ok(Taken::Job(job)) => match worker.work_job(graph, self, pass, kit, &job) {
+                Ok(receipt) => self.commit(pass, worker, receipt),
+                Err(ExecRefusal::Faulted { at, cause }) => self.give_back(pass, at, cause, share),
+                Err(ExecRefusal::NoMemory) => Some(give_up(self.rt, self.table, pass)),
+            },
+            Ok(Taken::Nothing) => {
+                self.help(pass);
+                None
+            }
             Ok(Taken::Finished) => Some(WorkerEnd::Finished),
             Ok(Taken::Stopped) => Some(WorkerEnd::Stopped),
             Err(NoMemory) => Some(give_up(self.rt, self.table, pass)),
         }
     }
 
-    // Works a job that the pass has taken, and commits it or gives it back.
-    fn do_job<F: Shelf, S: Store>(
+    // Places the receipt of the pass's job, or the book is stopped.
+    fn commit(
         &self,
-        graph: &Graph,
         pass: &mut WorkerPass,
-        kit: &mut Kit<F, S>,
         worker: &mut Worker,
-        job: &Job,
-        share: &mut FaultShare,
+        receipt: Receipt,
     ) -> Option<WorkerEnd>
         requires table { IsOf self.now.table.now pass.old }
-        requires slot { IsSome (slot_of pass.old) }
-        requires taken { job_known pass.old ≡ Some (record { job = job.now; attempted = None }) }
-        requires inside { IsJobIn (setting_of self.now.table.now) job.now }
-        requires owes { (entry_of pass.old).owes_split ≡ false }
-        requires plan { graph.now ≡ (setting_of self.now.table.now).plan }
-        requires strict { (setting_of self.now.table.now).known.strict ≡ true
-            → F.strict kit.old.shelf ≡ true }
-        requires reading { IsReading (setting_of self.now.table.now).known.told
-            (S.opened kit.old.store) graph.now worker.old.readers.items
-            worker.old.place worker.old.bench.pager }
-        requires lengths { map length_in worker.old.readers.items
-            ≡ (setting_of self.now.table.now).files }
-        ensures table { IsOf self.now.table.now pass.new }
-        ensures end { GoesOnOrEnds (setting_of self.now.table.now) result (entry_of pass.new) }
-        ensures others { KeepsOthers (note_of_pass pass.old) (note_of_pass pass.new) }
-        ensures slot { slot_of pass.new ≡ slot_of pass.old }
-        ensures fails { FailsOnce (observed_shelf F.strict F.faults kit.old.shelf kit.new.shelf)
-            (observed_store S.files S.faults kit.old.store kit.new.store)
-            (entry_of pass.old) (entry_of pass.new) }
-        ensures share { CountsOn share.old share.new (entry_of pass.old) (entry_of pass.new) }
-        ensures reading { IsReading (setting_of self.now.table.now).known.told
-            (S.opened kit.new.store) graph.now worker.new.readers.items
-            worker.new.place worker.new.bench.pager }
-        ensures readers { worker.new.readers.items ≡ worker.old.readers.items }
-        ensures kept { IsKitKept F.faults F.strict S.faults S.files S.opened
-            kit.old.shelf kit.new.shelf kit.old.store kit.new.store }
-        ensures files { kit.new.files ≡ kit.old.files }
-    {
-        match worker.work_job(graph, self, pass, kit, job) {
-            Ok(receipt) => self.commit(pass, receipt),
-            Err(ExecRefusal::Faulted { at, cause }) => self.give_back(pass, at, cause, share),
-            Err(ExecRefusal::NoMemory) => Some(give_up(self.rt, self.table, pass)),
-        }
-    }
-
-    fn commit(&self, pass: &mut WorkerPass, receipt: Receipt) -> Option<WorkerEnd>
-        requires table { IsOf self.now.table.now pass.old }
-        requires slot { IsSome (slot_of pass.old) }
+        requires slot { slot_of pass.old ≡ Some self.now.slot }
         requires given { CanCommitAs (setting_of self.now.table.now) (job_known pass.old) receipt }
         requires owes { (entry_of pass.old).owes_split ≡ false }
         ensures table { IsOf self.now.table.now pass.new }
         ensures end { GoesOnOrEnds (setting_of self.now.table.now) result (entry_of pass.new) }
+        ensures turns { HasHandedIn (setting_of self.now.table.now) (note_of_pass pass.old)
+            (note_of_pass pass.new) self.now.slot receipt worker.old worker.new result }
         ensures others { KeepsOthers (note_of_pass pass.old) (note_of_pass pass.new) }
         ensures keeps { KeepsSlot (entry_of pass.old) (entry_of pass.new) }
+        ensures reading { StaysReading worker.old worker.new }
     {
-        match self.table.commit(self.rt, pass, receipt) {
+        match self.place(pass, worker, receipt) {
             Ok(()) => None,
             Err(_unplaced) => Some(give_up(self.rt, self.table, pass)),
+        }
+    }
+
+    // Commits the receipt of the pass's job. Where that finds no memory, the worker gives up what it holds only to be
+    // faster, and commits the same receipt once more.
+    fn place(
+        &self,
+        pass: &mut WorkerPass,
+        worker: &mut Worker,
+        receipt: Receipt,
+    ) -> Result<(), Unplaced>
+        requires table { IsOf self.now.table.now pass.old }
+        requires slot { slot_of pass.old ≡ Some self.now.slot }
+        requires given { CanCommitAs (setting_of self.now.table.now) (job_known pass.old) receipt }
+        ensures table { IsOf self.now.table.now pass.new }
+        ensures turns { HasPlaced (setting_of self.now.table.now) (note_of_pass pass.old)
+            (note_of_pass pass.new) self.now.slot receipt worker.old worker.new result }
+        ensures told { AfterCommit result (entry_of pass.new) }
+        ensures stays { GoesOnAs (entry_of pass.old) (entry_of pass.new) }
+        ensures others { KeepsOthers (note_of_pass pass.old) (note_of_pass pass.new) }
+        ensures reading { StaysReading worker.old worker.new }
+    {
+        match self.table.commit(self.rt, pass, receipt) {
+            Ok(()) => Ok(()),
+            Err(unplaced) => {
+                worker.release();
+                self.table.commit(self.rt, pass, unplaced.receipt)
+            }
         }
     }
 
@@ -253,11 +205,13 @@ impl<'a, R: Wait, G: Gate> Turns<'a, R, G> {
         share: &mut FaultShare,
     ) -> Option<WorkerEnd>
         requires table { IsOf self.now.table.now pass.old }
-        requires slot { IsSome (slot_of pass.old) }
+        requires slot { slot_of pass.old ≡ Some self.now.slot }
         requires honest { CanFailAs (setting_of self.now.table.now) (job_known pass.old) at cause }
         requires owes { (entry_of pass.old).owes_split ≡ false }
         ensures table { IsOf self.now.table.now pass.new }
         ensures end { GoesOnOrEnds (setting_of self.now.table.now) result (entry_of pass.new) }
+        ensures turn { HasFailed (setting_of self.now.table.now)
+            (note_of_pass pass.old) (note_of_pass pass.new) self.now.slot at cause result }
         ensures others { KeepsOthers (note_of_pass pass.old) (note_of_pass pass.new) }
         ensures slot { slot_of pass.new ≡ slot_of pass.old }
         ensures calls { (entry_of pass.new).calls
@@ -273,20 +227,18 @@ impl<'a, R: Wait, G: Gate> Turns<'a, R, G> {
         }
     }
 
-    // Splits the range of another slot. Where none can be split, the table lets others work before the worker looks again.
-    fn help(&self, pass: &mut WorkerPass) -> Option<WorkerEnd>
+    // Splits the range of another slot. Where none can be split, the table lets others work before the worker looks
+    // again; where there is no memory to split one, it only looks again.
+    fn help(&self, pass: &mut WorkerPass)
         requires table { IsOf self.now.table.now pass.old }
-        requires slot { IsSome (slot_of pass.old) }
-        requires free { job_known pass.old ≡ None }
+        requires slot { slot_of pass.old ≡ Some self.now.slot }
         ensures table { IsOf self.now.table.now pass.new }
-        ensures end { GoesOnOrEnds (setting_of self.now.table.now) result (entry_of pass.new) }
+        ensures turn { HasLooked (setting_of self.now.table.now)
+            (note_of_pass pass.old) (note_of_pass pass.new) self.now.slot }
+        ensures told { AfterHelp (entry_of pass.old) (entry_of pass.new) }
         ensures others { KeepsOthers (note_of_pass pass.old) (note_of_pass pass.new) }
-        ensures keeps { KeepsSlot (entry_of pass.old) (entry_of pass.new) }
     {
-        match self.table.split_other(self.rt, pass) {
-            Ok(_at) => None,
-            Err(NoMemory) => Some(give_up(self.rt, self.table, pass)),
-        }
+        let _answer = self.table.split_other(self.rt, pass);
     }
 }
 
@@ -295,6 +247,8 @@ fn give_up<R: Wait>(rt: &R, table: &Table, pass: &mut WorkerPass) -> WorkerEnd
     requires table { IsOf table.now pass.old }
     ensures table { IsOf table.now pass.new }
     ensures end { EndsAs (setting_of table.now) result (entry_of pass.new) }
+    ensures turn { HasGivenUp (setting_of table.now)
+        (note_of_pass pass.old) (note_of_pass pass.new) (Some result) }
     ensures others { KeepsOthers (note_of_pass pass.old) (note_of_pass pass.new) }
     ensures keeps { KeepsSlot (entry_of pass.old) (entry_of pass.new) }
 {

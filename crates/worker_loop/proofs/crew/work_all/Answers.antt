@@ -1,4 +1,4 @@
-use Rattle.std.proofs.Common.{rules, ◌+◌, ◌++◌, length, map, take, drop, refl, sym, ap, subst, ◌∙◌, List, arith}
+use Rattle.std.proofs.Common.{rules, ◌++◌, length, map, take, drop, refl, sym, ap, subst, ◌∙◌, List, arith}
 use denote.Param.Send.{sendable}
 use Rattle.std.specs.List.{AllByRecursion, sum_by}
 use Rattle.worker_table.specs.Notes.{Entry}

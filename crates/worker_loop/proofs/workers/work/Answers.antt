@@ -1,5 +1,4 @@
-use Rattle.std.proofs.Common.{rules, ◌+◌, ◌≤◌, List, map, refl, sym, ap, subst, ◌∙◌, arith}
-use Rattle.std.specs.Prelude.{IsSome}
+use Rattle.std.proofs.Common.{rules, inl, inr, ◌+◌, ◌≤◌, List, [], ◌∷◌, map, refl, sym, ap, subst, ◌∙◌, arith}
 use Rattle.beam_values.specs.declared.plan.Plan.{Plan}
 use Rattle.beam_ports.specs.Counts.{greatest_count}
 use Rattle.beam_ports.specs.declared.store.Opened.{Opened}
@@ -9,8 +8,9 @@ use Rattle.bundle_work.specs.Reading.{length_in, opened_lengths}
 use Rattle.bundle_work.proofs.Answered.{kit_onward, kit_same}
 use Rattle.worker_loop.specs.Laws.{others_onward}
 use Rattle.worker_loop.proofs.Rounds.{rises_few, rises_on, share_same}
+use Rattle.worker_loop.proofs.Steps.{not_begun}
 use Rattle.bundle_work.proofs.Told.{opened_known}
-use Rattle.worker_loop.proofs.shop.Shop.work.Goals as goal
+use Rattle.worker_loop.proofs.workers.work.Goals as goal
 
 pub returns-in_default-clause-share : goal.returns-in_default-clause-share
 returns-in_default-clause-share g c =
@@ -25,9 +25,19 @@ returns-in_default-new-clause-share g c =
     let keeps = c.give_up-in_default-new.ensures.keeps in
     share_same c.args.share.now (entry_of c.give_up-in_default-new.new.pass).calls (entry_of c.give_up-in_default-new.new.pass).reads c.counts_have_64_bits.ensures.calls c.counts_have_64_bits.ensures.reads (keeps.calls ∙ told.calls) (keeps.reads ∙ told.reads)
 
+pub returns-in_default-clause-turns : goal.returns-in_default-clause-turns
+returns-in_default-clause-turns g c =
+    inl (not_begun (setting_of c.args.table.now) (note_of_pass c.args.pass.now) (note_of_pass c.enroll.new.pass) (note_of_pass c.give_up.new.pass) c.enroll.result c.give_up.result c.enroll.ensures.turn
+    c.give_up.ensures.turn)
+
+pub returns-in_default-new-clause-turns : goal.returns-in_default-new-clause-turns
+returns-in_default-new-clause-turns g c =
+    inl (not_begun (setting_of c.args.table.now) (note_of_pass c.args.pass.now) (note_of_pass c.enroll.new.pass) (note_of_pass c.give_up-in_default-new.new.pass) c.enroll.result c.give_up-in_default-new.result
+    c.enroll.ensures.turn c.give_up-in_default-new.ensures.turn)
+
 pub loop-init : goal.loop-init
 loop-init g c =
-    let setting = setting_of c.args.self.now.table.now in
+    let setting = setting_of c.args.table.now in
     let opened = g.S.Store.opened c.args.kit.now.store in
     let known = setting.known.told in
     let names = file_names setting.plan in
@@ -37,12 +47,17 @@ loop-init g c =
     let left : c.into_iter-iterator.result.left ≤ greatest_count = search rules in
     record {
       table = c.in-Ok.ensures.table;
-      slot = subst IsSome (sym told.slot) refl;
+      slot = told.slot;
       free = told.job;
       owes = told.owes ∙ c.requires.owes;
+      rounds = ([], refl);
       others = c.in-Ok.ensures.others;
-      reading = c.in-Ok-new.ensures.reading known opened (subst (λ (p : Plan). AreOpened known opened (file_names p) c.as_slice-files.result.now) (sym c.requires.plan) shown);
-      lengths = c.in-Ok-new.ensures.lengths ∙ (λ k. opened_lengths (c.requires.plan k) (c.as_slice-files.ensures k)) ∙ c.requires.kit.lengths;
+      able = record {
+        plan = c.requires.plan;
+        strict = c.requires.kit.strict;
+        reading = c.in-Ok-new.ensures.reading known opened (subst (λ (p : Plan). AreOpened known opened (file_names p) c.as_slice-files.result.now) (sym c.requires.plan) shown);
+        lengths = c.in-Ok-new.ensures.lengths ∙ (λ k. opened_lengths (c.requires.plan k) (c.as_slice-files.ensures k)) ∙ c.requires.kit.lengths;
+      };
       kept = kit_same g.F.Shelf.faults g.F.Shelf.strict g.S.Store.faults g.S.Store.files g.S.Store.opened c.args.kit.now.shelf c.args.kit.now.store;
       files = refl;
       share = share_same c.args.share.now (entry_of c.enroll.new.pass).calls (entry_of c.enroll.new.pass).reads c.counts_have_64_bits.ensures.calls c.counts_have_64_bits.ensures.reads told.calls told.reads;
@@ -51,34 +66,47 @@ loop-init g c =
       few_reads = let none = told.reads in omega (arith, left);
     }
 
-pub returns-in-Some-end-clause-counted : goal.returns-in-Some-end-clause-counted
-returns-in-Some-end-clause-counted g c =
+pub returns-in-Some-end-clause-turns : goal.returns-in-Some-end-clause-turns
+returns-in-Some-end-clause-turns g c =
     let i = c.loop.invariant in
-    let fails = c.round-end.ensures.fails in
+    inr (record {
+      slot = c.in-Ok.slot;
+      begun = note_of_pass c.enroll.new.pass;
+      earlier = i.rounds.0;
+      last = note_of_pass c.loop.pass;
+      enroll = c.in-Ok.ensures.turn;
+      rounds = i.rounds.1;
+      ends = c.in-Some-end.ensures.turns;
+    })
+
+pub returns-in-Some-end-clause-kit : goal.returns-in-Some-end-clause-kit
+returns-in-Some-end-clause-kit g c =
+    let i = c.loop.invariant in
+    let round = c.round-end.ensures in
+    let fails = round.counted.fails in
     let faults = g.F.Shelf.faults in
     let read_faults = g.S.Store.faults in
     let e = entry_of c.loop.pass in
     let later = entry_of c.round-end.new.pass in
     let less : c.next.new.self.left + 1 ≤ c.loop.iterator'.left = search rules in
+    let few_calls : later.calls ≤ greatest_count = omega (arith, less, i.few_calls, rises_few e.calls later.calls (faults c.loop.kit.shelf) (faults c.round-end.new.kit.shelf) fails.calls) in
+    let few_reads : later.reads ≤ greatest_count = omega (arith, less, i.few_reads, rises_few e.reads later.reads (read_faults c.loop.kit.store) (read_faults c.round-end.new.kit.store) fails.reads) in
     record {
-      calls =
-          let few : later.calls ≤ greatest_count = omega (arith, less, i.few_calls, rises_few e.calls later.calls (faults c.loop.kit.shelf) (faults c.round-end.new.kit.shelf) fails.calls) in
-          rises_on (faults c.args.kit.now.shelf) (faults c.loop.kit.shelf) (faults c.round-end.new.kit.shelf) e.calls later.calls i.kept.counts c.round-end.ensures.kept.counts i.counted.calls fails.calls few;
-      reads =
-          let few : later.reads ≤ greatest_count = omega (arith, less, i.few_reads, rises_few e.reads later.reads (read_faults c.loop.kit.store) (read_faults c.round-end.new.kit.store) fails.reads) in
-          rises_on (read_faults c.args.kit.now.store) (read_faults c.loop.kit.store) (read_faults c.round-end.new.kit.store) e.reads later.reads i.kept.reading.counts c.round-end.ensures.kept.reading.counts i.counted.reads
-          fails.reads few;
+      counted = record {
+        calls = rises_on (faults c.args.kit.now.shelf) (faults c.loop.kit.shelf) (faults c.round-end.new.kit.shelf) e.calls later.calls i.kept.counts round.stays.kept.counts i.counted.calls fails.calls few_calls;
+        reads = rises_on (read_faults c.args.kit.now.store) (read_faults c.loop.kit.store) (read_faults c.round-end.new.kit.store) e.reads later.reads i.kept.reading.counts round.stays.kept.reading.counts i.counted.reads
+            fails.reads few_reads;
+      };
+      files = round.stays.files ∙ i.files;
+      kept = kit_onward faults g.F.Shelf.strict read_faults g.S.Store.files g.S.Store.opened c.args.kit.now.shelf c.loop.kit.shelf c.round-end.new.kit.shelf c.args.kit.now.store c.loop.kit.store c.round-end.new.kit.store
+          i.kept round.stays.kept;
     }
-
-pub returns-in-Some-end-clause-kept : goal.returns-in-Some-end-clause-kept
-returns-in-Some-end-clause-kept g c =
-    kit_onward g.F.Shelf.faults g.F.Shelf.strict g.S.Store.faults g.S.Store.files g.S.Store.opened c.args.kit.now.shelf c.loop.kit.shelf c.round-end.new.kit.shelf c.args.kit.now.store c.loop.kit.store c.round-end.new.kit.store
-    c.loop.invariant.kept c.round-end.ensures.kept
 
 pub loop-preserved : goal.loop-preserved
 loop-preserved g c =
     let i = c.loop.invariant in
-    let fails = c.round-end.ensures.fails in
+    let round = c.round-end.ensures in
+    let fails = round.counted.fails in
     let faults = g.F.Shelf.faults in
     let read_faults = g.S.Store.faults in
     let e = entry_of c.loop.pass in
@@ -90,20 +118,25 @@ loop-preserved g c =
     let few_reads : later.reads + c.next.new.self.left ≤ greatest_count = omega (arith, less, i.few_reads, more_reads) in
     record {
       table = c.round-end.ensures.table;
-      slot = subst IsSome (sym c.round-end.ensures.slot) i.slot;
+      slot = c.round-end.ensures.slot ∙ i.slot;
       free = c.in_default-end.ensures.end.0;
       owes = c.in_default-end.ensures.end.1;
+      rounds = (note_of_pass c.loop.pass ∷ i.rounds.0, (c.in_default-end.ensures.turns, i.rounds.1));
       others = others_onward (note_of_pass c.args.pass.now) (note_of_pass c.loop.pass) (note_of_pass c.round-end.new.pass) i.others c.round-end.ensures.others;
-      reading = c.round-end.ensures.reading;
-      lengths = ap (map length_in) c.round-end.ensures.readers ∙ i.lengths;
+      able = record {
+        plan = i.able.plan;
+        strict = λ known. round.stays.kept.strict ∙ i.able.strict known;
+        reading = round.stays.reading;
+        lengths = ap (map length_in) round.stays.readers ∙ i.able.lengths;
+      };
       kept = kit_onward g.F.Shelf.faults g.F.Shelf.strict g.S.Store.faults g.S.Store.files g.S.Store.opened c.args.kit.now.shelf c.loop.kit.shelf c.round-end.new.kit.shelf c.args.kit.now.store c.loop.kit.store
-          c.round-end.new.kit.store i.kept c.round-end.ensures.kept;
-      files = c.round-end.ensures.files ∙ i.files;
-      share = c.round-end.ensures.share c.args.share.now i.share;
+          c.round-end.new.kit.store i.kept round.stays.kept;
+      files = round.stays.files ∙ i.files;
+      share = round.counted.share c.args.share.now i.share;
       counted = record {
-        calls = rises_on (faults c.args.kit.now.shelf) (faults c.loop.kit.shelf) (faults c.round-end.new.kit.shelf) e.calls later.calls i.kept.counts c.round-end.ensures.kept.counts i.counted.calls fails.calls
+        calls = rises_on (faults c.args.kit.now.shelf) (faults c.loop.kit.shelf) (faults c.round-end.new.kit.shelf) e.calls later.calls i.kept.counts round.stays.kept.counts i.counted.calls fails.calls
             (omega (arith, few_calls));
-        reads = rises_on (read_faults c.args.kit.now.store) (read_faults c.loop.kit.store) (read_faults c.round-end.new.kit.store) e.reads later.reads i.kept.reading.counts c.round-end.ensures.kept.reading.counts
+        reads = rises_on (read_faults c.args.kit.now.store) (read_faults c.loop.kit.store) (read_faults c.round-end.new.kit.store) e.reads later.reads i.kept.reading.counts round.stays.kept.reading.counts
             i.counted.reads fails.reads (omega (arith, few_reads));
       };
       few_calls = few_calls;
