@@ -1,17 +1,45 @@
 -- Calls that are made again where they fail, and how many have failed.
-use Rattle.std.specs.Prelude.{◌≡◌, ℕ, ◌+◌, ◌<◌, ◌≤◌, List, Option, Result, Ok, Err}
+use Rattle.std.specs.Prelude.{◌≡◌, ℕ, ◌+◌, ◌-◌, ◌<◌, ◌≤◌, min, max, true, Result, Ok, Err}
 use Rattle.std.specs.Borrow.{MutBor}
-use Rattle.beam_values.specs.declared.file_text.FileText.{FileText}
 use Rattle.beam_ports.specs.Counts.{greatest_count}
-use Rattle.beam_ports.specs.Files.{Opening, KeepsOpenings}
+use Rattle.beam_ports.specs.Files.{KeepsOpenings}
 use Rattle.beam_ports.specs.declared.refusal.Failed.{Failed as FailedCall}
 use Rattle.beam_ports.specs.declared.refusal.OpenRefusal.{OpenRefusal}
 use Rattle.beam_ports.specs.declared.refusal.OpenRefusal.TheVariants.{Absent, Failed}
+use Rattle.beam_ports.specs.declared.sink.Sink.{Ghosts as SinkGhosts}
 use Rattle.beam_ports.specs.declared.store.Opened.{Opened}
+use Rattle.beam_ports.specs.declared.store.Store.{Ghosts as StoreGhosts}
 use Rattle.command_ends.specs.declared.retrying.RetryingSink.{RetryingSink}
 use Rattle.command_ends.specs.declared.retrying.RetryingStore.{RetryingStore}
 use Rattle.command_ends.specs.declared.status.Status.{Status}
-use Rattle.command_ends.specs.declared.status.Status.TheVariants.{SourceFault}
+use Rattle.command_ends.specs.declared.status.Status.TheVariants.{SinkFault, SourceFault}
+
+-- ---- counts that are exact
+
+-- a count that is kept rose by so many: it stays at its end
+abbrev pub RoseBy : ℕ → ℕ → ℕ → Type 0
+RoseBy before now k = now ≡ max before (min (before + k) greatest_count)
+
+-- it rose by fewer
+abbrev pub RoseByFewer : ℕ → ℕ → ℕ → Type 0
+RoseByFewer before now k = now < before + k
+
+-- where the end is so: the count rose by as many as may be at the end that tells of it, and else by fewer
+pub record RoseAsTold (before now most : ℕ) (told end : Status) : Type 0 where
+  pub given_up : end ≡ told → RoseBy before now most
+  pub patient : (end ≡ told → ⊥) → RoseByFewer before now most
+
+-- a store, that of the kit of this number, failed as often as the end tells, if it counts exactly; so many calls may fail
+abbrev pub TriesStore : {S : Type 0} → StoreGhosts S → ℕ → ℕ → S → S → Status → Type 0
+TriesStore s most kit old new end = s.counts_exactly ≡ true → RoseAsTold (s.faults old) (s.faults new) most (SourceFault kit) end
+
+-- a sink that text is written to
+abbrev pub TriesSink : {W : Type 0} → SinkGhosts W → ℕ → W → W → Status → Type 0
+TriesSink w most old new end = w.counts_exactly ≡ true → RoseAsTold (w.faults old) (w.faults new) most SinkFault end
+
+-- a sink that notes are written to: no more is written after the first failure
+abbrev pub TriesOnce : {N : Type 0} → SinkGhosts N → N → N → Type 0
+TriesOnce n old new = n.counts_exactly ≡ true → n.faults new ≤ n.faults old + 1
 
 -- ---- one call
 
@@ -59,15 +87,17 @@ abbrev pub GivesUpExactly : {S : Type 0} → RetryingStore S → Status → Type
 GivesUpExactly store (SourceFault kit) = IsGivenUp store
 GivesUpExactly store _ = IsPatient store
 
--- What calls leave of it: it is over the same store, which tells the same files, and what was opened stays open. No failure is forgotten, and each was counted.
-pub record KeepsTrying {S : Type 0} (faults_of : S → ℕ) (files_of : S → Option (List FileText)) (opened_by : S → ℕ → Option Opening) (old new : RetryingStore S) : Type 0 where
+-- What calls leave of it: it is over the same store, which tells the same files, and what was opened stays open. No failure is forgotten, and each was counted;
+-- where the store counts exactly, no call failed that isn't among them.
+pub record KeepsTrying {S : Type 0} (s : StoreGhosts S) (old new : RetryingStore S) : Type 0 where
   pub same : new.store.ghost_name ≡ old.store.ghost_name
   pub attempts : new.attempts ≡ old.attempts
   pub grows : old.failed ≤ new.failed
-  pub counted : AreCounted old.failed new.failed (faults_of old.store.now) (faults_of new.store.now)
-  pub counts : faults_of old.store.now ≤ faults_of new.store.now
-  pub files : files_of new.store.now ≡ files_of old.store.now
-  pub openings : KeepsOpenings (opened_by old.store.now) (opened_by new.store.now)
+  pub counted : AreCounted old.failed new.failed (s.faults old.store.now) (s.faults new.store.now)
+  pub exact : s.counts_exactly ≡ true → RoseBy (s.faults old.store.now) (s.faults new.store.now) (new.failed - old.failed)
+  pub counts : s.faults old.store.now ≤ s.faults new.store.now
+  pub files : s.files new.store.now ≡ s.files old.store.now
+  pub openings : KeepsOpenings (s.opened old.store.now) (s.opened new.store.now)
 
 -- ---- a sink
 
@@ -90,10 +120,11 @@ IsSinkPatient sink = sink.failed < sink.attempts
 abbrev pub IsSinkGivenUp : {W : Type 0} → RetryingSink W → Type 0
 IsSinkGivenUp sink = sink.failed ≡ sink.attempts
 
--- what writes leave of it: it is over the same sink, no failure is forgotten, and each was counted
-pub record KeepsWriting {W : Type 0} (faults_of : W → ℕ) (old new : RetryingSink W) : Type 0 where
+-- what writes leave of it: it is over the same sink, no failure is forgotten, and each was counted; where the sink counts exactly, no other write failed
+pub record KeepsWriting {W : Type 0} (w : SinkGhosts W) (old new : RetryingSink W) : Type 0 where
   pub same : new.sink.ghost_name ≡ old.sink.ghost_name
   pub attempts : new.attempts ≡ old.attempts
   pub grows : old.failed ≤ new.failed
-  pub counted : AreCounted old.failed new.failed (faults_of old.sink.now) (faults_of new.sink.now)
-  pub counts : faults_of old.sink.now ≤ faults_of new.sink.now
+  pub counted : AreCounted old.failed new.failed (w.faults old.sink.now) (w.faults new.sink.now)
+  pub exact : w.counts_exactly ≡ true → RoseBy (w.faults old.sink.now) (w.faults new.sink.now) (new.failed - old.failed)
+  pub counts : w.faults old.sink.now ≤ w.faults new.sink.now

@@ -5,6 +5,7 @@ ghost use Rattle.beam_ports.specs.Observed.{observed_sink};
 ghost use Rattle.command_ends.specs.Notes.{changed_text, note_line, work_text, place_text};
 ghost use Rattle.command_ends.specs.Notes.{attempt_text, cause_text, lift_text, schedule_text};
 ghost use Rattle.command_ends.specs.Notes.{IsLongNoted, IsNoted, IsNotedUpTo, StaysOrNoMemory};
+ghost use Rattle.command_ends.specs.Retrying.{TriesOnce};
 
 use crate::status::Status;
 use crate::writing::put;
@@ -65,6 +66,7 @@ pub fn note_line(alloc: Global, status: &Status) -> Result<Bytes, NoMemory>
 pub fn noted<N: Sink>(alloc: Global, status: Status, notes: &mut N) -> Status
     ensures stays { StaysOrNoMemory status result }
     ensures noted { IsNoted result (observed_sink N.faults N.taken notes.old notes.new) }
+    ensures once { TriesOnce N.Sink notes.old notes.new }
 {
     if let Status::Ok | Status::Help = status {
         return status;
@@ -87,8 +89,9 @@ pub fn noted<N: Sink>(alloc: Global, status: Status, notes: &mut N) -> Status
 
 /// Writes a line to the notes, or the front of it where they fail.
 pub fn write_note<N: Sink>(notes: &mut N, line: &[u8])
-    ensures { (n : ℕ)
+    ensures taken { (n : ℕ)
         × IsNotedUpTo line.now (observed_sink N.faults N.taken notes.old notes.new) n }
+    ensures once { TriesOnce N.Sink notes.old notes.new }
 {
     let _ = put(notes, line, 1);
 }

@@ -1,10 +1,11 @@
 //! The file of a plan document, opened and read by a store whose calls may fail.
 
-ghost use Rattle.std.specs.Prelude.{◌≡◌, ◌≤◌, ◌<◌, Ok, length, IfOk, IfErr};
+ghost use Rattle.std.specs.Prelude.{◌≡◌, ◌≤◌, ◌<◌, true, Ok, length, IfOk, IfErr};
 ghost use Rattle.beam_ports.specs.Counts.{rise};
 ghost use Rattle.beam_ports.specs.Files.{KeepsOpenings};
 ghost use Rattle.beam_ports.specs.Observed.{observed_store, WhereTold};
 ghost use Rattle.command_ends.specs.PlanFiles.{AreNamesOf, IsMeaningOf, IsPlanRefused};
+ghost use Rattle.command_ends.specs.Retrying.{RoseBy, TriesStore};
 
 use crate::retrying::RetryingStore;
 use crate::status::{Status, no_source};
@@ -46,6 +47,9 @@ pub fn read_plan_file<S: Store>(
     ensures told { S.files store.new ≡ S.files store.old }
     ensures kept { KeepsOpenings (S.opened store.old) (S.opened store.new) }
     ensures counts { S.faults store.old ≤ S.faults store.new }
+    ensures exact { IfOk result (λ read. S.counts_exactly ≡ true
+        → RoseBy (S.faults store.old) (S.faults store.new) read.failed) }
+    ensures tries { IfErr result (TriesStore S.Store attempts 0 store.old store.new) }
 {
     let mut store = RetryingStore::new(store, 0, attempts);
     let file = match store.open_file(name) {

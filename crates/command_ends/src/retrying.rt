@@ -56,7 +56,7 @@ impl<'a, S: Store> RetryingStore<'a, S> {
         ensures few { OnOk result (IsPatient self.new) }
         ensures few_absent { IsErrOf result OpenRefusal.Absent → IsPatient self.new }
         ensures given_up { IsErrOf result OpenRefusal.Failed → IsGivenUp self.new }
-        ensures tried { KeepsTrying S.faults S.files S.opened self.old self.new }
+        ensures tried { KeepsTrying S.Store self.old self.new }
     {
         while self.failed < self.attempts {
             match self.open_once(name) {
@@ -75,7 +75,7 @@ impl<'a, S: Store> RetryingStore<'a, S> {
         ensures absent { IsErrOf result OpenRefusal.Absent → WhereTold (S.files (store_in self.old))
             (λ told. first_named name.now told ≡ None) }
         ensures exact { self.new.failed ≡ self.old.failed + failed_opening result }
-        ensures tried { KeepsTrying S.faults S.files S.opened self.old self.new }
+        ensures tried { KeepsTrying S.Store self.old self.new }
     {
         let answer = self.store.open_file(name);
         if let Err(OpenRefusal::Failed) = answer {
@@ -94,7 +94,7 @@ impl<'a, S: Store> RetryingStore<'a, S> {
             → S.opened (store_in self.old) file ≡ Some opening → IsRead opening at n buf.new) }
         ensures few { OnOk result (IsPatient self.new) }
         ensures given_up { OnErr result (IsGivenUp self.new) }
-        ensures tried { KeepsTrying S.faults S.files S.opened self.old self.new }
+        ensures tried { KeepsTrying S.Store self.old self.new }
     {
         while self.failed < self.attempts {
             if let Ok(count) = self.read_once(file, at, buf) {
@@ -112,7 +112,7 @@ impl<'a, S: Store> RetryingStore<'a, S> {
         ensures read { IfOk result (λ n. (opening : Opening)
             → S.opened (store_in self.old) file ≡ Some opening → IsRead opening at n buf.new) }
         ensures exact { self.new.failed ≡ self.old.failed + failed_call result }
-        ensures tried { KeepsTrying S.faults S.files S.opened self.old self.new }
+        ensures tried { KeepsTrying S.Store self.old self.new }
     {
         let answer = self.store.read_at(file, at, buf);
         if answer.is_err() {
@@ -157,7 +157,7 @@ impl<'a, W: Sink> RetryingSink<'a, W> {
             ≡ then_taken (W.taken (sink_in self.old)) (take (count_of result) bytes.now) }
         ensures few { OnOk result (IsSinkPatient self.new) }
         ensures given_up { OnErr result (IsSinkGivenUp self.new) }
-        ensures tried { KeepsWriting W.faults self.old self.new }
+        ensures tried { KeepsWriting W.Sink self.old self.new }
     {
         while self.failed < self.attempts {
             if let Ok(count) = self.write_once(bytes) {
@@ -176,7 +176,7 @@ impl<'a, W: Sink> RetryingSink<'a, W> {
         ensures taken { W.taken (sink_in self.new)
             ≡ then_taken (W.taken (sink_in self.old)) (take (count_of result) bytes.now) }
         ensures exact { self.new.failed ≡ self.old.failed + failed_call result }
-        ensures tried { KeepsWriting W.faults self.old self.new }
+        ensures tried { KeepsWriting W.Sink self.old self.new }
     {
         let answer = self.sink.write(bytes);
         if answer.is_err() {

@@ -1,10 +1,11 @@
 //! The file of a schedule, opened and read by a store whose calls may fail.
 
-ghost use Rattle.std.specs.Prelude.{◌≡◌, ◌≤◌, ◌<◌, ◌+◌, Some, length, IfOk, IfErr};
+ghost use Rattle.std.specs.Prelude.{◌≡◌, ◌≤◌, ◌<◌, ◌+◌, ◌-◌, true, Some, length, IfOk, IfErr};
 ghost use Rattle.beam_values.specs.Files.{first_named};
 ghost use Rattle.beam_ports.specs.Counts.{rise};
 ghost use Rattle.beam_ports.specs.Files.{KeepsOpenings};
 ghost use Rattle.beam_ports.specs.Observed.{observed_store, WhereTold};
+ghost use Rattle.command_ends.specs.Retrying.{RoseBy, TriesStore};
 ghost use Rattle.command_ends.specs.ScheduleFiles.{IsScheduleUnread, longest_schedule};
 
 use crate::retrying::RetryingStore;
@@ -45,6 +46,9 @@ pub fn read_schedule_file<S: Store>(
     ensures told { S.files store.new ≡ S.files store.old }
     ensures kept { KeepsOpenings (S.opened store.old) (S.opened store.new) }
     ensures counts { S.faults store.old ≤ S.faults store.new }
+    ensures exact { IfOk result (λ read. S.counts_exactly ≡ true
+        → RoseBy (S.faults store.old) (S.faults store.new) (read.failed - failed)) }
+    ensures tries { IfErr result (TriesStore S.Store (attempts - failed) 0 store.old store.new) }
 {
     let mut store = RetryingStore::new(store, failed, attempts);
     if !store.is_patient() {

@@ -24,7 +24,7 @@ pub fn read_text<S: Store>(
     ensures few { OnOk result (IsPatient store.new) }
     ensures refused { IfErr result IsReadRefused }
     ensures exactly { IfErr result (GivesUpExactly store.new) }
-    ensures tried { KeepsTrying S.faults S.files S.opened store.old store.new }
+    ensures tried { KeepsTrying S.Store store.old store.new }
 {
     let Ok(mut bytes) = vec![in alloc; 0u8; file.len as usize] else {
         return Err(Status::NoMemory);
@@ -49,7 +49,7 @@ fn fill<S: Store>(
         (IsTextOf (S.opened (store_in store.old) file.now.file) file.now.len buffer.new) }
     ensures few { OnOk result (IsPatient store.new) }
     ensures given_up { OnErr result (IsGivenUp store.new) }
-    ensures tried { KeepsTrying S.faults S.files S.opened store.old store.new }
+    ensures tried { KeepsTrying S.Store store.old store.new }
 {
     let mut done = 0;
     while done < buffer.len() {

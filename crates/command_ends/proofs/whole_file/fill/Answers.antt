@@ -19,7 +19,7 @@ loop-done-preserved g c =
       within = omega (arith, length-append c.split_at_mut.result.0.now c.read_at.new.buf, read.fits, halves.front_len, halves.back_len, c.read_at.auto.buf);
       size = omega (arith, length-append c.split_at_mut.result.0.now c.read_at.new.buf, halves.front_len, halves.back_len, c.read_at.auto.buf, before.size, before.within);
       patient = read.few;
-      tried = trying_onward g.S.Store.faults g.S.Store.files g.S.Store.opened c.args.store.now c.loop-done.store c.read_at.new.self before.tried read.tried;
+      tried = trying_onward g.S.Store c.args.store.now c.loop-done.store c.read_at.new.self before.tried read.tried;
       bytes = λ text is size. filled_more c.split_at_mut.result.0.now c.read_at.new.buf text c.loop-done.done c.in-Ok.count
           halves.front_len (halves.front ∙ before.bytes text is size) ((read.read _ (before.tried.openings _ _ is)).bytes text refl);
     }

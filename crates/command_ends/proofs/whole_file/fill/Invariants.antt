@@ -7,7 +7,7 @@ invariant-loop-done g l = record {
   within : l.done ≤ length l.buffer;
   size : length l.buffer ≡ length l.initial.buffer;
   patient : IsPatient l.store;
-  tried : KeepsTrying g.S.Store.faults g.S.Store.files g.S.Store.opened l.initial.store l.store;
+  tried : KeepsTrying g.S.Store l.initial.store l.store;
   -- what was filled is the front of the file
   bytes : (text : List ℕ) → g.S.Store.opened l.initial.store.store.now l.file.file ≡ Some (record { len = l.file.len; text = Some text })
       → length text ≡ l.file.len → take l.done l.buffer ≡ take l.done text;

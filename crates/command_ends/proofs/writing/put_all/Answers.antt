@@ -18,5 +18,5 @@ loop-done-preserved g c =
       within = omega (arith, write.fits, c.split_at.ensures.back_len);
       patient = write.few;
       taken = taken ∙ then_rest (g.W.Sink.taken c.args.sink.now.sink.now) c.args.text.now c.loop-done.done c.in-Ok.count;
-      tried = writing_onward g.W.Sink.faults c.args.sink.now c.loop-done.sink c.write.new.self known.tried write.tried;
+      tried = writing_onward g.W.Sink c.args.sink.now c.loop-done.sink c.write.new.self known.tried write.tried;
     }

@@ -8,7 +8,7 @@ invariant-loop-done g l = record {
   within : l.done ≤ length l.text;
   patient : IsSinkPatient l.sink;
   taken : g.W.Sink.taken l.sink.sink.now ≡ then_taken (g.W.Sink.taken l.initial.sink.sink.now) (take l.done l.text);
-  tried : KeepsWriting g.W.Sink.faults l.initial.sink l.sink;
+  tried : KeepsWriting g.W.Sink l.initial.sink l.sink;
 }
 
 abbrev pub decreases-loop-done : goal.decreases-loop-done

@@ -6,7 +6,7 @@ abbrev pub invariant-loop-self : goal.invariant-loop-self
 invariant-loop-self g l = record {
   few : l.self.failed ≤ l.self.attempts;
   taken : g.W.Sink.taken l.self.sink.now ≡ g.W.Sink.taken l.initial.self.sink.now;
-  tried : KeepsWriting g.W.Sink.faults l.initial.self l.self;
+  tried : KeepsWriting g.W.Sink l.initial.self l.self;
 }
 
 abbrev pub decreases-loop-self : goal.decreases-loop-self
