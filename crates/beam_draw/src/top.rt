@@ -1,8 +1,9 @@
 ghost use Rattle.std.specs.Prelude.{◌≡◌, length};
 ghost use Rattle.beam_ports.specs.Observed.{observed_sink, observed_store};
+ghost use Rattle.command_ends.specs.Retrying.{TriesOnce, TriesSink, TriesStore};
 ghost use Rattle.command_words.specs.Commands.{words_of};
 ghost use Rattle.plan_drawing.specs.Drawing.{drawing_of};
-ghost use Rattle.beam_draw.specs.Ends.{IsDrawEnd, IsTextWritten, file_asked};
+ghost use Rattle.beam_draw.specs.Ends.{IsDrawEnd, IsTextWritten, attempts, file_asked};
 ghost use Rattle.beam_draw.specs.Notes.{IsDrawNoted};
 
 use beam_ports::{Sink, Store};
@@ -30,6 +31,13 @@ pub fn draw_plan<S: Store, W: Sink, N: Sink>(
         (observed_store S.files S.faults store.old store.new)
         (observed_sink W.faults W.taken out.old out.new) result }
     ensures noted { IsDrawNoted result (observed_sink N.faults N.taken notes.old notes.new) }
+
+    // Of a store and sinks that count exactly: opening, reading and writing fail as often as they may where the end
+    // tells of that, and else less often. After the first failure of the notes nothing more is written to them.
+    ensures tries { (result ≡ Status.NoMemory → ⊥)
+        → TriesStore S.Store attempts 0 store.old store.new result }
+    ensures writes { TriesSink W.Sink attempts out.old out.new result }
+    ensures notes_once { TriesOnce N.Sink notes.old notes.new }
 {
     let status = drawn(alloc, words, store, out);
     match status {
@@ -43,9 +51,11 @@ pub fn draw_plan<S: Store, W: Sink, N: Sink>(
 
 // The end before its note is written.
 fn drawn<S: Store, W: Sink>(alloc: Global, words: &[String], store: &mut S, out: &mut W) -> Status
-    ensures { IsDrawEnd (file_asked (words_of words.now))
+    ensures ends { IsDrawEnd (file_asked (words_of words.now))
         (observed_store S.files S.faults store.old store.new)
         (observed_sink W.faults W.taken out.old out.new) result }
+    ensures tries { TriesStore S.Store attempts 0 store.old store.new result }
+    ensures writes { TriesSink W.Sink attempts out.old out.new result }
 {
     let [_program, file] = words else {
         return Status::Usage;
@@ -59,8 +69,9 @@ fn drawn<S: Store, W: Sink>(alloc: Global, words: &[String], store: &mut S, out:
 // Writes the drawing of a plan that was read.
 fn draw_read<W: Sink>(alloc: Global, read: &PlanRead, out: &mut W) -> Status
     requires { length read.now.names ≡ length read.now.graph.nodes }
-    ensures { IsTextWritten (observed_sink W.faults W.taken out.old out.new)
+    ensures ends { IsTextWritten (observed_sink W.faults W.taken out.old out.new)
         (drawing_of read.now.names read.now.graph) result }
+    ensures writes { TriesSink W.Sink attempts out.old out.new result }
 {
     match draw(alloc, read.names.as_slice(), read.graph.plan()) {
         Ok(text) => written(out, text.as_slice(), ATTEMPTS),
