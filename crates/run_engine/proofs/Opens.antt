@@ -1,6 +1,6 @@
 -- Files that are opened one after another, and kits that open them one after another.
-use Rattle.std.proofs.Common.{◌≡◌, ℕ, zero, suc, ◌+◌, ◌<◌, ◌≤◌, List, [], ◌∷◌, ◌++◌, length, get_or, get_or-set_same, take, drop, set, refl, sym, ap, subst, ◌∙◌, append_assoc, length-set, arith}
-use Rattle.std.specs.Prelude.{Option, Some, None, IsSome, IsSomeAnd, slice_get, Result, Ok, Err, IfErr}
+use Rattle.std.proofs.Common.{◌≡◌, ◌⊎◌, inl, inr, ℕ, zero, suc, ◌+◌, ◌-◌, ◌<◌, ◌≤◌, List, [], ◌∷◌, ◌++◌, length, get_or, get_or-set_same, take, drop, set, refl, sym, ap, subst, ◌∙◌, append_assoc, length-set, arith}
+use Rattle.std.specs.Prelude.{true, Option, Some, None, IsSome, IsSomeAnd, slice_get, Result, Ok, Err, IfErr, OnOk}
 use Rattle.std.specs.List.{All, AllByRecursion, flat_map}
 use Rattle.std.proofs.lemmas.List.{append-nil, take_more}
 use Rattle.std.proofs.lemmas.Grind.{flat_map-append}
@@ -13,14 +13,16 @@ use Rattle.beam_values.specs.declared.plan.Plan.{Plan}
 use Rattle.beam_ports.specs.Files.{KeepsOpenings, Opening}
 use Rattle.beam_ports.specs.Observed.{ObservedStore, WhereTold, observed_store}
 use Rattle.beam_ports.specs.declared.store.Opened.{Opened}
+use Rattle.beam_ports.specs.declared.store.Store.{Ghosts as StoreGhosts}
 use Rattle.bundle_work.specs.Kits.{EachBecomes}
 use Rattle.bundle_work.specs.Openings.{AreOpened, IsOpenedAs, file_names, names_in}
 use Rattle.bundle_work.specs.Outside.{IsStoreKept}
 use Rattle.bundle_work.specs.declared.kit.Kit.{Kit}
 use Rattle.run_engine.specs.Kits.{observed_each}
-use Rattle.run_engine.specs.Openings.{AgreeInLength, AreNamesRefused, HasFailed, HasLength, HasSameLength, IsChanged, IsFaultCounted, IsFileRefused, IsNameRefused, IsOpeningRefused, IsOtherRefused}
-use Rattle.command_ends.specs.Retrying.{GivesUpExactly, IsPatient}
+use Rattle.run_engine.specs.Openings.{AgreeInLength, AreNamesRefused, HasFailed, HasLength, HasSameLength, IsChanged, IsFaultCounted, IsFileRefused, IsNameRefused, IsOpeningRefused, IsOtherRefused, TriesKits, TriesOthers, failed_before}
+use Rattle.command_ends.specs.Retrying.{GivesUpExactly, IsPatient, RoseByFewer, TriesStore}
 use Rattle.command_ends.specs.declared.retrying.RetryingStore.{RetryingStore}
+use Rattle.command_ends.proofs.Tries.{store_fewer, store_same as store_uncalled}
 use Rattle.command_ends.specs.declared.status.Status.{Status}
 use Rattle.command_ends.specs.declared.status.Status.TheVariants as status
 
@@ -333,9 +335,130 @@ module _ {F S : Type 0} (faults : S → ℕ) (files : S → Option (List FileTex
   pub one_onward : (kits others : List (Kit F S)) (first new : Kit F S) → kits ≡ first ∷ others → IsOnward first new → EachBecomes kits (new ∷ others) IsOnward
   one_onward kits others first new are one = subst (λ (ks : List (Kit F S)). EachBecomes ks (new ∷ others) IsOnward) (sym are) (one, same_become IsOnward onward_same others)
 
-  -- it has opened the files of these names, which have the lengths that the first kit met
-  abbrev pub HasOpened : List (List ℕ) → List Opened → Kit F S → Kit F S → Type 0
-  HasOpened names first old new = IsOnward old new × AreOpened (files new.store) (opened new.store) names new.files × AgreeInLength first new.files
+-- It has opened the files of these names, which have the lengths that the first kit met; and its store, where it counts exactly, failed less often than it may.
+pub record HasOpened {F S : Type 0} (s : StoreGhosts S) (attempts : ℕ) (names : List (List ℕ)) (first : List Opened) (old new : Kit F S) : Type 0 where
+  pub onward : IsOnward s.faults s.files s.opened old new
+  pub opens : AreOpened (s.files new.store) (s.opened new.store) names new.files
+  pub agree : AgreeInLength first new.files
+  pub fewer : s.counts_exactly ≡ true → RoseByFewer (s.faults old.store) (s.faults new.store) attempts
+
+-- ---- how often each store failed
+
+-- an opening was refused with this number alone
+pub only_kit : (files : Option (List FileText)) (first : List Opened) (names : List (List ℕ)) (kit : ℕ) (end : Status) → AreNamesRefused files first names kit end
+    → (at : ℕ) → end ≡ status.SourceFault at → at ≡ kit
+only_kit files first names kit end refused at is = subst (λ (e : Status). AreNamesRefused files first names kit e) is refused
+
+-- no failure was before
+pub none_before : {S : Type 0} (s : StoreGhosts S) (attempts kit : ℕ) (old new : S) (end : Status) → TriesStore s (attempts - 0) kit old new end → TriesStore s attempts kit old new end
+none_before s attempts kit old new end told =
+    let all : attempts - 0 ≡ attempts = omega arith in
+    subst (λ (most : ℕ). TriesStore s most kit old new end) all told
+
+module _ {F S : Type 0} (s : StoreGhosts S) (attempts : ℕ) (some : 1 ≤ attempts) where
+  module _ (P : Kit F S → Kit F S → Type 0) (holds : (old new : Kit F S) → P old new → s.counts_exactly ≡ true → RoseByFewer (s.faults old.store) (s.faults new.store) attempts) where
+    each_fewer : (olds news : List (Kit F S)) → EachBecomes olds news P → (kit : ℕ) (old new : Kit F S) → slice_get olds kit ≡ Some old → slice_get news kit ≡ Some new
+        → s.counts_exactly ≡ true → RoseByFewer (s.faults old.store) (s.faults new.store) attempts
+    each_fewer [] news each kit old new was is = absurd cc
+    each_fewer (x ∷ olds) [] each kit old new was is = absurd cc
+    each_fewer (x ∷ olds) (y ∷ news) each zero old new was is =
+        subst (λ (k : Kit F S). s.counts_exactly ≡ true → RoseByFewer (s.faults k.store) (s.faults new.store) attempts) (same_Some x old was)
+        (subst (λ (k : Kit F S). s.counts_exactly ≡ true → RoseByFewer (s.faults x.store) (s.faults k.store) attempts) (same_Some y new is) (holds x y each.0))
+    each_fewer (x ∷ olds) (y ∷ news) each (suc kit) old new was is = each_fewer olds news each.1 kit old new was is
+
+    -- all kits after the first opened their files
+    pub others_fewer : (olds news : List (Kit F S)) → EachBecomes olds news P → TriesOthers s attempts olds news status.Ok
+    others_fewer olds news each = λ kit old new was is.
+        store_fewer s attempts (suc kit) old.store new.store status.Ok (each_fewer olds news each kit old new was is) (λ no. cc)
+
+    one_or_fewer : (n : ℕ) (olds news : List (Kit F S)) (d last : Kit F S) → BecomesUpTo n olds news P → n < length news → (kit : ℕ) (old new : Kit F S)
+        → slice_get olds kit ≡ Some old → slice_get (set news n last) kit ≡ Some new
+        → ((kit ≡ n) × (get_or news n d ≡ old) × (last ≡ new)) ⊎ ((kit ≡ n → ⊥) × (s.counts_exactly ≡ true → RoseByFewer (s.faults old.store) (s.faults new.store) attempts))
+    one_or_fewer zero olds [] d last done inside kit old new was is = absurd (omega arith)
+    one_or_fewer zero olds (y ∷ news) d last done inside zero old new was is =
+        let first : slice_get (y ∷ news) 0 ≡ Some old = subst (λ (os : List (Kit F S)). slice_get os 0 ≡ Some old) (sym done) was in
+        inl (refl, same_Some y old first, same_Some last new is)
+    one_or_fewer zero olds (y ∷ news) d last done inside (suc kit) old new was is =
+        let before : slice_get news kit ≡ Some old = subst (λ (os : List (Kit F S)). slice_get os (suc kit) ≡ Some old) (sym done) was in
+        let same = same_Some old new (sym before ∙ is) in
+        inr (
+          λ no. omega (arith, no),
+          λ exactly. subst (λ (k : Kit F S). RoseByFewer (s.faults old.store) (s.faults k.store) attempts) same (omega arith),
+        )
+    one_or_fewer (suc n) [] news d last done inside kit old new was is = absurd done
+    one_or_fewer (suc n) (x ∷ olds) [] d last done inside kit old new was is = absurd done
+    one_or_fewer (suc n) (x ∷ olds) (y ∷ news) d last done inside zero old new was is =
+        inr (
+          λ no. omega (arith, no),
+          subst (λ (k : Kit F S). s.counts_exactly ≡ true → RoseByFewer (s.faults k.store) (s.faults new.store) attempts) (same_Some x old was)
+              (subst (λ (k : Kit F S). s.counts_exactly ≡ true → RoseByFewer (s.faults x.store) (s.faults k.store) attempts) (same_Some y new is) (holds x y done.0)),
+        )
+    one_or_fewer (suc n) (x ∷ olds) (y ∷ news) d last done inside (suc kit) old new was is =
+        elim (one_or_fewer n olds news d last done.1 (omega arith) kit old new was is) [
+          | inl one ↦ inl (ap suc one.0, one.1, one.2)
+          | inr other ↦ inr ((λ no. other.0 (omega (arith, no))), other.1)
+        ]
+
+    -- or one of them didn't: one store failed as it did, and each other one less often than it may
+    pub others_told : (n : ℕ) (olds news : List (Kit F S)) (d last : Kit F S) → BecomesUpTo n olds news P → n < length news → (end : Status)
+        → TriesStore s attempts (n + 1) (get_or news n d).store last.store end → ((at : ℕ) → end ≡ status.SourceFault at → at ≡ n + 1)
+        → TriesOthers s attempts olds (set news n last) end
+    others_told n olds news d last done inside end own only = λ kit old new was is.
+        elim (one_or_fewer n olds news d last done inside kit old new was is) [
+          | inl one ↦
+              let number : n + 1 ≡ suc kit = omega (arith, one.0) in
+              subst (λ (k : Kit F S). TriesStore s attempts (suc kit) k.store new.store end) one.1
+              (subst (λ (k : Kit F S). TriesStore s attempts (suc kit) (get_or news n d).store k.store end) one.2
+              (subst (λ (k : ℕ). TriesStore s attempts k (get_or news n d).store last.store end) number own))
+          | inr other ↦
+              store_fewer s attempts (suc kit) old.store new.store end other.1 (λ no. let same : suc kit ≡ n + 1 = only (suc kit) no in other.0 (omega (arith, same)))
+        ]
+
+  -- the first kit's store, and the others
+  pub each_told : (kits others news : List (Kit F S)) (first last : Kit F S) → kits ≡ first ∷ others → (failed : ℕ) (end : Status)
+      → TriesStore s (attempts - failed) 0 first.store last.store end → TriesOthers s attempts others news end → TriesKits s attempts failed kits (last ∷ news) end
+  each_told kits others news first last are failed end own rest =
+      subst (λ (ks : List (Kit F S)). TriesKits s attempts failed ks (last ∷ news) end) (sym are) by
+    where
+      by : TriesKits s attempts failed (first ∷ others) (last ∷ news) end
+      by zero old new was is =
+          subst (λ (k : Kit F S). TriesStore s (attempts - failed) 0 k.store new.store end) (same_Some first old was)
+          (subst (λ (k : Kit F S). TriesStore s (attempts - failed) 0 first.store k.store end) (same_Some last new is) own)
+      by (suc kit) old new was is =
+          let all : attempts ≡ attempts - 0 = omega arith in
+          subst (λ (most : ℕ). TriesStore s most (suc kit) old.store new.store end) all (rest kit old new was is)
+
+  -- the first kit opened its files, and one of the others didn't
+  pub later_told : (kits others news : List (Kit F S)) (first last : Kit F S) → kits ≡ first ∷ others → (failed : ℕ) (names : List (List ℕ)) (opens : List Opened) (end : Status)
+      → TriesStore s (attempts - failed) 0 first.store last.store status.Ok → IsOtherRefused (observed_each s.files s.faults others news) opens names attempts end
+      → TriesOthers s attempts others news end → TriesKits s attempts failed kits (last ∷ news) end
+  later_told kits others news first last are failed names opens end own refused rest =
+      each_told kits others news first last are failed end
+      (store_fewer s (attempts - failed) 0 first.store last.store end (λ exactly. (own exactly).patient (λ is. cc))
+      (λ is. let at : 0 ≡ refused.kit + 1 = only_kit refused.store.files opens names (refused.kit + 1) end refused.refused 0 is in omega (arith, at))) rest
+
+  -- the first kit refused, and the others did nothing
+  pub first_told : (kits others : List (Kit F S)) (first last : Kit F S) → kits ≡ first ∷ others → (failed : ℕ) (end : Status)
+      → TriesStore s (attempts - failed) 0 first.store last.store end → ((at : ℕ) → end ≡ status.SourceFault at → at ≡ 0) → TriesKits s attempts failed kits (last ∷ others) end
+  first_told kits others first last are failed end own only =
+      each_told kits others others first last are failed end own
+      (λ kit old new was is. store_uncalled s attempts (suc kit) old.store new.store end (ap (λ (k : Kit F S). k.store) (same_Some old new (sym was ∙ is))) some
+      (λ no. let never : suc kit ≡ 0 = only (suc kit) no in omega (arith, never)))
+
+  -- where only files are dropped
+  open_before : (mids news : List (Kit F S)) → EachBecomes mids news IsClosed → (kit : ℕ) (new : Kit F S) → slice_get news kit ≡ Some new
+      → (mid : Kit F S) × (slice_get mids kit ≡ Some mid) × (mid.store ≡ new.store)
+  open_before [] [] closed kit new is = absurd cc
+  open_before [] (y ∷ news) closed kit new is = absurd closed
+  open_before (x ∷ mids) [] closed kit new is = absurd closed
+  open_before (x ∷ mids) (y ∷ news) closed zero new is = (x, refl, sym (ap (λ (k : Kit F S). k.store) closed.0) ∙ ap (λ (k : Kit F S). k.store) (same_Some y new is))
+  open_before (x ∷ mids) (y ∷ news) closed (suc kit) new is = open_before mids news closed.1 kit new is
+
+  pub closed_told : (olds mids news : List (Kit F S)) → EachBecomes mids news IsClosed → (failed : ℕ) (end : Status) → TriesKits s attempts failed olds mids end
+      → TriesKits s attempts failed olds news end
+  closed_told olds mids news closed failed end told = λ kit old new was is.
+      let before = open_before mids news closed kit new is in
+      subst (λ (store : S). TriesStore s (attempts - failed_before failed kit) kit old.store store end) before.2 (told kit old before.0 was before.1)
 
 -- a file that is not taken is no fault of the store
 pub file_exact : {S : Type 0} (store : RetryingStore S) → IsPatient store → (first : List Opened) (at : ℕ) (name : List ℕ) (len : ℕ) (refusal : Status)
@@ -405,3 +528,11 @@ module _ {F S : Type 0} (faults : S → ℕ) (files : S → Option (List FileTex
 pub if_err : {A E : Type 0} {P Q : E → Type 0} (r : Result A E) → ((e : E) → P e → Q e) → IfErr r P → IfErr r Q
 if_err (Ok a) f h = tt
 if_err (Err e) f h = f e h
+
+pub if_err_both : {A E : Type 0} {P Q R : E → Type 0} (r : Result A E) → ((e : E) → P e → Q e → R e) → IfErr r P → IfErr r Q → IfErr r R
+if_err_both (Ok a) f p q = tt
+if_err_both (Err e) f p q = f e p q
+
+pub on_ok : {A E : Type 0} {P Q : Type 0} (r : Result A E) → (P → Q) → OnOk r P → OnOk r Q
+on_ok (Ok a) f p = f p
+on_ok (Err e) f p = tt

@@ -13,7 +13,6 @@ use Rattle.book_core.specs.Changes.{attempts_of, counted, ends_run, given_back, 
 use Rattle.book_core.specs.Jobs.{Next, next_job}
 use Rattle.book_core.specs.Runs.{Reached}
 use Rattle.book_core.specs.Sane.{IsSane}
-use Rattle.book_core.specs.declared.live.Batch.{Batch}
 use Rattle.book_core.specs.declared.live.Live.{Live}
 use Rattle.book_core.specs.declared.live.Live.TheVariants as live
 use Rattle.book_core.proofs.Cases.{Both, Keeps, always_reached, kept_with}

@@ -1,5 +1,5 @@
 -- How the kits of a run open the files of its plan, and why one didn't.
-use Rattle.std.specs.Prelude.{◌≡◌, ℕ, zero, suc, ◌+◌, ◌≤◌, List, [], ◌∷◌, ◌++◌, length, slice_get, Option, Some, None, IsSome}
+use Rattle.std.specs.Prelude.{◌≡◌, ℕ, zero, suc, ◌+◌, ◌-◌, ◌≤◌, List, [], ◌∷◌, ◌++◌, length, slice_get, Option, Some, None, IsSome}
 use Rattle.std.specs.List.{All, AllByRecursion}
 use Rattle.beam_values.specs.Files.{first_named}
 use Rattle.beam_values.specs.declared.file_text.FileText.{FileText}
@@ -8,8 +8,10 @@ use Rattle.beam_ports.specs.Counts.{rise}
 use Rattle.beam_ports.specs.Files.{Opening}
 use Rattle.beam_ports.specs.Observed.{ObservedStore, WhereTold}
 use Rattle.beam_ports.specs.declared.store.Opened.{Opened}
+use Rattle.beam_ports.specs.declared.store.Store.{Ghosts as StoreGhosts}
 use Rattle.bundle_work.specs.Openings.{AreOpened, file_names}
 use Rattle.bundle_work.specs.declared.kit.Kit.{Kit}
+use Rattle.command_ends.specs.Retrying.{TriesStore}
 use Rattle.command_ends.specs.declared.status.Status.{Status}
 use Rattle.command_ends.specs.declared.status.Status.TheVariants as status
 
@@ -106,6 +108,18 @@ IsOpeningRefused stores plan attempts failed (status.SourceFault kit) = HasFaile
 IsOpeningRefused stores plan attempts failed (status.FileChanged name len other) = HasChanged stores (file_names plan) name len other
 IsOpeningRefused stores plan attempts failed status.NoMemory = Unit {0}
 IsOpeningRefused stores plan attempts failed _ = ⊥
+
+-- ---- how often the stores failed that count exactly
+
+-- each as often as it may, with the failures before, where the end tells that its kit gave up, and else less often
+abbrev pub TriesKits : {F S : Type 0} → StoreGhosts S → ℕ → ℕ → List (Kit F S) → List (Kit F S) → Status → Type 0
+TriesKits s attempts failed olds news end = (kit : ℕ) (old : Kit _ _) (new : Kit _ _) → slice_get olds kit ≡ Some old → slice_get news kit ≡ Some new
+    → TriesStore s (attempts - failed_before failed kit) kit old.store new.store end
+
+-- the same of the kits after the first
+abbrev pub TriesOthers : {F S : Type 0} → StoreGhosts S → ℕ → List (Kit F S) → List (Kit F S) → Status → Type 0
+TriesOthers s attempts olds news end = (kit : ℕ) (old : Kit _ _) (new : Kit _ _) → slice_get olds kit ≡ Some old → slice_get news kit ≡ Some new
+    → TriesStore s attempts (suc kit) old.store new.store end
 
 -- ---- one kit
 

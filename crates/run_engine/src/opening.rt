@@ -1,15 +1,17 @@
-ghost use Rattle.std.specs.Prelude.{◌≡◌, ◌<◌, ◌≤◌, ◌++◌, ℕ, List as ListOf, [], length, OnOk, IfOk};
-ghost use Rattle.std.specs.Prelude.{IfErr, IsErr};
+ghost use Rattle.std.specs.Prelude.{◌≡◌, ◌<◌, ◌≤◌, ◌-◌, ◌++◌, ℕ, List as ListOf, [], length};
+ghost use Rattle.std.specs.Prelude.{OnOk, IfOk, IfErr, IsErr};
 ghost use Rattle.std.specs.List.{AllByRecursion, flat_map};
 ghost use Rattle.beam_ports.specs.Observed.{observed_store};
 ghost use Rattle.bundle_work.specs.Kits.{EachBecomes};
 ghost use Rattle.bundle_work.specs.Openings.{AreOpened, IsOpenedAs, file_names, names_in};
 ghost use Rattle.bundle_work.specs.Outside.{IsStoreKept};
 ghost use Rattle.command_ends.specs.Retrying.{GivesUpExactly, IsPatient, KeepsTrying, store_in};
+ghost use Rattle.command_ends.specs.Retrying.{TriesStore};
 ghost use Rattle.run_engine.specs.Kits.{OpensKit, observed_each};
 ghost use Rattle.run_engine.specs.Openings.{AgreeInLength, AreNamesRefused};
 ghost use Rattle.run_engine.specs.Openings.{AreOpenedByAll, HasSameLength, IsFaultCounted, IsFileRefused};
 ghost use Rattle.run_engine.specs.Openings.{IsNameRefused, IsOpeningRefused, IsOtherRefused};
+ghost use Rattle.run_engine.specs.Openings.{TriesKits, TriesOthers};
 
 use beam_ports::{OpenRefusal, Opened, Store};
 use beam_values::{Bytes, List, Node, Options};
@@ -36,6 +38,10 @@ pub fn open_sources<F: Shelf, S: Store>(
     ensures few { OnOk result (0 < length kits.old → failed < options.now.attempts) }
     ensures refused { IfErr result (IsOpeningRefused
         (observed_each S.files S.faults kits.old kits.new) graph.now options.now.attempts failed) }
+    ensures fewer { OnOk result
+        (TriesKits S.Store options.now.attempts failed kits.old kits.new Status.Ok) }
+    ensures tries { IfErr result
+        (TriesKits S.Store options.now.attempts failed kits.old kits.new) }
     ensures none { IsErr result → AllByRecursion (λ kit. kit.files ≡ []) kits.new }
     ensures kept { EachBecomes kits.old kits.new (OpensKit S.Store) }
 {
@@ -72,6 +78,8 @@ fn open_each<F: Shelf, S: Store>(
     ensures few { OnOk result (0 < length kits.old → failed < attempts) }
     ensures refused { IfErr result (IsOpeningRefused
         (observed_each S.files S.faults kits.old kits.new) graph.now attempts failed) }
+    ensures fewer { OnOk result (TriesKits S.Store attempts failed kits.old kits.new Status.Ok) }
+    ensures tries { IfErr result (TriesKits S.Store attempts failed kits.old kits.new) }
     ensures kept { EachBecomes kits.old kits.new (OpensKit S.Store) }
 {
     let Some((first, others)) = kits.split_first_mut() else {
@@ -100,6 +108,8 @@ fn open_others<F: Shelf, S: Store>(
     ensures refused { IfErr result
         (IsOtherRefused (observed_each S.files S.faults kits.old kits.new) first.now
         (file_names graph.now) attempts) }
+    ensures fewer { OnOk result (TriesOthers S.Store attempts kits.old kits.new Status.Ok) }
+    ensures tries { IfErr result (TriesOthers S.Store attempts kits.old kits.new) }
     ensures kept { EachBecomes kits.old kits.new (OpensKit S.Store) }
 {
     for at in 0..kits.len() {
@@ -131,6 +141,10 @@ fn open_kit<F: Shelf, S: Store>(
         (file_names graph.now) number) }
     ensures counted { IfErr result (IsFaultCounted
         (observed_store S.files S.faults kit.old.store kit.new.store) attempts failed) }
+    ensures fewer { OnOk result (TriesStore S.Store (attempts - failed) number
+        kit.old.store kit.new.store Status.Ok) }
+    ensures tries { IfErr result (TriesStore S.Store (attempts - failed) number
+        kit.old.store kit.new.store) }
     ensures shelf { kit.new.shelf ≡ kit.old.shelf }
     ensures kept { IsStoreKept S.faults S.files S.opened kit.old.store kit.new.store }
 {
@@ -163,7 +177,7 @@ fn open_nodes<S: Store>(
     ensures refused { IfErr result (AreNamesRefused (S.files (store_in store.old)) first.now
         (flat_map (λ node. names_in node.kind) nodes.now) number) }
     ensures exactly { IfErr result (GivesUpExactly store.new) }
-    ensures tried { KeepsTrying S.faults S.files S.opened store.old store.new }
+    ensures tried { KeepsTrying S.Store store.old store.new }
 {
     let mut files = List::new(alloc);
     for node in nodes {
@@ -198,7 +212,7 @@ fn open_names<S: Store>(
         → AreNamesRefused (S.files (store_in store.old)) first.now
         (before ++ (names.now ++ after)) number status) }
     ensures exactly { IfErr result (GivesUpExactly store.new) }
-    ensures tried { KeepsTrying S.faults S.files S.opened store.old store.new }
+    ensures tried { KeepsTrying S.Store store.old store.new }
 {
     for name in names {
         let name = name.as_slice();
@@ -244,7 +258,7 @@ fn open_named<S: Store>(
     ensures refused { IfErr result
         (IsNameRefused (S.files (store_in store.old)) name.now number) }
     ensures exactly { IfErr result (GivesUpExactly store.new) }
-    ensures tried { KeepsTrying S.faults S.files S.opened store.old store.new }
+    ensures tried { KeepsTrying S.Store store.old store.new }
 {
     match store.open_file(name) {
         Ok(file) => Ok(file),

@@ -44,5 +44,5 @@ loop-name-preserved g c =
           subst (λ (files : List Opened). AgreeInLength first files) (sym c.in_ok-push-in-Ok.ensures.ok)
           (agree_more first c.loop-name.files file (known.lengths agree) (subst (λ (at : ℕ). HasSameLength first at file.len) c.len.ensures c.in-Ok-compare.ensures.same));
       patient = c.in-Ok.ensures.few;
-      tried = trying_onward g.S.Store.faults g.S.Store.files g.S.Store.opened c.args.store.now c.loop-name.store c.open_named.new.store known.tried tried;
+      tried = trying_onward g.S.Store c.args.store.now c.loop-name.store c.open_named.new.store known.tried tried;
     }

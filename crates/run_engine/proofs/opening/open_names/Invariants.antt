@@ -10,5 +10,5 @@ invariant-loop-name g l = record {
       → AreOpened (g.S.Store.files l.store.store.now) (g.S.Store.opened l.store.store.now) (before ++ take l.name-index l.names) l.files;
   lengths : AgreeInLength l.first l.initial.files → AgreeInLength l.first l.files;
   patient : IsPatient l.store;
-  tried : KeepsTrying g.S.Store.faults g.S.Store.files g.S.Store.opened l.initial.store l.store;
+  tried : KeepsTrying g.S.Store l.initial.store l.store;
 }

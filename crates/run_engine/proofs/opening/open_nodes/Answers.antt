@@ -14,7 +14,7 @@ loop-node-init g c =
       opened = subst (λ (files : List Opened). AreOpened (g.S.Store.files store.store.now) (g.S.Store.opened store.store.now) [] files) (sym c.new-files.ensures) tt;
       lengths = subst (λ (files : List Opened). AgreeInLength first files) (sym c.new-files.ensures) (agree_none first);
       patient = c.requires;
-      tried = trying_same g.S.Store.faults g.S.Store.files g.S.Store.opened store;
+      tried = trying_same g.S.Store store;
     }
 
 pub returns-in-Err-clause-refused : goal.returns-in-Err-clause-refused
@@ -44,5 +44,5 @@ loop-node-preserved g c =
           (c.in-Ok.ensures.opened front known.opened);
       lengths = c.in-Ok.ensures.lengths known.lengths;
       patient = c.in-Ok.ensures.few;
-      tried = trying_onward g.S.Store.faults g.S.Store.files g.S.Store.opened c.args.store.now c.loop-node.store c.open_names.new.store known.tried c.open_names.ensures.tried;
+      tried = trying_onward g.S.Store c.args.store.now c.loop-node.store c.open_names.new.store known.tried c.open_names.ensures.tried;
     }

@@ -10,5 +10,5 @@ invariant-loop-node g l = record {
   opened : AreOpened (g.S.Store.files l.store.store.now) (g.S.Store.opened l.store.store.now) (flat_map (λ node. names_in node.kind) (take l.node-index l.nodes)) l.files;
   lengths : AgreeInLength l.first l.files;
   patient : IsPatient l.store;
-  tried : KeepsTrying g.S.Store.faults g.S.Store.files g.S.Store.opened l.initial.store l.store;
+  tried : KeepsTrying g.S.Store l.initial.store l.store;
 }
