@@ -6,8 +6,10 @@
 //! what a view answers is what `joined_with` of `beam_model` joins a main value with. Read `view.rt` first.
 #![tactic(auto)]
 
+mod laws;
 mod nodes;
 mod view;
 
+pub use laws::joins_are_what_views_answer;
 pub use nodes::{ViewMode, side_nodes};
 pub use view::View;
