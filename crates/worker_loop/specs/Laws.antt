@@ -1,24 +1,29 @@
 -- Claims of a pass: what they leave of its note, and that they follow on one another.
-use Rattle.std.specs.Prelude.{Bool, IsSome, ◌≡◌, ◌⊎◌, ℕ}
-use Rattle.std.proofs.Common.{List, inl, inr, refl, subst, sym, ◌∙◌}
+use Rattle.std.specs.Prelude.{Bool, IsSome, IsSomeAnd, ◌≡◌, ℕ, [], ◌∷◌, ◌++◌}
+use Rattle.std.proofs.Common.{List, refl, subst, sym, ◌∙◌}
 use Rattle.turn_desk.specs.declared.held.Note.{Note}
 use Rattle.book_core.specs.Steps.{Claim, Claimed}
 use Rattle.known_jobs.specs.Jobs.{Setting}
 use Rattle.worker_table.specs.Calls.{GoesOnAs, KeepsSlot}
 use Rattle.worker_table.specs.Notes.{Entry}
-use Rattle.worker_table.specs.Turns.{KeepsOthers, first_entry}
-use Rattle.worker_loop.specs.Workers.{HasMadeLast}
+use Rattle.worker_table.specs.Turns.{HasStepped, KeepsOthers, first_entry}
 
--- the last turn of the pass was a claim
-abbrev pub HasJustClaimed : Setting → Entry → Type 0
-HasJustClaimed setting entry = (p : ℕ) × (granted : Bool) × HasMadeLast setting entry (Claim p) (Claimed granted)
+-- one turn of the pass, which was a claim
+abbrev pub HasClaimed : Setting → Note (List Entry) → Note (List Entry) → Type 0
+HasClaimed setting m n = (p : ℕ) × (granted : Bool) × IsSomeAnd (first_entry m).slot (λ i. HasStepped setting m n i (Claim p) (Claimed granted))
 
--- Claims change nothing of what is noted but the job of the pass, of which there still is one.
+-- claims one after another, and the notes before them, that of the latest one first
+abbrev pub AreClaims : Setting → Note (List Entry) → List (Note (List Entry)) → Note (List Entry) → Type 0
+AreClaims setting m [] n = n ≡ m
+AreClaims setting m (k ∷ earlier) n = HasClaimed setting k n × AreClaims setting m earlier k
+
+-- The turns of the pass were claims alone. They change nothing of what is noted but the job of the pass, of which there still is one.
 pub record OnlyClaims (setting : Setting) (m n : Note (List Entry)) : Type 0 where
+  pub earlier : List (Note (List Entry))
+  pub claims : AreClaims setting m earlier n
   pub stays : GoesOnAs (first_entry m) (first_entry n)
   pub others : KeepsOthers m n
   pub job : IsSome (first_entry m).job → IsSome (first_entry n).job
-  pub last : (n ≡ m) ⊎ HasJustClaimed setting (first_entry n)
 
 pub others_same : (m : Note (List Entry)) → KeepsOthers m m
 others_same m = record { numbers = refl; free = refl; others = refl; count = refl }
@@ -36,19 +41,22 @@ keeps_onward e f k one two = record { slot = two.slot ∙ one.slot; calls = two.
 
 pub claims_same : (setting : Setting) (m : Note (List Entry)) → OnlyClaims setting m m
 claims_same setting m = record {
+  earlier = [];
+  claims = refl;
   stays = record { keeps = record { slot = refl; calls = refl; reads = refl }; owes = refl; ending = refl };
   others = others_same m;
   job = λ some. some;
-  last = inl refl;
 }
 
-last_onward : (setting : Setting) (m n o : Note (List Entry)) → (n ≡ m) ⊎ HasJustClaimed setting (first_entry n) → (o ≡ n) ⊎ HasJustClaimed setting (first_entry o) → (o ≡ m) ⊎ HasJustClaimed setting (first_entry o)
-last_onward setting m n o (inl one) (inl two) = inl (two ∙ one)
-last_onward setting m n o (inr one) (inl two) = inr (subst (λ (x : Note (List Entry)). HasJustClaimed setting (first_entry x)) (sym two) one)
-last_onward setting m n o one (inr two) = inr two
+claims_join : (setting : Setting) (m n : Note (List Entry)) (earlier : List (Note (List Entry))) → AreClaims setting m earlier n
+    → (later : List (Note (List Entry))) (o : Note (List Entry)) → AreClaims setting n later o → AreClaims setting m (later ++ earlier) o
+claims_join setting m n earlier one [] o two = subst (AreClaims setting m earlier) (sym two) one
+claims_join setting m n earlier one (k ∷ later) o two = (two.0, claims_join setting m n earlier one later k two.1)
 
 pub claims_onward : (setting : Setting) (m n o : Note (List Entry)) → OnlyClaims setting m n → OnlyClaims setting n o → OnlyClaims setting m o
 claims_onward setting m n o one two = record {
+  earlier = two.earlier ++ one.earlier;
+  claims = claims_join setting m n one.earlier one.claims two.earlier o two.claims;
   stays = record {
     keeps = keeps_onward (first_entry m) (first_entry n) (first_entry o) one.stays.keeps two.stays.keeps;
     owes = two.stays.owes ∙ one.stays.owes;
@@ -56,5 +64,4 @@ claims_onward setting m n o one two = record {
   };
   others = others_onward m n o one.others two.others;
   job = λ some. two.job (one.job some);
-  last = last_onward setting m n o one.last two.last;
 }

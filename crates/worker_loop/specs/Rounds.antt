@@ -7,10 +7,11 @@ use Rattle.turn_desk.specs.declared.held.Note.{Note}
 use Rattle.book_core.specs.Steps.{Fail, Retried, Spent, Take}
 use Rattle.book_core.specs.declared.live.Taken.{Taken}
 use Rattle.book_core.specs.declared.live.Taken.TheVariants as taken
+use Rattle.known_jobs.specs.Calls.{HasAttempted}
 use Rattle.known_jobs.specs.Jobs.{Setting}
 use Rattle.worker_table.specs.Calls.{take_answer}
 use Rattle.worker_table.specs.Notes.{Entry}
-use Rattle.worker_table.specs.Turns.{HasCommitted, HasEnrolled, HasHelped, HasStepped, HasStopped}
+use Rattle.worker_table.specs.Turns.{HasCommitted, HasEnrolled, HasHelped, HasStepped, HasStopped, first_entry}
 use Rattle.bundle_work.specs.Reading.{IsReleased}
 use Rattle.bundle_work.specs.declared.bundles.Worker.{Worker}
 use Rattle.worker_loop.specs.Laws.{OnlyClaims}
@@ -66,10 +67,10 @@ HasHandedIn setting m n i receipt worker later (Some e) =
 
 -- ---- a round
 
--- what ended a job after its claims: its receipt was handed in, or it failed, or there was no memory for the work
+-- What ended a job after its claims: a position was attempted and its receipt was handed in, or it failed, or there was no memory for the work.
 abbrev pub EndsJob : Setting → Note (List Entry) → Note (List Entry) → ℕ → Option WorkerEnd → Type 0
 EndsJob setting m n i result =
-    ((receipt : Receipt) × (worker : Worker) × (later : Worker) × HasHandedIn setting m n i receipt worker later result)
+    ((receipt : Receipt) × (worker : Worker) × (later : Worker) × HasAttempted (first_entry m).job × HasHandedIn setting m n i receipt worker later result)
     ⊎ (((at : ℕ) × (cause : Cause) × HasFailed setting m n i at cause result) ⊎ HasGivenUp setting m n result)
 
 -- What follows a take. Only where it finds no memory the worker gives up without a job; where it gets none while others work, it looks for a range to split and goes on.

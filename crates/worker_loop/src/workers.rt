@@ -1,5 +1,5 @@
 //! One worker, with a kit of its own.
-ghost use Rattle.std.specs.Prelude.{◌≡◌, ◌≤◌, None, Some, false};
+ghost use Rattle.std.specs.Prelude.{◌≡◌, ◌≤◌, [], None, Some, IsSomeAnd, false};
 ghost use Rattle.beam_ports.specs.Counts.{greatest_count};
 ghost use Rattle.beam_ports.specs.Observed.{observed_store};
 ghost use Rattle.book_core.specs.Steps.{Fail};
@@ -10,7 +10,7 @@ ghost use Rattle.worker_table.specs.Calls.{AfterCommit, AfterHelp, GoesOnAs, Kee
 ghost use Rattle.known_jobs.specs.Calls.{calls_after, reads_after};
 ghost use Rattle.worker_table.specs.Passes.{IsOf, entry_of, job_known, note_of_pass, setting_of};
 ghost use Rattle.worker_table.specs.Passes.{slot_of};
-ghost use Rattle.worker_table.specs.Turns.{KeepsOthers};
+ghost use Rattle.worker_table.specs.Turns.{HasCommitted, KeepsOthers};
 ghost use Rattle.bundle_work.specs.Kits.{IsKitFor};
 ghost use Rattle.bundle_work.specs.Reading.{StaysReading};
 ghost use Rattle.worker_loop.specs.Rounds.{HasFailed, HasGivenUp, HasHandedIn, HasLooked};
@@ -191,9 +191,31 @@ impl<'a, R: Wait, G: Gate> Turns<'a, R, G> {
             Ok(()) => Ok(()),
             Err(unplaced) => {
                 worker.release();
-                self.table.commit(self.rt, pass, unplaced.receipt)
+                self.commit_again(pass, worker, unplaced.receipt)
             }
         }
+    }
+
+    // Commits a receipt that found no memory before the worker gave up what it held.
+    fn commit_again(
+        &self,
+        pass: &mut WorkerPass,
+        worker: &Worker,
+        receipt: Receipt,
+    ) -> Result<(), Unplaced>
+        requires table { IsOf self.now.table.now pass.old }
+        requires slot { slot_of pass.old ≡ Some self.now.slot }
+        requires given { CanCommitAs (setting_of self.now.table.now) (job_known pass.old) receipt }
+        requires released { worker.now.bench.pager.bytes ≡ [] }
+        ensures table { IsOf self.now.table.now pass.new }
+        ensures turn { IsSomeAnd (slot_of pass.old) (λ i. HasCommitted
+            (setting_of self.now.table.now) (note_of_pass pass.old) (note_of_pass pass.new)
+            i receipt result) }
+        ensures told { AfterCommit result (entry_of pass.new) }
+        ensures stays { GoesOnAs (entry_of pass.old) (entry_of pass.new) }
+        ensures others { KeepsOthers (note_of_pass pass.old) (note_of_pass pass.new) }
+    {
+        self.table.commit(self.rt, pass, receipt)
     }
 
     // The pass's job failed, and is counted in the share.

@@ -39,7 +39,7 @@ returns-in-Ok-clause-turns g c =
     let next = note_of_pass c.take_job.new.pass in
     let worked = note_of_pass c.work_job.new.pass in
     round_of (Unit {0}) (setting_of c.args.self.now.table.now) m next (note_of_pass c.commit.new.pass) (slot_of c.args.pass.now) c.args.self.now.slot c.in-Ok-Job.field-0 (taken.Job c.in-Ok-Job.job) c.commit.result c.requires.slot
-    c.in-Ok-Job.field-0-is c.in-Ok-Job.ensures.turn (worked, c.work_job.ensures.claims, inl (c.in-Ok.receipt, c.work_job.new.self, c.commit.new.worker, c.commit.ensures.turns))
+    c.in-Ok-Job.field-0-is c.in-Ok-Job.ensures.turn (worked, c.work_job.ensures.claims, inl (c.in-Ok.receipt, c.work_job.new.self, c.commit.new.worker, c.in-Ok.ensures.goes_on, c.commit.ensures.turns))
 
 pub returns-in-Err-Faulted-clause-turns : goal.returns-in-Err-Faulted-clause-turns
 returns-in-Err-Faulted-clause-turns g c =
