@@ -1,28 +1,25 @@
 -- Which end comes of a plan that is to be combined.
-use Rattle.std.proofs.Common.{◌≡◌, ◌⊎◌, inl, inr, ℕ, ◌<◌, ◌≤◌, List, ◌∷◌, Option, Some, None, slice_get, refl, sym, subst, arith}
+use Rattle.std.proofs.Common.{◌≡◌, ◌⊎◌, inl, inr, ℕ, ◌<◌, List, Option, Some, None, slice_get, refl, sym, subst, arith}
 use Rattle.beam_values.specs.declared.fault.FaultNote.{FaultNote}
 use Rattle.beam_values.specs.declared.file_text.FileText.{FileText}
 use Rattle.beam_values.specs.declared.options.Options.{Options}
 use Rattle.beam_values.specs.declared.outcome.Outcome.{Outcome}
 use Rattle.beam_values.specs.declared.plan.FnKind.{FnKind}
-use Rattle.beam_values.specs.declared.plan.Node.{Node}
 use Rattle.beam_values.specs.declared.plan.Plan.{Plan}
 use Rattle.beam_model.specs.Positions.{items}
 use Rattle.beam_model.specs.Spread.{HasPoison}
 use Rattle.beam_ports.specs.Counts.{rise}
 use Rattle.beam_ports.specs.Observed.{ObservedStore, WhereTold}
 use Rattle.combine_lift.specs.Lifting.{IsLiftable}
-use Rattle.combine_lift.specs.declared.refusal.LiftRefusal.{LiftRefusal}
 use Rattle.combine_lift.specs.declared.refusal.LiftRefusal.TheVariants as lift
 use Rattle.combine_laws.specs.Combined.{HasFunction, IsSomePoison, MeetsMany, MeetsPart, MeetsSum}
-use Rattle.combine_plan.specs.declared.refusal.CombineRefusal.{CombineRefusal}
 use Rattle.combine_plan.specs.declared.refusal.CombineRefusal.TheVariants.{Fault, Lift}
 use Rattle.command_words.specs.Commands.{Asked, Help, Panes, Run, Replay, Make, Drill, Combine}
 use Rattle.run_engine.specs.Openings.{IsOpeningRefused}
 use Rattle.command_ends.specs.declared.status.Status.{Status}
 use Rattle.command_ends.specs.declared.status.Status.TheVariants as status
 use Rattle.beam_command.specs.Asking.{IsPlanRead, WhereCombine}
-use Rattle.beam_command.specs.CombineEnds.{AreCombinedWritten, IsCombineEnd, IsCombineStopped, IsDocumentRefusedBy, IsReadUncombined, IsUncombined, IsWorkRefused}
+use Rattle.beam_command.specs.CombineEnds.{AreCombinedWritten, IsCombineEnd, IsDocumentRefusedBy, IsReadUncombined, IsUncombined, IsWorkRefused}
 use Rattle.beam_command.specs.Completeness.{AreFaultsFew, AreKitFaultsFew, AreReadFaultsFew, HasCleanLiftedInputs, HasLiftedInputs, HasUnliftedPlan, IsEndOfClean, IsEndOfFewLifted, IsEndOfUnlifted, IsStrict, ReadsPoison}
 use Rattle.beam_command.specs.Ends.{IsEndOf}
 use Rattle.beam_command.specs.Observing.{Observed}

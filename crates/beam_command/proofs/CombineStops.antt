@@ -1,5 +1,5 @@
 -- What was combined of a plan, or why it wasn't, seen from the call that opened its files and from the one that read its document.
-use Rattle.std.proofs.Common.{◌≡◌, inl, inr, ℕ, ◌<◌, ◌≤◌, List, [], ◌∷◌, length, map, get_or, set, slice_get, Option, Some, Result, Ok, Err, refl, sym, subst, ◌∙◌, arith}
+use Rattle.std.proofs.Common.{◌≡◌, inl, inr, ℕ, ◌<◌, ◌≤◌, List, [], ◌∷◌, length, map, get_or, set, slice_get, Option, Some, Result, Ok, Err, refl, subst, arith}
 use Rattle.std.specs.List.{AllByRecursion}
 use Rattle.beam_values.specs.declared.arrival.Arrival.{Arrival}
 use Rattle.beam_values.specs.declared.fault.FaultNote.{FaultNote}
@@ -8,18 +8,15 @@ use Rattle.beam_values.specs.declared.options.Options.{Options}
 use Rattle.beam_values.specs.declared.plan.FnKind.{FnKind}
 use Rattle.beam_values.specs.declared.plan.Plan.{Plan}
 use Rattle.beam_ports.specs.Counts.{rise}
-use Rattle.beam_ports.specs.Files.{Opening}
 use Rattle.beam_ports.specs.Observed.{ObservedStore, observed_store}
 use Rattle.beam_ports.specs.declared.store.Store.{Ghosts as StoreGhosts}
 use Rattle.beam_ports.proofs.Rises.{rise_grows}
 use Rattle.book_core.specs.Runs.{AreOptions}
-use Rattle.book_core.specs.Work.{Surroundings}
 use Rattle.bundle_work.specs.Kits.{EachBecomes, observed_shelves, observed_stores, sum_rises, told_by}
 use Rattle.bundle_work.specs.Reading.{opened_lengths}
 use Rattle.bundle_work.specs.declared.kit.Kit.{Kit}
 use Rattle.chain_exec.specs.Causes.{ObservedShelf}
 use Rattle.dofn_traits.specs.declared.shelf.Shelf.{Ghosts as ShelfGhosts}
-use Rattle.combine_lift.specs.Lifting.{IsLiftable}
 use Rattle.combine_lift.specs.declared.refusal.LiftRefusal.TheVariants as lift
 use Rattle.combine_plan.specs.Combined.{AreOpenedAlike, IsCombineEnd as IsPlanCombined, IsGivenUp, IsLiftedEnd, IsLiftedRefused}
 use Rattle.combine_plan.specs.declared.refusal.CombineRefusal.{CombineRefusal}
@@ -33,7 +30,7 @@ use Rattle.command_ends.specs.Writing.{IsTextEnd}
 use Rattle.command_ends.specs.declared.status.Status.{Status}
 use Rattle.command_ends.specs.declared.status.Status.TheVariants as status
 use Rattle.beam_command.specs.Asking.{IsPlanRead}
-use Rattle.beam_command.specs.CombineEnds.{AreCombinedOf, IsCombineEnd, IsCombineStopped, IsCombinedOf, IsCombinedText, IsDocumentRefusedBy, IsUncombined, IsWorkRefused, status_of}
+use Rattle.beam_command.specs.CombineEnds.{AreCombinedOf, IsCombineEnd, IsCombineStopped, IsCombinedOf, IsCombinedText, IsUncombined, IsWorkRefused, status_of}
 use Rattle.beam_command.specs.Observing.{Observed, AreFound, IsUnwritten}
 use Rattle.beam_command.proofs.Asked.{refused_since}
 use Rattle.beam_command.proofs.Graphs.{counted_since}

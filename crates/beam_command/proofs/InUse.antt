@@ -9,9 +9,11 @@ use Rattle.dofn_traits.specs.declared.shelf.Shelf.{Ghosts as ShelfGhosts}
 use Rattle.bundle_work.specs.Kits.{EachBecomes}
 use Rattle.bundle_work.specs.declared.kit.Kit.{Kit}
 use Rattle.run_engine.specs.Kits.{KeepsKit}
+use Rattle.run_engine.specs.Openings.{TriesKits}
 use Rattle.command_ends.specs.declared.status.Status.{Status}
+use Rattle.beam_command.specs.Clauses.{attempts_of}
 use Rattle.beam_command.specs.Ends.{IsEndOf}
-use Rattle.beam_command.specs.Kits.{AreKitsLeft, HasNotBegun, IsOutcomeOfKits, IsOutcomeOfOpened, KeepsShelf, first_files, in_use, observed_for, observed_in_use, workers_of}
+use Rattle.beam_command.specs.Kits.{AreKitsLeft, HasNotBegun, IsOutcomeOfKits, IsOutcomeOfOpened, KeepsShelf, TriesUnbegun, first_files, in_use, observed_for, observed_in_use, workers_of}
 use Rattle.beam_command.specs.Promises.{IsPlanAsked}
 use Rattle.beam_command.proofs.Kept.{all_same, become_front, become_length, idle_same, keeps_same}
 
@@ -80,6 +82,13 @@ module _ {F S : Type 0} (of_shelf : ShelfGhosts F) (of_store : StoreGhosts S) (a
     pub outcome_left : (o : Outcome) → IsPlanAsked (first_files of_store.files kits) asked o.plan → IsOutcomeOfOpened of_store news o
         → IsOutcomeOfKits of_store asked kits (news ++ back) o
     outcome_left o plan opened = record { plan = plan; opened = subst (λ (own : List (Kit F S)). IsOutcomeOfOpened of_store own o) (sym in_use_after) opened }
+
+    pub tries_left : (attempts : ℕ) → attempts_of asked ≡ attempts → (end : Status) → TriesUnbegun of_store attempts 0 front news end
+        → TriesUnbegun of_store (attempts_of asked) 0 (in_use asked kits) (in_use asked (news ++ back)) end
+    tries_left attempts most end told = λ none.
+        subst (λ (n : ℕ). TriesKits of_store n 0 (in_use asked kits) (in_use asked (news ++ back)) end) (sym most)
+        (subst (λ (olds : List (Kit F S)). TriesKits of_store attempts 0 olds (in_use asked (news ++ back)) end) (sym in_use_before)
+        (subst (λ (after : List (Kit F S)). TriesKits of_store attempts 0 front after end) (sym in_use_after) (told none)))
 
     pub end_in_use : {W : Type 0} (of_sink : SinkGhosts W) (out_old out_new : W) (s : Status) (outcome : Option Outcome)
         → IsEndOf asked (observed_for of_shelf of_store of_sink asked front news out_old out_new) s outcome

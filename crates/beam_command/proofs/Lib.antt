@@ -3,6 +3,7 @@ pub mod Stores
 pub mod InUse
 pub mod Kept
 pub mod Asked
+pub mod Tried
 pub mod ReplayFiles
 pub mod ReplayKits
 pub mod ReplayStops

@@ -1,5 +1,5 @@
 -- What the clauses of a command speak of, and what they say, each in one word.
-use Rattle.std.specs.Prelude.{◌≡◌, ℕ, List, [], map, Option, Vec, IfSome}
+use Rattle.std.specs.Prelude.{◌≡◌, ℕ, ◌≤◌, List, [], length, map, Option, Some, None, Vec, IfSome}
 use Rattle.std.specs.declared.alloc.Global.{Global}
 use Rattle.std.specs.declared.string.String.{String}
 use Rattle.beam_ports.specs.Observed.{ObservedSink, WhereTold}
@@ -11,8 +11,9 @@ use Rattle.beam_model.specs.Account.{IsAccounted}
 use Rattle.beam_model.specs.Covers.{IsCovered}
 use Rattle.beam_model.specs.Plain.{ArePlainlyWritten, ArePlainlyWrittenWhere}
 use Rattle.beam_model.specs.Positions.{item_len, items}
-use Rattle.command_words.specs.Commands.{Asked, command_of, words_of}
+use Rattle.command_words.specs.Commands.{Asked, Panes, Run, Replay, Drill, Combine, command_of, words_of}
 use Rattle.dofn_traits.specs.declared.shelf.Shelf.{Ghosts as ShelfGhosts}
+use Rattle.bundle_work.specs.Kits.{EachBecomes}
 use Rattle.bundle_work.specs.declared.kit.Kit.{Kit}
 use Rattle.run_engine.specs.declared.run_end.RunEnd.{RunEnd}
 use Rattle.command_ends.specs.Writing.{IsWritten}
@@ -22,8 +23,9 @@ use Rattle.beam_command.specs.Asking.{WhereDrill}
 use Rattle.beam_command.specs.Drilling.{IsDrillText}
 use Rattle.beam_command.specs.Observing.{Observed, AreFound}
 use Rattle.beam_command.specs.Ends.{IsEndOf}
-use Rattle.beam_command.specs.Kits.{AreKitsLeft, IsOutcomeOfKits, in_use, observed_in_use, told_files, told_for}
+use Rattle.beam_command.specs.Kits.{AreKitsLeft, IsOutcomeOfKits, TriesUnbegun, in_use, observed_in_use, told_files, told_for}
 use Rattle.beam_command.specs.Promises.{AsksPlainPlan, IsPlanAsked}
+use Rattle.beam_command.specs.ReplayEnds.{text_attempts}
 
 -- ---- what they speak of
 
@@ -56,6 +58,32 @@ EndsWithOpened s words olds news end = IfSome end.outcome (IsOutcomeOfKits s (as
 -- the kits are as it leaves them
 abbrev pub LeavesKits : {F S : Type 0} → ShelfGhosts F → StoreGhosts S → List (String Global) → Vec (Kit F S) Global → Vec (Kit F S) Global → RunEnd → Type 0
 LeavesKits f s words olds news end = AreKitsLeft f s (asked_by words) end.status olds.items news.items
+
+-- how often what is asked for opens, reads and writes at most, where that fails
+abbrev pub attempts_of : Option Asked → ℕ
+attempts_of (Some (Panes file size options)) = options.attempts
+attempts_of (Some (Run name options)) = options.attempts
+attempts_of (Some (Replay name schedule options)) = options.attempts
+attempts_of (Some (Drill count number options)) = options.attempts
+attempts_of (Some (Combine name options)) = options.attempts
+attempts_of _ = text_attempts
+
+-- the stores of the kits in use failed as often as it tells
+abbrev pub TriesInUse : {F S : Type 0} → StoreGhosts S → List (String Global) → Vec (Kit F S) Global → Vec (Kit F S) Global → RunEnd → Type 0
+TriesInUse s words olds news end =
+    let asked = asked_by words in
+    TriesUnbegun s (attempts_of asked) 0 (in_use asked olds.items) (in_use asked news.items) end.status
+
+-- no count of a kit fell
+abbrev pub CountsOnward : {F S : Type 0} → ShelfGhosts F → StoreGhosts S → Kit F S → Kit F S → Type 0
+CountsOnward f s old new = (f.faults old.shelf ≤ f.faults new.shelf) × (s.faults old.store ≤ s.faults new.store)
+
+-- nothing was written and nothing is handed out, there are as many kits as before, and no count of theirs fell
+pub record LeavesNothing {F S : Type 0} (f : ShelfGhosts F) (s : StoreGhosts S) (olds news : Vec (Kit F S) Global) (out : ObservedSink) (end : RunEnd) : Type 0 where
+  pub unwritten : out.taken_after ≡ out.taken_before
+  pub no_outcome : end.outcome ≡ None
+  pub many : length news.items ≡ length olds.items
+  pub counts : EachBecomes olds.items news.items (CountsOnward f s)
 
 -- ---- what they say of the outcome of a run that came to its end
 

@@ -1,7 +1,6 @@
 -- How `combine` ends: its plan is lifted, and what it writes is plain grouping of the whole input.
-use Rattle.std.specs.Prelude.{◌≡◌, ◌⊎◌, ℕ, List, [], Option, Some, None, slice_get}
+use Rattle.std.specs.Prelude.{◌≡◌, ◌⊎◌, ℕ, List, [], Some, None, slice_get}
 use Rattle.beam_values.specs.declared.arrival.Arrival.{Arrival}
-use Rattle.beam_values.specs.declared.file_text.FileText.{FileText}
 use Rattle.beam_values.specs.declared.options.Options.{Options}
 use Rattle.beam_values.specs.declared.outcome.Outcome.{Outcome}
 use Rattle.beam_values.specs.declared.plan.FnKind.{FnKind}

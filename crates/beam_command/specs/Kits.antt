@@ -12,7 +12,7 @@ use Rattle.dofn_traits.specs.declared.shelf.Shelf.{Ghosts as ShelfGhosts}
 use Rattle.bundle_work.specs.Kits.{EachBecomes, told_by}
 use Rattle.bundle_work.specs.declared.kit.Kit.{Kit}
 use Rattle.run_engine.specs.Kits.{KeepsKit, ObservedKits, observed_kits}
-use Rattle.run_engine.specs.Openings.{AreOpenedByAll}
+use Rattle.run_engine.specs.Openings.{AreOpenedByAll, TriesKits}
 use Rattle.run_engine.specs.PlanRun.{lengths_of_first}
 use Rattle.command_ends.specs.declared.status.Status.{Status}
 use Rattle.command_ends.specs.declared.status.Status.TheVariants as status
@@ -92,6 +92,10 @@ HasNotBegun (status.FileChanged name first other) = Unit {0}
 HasNotBegun (status.BadSchedule (refusal.Length len)) = Unit {0}
 HasNotBegun (status.NotLifted lift.Shape) = Unit {0}
 HasNotBegun _ = ⊥
+
+-- Where the end came before any work, the store of each of these kits failed as often as the end tells, if it counts exactly. In the work reading may fail too.
+abbrev pub TriesUnbegun : {F S : Type 0} → StoreGhosts S → ℕ → ℕ → List (Kit F S) → List (Kit F S) → Status → Type 0
+TriesUnbegun s attempts failed olds news end = HasNotBegun end → TriesKits s attempts failed olds news end
 
 -- the shelf is what it was
 abbrev pub KeepsShelf : {F S : Type 0} → Kit F S → Kit F S → Type 0

@@ -4,11 +4,12 @@ ghost use Rattle.std.specs.Prelude.{◌≡◌, ◌≤◌, ◌<◌, IfErr, IfOk, 
 ghost use Rattle.beam_model.specs.Rendering.{IsRendering};
 ghost use Rattle.book_core.specs.Runs.{AreOptions};
 ghost use Rattle.bundle_work.specs.Kits.{EachBecomes};
+ghost use Rattle.command_ends.specs.Retrying.{TriesSink};
 ghost use Rattle.run_engine.specs.Kits.{KeepsKit, observed_kits};
 ghost use Rattle.beam_command.specs.CombineEnds.{AreCombinedOf, IsCombineEnd, IsCombineStopped, IsCombinedOf};
 ghost use Rattle.beam_command.specs.CombineEnds.{IsCombinedText, IsUncombined, written_alone};
 ghost use Rattle.beam_command.specs.CombineEnds.{status_of};
-ghost use Rattle.beam_command.specs.Kits.{HasNotBegun, KeepsShelf, observed_at};
+ghost use Rattle.beam_command.specs.Kits.{HasNotBegun, KeepsShelf, TriesUnbegun, observed_at};
 
 use beam_ports::{Sink, Store};
 use beam_text::render;
@@ -39,6 +40,8 @@ pub fn run_combine<R: Threads + Sync, F: Shelf, S: Store, W: Sink>(
         plan.now options.now result }
     ensures idle { HasNotBegun result → EachBecomes kits.old kits.new KeepsShelf }
     ensures kept { EachBecomes kits.old kits.new (KeepsKit F.Shelf S.Store) }
+    ensures tries { TriesUnbegun S.Store options.now.attempts 0 kits.old kits.new result }
+    ensures writes { TriesSink W.Sink options.now.attempts out.old out.new result }
 {
     match combined_file(rt, alloc, plan, options, kits) {
         Ok(text) => written(out, text.as_slice(), options.attempts),
@@ -64,6 +67,8 @@ fn combined_file<R: Threads + Sync, F: Shelf, S: Store>(
     ensures idle { IfErr result
         (λ status. HasNotBegun status → EachBecomes kits.old kits.new KeepsShelf) }
     ensures kept { EachBecomes kits.old kits.new (KeepsKit F.Shelf S.Store) }
+    ensures tries { IfErr result
+        (TriesUnbegun S.Store options.now.attempts 0 kits.old kits.new) }
 {
     match read_plan_file(alloc, &mut kits[0].store, plan, options.attempts) {
         Ok(read) => combined_graph(rt, alloc, read.graph, read.failed, options, kits),
@@ -90,6 +95,8 @@ fn combined_graph<R: Threads + Sync, F: Shelf, S: Store>(
     ensures idle { IfErr result
         (λ status. HasNotBegun status → EachBecomes kits.old kits.new KeepsShelf) }
     ensures kept { EachBecomes kits.old kits.new (KeepsKit F.Shelf S.Store) }
+    ensures tries { IfErr result (λ status. failed < options.now.attempts
+        → TriesUnbegun S.Store options.now.attempts failed kits.old kits.new status) }
 {
     match combined_arrivals(rt, alloc, &graph, failed, options, kits) {
         Ok(arrivals) => Ok(written_text(alloc, graph, arrivals)?),
@@ -116,6 +123,8 @@ fn combined_arrivals<R: Threads + Sync, F: Shelf, S: Store>(
     ensures idle { IfErr result
         (λ status. HasNotBegun status → EachBecomes kits.old kits.new KeepsShelf) }
     ensures kept { EachBecomes kits.old kits.new (KeepsKit F.Shelf S.Store) }
+    ensures tries { IfErr result (λ status. failed < options.now.attempts
+        → TriesUnbegun S.Store options.now.attempts failed kits.old kits.new status) }
 {
     if shape_refusal(alloc, graph)?.is_some() {
         return Err(Status::NotLifted(LiftRefusal::Shape));

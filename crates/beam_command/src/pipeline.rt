@@ -5,9 +5,11 @@ ghost use Rattle.beam_values.specs.declared.outcome.Outcome.{Outcome as OutcomeO
 ghost use Rattle.beam_ports.specs.Observed.{observed_sink};
 ghost use Rattle.book_core.specs.Runs.{AreOptions};
 ghost use Rattle.bundle_work.specs.Kits.{EachBecomes};
+ghost use Rattle.command_ends.specs.Retrying.{TriesSink};
 ghost use Rattle.run_engine.specs.Kits.{KeepsKit};
 ghost use Rattle.beam_command.specs.Ends.{IsReport};
-ghost use Rattle.beam_command.specs.Kits.{HasNotBegun, IsOutcomeOfOpened, KeepsShelf, observed_at};
+ghost use Rattle.beam_command.specs.Kits.{HasNotBegun, IsOutcomeOfOpened, KeepsShelf, TriesUnbegun};
+ghost use Rattle.beam_command.specs.Kits.{observed_at};
 ghost use Rattle.beam_command.specs.Pipelines.{IsGraphEnd, IsRunPrinted};
 
 use beam_ports::{Gate, Sink, Store};
@@ -73,6 +75,8 @@ pub fn run_graph<R: Threads + Wait + Sync, F: Shelf, S: Store, W: Sink, G: Gate>
         (λ o. (o.plan ≡ graph) × IsOutcomeOfOpened S.Store kits.new o) }
     ensures idle { HasNotBegun result.status → EachBecomes kits.old kits.new KeepsShelf }
     ensures kept { EachBecomes kits.old kits.new (KeepsKit F.Shelf S.Store) }
+    ensures tries { TriesUnbegun S.Store options.now.attempts failed kits.old kits.new result.status }
+    ensures writes { TriesSink W.Sink options.now.attempts out.old out.new result.status }
 {
     if let Err(status) = open_sources(alloc, &graph, options, kits, failed) {
         return ended(status);
@@ -94,8 +98,9 @@ fn finished<W: Sink>(
 ) -> RunEnd
     requires some { IsSome outcome }
     requires attempts { 1 ≤ attempts }
-    ensures { (o : OutcomeOf) → outcome ≡ Some o → IsRunPrinted
+    ensures ends { (o : OutcomeOf) → outcome ≡ Some o → IsRunPrinted
         (observed_sink W.faults W.taken out.old out.new) attempts report o result.status result.outcome }
+    ensures writes { TriesSink W.Sink attempts out.old out.new result.status }
 {
     let Some(outcome) = outcome else {
         unreachable!()
@@ -112,8 +117,9 @@ fn printed<W: Sink>(
     out: &mut W,
 ) -> RunEnd
     requires { 1 ≤ attempts }
-    ensures { IsRunPrinted (observed_sink W.faults W.taken out.old out.new)
+    ensures ends { IsRunPrinted (observed_sink W.faults W.taken out.old out.new)
         attempts report outcome result.status result.outcome }
+    ensures writes { TriesSink W.Sink attempts out.old out.new result.status }
 {
     match report.text(alloc, &outcome) {
         Ok(text) => RunEnd {

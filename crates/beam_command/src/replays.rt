@@ -1,15 +1,16 @@
 //! The replay of a schedule.
 
-ghost use Rattle.std.specs.Prelude.{◌≡◌, ◌≤◌, IfErr, IfOk, length};
+ghost use Rattle.std.specs.Prelude.{◌≡◌, ◌≤◌, ◌<◌, true, IfErr, IfOk, length};
 ghost use Rattle.book_core.specs.Runs.{AreOptions};
 ghost use Rattle.bundle_work.specs.Kits.{EachBecomes};
 ghost use Rattle.beam_ports.specs.Counts.{rise};
 ghost use Rattle.beam_ports.specs.Observed.{observed_store};
 ghost use Rattle.bundle_work.specs.Openings.{AreOpened, file_names};
 ghost use Rattle.bundle_work.specs.Outside.{IsStoreKept};
+ghost use Rattle.command_ends.specs.Retrying.{RoseBy, TriesSink, TriesStore};
 ghost use Rattle.command_ends.specs.ScheduleFiles.{longest_schedule};
 ghost use Rattle.run_engine.specs.Kits.{KeepsKit, observed_kits};
-ghost use Rattle.beam_command.specs.Kits.{HasNotBegun, KeepsShelf, observed_at};
+ghost use Rattle.beam_command.specs.Kits.{HasNotBegun, KeepsShelf, TriesUnbegun, observed_at};
 ghost use Rattle.beam_command.specs.ReplayEnds.{IsReplayEnd, IsReplayStopped, IsReplayText};
 ghost use Rattle.beam_command.specs.Replaying.{AreFilesRefused, AreRead, IsGraphReplayed};
 ghost use Rattle.beam_command.specs.Replaying.{IsGraphStopped, IsKitReplayed, IsKitStopped};
@@ -39,6 +40,8 @@ pub fn run_replay<F: Shelf, S: Store, W: Sink>(
         plan.now schedule.now options.now result }
     ensures idle { HasNotBegun result → EachBecomes kits.old kits.new KeepsShelf }
     ensures kept { EachBecomes kits.old kits.new (KeepsKit F.Shelf S.Store) }
+    ensures tries { TriesUnbegun S.Store options.now.attempts 0 kits.old kits.new result }
+    ensures writes { TriesSink W.Sink options.now.attempts out.old out.new result }
 {
     match replay_files(alloc, plan, schedule, options, kits) {
         Ok(text) => written(out, text.as_slice(), options.attempts),
@@ -63,6 +66,8 @@ fn replay_files<F: Shelf, S: Store>(
     ensures idle { IfErr result
         (λ status. HasNotBegun status → EachBecomes kits.old kits.new KeepsShelf) }
     ensures kept { EachBecomes kits.old kits.new (KeepsKit F.Shelf S.Store) }
+    ensures tries { IfErr result
+        (TriesUnbegun S.Store options.now.attempts 0 kits.old kits.new) }
 {
     match read_files(alloc, &mut kits[0].store, plan, schedule, options.attempts) {
         Ok(read) => replay_graph(alloc, read.graph, &read.schedule, options, kits),
@@ -92,6 +97,10 @@ fn read_files<S: Store>(
     ensures refused { IfErr result (AreFilesRefused
         (observed_store S.files S.faults store.old store.new) plan.now schedule.now attempts) }
     ensures kept { IsStoreKept S.faults S.files S.opened store.old store.new }
+    ensures exact { IfOk result (λ read. S.counts_exactly ≡ true
+        → RoseBy (S.faults store.old) (S.faults store.new) read.schedule.failed) }
+    ensures few { IfOk result (λ read. read.schedule.failed < attempts) }
+    ensures tries { IfErr result (TriesStore S.Store attempts 0 store.old store.new) }
 {
     let read = match read_plan_file(alloc, store, plan, attempts) {
         Ok(read) => read,
@@ -124,6 +133,8 @@ fn replay_graph<F: Shelf, S: Store>(
     ensures idle { IfErr result
         (λ status. HasNotBegun status → EachBecomes kits.old kits.new KeepsShelf) }
     ensures kept { EachBecomes kits.old kits.new (KeepsKit F.Shelf S.Store) }
+    ensures tries { IfErr result (TriesUnbegun S.Store options.now.attempts schedule.now.failed
+        kits.old kits.new) }
 {
     match open_sources(alloc, &graph, options, kits, schedule.failed) {
         Ok(()) => replay_opened(

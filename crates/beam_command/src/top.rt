@@ -6,19 +6,21 @@ ghost use Rattle.book_core.specs.Runs.{AreOptions};
 ghost use Rattle.bundle_work.specs.Kits.{EachBecomes};
 ghost use Rattle.beam_model.specs.Plans.{panes_plan};
 ghost use Rattle.command_ends.specs.Notes.{IsNoted};
+ghost use Rattle.command_ends.specs.Retrying.{TriesOnce, TriesSink};
 ghost use Rattle.run_engine.specs.Kits.{KeepsKit};
 ghost use Rattle.beam_command.specs.Asking.{IsPlanOf};
 ghost use Rattle.beam_command.specs.DrillPlans.{drill_plan};
-ghost use Rattle.beam_command.specs.ReplayEnds.{IsMakeEnd, IsReplayEnd};
+ghost use Rattle.beam_command.specs.ReplayEnds.{IsMakeEnd, IsReplayEnd, text_attempts};
 ghost use Rattle.beam_command.specs.Promises.{HasLegalLogs, HasLegalPanes};
 ghost use Rattle.beam_command.specs.Ends.{IsHelpEnd, IsPipelineEnd, IsRun};
 ghost use Rattle.beam_command.specs.Kits.{AreKitsLeft, HasNotBegun, IsOutcomeOfKits};
-ghost use Rattle.beam_command.specs.Kits.{IsOutcomeOfOpened, KeepsShelf, first_files};
-ghost use Rattle.beam_command.specs.Kits.{observed_at, observed_for, observed_in_use};
+ghost use Rattle.beam_command.specs.Kits.{IsOutcomeOfOpened, KeepsShelf, TriesUnbegun, first_files};
+ghost use Rattle.beam_command.specs.Kits.{in_use, observed_at, observed_for, observed_in_use};
 ghost use Rattle.beam_command.specs.Completeness.{EndsWhereFewFail, IsDecided};
-ghost use Rattle.beam_command.specs.Clauses.{asked_by, asking, observed_by, EndsAsAsked};
+ghost use Rattle.beam_command.specs.Clauses.{asked_by, asking, attempts_of, observed_by, EndsAsAsked};
 ghost use Rattle.beam_command.specs.Clauses.{EndsWithOpened, IsAccountedFor, IsOfAsked};
-ghost use Rattle.beam_command.specs.Clauses.{IsPartitioned, IsPlain, LeavesKits, PrintsDrill};
+ghost use Rattle.beam_command.specs.Clauses.{IsPartitioned, IsPlain, LeavesKits, LeavesNothing};
+ghost use Rattle.beam_command.specs.Clauses.{PrintsDrill, TriesInUse};
 
 use crate::combines::run_combine;
 use crate::pipeline::{Report, ended, run_graph};
@@ -115,6 +117,14 @@ pub fn beam_main<R: Threads + Wait + Sync, F: Shelf, S: Store, W: Sink, N: Sink,
     // Each shelf is what it was where the end came before any work. Of every kit the counts never fall, and what
     // its store tells and has opened stays. The kits that are not in use stay as they were.
     ensures kits { LeavesKits F.Shelf S.Store words.now kits.old kits.new result }
+
+    // Of stores and sinks that count exactly: opening, reading and writing fail as often as they may where the end
+    // tells of that, and else less often. After the first failure of the notes nothing more is written to them.
+    ensures tries { TriesInUse S.Store words.now kits.old kits.new result }
+    ensures writes { TriesSink W.Sink (attempts_of (asked_by words.now)) out.old out.new result.status }
+    ensures notes_once { TriesOnce N.Sink notes.old notes.new }
+    ensures no_memory { result.status ≡ Status.NoMemory → LeavesNothing F.Shelf S.Store
+        kits.old kits.new (observed_sink W.faults W.taken out.old out.new) result }
 {
     honest_runs_are_runs();
     outcomes_are_covered();
@@ -160,6 +170,9 @@ fn run<R: Threads + Wait + Sync, F: Shelf, S: Store, W: Sink, G: Gate>(
     ensures opened { IfSome result.outcome
         (IsOutcomeOfKits S.Store (asked_by words.now) kits.old kits.new) }
     ensures kits { AreKitsLeft F.Shelf S.Store (asked_by words.now) result.status kits.old kits.new }
+    ensures tries { TriesUnbegun S.Store (attempts_of (asked_by words.now)) 0
+        (in_use (asked_by words.now) kits.old) (in_use (asked_by words.now) kits.new) result.status }
+    ensures writes { TriesSink W.Sink (attempts_of (asked_by words.now)) out.old out.new result.status }
 {
     match read_words(words) {
         Err(Usage) => ended(Status::Usage),
@@ -211,7 +224,8 @@ fn run<R: Threads + Wait + Sync, F: Shelf, S: Store, W: Sink, G: Gate>(
 }
 
 fn help<W: Sink>(out: &mut W) -> Status
-    ensures { IsHelpEnd (observed_sink W.faults W.taken out.old out.new) result }
+    ensures ends { IsHelpEnd (observed_sink W.faults W.taken out.old out.new) result }
+    ensures writes { TriesSink W.Sink text_attempts out.old out.new result }
 {
     match written(out, help_text(), TEXT_ATTEMPTS) {
         Status::Ok => Status::Help,
@@ -221,7 +235,8 @@ fn help<W: Sink>(out: &mut W) -> Status
 
 // Writes made lines.
 fn make<W: Sink>(alloc: Global, count: u64, number: u64, out: &mut W) -> Status
-    ensures { IsMakeEnd (observed_sink W.faults W.taken out.old out.new) count number result }
+    ensures ends { IsMakeEnd (observed_sink W.faults W.taken out.old out.new) count number result }
+    ensures writes { TriesSink W.Sink text_attempts out.old out.new result }
 {
     match made_text(alloc, count, number) {
         Ok(text) => written(out, text.as_slice(), TEXT_ATTEMPTS),
@@ -252,6 +267,8 @@ fn run_drill<R: Threads + Wait + Sync, F: Shelf, S: Store, W: Sink, G: Gate>(
     ensures opened { IfSome result.outcome (IsOutcomeOfOpened S.Store kits.new) }
     ensures idle { HasNotBegun result.status → EachBecomes kits.old kits.new KeepsShelf }
     ensures kept { EachBecomes kits.old kits.new (KeepsKit F.Shelf S.Store) }
+    ensures tries { TriesUnbegun S.Store options.now.attempts 0 kits.old kits.new result.status }
+    ensures writes { TriesSink W.Sink options.now.attempts out.old out.new result.status }
 {
     match drill_graph(alloc, count, number) {
         Ok(graph) => run_graph(
@@ -292,6 +309,8 @@ fn run_panes<R: Threads + Wait + Sync, F: Shelf, S: Store, W: Sink, G: Gate>(
     ensures opened { IfSome result.outcome (IsOutcomeOfOpened S.Store kits.new) }
     ensures idle { HasNotBegun result.status → EachBecomes kits.old kits.new KeepsShelf }
     ensures kept { EachBecomes kits.old kits.new (KeepsKit F.Shelf S.Store) }
+    ensures tries { TriesUnbegun S.Store options.now.attempts 0 kits.old kits.new result.status }
+    ensures writes { TriesSink W.Sink options.now.attempts out.old out.new result.status }
 {
     match panes_graph(alloc, file, size) {
         Ok(graph) => run_graph(
@@ -330,6 +349,8 @@ fn run_file<R: Threads + Wait + Sync, F: Shelf, S: Store, W: Sink, G: Gate>(
     ensures opened { IfSome result.outcome (IsOutcomeOfOpened S.Store kits.new) }
     ensures idle { HasNotBegun result.status → EachBecomes kits.old kits.new KeepsShelf }
     ensures kept { EachBecomes kits.old kits.new (KeepsKit F.Shelf S.Store) }
+    ensures tries { TriesUnbegun S.Store options.now.attempts 0 kits.old kits.new result.status }
+    ensures writes { TriesSink W.Sink options.now.attempts out.old out.new result.status }
 {
     match read_plan_file(alloc, &mut kits[0].store, plan, options.attempts) {
         Ok(read) => run_graph(

@@ -6,6 +6,7 @@ use Rattle.beam_command.specs.CombineEnds.{IsUncombined}
 use Rattle.beam_command.specs.Kits.{KeepsShelf}
 use Rattle.beam_command.proofs.CombineStops.{opened_alike, result_opened}
 use Rattle.beam_command.proofs.Kept.{all_same, idle_opened, kept_opened, kept_run}
+use Rattle.beam_command.proofs.Tried.{all_same_tried}
 use Rattle.beam_command.proofs.combines.combined_arrivals.Goals as goal
 
 pub returns-in_err-shape_refusal-clause-kept : goal.returns-in_err-shape_refusal-clause-kept
@@ -44,3 +45,6 @@ returns-in-Err-combine_plan-clause-stopped g c =
 pub returns-in-Err-combine_plan-clause-kept : goal.returns-in-Err-combine_plan-clause-kept
 returns-in-Err-combine_plan-clause-kept g c =
     kept_run g.F.Shelf g.S.Store c.args.kits.now c.open_sources.new.kits c.combine_plan.new.kits c.open_sources.ensures.kept c.combine_plan.ensures.kept
+
+pub returns-then-is_some-clause-tries : goal.returns-then-is_some-clause-tries
+returns-then-is_some-clause-tries g c = λ few none. all_same_tried g.S.Store c.args.options.now.attempts c.args.failed few c.args.kits.now _ (λ at is. cc)

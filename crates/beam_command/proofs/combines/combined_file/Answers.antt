@@ -1,4 +1,4 @@
-use Rattle.std.proofs.Common.{◌<◌, ◌≤◌, List, length, get_or, set, refl, ◌∙◌, arith}
+use Rattle.std.proofs.Common.{◌≤◌, get_or, set, refl, ◌∙◌, arith}
 use Rattle.bundle_work.specs.declared.kit.Kit.{Kit}
 use Rattle.run_engine.proofs.Opens.{become_onward}
 use Rattle.run_engine.specs.Kits.{KeepsKit}
@@ -6,7 +6,7 @@ use Rattle.beam_command.specs.Kits.{KeepsShelf}
 use Rattle.beam_command.proofs.CombineStops.{document_stopped, stopped_read, text_read}
 use Rattle.beam_command.proofs.Kept.{become_first, become_weaker, keeps_onward, keeps_same, store_used}
 use Rattle.beam_command.proofs.ReplayFiles.{if_err, if_ok}
-use Rattle.beam_command.proofs.combines.combined_file.Given.{Over}
+use Rattle.beam_command.proofs.Tried.{first_alone, first_then, plan_only}
 use Rattle.beam_command.proofs.combines.combined_file.Goals as goal
 
 pub returns-in-Ok-clause-text : goal.returns-in-Ok-clause-text
@@ -67,3 +67,19 @@ returns-in-Err-clause-kept g c =
     let kept = c.read_plan_file.ensures in
     become_first (KeepsKit g.F.Shelf g.S.Store) (keeps_same g.F.Shelf g.S.Store) c.args.kits.now c.index-kits-0.result _ c.requires.some
     (store_used g.F.Shelf g.S.Store first first.shelf c.read_plan_file.new.store first.files refl (record { counts = kept.counts; files = kept.told; openings = kept.kept }))
+
+pub returns-in-Ok-clause-tries : goal.returns-in-Ok-clause-tries
+returns-in-Ok-clause-tries g c =
+    let read = c.in-Ok.ensures in
+    let some = c.index-kits-0.result in
+    let first = get_or c.args.kits.now 0 some in
+    let used : Kit _ _ = record { shelf = first.shelf; store = c.read_plan_file.new.store; files = first.files } in
+    if_err _ _ (λ why told none. first_then g.S.Store c.args.options.now.attempts c.args.kits.now some used c.in-Ok.read.failed c.combined_graph.new.kits why
+    c.requires.some (omega (arith, read.few)) read.exact (told read.few none)) c.combined_graph.result c.combined_graph.ensures.tries
+
+pub returns-in-Err-clause-tries : goal.returns-in-Err-clause-tries
+returns-in-Err-clause-tries g c = λ none.
+    let first = get_or c.args.kits.now 0 c.index-kits-0.result in
+    let used : Kit _ _ = record { shelf = first.shelf; store = c.read_plan_file.new.store; files = first.files } in
+    first_alone g.S.Store c.args.options.now.attempts c.requires.allowed.attempts.0 c.args.kits.now c.index-kits-0.result used c.in-Err.status c.requires.some c.in-Err.ensures.tries
+    (plan_only _ c.args.plan.now c.args.options.now.attempts c.in-Err.status c.in-Err.ensures.refused)

@@ -1,8 +1,9 @@
-use Rattle.std.proofs.Common.{ℕ, List, IfErr, IfOk, set, subst}
+use Rattle.std.proofs.Common.{ℕ, List, IfErr, IfOk, get_or, set, subst}
 use Rattle.beam_command.specs.Replaying.{IsGraphReplayed, IsGraphStopped}
 use Rattle.beam_command.proofs.Kept.{idle_opened, kept_opened}
 use Rattle.beam_command.proofs.ReplayFiles.{if_err, if_ok}
 use Rattle.beam_command.proofs.ReplayKits.{graph_kept, graph_replayed, graph_stopped, opening_stopped}
+use Rattle.beam_command.proofs.Tried.{kit_begun}
 use Rattle.beam_command.proofs.replays.replay_graph.Goals as goal
 
 pub returns-in-Ok-clause-text : goal.returns-in-Ok-clause-text
@@ -39,3 +40,8 @@ returns-in-Err-clause-idle g c = λ none. idle_opened g.S.Store c.args.kits.now 
 
 pub returns-in-Err-clause-kept : goal.returns-in-Err-clause-kept
 returns-in-Err-clause-kept g c = kept_opened g.F.Shelf g.S.Store c.args.kits.now c.open_sources.new.kits c.open_sources.ensures.kept
+
+pub returns-in-Ok-clause-tries : goal.returns-in-Ok-clause-tries
+returns-in-Ok-clause-tries g c =
+    if_err _ _ (λ why stopped none. absurd (kit_begun g.F.Shelf g.S.Store (get_or c.open_sources.new.kits 0 c.index-kits-0.result) c.replay_opened.new.kit c.args.graph c.args.options.now
+    c.as_slice.result.now why stopped none)) c.replay_opened.result c.replay_opened.ensures.stopped

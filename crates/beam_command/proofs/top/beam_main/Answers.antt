@@ -11,9 +11,9 @@ use Rattle.command_words.specs.Commands.{Asked, words_of}
 use Rattle.run_engine.specs.Kits.{ObservedKits, observed_kits}
 use Rattle.run_engine.specs.PlanRun.{surroundings_of}
 use Rattle.run_engine.specs.declared.run_end.RunEnd.{RunEnd}
-use Rattle.beam_command.specs.Clauses.{Asking, IsOfAsked, IsPartitioned, IsPlain, asked_by, asking}
+use Rattle.beam_command.specs.Clauses.{Asking, CountsOnward, IsOfAsked, IsPartitioned, IsPlain, asked_by, asking, attempts_of}
 use Rattle.beam_command.specs.Ends.{IsEndOf, IsOutcomeOfAsked, IsRun}
-use Rattle.beam_command.specs.Kits.{AreKitsLeft, IsOutcomeOfKits, in_use, observed_in_use, told_for}
+use Rattle.beam_command.specs.Kits.{AreKitsLeft, IsOutcomeOfKits, TriesUnbegun, in_use, observed_in_use, told_for}
 use Rattle.beam_command.specs.Observing.{Observed}
 use Rattle.beam_command.specs.Promises.{HasLegalLogs, HasLegalPanes}
 use Rattle.beam_command.proofs.Asked.{end_of_same, noted_end}
@@ -28,6 +28,9 @@ use Rattle.beam_command.proofs.PlainPlans.{always_plainly}
 use Rattle.beam_command.proofs.Promises.{accounted, covered, files_found, legal, legally_logged, lengths_kept, plainly, plan_kept, promised}
 use Rattle.beam_command.proofs.ReplayDecided.{few_reads, replay, replay_accepted}
 use Rattle.beam_command.proofs.Stores.{AreOfOne, are_of_one, seen_of_one}
+use Rattle.beam_command.proofs.Tried.{at_no_memory, counts_onward, tries_before_note, writes_before_note}
+use Rattle.bundle_work.specs.Kits.{EachBecomes}
+use Rattle.command_ends.specs.declared.status.Status.{Status}
 use Rattle.beam_command.proofs.top.beam_main.Given.{Over}
 use Rattle.beam_command.proofs.top.beam_main.Goals as goal
 
@@ -176,3 +179,25 @@ pub returns-clause-kits : goal.returns-clause-kits
 returns-clause-kits g c =
     left_before_note g.F.Shelf g.S.Store (asked g c) _ _ c.run-status.result.status c.noted-status.result c.noted-status.ensures.stays
     (of_call g c (λ olds news. AreKitsLeft g.F.Shelf g.S.Store (asked g c) c.run-status.result.status olds news) c.run-status.ensures.kits)
+
+pub returns-clause-tries : goal.returns-clause-tries
+returns-clause-tries g c =
+    tries_before_note c.run-status.result.status c.noted-status.result c.noted-status.ensures.stays g.S.Store (attempts_of (asked g c)) _ _
+    (of_call g c (λ olds news. TriesUnbegun g.S.Store (attempts_of (asked g c)) 0 (in_use (asked g c) olds) (in_use (asked g c) news) c.run-status.result.status) c.run-status.ensures.tries)
+
+pub returns-clause-writes : goal.returns-clause-writes
+returns-clause-writes g c =
+    writes_before_note c.run-status.result.status c.noted-status.result c.noted-status.ensures.stays g.W.Sink (attempts_of (asked g c)) c.args.out.now c.run-status.new.out
+    c.run-status.ensures.writes
+
+pub returns-clause-no_memory : goal.returns-clause-no_memory
+returns-clause-no_memory g c = λ is.
+    let none = at_no_memory (asked g c) (seen g c) c.unless_no_memory-outcome.result
+    (subst (λ (s : Status). IsEndOf (asked g c) (seen g c) s c.unless_no_memory-outcome.result) is (ends g c)) in
+    record {
+      unwritten = none.0;
+      no_outcome = none.1;
+      many = of_call g c (λ olds news. length news ≡ length olds) (counted g c);
+      counts = of_call g c (λ olds news. EachBecomes olds news (CountsOnward g.F.Shelf g.S.Store))
+          (counts_onward g.F.Shelf g.S.Store c.as_mut_slice.result.now c.run-status.new.kits c.run-status.ensures.kits.kept);
+    }

@@ -1,4 +1,4 @@
-use Rattle.std.proofs.Common.{◌≡◌, ◌<◌, ℤ, to_z, of_z, w64, min, length, List, Option, Some, refl, sym, ap, subst, ◌∙◌, arith}
+use Rattle.std.proofs.Common.{◌≡◌, ℕ, ◌<◌, ℤ, to_z, of_z, w64, min, length, List, Option, Some, refl, sym, ap, subst, ◌∙◌, arith}
 use Rattle.std.proofs.lemmas.Int.{ints}
 use Rattle.beam_values.specs.declared.file_text.FileText.{FileText}
 use Rattle.beam_model.specs.Plans.{panes_plan}
@@ -6,14 +6,15 @@ use Rattle.command_words.specs.Commands.{Asked, IsAllowed, Panes, Run, Replay, D
 use Rattle.command_words.specs.Shown.{shown_command}
 use Rattle.command_words.specs.declared.command.Command.{Command}
 use Rattle.bundle_work.specs.Kits.{EachBecomes}
+use Rattle.command_ends.specs.Retrying.{TriesSink}
 use Rattle.command_ends.specs.declared.status.Status.{Status}
 use Rattle.run_engine.specs.declared.run_end.RunEnd.{RunEnd}
 use Rattle.beam_command.specs.Asking.{IsPlanOf}
-use Rattle.beam_command.specs.Clauses.{asked_by}
+use Rattle.beam_command.specs.Clauses.{asked_by, attempts_of}
 use Rattle.beam_command.specs.Ends.{IsEndOf, IsPipelineEnd}
-use Rattle.beam_command.specs.Kits.{HasNotBegun, KeepsShelf, first_files, observed_at, observed_for, workers_of}
+use Rattle.beam_command.specs.Kits.{HasNotBegun, KeepsShelf, TriesUnbegun, first_files, observed_at, observed_for, workers_of}
 use Rattle.beam_command.specs.Promises.{IsPlanAsked}
-use Rattle.beam_command.proofs.InUse.{end_in_use, kits_left, kits_same, outcome_left}
+use Rattle.beam_command.proofs.InUse.{end_in_use, kits_left, kits_same, outcome_left, tries_left}
 use Rattle.beam_command.proofs.Kept.{first_front, if_both, if_none}
 use Rattle.beam_command.proofs.top.run.Goals as goal
 
@@ -43,6 +44,8 @@ returns-in-Ok-Panes g c =
           (subst (λ (a : Option Asked). IsPlanAsked (first_files g.S.Store.files kits) a o.plan) (sym is) (of ∙ ap (λ (size : ℤ). panes_plan asks.file.now size) same)) opened)
           end.outcome known.first_plan known.opened;
       kits = kits_left g.F.Shelf g.S.Store asked workers many kits front back after halves.ensures.value split known.kept end.status known.idle;
+      tries = tries_left g.F.Shelf g.S.Store asked workers many kits front back after halves.ensures.value split known.kept asks.options.attempts (ap attempts_of is) end.status known.tries;
+      writes = subst (λ (n : ℕ). TriesSink g.W.Sink n c.args.out.now c.run_panes.new.out end.status) (sym (ap attempts_of is)) known.writes;
     }
 
 pub returns-in-Ok-Run : goal.returns-in-Ok-Run
@@ -72,6 +75,8 @@ returns-in-Ok-Run g c =
           (subst (λ (told : Option (List FileText)). IsPlanOf told own o.plan) (first_front g.S.Store.files kits front back halves.ensures.value some) of)) opened)
           end.outcome known.first_plan known.opened;
       kits = kits_left g.F.Shelf g.S.Store asked workers many kits front back after halves.ensures.value split known.kept end.status known.idle;
+      tries = tries_left g.F.Shelf g.S.Store asked workers many kits front back after halves.ensures.value split known.kept asks.options.attempts (ap attempts_of is) end.status known.tries;
+      writes = subst (λ (n : ℕ). TriesSink g.W.Sink n c.args.out.now c.run_file.new.out end.status) (sym (ap attempts_of is)) known.writes;
     }
 
 pub returns-in-Ok-Drill : goal.returns-in-Ok-Drill
@@ -98,6 +103,8 @@ returns-in-Ok-Drill g c =
           (subst (λ (a : Option Asked). IsPlanAsked (first_files g.S.Store.files kits) a o.plan) (sym is) of) opened)
           end.outcome known.first_plan known.opened;
       kits = kits_left g.F.Shelf g.S.Store asked workers many kits front back after halves.ensures.value split known.kept end.status known.idle;
+      tries = tries_left g.F.Shelf g.S.Store asked workers many kits front back after halves.ensures.value split known.kept asks.options.attempts (ap attempts_of is) end.status known.tries;
+      writes = subst (λ (n : ℕ). TriesSink g.W.Sink n c.args.out.now c.run_drill.new.out end.status) (sym (ap attempts_of is)) known.writes;
     }
 
 pub returns-in-Ok-Replay : goal.returns-in-Ok-Replay
@@ -125,6 +132,10 @@ returns-in-Ok-Replay g c =
       opened = if_none _ _ (ap (λ (end : RunEnd). end.outcome) ended);
       kits = kits_left g.F.Shelf g.S.Store asked 1 many kits front back after halves.ensures.value split known.kept _
           (subst (λ (s : Status). HasNotBegun s → EachBecomes front after KeepsShelf) (sym is_status) known.idle);
+      tries = tries_left g.F.Shelf g.S.Store asked 1 many kits front back after halves.ensures.value split known.kept asks.options.attempts (ap attempts_of is) _
+          (subst (λ (s : Status). TriesUnbegun g.S.Store asks.options.attempts 0 front after s) (sym is_status) known.tries);
+      writes = subst (λ (n : ℕ). TriesSink g.W.Sink n c.args.out.now c.run_replay.new.out c.ended-in-Ok-Replay.result.status) (sym (ap attempts_of is))
+          (subst (λ (s : Status). TriesSink g.W.Sink asks.options.attempts c.args.out.now c.run_replay.new.out s) (sym is_status) known.writes);
     }
 
 pub returns-in-Ok-Combine : goal.returns-in-Ok-Combine
@@ -153,6 +164,10 @@ returns-in-Ok-Combine g c =
       opened = if_none _ _ (ap (λ (end : RunEnd). end.outcome) ended);
       kits = kits_left g.F.Shelf g.S.Store asked workers many kits front back after halves.ensures.value split known.kept _
           (subst (λ (s : Status). HasNotBegun s → EachBecomes front after KeepsShelf) (sym is_status) known.idle);
+      tries = tries_left g.F.Shelf g.S.Store asked workers many kits front back after halves.ensures.value split known.kept asks.options.attempts (ap attempts_of is) _
+          (subst (λ (s : Status). TriesUnbegun g.S.Store asks.options.attempts 0 front after s) (sym is_status) known.tries);
+      writes = subst (λ (n : ℕ). TriesSink g.W.Sink n c.args.out.now c.run_combine.new.out c.ended-in-Ok-Combine.result.status) (sym (ap attempts_of is))
+          (subst (λ (s : Status). TriesSink g.W.Sink asks.options.attempts c.args.out.now c.run_combine.new.out s) (sym is_status) known.writes);
     }
 
 pub returns-in-Err-clause-kits : goal.returns-in-Err-clause-kits

@@ -1,4 +1,4 @@
-use Rattle.std.proofs.Common.{◌≡◌, ℤ, to_z, of_z, w64, ap, ◌∙◌, arith}
+use Rattle.std.proofs.Common.{◌≡◌, ℤ, to_z, of_z, w64, refl, sym, ap, subst, ◌∙◌, arith}
 use Rattle.std.proofs.lemmas.Int.{ints}
 use Rattle.beam_model.specs.Plans.{panes_plan}
 use Rattle.beam_ports.specs.Observed.{observed_sink}
@@ -7,6 +7,10 @@ use Rattle.run_engine.specs.Kits.{KeepsKit, observed_kits}
 use Rattle.beam_command.proofs.Asked.{pipeline_end}
 use Rattle.beam_command.proofs.Kept.{all_same, if_some}
 use Rattle.beam_command.proofs.Stores.{first_is_seen}
+use Rattle.command_ends.proofs.Tries.{sink_same}
+use Rattle.command_ends.specs.Retrying.{TriesSink}
+use Rattle.command_ends.specs.declared.status.Status.TheVariants as status
+use Rattle.run_engine.specs.declared.run_end.RunEnd.{RunEnd}
 use Rattle.beam_command.proofs.top.run_panes.Goals as goal
 
 pub returns-in-Ok-clause-ends : goal.returns-in-Ok-clause-ends
@@ -29,3 +33,8 @@ returns-in-Ok-clause-opened g c = if_some _ _ (λ o is. is.1) c.run_graph.result
 
 pub returns-in-Err-clause-kept : goal.returns-in-Err-clause-kept
 returns-in-Err-clause-kept g c = all_same g.F.Shelf g.S.Store c.args.kits.now
+
+pub returns-in-Err-clause-writes : goal.returns-in-Err-clause-writes
+returns-in-Err-clause-writes g c =
+    subst (λ (end : RunEnd). TriesSink g.W.Sink c.args.options.now.attempts c.args.out.now c.args.out.now end.status) (sym c.ended.ensures)
+    (sink_same g.W.Sink c.args.options.now.attempts c.args.out.now c.args.out.now status.NoMemory refl c.requires.allowed.attempts.0 (λ is. cc))
