@@ -118,8 +118,9 @@ pub fn beam_main<R: Threads + Wait + Sync, F: Shelf, S: Store, W: Sink, N: Sink,
     // its store tells and has opened stays. The kits that are not in use stay as they were.
     ensures kits { LeavesKits F.Shelf S.Store words.now kits.old kits.new result }
 
-    // Of stores and sinks that count exactly: opening, reading and writing fail as often as they may where the end
-    // tells of that, and else less often. After the first failure of the notes nothing more is written to them.
+    // Of stores and sinks that count exactly: at an end before any work opening and reading failed as often as they
+    // may where it tells of that, and else less often; and so did writing, at every end. After the first failure of the
+    // notes nothing more is written to them.
     ensures tries { TriesInUse S.Store words.now kits.old kits.new result }
     ensures writes { TriesSink W.Sink (attempts_of (asked_by words.now)) out.old out.new result.status }
     ensures notes_once { TriesOnce N.Sink notes.old notes.new }
