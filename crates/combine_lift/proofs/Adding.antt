@@ -11,11 +11,11 @@ use Rattle.std.proofs.lemmas.Slice.Eq.{bytes_eq-Decides}
 use Rattle.beam_values.specs.Intervals.{Interval}
 use Rattle.beam_values.specs.Spelling.{spelling}
 use Rattle.beam_values.specs.declared.value.Value.{Value}
-use Rattle.combine_lift.specs.Tables.{Added, Table, accs_of, is_added_to, is_row_of, parts_of, row_place, AddsAt, OneStandsFor, StandsFor}
+use Rattle.combine_lift.specs.Tables.{Added, Table, accs_of, is_added_to, is_row_of, parts_of, row_place, AddsAt, IsRowAt, OneStandsFor, StandsFor}
 use Rattle.combine_lift.specs.declared.row.Row.{Row}
 use Rattle.combine_lift.proofs.Pointwise.{accs_append, accs_no, accs_yes, changed_at, parts_append, takes_more, unchanged_at}
 use Rattle.combine_lift.proofs.RowOrder.{known_row}
-use Rattle.combine_lift.proofs.RowPlaces.{found_row, none_found}
+use Rattle.combine_lift.proofs.RowPlaces.{none_found}
 
 abbrev is_at : List ℕ → ℤ → ℤ → Value → Interval → Bool
 is_at spelled start end q s = bytes_eq spelled (spelling q) && (int_eq start s.start && int_eq end s.end)
@@ -66,7 +66,7 @@ module _ {A : Type 0} (stands : A → List Value → Type 0) (key : Value) (span
   counted : (old new : ℕ) → old ≡ length added → new ≡ old + 1 → new ≡ length more
   counted old new e f = omega (arith, length-append added (record { key = key; span = span; part = part } ∷ []))
 
-  pub added_at : (held : A → ℕ) (old new : Table A) (place : ℕ) → Some place ≡ row_place key span old.rows → AddsAt stands held part place old.rows new.rows
+  pub added_at : (held : A → ℕ) (old new : Table A) (place : ℕ) → IsRowAt key span old.rows place → AddsAt stands held part place old.rows new.rows
       → new.parts ≡ old.parts + 1 → StandsFor stands old added → StandsFor stands new more
   added_at held old new place found adds parts standing = record {
     each = λ q s. subst (λ l. OneStandsFor stands (accs_of q s l) (parts_of q s more)) (sym adds.rows) (by q s (is_row_of q s adds.row) refl);
@@ -74,7 +74,7 @@ module _ {A : Type 0} (stands : A → List Value → Type 0) (key : Value) (span
   }
     where
       holds : is_row_of key span adds.row ≡ true
-      holds = found_row key span old.rows place adds.row found adds.there
+      holds = let same : Some found.row ≡ Some adds.row = sym found.there ∙ adds.there in let row : found.row ≡ adds.row = cc in subst (λ (r : Row A). is_row_of key span r ≡ true) row found.is
 
       by : (q : Value) (s : Interval) (t : Bool) → is_row_of q s adds.row ≡ t
           → OneStandsFor stands (accs_of q s (slice_set old.rows place (record adds.row { acc = adds.acc }))) (parts_of q s more)
@@ -113,7 +113,7 @@ module _ {A : Type 0} (stands : A → List Value → Type 0) (key : Value) (span
 
 -- the same by the answer of an add, at a row that was found
 pub stands_if_added : {A : Type 0} (stands : A → List Value → Type 0) (held : A → ℕ) (key : Value) (span : Interval) (part : Value) (old mid new : Table A) (place : ℕ) (taken : Bool)
-    → mid ≡ old → Some place ≡ row_place key span old.rows → OnTrue taken (AddsAt stands held part place mid.rows new.rows) → OnTrue taken (new.parts ≡ mid.parts + 1)
+    → mid ≡ old → IsRowAt key span old.rows place → OnTrue taken (AddsAt stands held part place mid.rows new.rows) → OnTrue taken (new.parts ≡ mid.parts + 1)
     → OnTrue taken ((added : List Added) → StandsFor stands old added → StandsFor stands new (added ++ record { key = key; span = span; part = part } ∷ []))
 stands_if_added {A} stands held key span part old mid new place true same found adds parts =
     λ added standing.

@@ -18,7 +18,7 @@ use Rattle.combine_lift.specs.declared.row.Row.{Row}
 use Rattle.combine_lift.proofs.Joined.{merged_held}
 use Rattle.combine_lift.proofs.RowPlaces.{cells_same}
 
-there_within : {X : Type 0} (xs : List X) (i : ℕ) (x : X) → slice_get xs i ≡ Some x → i < length xs
+pub there_within : {X : Type 0} (xs : List X) (i : ℕ) (x : X) → slice_get xs i ≡ Some x → i < length xs
 there_within [] i x there = absurd cc
 there_within (y ∷ xs) zero x there = omega arith
 there_within (y ∷ xs) (suc i) x there = let later : i < length xs = there_within xs i x there in omega arith

@@ -1,21 +1,25 @@
 -- Where rows are found.
-use Rattle.std.proofs.Common.{◌≡◌, ℕ, zero, suc, ◌+◌, ◌<◌, ◌≤◌, not, Bool, true, false, cond, List, [], ◌∷◌, ◌++◌, length, get_or, map, take, Option, Some, None, refl, sym, ap, subst, ◌∙◌, arith, length-take}
+use Rattle.std.proofs.Common.{◌≡◌, ℕ, zero, suc, ◌+◌, ◌<◌, ◌≤◌, not, Bool, true, false, cond, ◌&&◌, List, [], ◌∷◌, ◌++◌, length, get_or, map, take, Option, Some, None, refl, sym, ap, subst, ◌∙◌, arith, length-take}
 use Rattle.std.specs.List.{position, position_or_len, slice_get}
 use Rattle.std.specs.Option.{option_map}
 use Rattle.std.specs.Prelude.{nat_lt, slice_set}
+use Rattle.std.specs.Str.{bytes_eq}
 use Rattle.std.proofs.Math.Seq.{map-set_same}
 use Rattle.std.proofs.lemmas.List.{length-map, take_all, take_more}
 use Rattle.std.proofs.lemmas.List.Quantifiers.{position-Some}
 use Rattle.std.proofs.lemmas.Option.{get_or_from_slice_get}
+use Rattle.std.proofs.lemmas.Slice.Eq.{bytes_eq-Decides}
 use Rattle.beam_values.specs.Intervals.{Interval}
+use Rattle.beam_values.specs.Spans.{same_span}
+use Rattle.beam_values.specs.Spelling.{spelling}
 use Rattle.beam_values.specs.declared.cell.Cell.{Cell}
 use Rattle.beam_values.specs.declared.value.Value.{Value}
 use Rattle.cell_index.specs.Places.{is_cell_of, place_of}
-use Rattle.cell_index.specs.Indexes.{IsFoundPlace, IsIndexOf}
+use Rattle.cell_index.specs.Indexes.{IsIndexOf}
 use Rattle.cell_index.specs.declared.index.CellIndex.{CellIndex}
-use Rattle.cell_index.proofs.Indexing.{found_own, position_no, position_yes}
+use Rattle.cell_index.proofs.Indexing.{position_no, position_yes}
 use Rattle.combine_lift.specs.Indexed.{cell_of, cells_of}
-use Rattle.combine_lift.specs.Tables.{accs_of, is_row_of, row_place}
+use Rattle.combine_lift.specs.Tables.{accs_of, is_row_of, row_place, IsRowAt}
 use Rattle.combine_lift.specs.declared.row.Row.{Row}
 use Rattle.combine_lift.proofs.Pointwise.{accs_no, map_append}
 
@@ -37,11 +41,17 @@ slice_get-map f [] i = refl
 slice_get-map f (x ∷ xs) zero = refl
 slice_get-map f (x ∷ xs) (suc i) = slice_get-map f xs i
 
--- a place that is guessed is that of the row, where that is of the key and window
-pub guessed_place : {A : Type 0} (key : Value) (span : Interval) (rows : List (Row A)) (place : ℕ) (row : Row A) → IsFoundPlace (cells_of rows) place
-    → slice_get rows place ≡ Some row → is_row_of key span row ≡ true → Some place ≡ row_place key span rows
-guessed_place key span rows place row guessed there is =
-    found_own 0 key span (cells_of rows) place (cell_of row) guessed (slice_get-map cell_of rows place ∙ ap (option_map cell_of) there) is ∙ place_is key span rows
+-- a row of the same key and the same window is that of a key and window
+pub seen_at : {A : Type 0} (key : Value) (span : Interval) (rows : List (Row A)) (place : ℕ) (row : Row A) → slice_get rows place ≡ Some row → key ≡ row.key
+    → same_span row.span span ≡ true → IsRowAt key span rows place
+seen_at key span rows place row there same window = record {
+  row = row;
+  there = there;
+  is =
+      ap (λ b. b && same_span row.span span)
+      (ap (λ (v : Value). bytes_eq (spelling row.key) (spelling v)) same ∙ (bytes_eq-Decides (spelling row.key) (spelling row.key)).1 refl)
+      ∙ window;
+}
 
 pub cells_push : {A : Type 0} (rows : List (Row A)) (row : Row A) → cells_of (rows ++ row ∷ []) ≡ cells_of rows ++ cell_of row ∷ []
 cells_push rows row = map_append cell_of rows (row ∷ [])
@@ -61,14 +71,25 @@ pub indexed_all : {A : Type 0} (index : CellIndex) (rows : List (Row A)) (i : �
 indexed_all {A} index rows i past indexed = subst (λ (l : List (Row A)). IsIndexOf index (cells_of l)) (take_all i rows past) indexed
 
 -- a row that is found is of the key and window
-pub found_row : {A : Type 0} (key : Value) (span : Interval) (rows : List (Row A)) (place : ℕ) (row : Row A) → Some place ≡ row_place key span rows
+found_row : {A : Type 0} (key : Value) (span : Interval) (rows : List (Row A)) (place : ℕ) (row : Row A) → Some place ≡ row_place key span rows
     → slice_get rows place ≡ Some row → is_row_of key span row ≡ true
 found_row key span rows place row found there =
     ap (is_row_of key span) (sym (get_or_from_slice_get rows place row row there)) ∙ (position-Some (is_row_of key span) rows place row (sym found)).1
 
+some_there : {X : Type 0} (xs : List X) (i : ℕ) → i < length xs → (x : X) × (slice_get xs i ≡ Some x)
+some_there [] i within = absurd (omega arith)
+some_there (x ∷ xs) zero within = (x, refl)
+some_there (x ∷ xs) (suc i) within = some_there xs i (omega arith)
+
 pub found_within : {A : Type 0} (key : Value) (span : Interval) (rows : List (Row A)) (place : ℕ) → Some place ≡ row_place key span rows → place < length rows
 found_within key span [] place found = absurd cc
 found_within key span (row ∷ rows) place found = (position-Some (is_row_of key span) (row ∷ rows) place row (sym found)).0
+
+-- a place that is found has the row
+pub found_at : {A : Type 0} (key : Value) (span : Interval) (rows : List (Row A)) (place : ℕ) → Some place ≡ row_place key span rows → IsRowAt key span rows place
+found_at key span rows place found =
+    let row = some_there rows place (found_within key span rows place found) in
+    record { row = row.0; there = row.1; is = found_row key span rows place row.0 found row.1 }
 
 none_later : (o : Option ℕ) → option_map suc o ≡ None → o ≡ None
 none_later None e = refl

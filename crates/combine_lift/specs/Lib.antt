@@ -5,3 +5,4 @@ pub mod Tables
 pub mod Merging
 pub mod Indexed
 pub mod Folds
+pub mod Views

@@ -1,5 +1,5 @@
 -- Tables of partial results: one row for each key and window, and what rows stand for.
-use Rattle.std.specs.Prelude.{◌≡◌, ℕ, ◌+◌, ◌≤◌, Bool, ◌&&◌, List, [], ◌∷◌, ◌++◌, length, map, slice_get, slice_set, Option, Some}
+use Rattle.std.specs.Prelude.{◌≡◌, ℕ, ◌+◌, ◌≤◌, Bool, true, ◌&&◌, List, [], ◌∷◌, ◌++◌, length, map, slice_get, slice_set, Option, Some}
 use Rattle.std.specs.List.{filter, position, sum_by}
 use Rattle.std.specs.Ordering.{on, then_cmp}
 use Rattle.std.specs.Str.{bytes_eq}
@@ -56,6 +56,12 @@ pub record StandsFor {A : Type 0} (stands : A → List Value → Type 0) (table 
 -- the place of the row of a key and window, if there is one
 abbrev pub row_place : {A : Type 0} → Value → Interval → List (Row A) → Option ℕ
 row_place key span rows = position (is_row_of key span) rows
+
+-- the row at a place is of a key and window
+pub record IsRowAt {A : Type 0} (key : Value) (span : Interval) (rows : List (Row A)) (place : ℕ) : Type 0 where
+  pub row : Row A
+  pub there : slice_get rows place ≡ Some row
+  pub is : is_row_of key span row ≡ true
 
 -- the accumulator of one row took a part
 pub record AddsAt {A : Type 0} (stands : A → List Value → Type 0) (held : A → ℕ) (part : Value) (place : ℕ) (old new : List (Row A)) : Type 0 where

@@ -5,7 +5,9 @@ ghost use Rattle.beam_values.specs.Bags.{IsSameBag};
 ghost use Rattle.beam_values.specs.declared.plan.FnKind.{FnKind as FnKindOf};
 ghost use Rattle.beam_values.specs.declared.value.Value.{Value as ValueOf};
 ghost use Rattle.beam_model.specs.Functions.{fold_of};
+ghost use Rattle.combine_lift.specs.Views.{view_value};
 
+use crate::View;
 use beam_values::Value;
 
 /// How parts are folded one after another, into what a function of sequences gives of all of them (Beam
@@ -36,11 +38,11 @@ pub trait Combiner: Drop {
         ensures { result ≡ held acc.now };
 
     /// One more part, where it is one that is taken; at any other the answer is `false`.
-    fn add(&self, acc: &mut Self::Acc, part: &Value) -> bool
+    fn add(&self, acc: &mut Self::Acc, part: View<'_>) -> bool
         requires { held acc.old + 1 < 2 ^ 63 }
-        ensures taken { result ≡ takes part.now }
+        ensures taken { result ≡ takes (view_value part.entry) }
         ensures added { OnTrue result ((parts : ListOf ValueOf)
-            → stands acc.old parts → stands acc.new (parts ++ part.now ∷ [])) }
+            → stands acc.old parts → stands acc.new (parts ++ view_value part.entry ∷ [])) }
         ensures count { OnTrue result (held acc.new ≡ held acc.old + 1) }
         ensures kept { OnFalse result (acc.new ≡ acc.old) };
 

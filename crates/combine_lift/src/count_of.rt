@@ -2,7 +2,7 @@ ghost use Rattle.std.specs.Prelude.{◌≡◌, ◌+◌, ◌<◌, ◌^◌, true, 
 ghost use Rattle.beam_values.specs.declared.plan.FnKind.TheVariants.{CountSeq};
 ghost use Rattle.combine_lift.specs.Standing.{count_in_any_order};
 
-use crate::Combiner;
+use crate::{Combiner, View};
 use beam_values::Value;
 
 /// Counts parts, of any kind: what CountSeq gives.
@@ -45,7 +45,7 @@ impl Combiner for CountOf {
         acc.count
     }
 
-    fn add(&self, acc: &mut CountAcc, _part: &Value) -> bool {
+    fn add(&self, acc: &mut CountAcc, _part: View<'_>) -> bool {
         acc.count += 1;
         true
     }

@@ -23,6 +23,8 @@ mod refusal;
 mod row;
 mod rows_index;
 mod sum_of;
+mod view;
+mod view_hash;
 
 pub use combined::Combined;
 pub use combiner::Combiner;
@@ -32,3 +34,4 @@ pub use max_of::{MaxAcc, MaxOf};
 pub use partials::Partials;
 pub use refusal::LiftRefusal;
 pub use sum_of::{SumAcc, SumOf};
+pub use view::View;

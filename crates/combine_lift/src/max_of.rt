@@ -3,8 +3,8 @@ ghost use Rattle.beam_values.specs.declared.plan.FnKind.TheVariants.{MaxSeq};
 ghost use Rattle.combine_lift.specs.Parts.{is_number};
 ghost use Rattle.combine_lift.specs.Standing.{IsMaxOf, greater_of, max_in_any_order, value_of};
 
-use crate::Combiner;
 use crate::numbers::int_of;
+use crate::{Combiner, View};
 use beam_values::Value;
 
 /// Takes the greatest of whole numbers: what MaxSeq gives.
@@ -51,7 +51,7 @@ impl Combiner for MaxOf {
         acc.count
     }
 
-    fn add(&self, acc: &mut MaxAcc, part: &Value) -> bool {
+    fn add(&self, acc: &mut MaxAcc, part: View<'_>) -> bool {
         let Some(number) = int_of(part) else {
             return false;
         };

@@ -3,16 +3,17 @@ ghost use Rattle.std.specs.Prelude.{IfErr, IfOk, IfSome, IsNone, IsSome, IsTrue,
 ghost use Rattle.std.specs.Prelude.{List as ListOf, vec_capacity};
 ghost use Rattle.std.specs.Bool.{OnFalse, OnTrue};
 ghost use Rattle.combine_lift.specs.Folds.{AreFolds};
-ghost use Rattle.combine_lift.specs.Tables.{held_in, row_place, AddsAt, Added as AddedOf, StandsFor};
+ghost use Rattle.combine_lift.specs.Tables.{held_in, row_place, AddsAt, Added as AddedOf, IsRowAt, StandsFor};
+ghost use Rattle.combine_lift.specs.Views.{view_value};
 
-use crate::Combiner;
 use crate::combined::Combined;
 use crate::extracting::extract_all;
 use crate::merging::{merge, room_for, settle};
 use crate::row::Row;
-use crate::rows_index::{find_or_note, guessed, index_key};
-use beam_values::{List, NoMemory, Span, Value};
-use cell_index::{CellIndex, CellKey};
+use crate::rows_index::{find_or_note, guessed, index_key, note, note_next};
+use crate::{Combiner, View};
+use beam_values::{List, NoMemory, Span};
+use cell_index::{CellIndex, CellKey, Guesses};
 use std::alloc::Global;
 use std::marker::Model;
 use std::mem;
@@ -28,6 +29,8 @@ pub struct Partials<C: Combiner> {
     /// The places of all rows, where `indexed`.
     index: CellIndex,
     indexed: bool,
+    /// At the places of rows that were found lately. A guess is compared with the row there.
+    guesses: Guesses,
     parts: u64,
 }
 
@@ -57,6 +60,7 @@ impl<C: Combiner> Partials<C> {
             rows: Vec::new(alloc),
             index: CellIndex::new(alloc),
             indexed: true,
+            guesses: Guesses::new(alloc),
             parts: 0,
         }
     }
@@ -86,15 +90,19 @@ impl<C: Combiner> Partials<C> {
     pub fn add(
         &mut self,
         alloc: Global,
-        key: &Value,
+        key: View<'_>,
         span: Span,
-        part: &Value,
+        part: View<'_>,
     ) -> Result<bool, NoMemory>
         requires { self.old.parts + 1 < 2 ^ 63 }
-        ensures taken { IfOk result (λ taken. taken ≡ C.takes part.now) }
+        ensures taken { IfOk result (λ taken. taken ≡ C.takes (view_value part.entry)) }
         ensures added { IfOk result (λ taken. OnTrue taken ((added : ListOf AddedOf)
             → StandsFor C.stands self.old added → StandsFor C.stands self.new
-            (added ++ (record { key = key.now; span = span; part = part.now }) ∷ []))) }
+            (added ++ (record {
+              key = view_value key.entry;
+              span = span;
+              part = view_value part.entry;
+            }) ∷ []))) }
         ensures parts { IfOk result (λ taken. OnTrue taken (self.new.parts ≡ self.old.parts + 1)) }
         ensures kept { IfOk result (λ taken. OnFalse taken (self.new ≡ self.old)) }
         ensures err { OnErr result (self.new ≡ self.old) }
@@ -106,23 +114,19 @@ impl<C: Combiner> Partials<C> {
     }
 
     /// The place of the row of a key and window, where a guess is right.
-    fn guessed(&self, key: &Value, span: Span) -> Option<u32>
-        ensures { IfSome result (λ place. Some place ≡ row_place key.now span self.now.rows) }
+    fn guessed(&self, key: View<'_>, span: Span) -> Option<u32>
+        ensures { IfSome result (IsRowAt (view_value key.entry) span self.now.rows) }
     {
-        if self.indexed {
-            guessed(&self.index, self.rows.as_slice(), key, span)
-        } else {
-            None
-        }
+        guessed(&self.guesses, self.rows.as_slice(), key, span)
     }
 
     /// One more part of the row at a place.
-    fn add_at(&mut self, place: u32, part: &Value) -> bool
+    fn add_at(&mut self, place: u32, part: View<'_>) -> bool
         requires within { place < length self.old.rows }
         requires few { self.old.parts + 1 < 2 ^ 63 }
-        ensures taken { result ≡ C.takes part.now }
+        ensures taken { result ≡ C.takes (view_value part.entry) }
         ensures added { OnTrue result
-            (AddsAt C.stands C.held part.now place self.old.rows self.new.rows) }
+            (AddsAt C.stands C.held (view_value part.entry) place self.old.rows self.new.rows) }
         ensures parts { OnTrue result (self.new.parts ≡ self.old.parts + 1) }
         ensures kept { OnFalse result (self.new ≡ self.old) }
     {
@@ -137,15 +141,19 @@ impl<C: Combiner> Partials<C> {
     fn add_by_map(
         &mut self,
         alloc: Global,
-        key: &Value,
+        key: View<'_>,
         span: Span,
-        part: &Value,
+        part: View<'_>,
     ) -> Result<bool, NoMemory>
         requires { self.old.parts + 1 < 2 ^ 63 }
-        ensures taken { IfOk result (λ taken. taken ≡ C.takes part.now) }
+        ensures taken { IfOk result (λ taken. taken ≡ C.takes (view_value part.entry)) }
         ensures added { IfOk result (λ taken. OnTrue taken ((added : ListOf AddedOf)
             → StandsFor C.stands self.old added → StandsFor C.stands self.new
-            (added ++ (record { key = key.now; span = span; part = part.now }) ∷ []))) }
+            (added ++ (record {
+              key = view_value key.entry;
+              span = span;
+              part = view_value part.entry;
+            }) ∷ []))) }
         ensures parts { IfOk result (λ taken. OnTrue taken (self.new.parts ≡ self.old.parts + 1)) }
         ensures kept { IfOk result (λ taken. OnFalse taken (self.new ≡ self.old)) }
         ensures err { OnErr result (self.new ≡ self.old) }
@@ -164,16 +172,16 @@ impl<C: Combiner> Partials<C> {
     fn find_or_open(
         &mut self,
         alloc: Global,
-        key: &Value,
+        key: View<'_>,
         span: Span,
         acc: C::Acc,
     ) -> Result<Option<u32>, NoMemory>
         requires one { C.held acc ≡ 1 }
         requires few { self.old.parts + 1 < 2 ^ 63 }
-        ensures found { IfOk result (λ place. place ≡ row_place key.now span self.old.rows) }
+        ensures found { IfOk result (λ place. place ≡ row_place (view_value key.entry) span self.old.rows) }
         ensures same { IfOk result (λ place. IsSome place → self.new ≡ self.old) }
         ensures opened { IfOk result (λ place. IsNone place → self.new ≡ record {
-          rows = self.old.rows ++ (record { span = span; key = key.now; acc = acc }) ∷ [];
+          rows = self.old.rows ++ (record { span = span; key = view_value key.entry; acc = acc }) ∷ [];
           parts = self.old.parts + 1;
         }) }
         ensures err { OnErr result (self.new ≡ self.old) }
@@ -188,8 +196,12 @@ impl<C: Combiner> Partials<C> {
             &own,
         )?;
         match found {
-            Some(place) => Ok(Some(place)),
+            Some(place) => {
+                note(&mut self.guesses, key, span, place, self.rows.len());
+                Ok(Some(place))
+            }
             None => {
+                note_next(&mut self.guesses, key, span, self.rows.len());
                 let CellKey { node: _, span, key } = own.into_cell();
                 self.rows.push_reserved(Row { span, key, acc });
                 self.parts += 1;
@@ -229,6 +241,7 @@ impl<C: Combiner> Partials<C> {
             rows: others,
             index: _,
             indexed: _,
+            guesses: _,
             parts,
         } = other;
         let mut others = others;
@@ -238,6 +251,7 @@ impl<C: Combiner> Partials<C> {
         self.rows = merge(&self.combiner, rows, others, room);
         self.index = CellIndex::new(alloc);
         self.indexed = false;
+        self.guesses.forget();
         self.parts += parts;
     }
 
@@ -251,6 +265,7 @@ impl<C: Combiner> Partials<C> {
             rows,
             index: _,
             indexed: _,
+            guesses: _,
             parts: _,
         } = self;
         extract_all(alloc, &combiner, rows)
@@ -262,13 +277,13 @@ fn add_to<C: Combiner>(
     combiner: &C,
     rows: &mut Vec<Row<C::Acc>>,
     place: usize,
-    part: &Value,
+    part: View<'_>,
 ) -> bool
     requires within { place < length rows.old.items }
     requires few { held_in C.held rows.old.items + 1 < 2 ^ 63 }
-    ensures taken { result ≡ C.takes part.now }
+    ensures taken { result ≡ C.takes (view_value part.entry) }
     ensures added { OnTrue result
-        (AddsAt C.stands C.held part.now place rows.old.items rows.new.items) }
+        (AddsAt C.stands C.held (view_value part.entry) place rows.old.items rows.new.items) }
     ensures kept { OnFalse result (rows.new.items ≡ rows.old.items) }
 {
     let row = &mut rows[place];

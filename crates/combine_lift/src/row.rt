@@ -1,9 +1,9 @@
-ghost use Rattle.std.specs.Prelude.{◌≡◌};
-ghost use Rattle.std.specs.Str.{bytes_eq};
+ghost use Rattle.std.specs.Prelude.{◌≡◌, ◌↔◌, IsTrue};
 ghost use Rattle.beam_values.specs.Spans.{same_span};
-ghost use Rattle.beam_values.specs.Spelling.{spelling};
-ghost use Rattle.combine_lift.specs.Tables.{is_row_of, row_cmp};
+ghost use Rattle.combine_lift.specs.Tables.{row_cmp};
+ghost use Rattle.combine_lift.specs.Views.{view_value};
 
+use crate::View;
 use beam_values::{Span, Value, cmp_spans, cmp_values};
 use std::cmp::Ordering;
 
@@ -26,16 +26,11 @@ pub fn cmp_rows<A>(a: &Row<A>, b: &Row<A>) -> Ordering
 }
 
 /// Whether a row is of a key and a window.
-pub fn is_row_of<A>(key: &Value, span: Span, row: &Row<A>) -> bool
-    ensures { result ≡ is_row_of key.now span row.now }
+pub fn is_row_of<A>(key: View<'_>, span: Span, row: &Row<A>) -> bool
+    ensures { IsTrue result ↔ ((view_value key.entry ≡ row.now.key)
+        × IsTrue (same_span row.now.span span)) }
 {
-    is_same_key(&row.key, key) && is_same_span(row.span, span)
-}
-
-fn is_same_key(a: &Value, b: &Value) -> bool
-    ensures { result ≡ bytes_eq (spelling a.now) (spelling b.now) }
-{
-    cmp_values(a, b).is_eq()
+    key.is(&row.key) && is_same_span(row.span, span)
 }
 
 fn is_same_span(a: Span, b: Span) -> bool

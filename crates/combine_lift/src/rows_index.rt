@@ -5,23 +5,25 @@ ghost use Rattle.std.specs.Prelude.{IsNone, IsSome, length, List as ListOf};
 ghost use Rattle.beam_values.specs.declared.cell.Cell.{Cell as CellOf};
 ghost use Rattle.cell_index.specs.Indexes.{IsIndexOf};
 ghost use Rattle.combine_lift.specs.Indexed.{cell_of, cells_of};
-ghost use Rattle.combine_lift.specs.Tables.{row_place};
+ghost use Rattle.combine_lift.specs.Tables.{IsRowAt, row_place};
+ghost use Rattle.combine_lift.specs.Views.{view_value};
 ghost use Rattle.combine_lift.specs.declared.row.Row.{Row as RowOf};
 
+use crate::View;
 use crate::row::{Row, is_row_of};
-use beam_values::{NoMemory, Span, Value};
-use cell_index::{CellIndex, CellKey, IndexKey};
+use crate::view_hash::hash_of;
+use beam_values::{NoMemory, Span};
+use cell_index::{CellIndex, CellKey, Guess, Guesses, IndexKey};
 use std::alloc::Global;
 
 /// The node of all rows.
 const NODE: u32 = 0;
 
 /// The place of the row of a key and window, where a guess is right.
-pub fn guessed<A>(index: &CellIndex, rows: &[Row<A>], key: &Value, span: Span) -> Option<u32>
-    requires { IsIndexOf index.now (cells_of rows.now) }
-    ensures { IfSome result (λ place. Some place ≡ row_place key.now span rows.now) }
+pub fn guessed<A>(guesses: &Guesses, rows: &[Row<A>], key: View<'_>, span: Span) -> Option<u32>
+    ensures { IfSome result (IsRowAt (view_value key.entry) span rows.now) }
 {
-    let place = index.guess(NODE, key, span)?;
+    let place = guesses.place(hash_of(key, span))?;
     let row = rows.get(place as usize)?;
     if is_row_of(key, span, row) {
         Some(place)
@@ -30,11 +32,25 @@ pub fn guessed<A>(index: &CellIndex, rows: &[Row<A>], key: &Value, span: Span) -
     }
 }
 
+/// Notes where the row of a key and window is, of so many rows.
+pub fn note(guesses: &mut Guesses, key: View<'_>, span: Span, place: u32, rows: usize) {
+    let hash = hash_of(key, span);
+    guesses.note_missed(Guess { hash, place }, rows);
+}
+
+/// The same of the row that comes next.
+pub fn note_next(guesses: &mut Guesses, key: View<'_>, span: Span, rows: usize) {
+    if let Ok(place) = u32::try_from(rows) {
+        note(guesses, key, span, place, rows);
+    }
+}
+
 /// What a row is found by.
-pub fn index_key(alloc: Global, key: &Value, span: Span) -> Result<IndexKey, NoMemory>
-    ensures { IfOk result (λ own. own ≡ record { node = 0; span = span; key = key.now }) }
+pub fn index_key(alloc: Global, key: View<'_>, span: Span) -> Result<IndexKey, NoMemory>
+    ensures { IfOk result
+        (λ own. own ≡ record { node = 0; span = span; key = view_value key.entry }) }
 {
-    let key = key.copy(alloc)?;
+    let key = key.to_value(alloc)?;
     Ok(IndexKey::of(CellKey {
         node: NODE,
         span,
@@ -63,7 +79,7 @@ fn add_row<A>(
     ensures { OnOk result ((cells : ListOf CellOf) → IsIndexOf index.old cells
         → place ≡ length cells → IsIndexOf index.new (cells ++ cell_of row.now ∷ [])) }
 {
-    let key = index_key(alloc, &row.key, row.span)?;
+    let key = index_key(alloc, View::Whole(&row.key), row.span)?;
     let place = u32::try_from(place).map_err(|_| NoMemory)?;
     index.add(alloc, &key, place)
 }

@@ -3,8 +3,8 @@ ghost use Rattle.beam_values.specs.declared.plan.FnKind.TheVariants.{SumSeq};
 ghost use Rattle.combine_lift.specs.Parts.{is_number};
 ghost use Rattle.combine_lift.specs.Standing.{IsSumOf, sum_in_any_order};
 
-use crate::Combiner;
 use crate::numbers::{in_word, int_of};
+use crate::{Combiner, View};
 use beam_values::Value;
 
 /// Adds whole numbers in 128 bits: what SumSeq gives.
@@ -74,7 +74,7 @@ impl Combiner for SumOf {
         acc.count
     }
 
-    fn add(&self, acc: &mut SumAcc, part: &Value) -> bool {
+    fn add(&self, acc: &mut SumAcc, part: View<'_>) -> bool {
         let Some(number) = int_of(part) else {
             return false;
         };

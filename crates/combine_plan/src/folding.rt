@@ -30,7 +30,7 @@ use beam_values::{Arrival, FaultNote, Options, Piece, Range, Value, key_or, part
 use bundle_commit::{Job, Receipt};
 use bundle_work::{Kit, Worker};
 use chain_exec::ExecRefusal;
-use combine_lift::{Combiner, LiftRefusal, Partials};
+use combine_lift::{Combiner, LiftRefusal, Partials, View};
 use dofn_traits::Shelf;
 use pipeline_graph::Graph;
 use retry_core::{Next, next_attempt};
@@ -280,7 +280,8 @@ fn add_arrival<C: Combiner>(
     let element = &arrival.element;
     let null = Value::Null;
     let key = key_or(element, &null);
-    if partials.add(alloc, key, element.span, part_of(element))? {
+    let part = View::Whole(part_of(element));
+    if partials.add(alloc, View::Whole(key), element.span, part)? {
         Ok(())
     } else {
         Err(CombineRefusal::Lift(LiftRefusal::Part))

@@ -1,3 +1,4 @@
+use Rattle.combine_lift.specs.Views.{view_value}
 use Rattle.combine_lift.proofs.Keeping.{few_more, kept_added_if, kept_same_unless, seen_added, seen_same}
 use Rattle.combine_lift.proofs.partials.Partials.add_at.Goals as goal
 
@@ -12,7 +13,7 @@ invariant_of-self g c =
 
 pub invariant_of-self-2 : goal.invariant_of-self-2
 invariant_of-self-2 g c =
-    kept_added_if g.C.Combiner.stands g.C.Combiner.held c.self.inside.index c.args.part.now c.args.place c.self.inside.rows.items c.add_to.new.rows.items c.self.inside.indexed
+    kept_added_if g.C.Combiner.stands g.C.Combiner.held c.self.inside.index (view_value c.args.part) c.args.place c.self.inside.rows.items c.add_to.new.rows.items c.self.inside.indexed
     c.self.inside.parts c.add_to.result c.if-not-add_to.false c.add_to.ensures.added c.self.invariant
 
 pub returns-then-not-add_to-clause-kept : goal.returns-then-not-add_to-clause-kept
@@ -21,5 +22,5 @@ returns-then-not-add_to-clause-kept g c =
 
 pub returns-clause-added : goal.returns-clause-added
 returns-clause-added g c =
-    seen_added g.C.Combiner.stands g.C.Combiner.held c.args.self.now c.args.part.now c.args.place c.self.inside.rows.items c.add_to.new.rows.items c.self.inside.parts
+    seen_added g.C.Combiner.stands g.C.Combiner.held c.args.self.now (view_value c.args.part) c.args.place c.self.inside.rows.items c.add_to.new.rows.items c.self.inside.parts
     c.add_to.result c.if-not-add_to.false c.self.view_is c.add_to.ensures.added

@@ -3,6 +3,7 @@ use Rattle.cell_index.specs.Indexes.{IsIndexOf}
 use Rattle.cell_index.specs.declared.index_key.CellKey.{CellKey}
 use Rattle.combine_lift.specs.Indexed.{cells_of}
 use Rattle.combine_lift.specs.Tables.{held_in, row_place}
+use Rattle.combine_lift.specs.Views.{view_value}
 use Rattle.combine_lift.proofs.Keeping.{kept_opened, kept_same}
 use Rattle.combine_lift.proofs.Opening.{always_on_err, opened_is, seen_opened, seen_rows}
 use Rattle.combine_lift.proofs.partials.Partials.find_or_open.Goals as goal
@@ -44,7 +45,7 @@ invariant_of-self-in-Some-1 g c = record {
 pub returns-in-Some-clause-found : goal.returns-in-Some-clause-found
 returns-in-Some-clause-found g c =
     sym c.in-Some.is ∙ c.in_ok-found.ensures.found ∙ ap (λ (k : CellKey). row_place k.key k.span c.as_slice.result.now) c.in_ok-own.ensures
-    ∙ ap (row_place c.args.key.now c.args.span) (c.as_slice.ensures.value ∙ c.reserve.ensures.items ∙ ap (λ t. t.rows) c.self.view_is)
+    ∙ ap (row_place (view_value c.args.key) c.args.span) (c.as_slice.ensures.value ∙ c.reserve.ensures.items ∙ ap (λ t. t.rows) c.self.view_is)
 
 pub returns-in-Some-clause-same : goal.returns-in-Some-clause-same
 returns-in-Some-clause-same g c = λ some.
@@ -53,7 +54,7 @@ returns-in-Some-clause-same g c = λ some.
 pub returns-in-None-clause-found : goal.returns-in-None-clause-found
 returns-in-None-clause-found g c =
     sym c.in-None.is ∙ c.in_ok-found.ensures.found ∙ ap (λ (k : CellKey). row_place k.key k.span c.as_slice.result.now) c.in_ok-own.ensures
-    ∙ ap (row_place c.args.key.now c.args.span) (c.as_slice.ensures.value ∙ c.reserve.ensures.items ∙ ap (λ t. t.rows) c.self.view_is)
+    ∙ ap (row_place (view_value c.args.key) c.args.span) (c.as_slice.ensures.value ∙ c.reserve.ensures.items ∙ ap (λ t. t.rows) c.self.view_is)
 
 pub invariant_of-self-in-None : goal.invariant_of-self-in-None
 invariant_of-self-in-None g c =
@@ -68,6 +69,6 @@ invariant_of-self-in-None g c =
 pub returns-in-None-clause-opened : goal.returns-in-None-clause-opened
 returns-in-None-clause-opened g c = λ none.
     seen_opened c.args.self.now c.self.inside.rows.items c.reserve.new.self.items c.push_reserved.new.self.items
-    (record { span = c.into_cell-span.result.span; key = c.into_cell-span.result.key; acc = c.args.acc }) (record { span = c.args.span; key = c.args.key.now; acc = c.args.acc })
+    (record { span = c.into_cell-span.result.span; key = c.into_cell-span.result.key; acc = c.args.acc }) (record { span = c.args.span; key = (view_value c.args.key); acc = c.args.acc })
     c.self.inside.parts c.reserve.ensures.items c.self.view_is c.push_reserved.ensures.items
-    (opened_is c.args.acc c.args.span c.args.key.now c.into_cell-span.result (c.into_cell-span.ensures ∙ c.in_ok-own.ensures))
+    (opened_is c.args.acc c.args.span (view_value c.args.key) c.into_cell-span.result (c.into_cell-span.ensures ∙ c.in_ok-own.ensures))
