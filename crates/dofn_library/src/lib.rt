@@ -29,6 +29,7 @@ pub use scripted::Scripted;
 pub use shared_keys::SharedKeys;
 pub use state_work::StateWork;
 pub use strict::Strict;
+pub use texts::{first_word, int_of};
 
 /// [`work::KeyField`] as an object.
 pub type KeyField = Strict<work::KeyField>;

@@ -1,0 +1,3 @@
+pub mod Skimming
+pub mod Adding
+pub mod OnlyFollower
