@@ -16,3 +16,4 @@ pub mod FoundFunction
 pub mod FrontKit
 pub mod LiftedEnds
 pub mod TakenParts
+pub mod HeldPieces

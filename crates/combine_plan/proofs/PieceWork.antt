@@ -20,7 +20,7 @@ use Rattle.book_core.specs.Work.{Surroundings}
 use Rattle.chain_exec.specs.Causes.{observed_shelf}
 use Rattle.split_core.specs.Partition.{range_of}
 use Rattle.combine_lift.specs.Tables.{StandsFor, Table}
-use Rattle.combine_plan.specs.Folding.{AreTries, FailsAgain, HasFolded, IsBundleDone, IsBundleRefused, IsFold, IsFoldRefused, IsLastFailure, IsSpent}
+use Rattle.combine_plan.specs.Folding.{AreTries, FailsAgain, HasFolded, IsBundleDone, IsBundleRefused, IsFold, IsFoldRefused, IsLastFailure, IsLeftBehind, IsSpent}
 use Rattle.combine_plan.specs.declared.refusal.CombineRefusal.{CombineRefusal}
 use Rattle.combine_plan.specs.declared.refusal.CombineRefusal.TheVariants.{Lift, Fault, NoMemory}
 use Rattle.combine_plan.proofs.Folded.{folded_empty, folded_from, folded_more, folded_then}
@@ -77,13 +77,13 @@ module _ {F S : Type 0} (strict : F → Bool) (faults : F → ℕ) (files : S �
             (λ its poison. poison_within plan its piece.node piece.item piece.range.from from piece.range.to piece.range.to low (omega arith) at poison)
             tries failed)
 
-        -- a bundle more was worked, or failed
-        pub left_more : (rest left : Piece) → IsLeft piece rest f0 f1 s0 s1 old mid
-            → IsBundleDone stands known (observed_shelf strict faults f1 f2) (observed_store files fails s1 s2) plan attempts rest left mid new → IsLeft piece left f0 f2 s0 s2 old new
-        left_more rest left was done =
+        -- lines more were worked
+        pub left_behind : (rest left : Piece) → IsLeft piece rest f0 f1 s0 s1 old mid
+            → IsLeftBehind stands known (observed_shelf strict faults f1 f2) (observed_store files fails s1 s2) plan attempts rest left mid new → IsLeft piece left f0 f2 s0 s2 old new
+        left_behind rest left was done =
             let from = rest.range.from in
             let n = rest.attempts in
-            let bundle = subst (λ (r : Piece). IsBundleDone stands known (observed_shelf strict faults f1 f2) (observed_store files fails s1 s2) plan attempts r left mid new) was.same done in
+            let bundle = subst (λ (r : Piece). IsLeftBehind stands known (observed_shelf strict faults f1 f2) (observed_store files fails s1 s2) plan attempts r left mid new) was.same done in
             record {
               same = bundle.same;
               behind = omega (arith, was.behind, bundle.behind);
@@ -92,6 +92,17 @@ module _ {F S : Type 0} (strict : F → Bool) (faults : F → ℕ) (files : S �
               folded = folded_more stands known plan piece.node piece.item piece.range.from from left.range.from old mid new was.behind bundle.behind was.folded bundle.folded;
               tries = tried from n left.attempts was.behind was.limit was.tries bundle.fails;
             }
+
+        -- a bundle more was worked, or failed
+        pub left_more : (rest left : Piece) → IsLeft piece rest f0 f1 s0 s1 old mid
+            → IsBundleDone stands known (observed_shelf strict faults f1 f2) (observed_store files fails s1 s2) plan attempts rest left mid new → IsLeft piece left f0 f2 s0 s2 old new
+        left_more rest left was done =
+            left_behind rest left was
+            (record { same = done.same; behind = done.behind; within = done.within; limit = done.limit; more = no_fewer done.fails; folded = done.folded; fails = done.fails })
+          where
+            no_fewer : FailsAgain known (observed_shelf strict faults f1 f2) (observed_store files fails s1 s2) plan rest left.attempts → rest.attempts ≤ left.attempts
+            no_fewer (inl same) = omega arith
+            no_fewer (inr (one, at, cause, failed)) = omega arith
 
       -- ---- a bundle was refused
 

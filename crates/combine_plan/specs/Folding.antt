@@ -123,6 +123,17 @@ pub record IsBundleDone {A : Type 0} (stands : A → List Value → Type 0) (kno
   pub folded : HasFolded stands known plan (range_before rest left ∷ []) old new
   pub fails : FailsAgain known shelf store plan rest left.attempts
 
+-- Lines of a piece were worked, and this is left behind them, maybe all; where the work failed, it has one more attempt.
+pub record IsLeftBehind {A : Type 0} (stands : A → List Value → Type 0) (known : Surroundings) (shelf : ObservedShelf) (store : ObservedStore) (plan : Plan) (attempts : ℕ) (rest left : Piece)
+    (old new : Table A) : Type 0 where
+  pub same : left ≡ record rest { range = record { from = left.range.from; to = rest.range.to }; attempts = left.attempts }
+  pub behind : rest.range.from ≤ left.range.from
+  pub within : left.range.from ≤ rest.range.to
+  pub limit : left.attempts < attempts
+  pub more : rest.attempts ≤ left.attempts
+  pub folded : HasFolded stands known plan (range_before rest left ∷ []) old new
+  pub fails : FailsAgain known shelf store plan rest left.attempts
+
 -- its last attempt failed, of this note
 pub record IsLastFailure (known : Surroundings) (shelf : ObservedShelf) (store : ObservedStore) (plan : Plan) (attempts : ℕ) (rest : Piece) (note : FaultNote) : Type 0 where
   pub node : note.node ≡ rest.node

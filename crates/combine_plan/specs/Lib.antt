@@ -5,3 +5,4 @@ pub mod Lasting
 pub mod Combined
 pub mod Hands
 pub mod Lifting
+pub mod Skimming

@@ -25,6 +25,7 @@ ghost use Rattle.combine_plan.specs.Folding.{IsFailedAgain, IsWorkFailed};
 
 use crate::claims::{OwnPiece, Unshared};
 use crate::refusal::CombineRefusal;
+use crate::skimming::skim_piece;
 use beam_ports::Store;
 use beam_values::{Arrival, FaultNote, Options, Piece, Range, Value, key_or, part_of};
 use bundle_commit::{Job, Receipt};
@@ -80,7 +81,8 @@ pub fn fold_pieces<C: Combiner, F: Shelf, S: Store>(
     Ok(partials)
 }
 
-/// Works a piece, bundle by bundle. A bundle that fails is worked again from its start, and leaves the table
+/// Works a piece: lines by views, as far as these tell what the lines bring, and from there on the next bundle by
+/// objects, in turn. A bundle that fails is worked again from its start, and leaves the table
 /// as it was; how often bundles may fail is counted over the whole piece.
 fn fold_piece<C: Combiner, F: Shelf, S: Store>(
     alloc: Global,
@@ -120,6 +122,10 @@ fn fold_piece<C: Combiner, F: Shelf, S: Store>(
         ..*piece
     };
     'bundles: while rest.range.from() < end {
+        rest = skim_piece(alloc, graph, attempts, kit, worker, &rest, partials)?;
+        if rest.range.from() >= end {
+            return Ok(());
+        }
         rest = fold_bundle(alloc, graph, attempts, kit, worker, &rest, partials)?;
     }
     Ok(())
@@ -212,7 +218,7 @@ fn work_bundle<F: Shelf, S: Store>(
 }
 
 /// What is left of a piece behind an offset.
-fn behind(piece: &Piece, from: u64) -> Piece
+pub fn behind(piece: &Piece, from: u64) -> Piece
     requires { from ≤ piece.now.range.to }
     ensures { result
         ≡ record piece.now { range = record { from = from; to = piece.now.range.to } } }
@@ -224,7 +230,7 @@ fn behind(piece: &Piece, from: u64) -> Piece
 }
 
 /// A piece that failed once more, or the note where that was as often as it may.
-fn failed(piece: &Piece, refusal: ExecRefusal, attempts: u32) -> Result<Piece, CombineRefusal>
+pub fn failed(piece: &Piece, refusal: ExecRefusal, attempts: u32) -> Result<Piece, CombineRefusal>
     requires { piece.now.attempts < attempts }
     ensures { IsFailedAgain piece.now refusal attempts result }
 {

@@ -15,6 +15,7 @@ mod last;
 mod pieces;
 mod plan;
 mod refusal;
+mod skimming;
 
 pub use plan::combine_plan;
 pub use refusal::CombineRefusal;

@@ -7,6 +7,9 @@ use Rattle.combine_plan.proofs.folding.fold_piece.Given as goal
 abbrev pub ghost-fold_bundle : goal.ghost-fold_bundle
 ghost-fold_bundle g a = g.setting
 
+abbrev pub ghost-skim_piece : goal.ghost-skim_piece
+ghost-skim_piece g a = g.setting
+
 abbrev pub invariant-bundles : goal.invariant-bundles
 invariant-bundles g l = record {
   left : IsLeft g.F.Shelf.strict g.F.Shelf.faults g.S.Store.files g.S.Store.faults g.S.Store.opened g.C.Combiner.stands g.C.Combiner.takes g.setting.known l.graph l.attempts l.piece l.rest l.fn.kit.shelf l.kit.shelf
