@@ -255,6 +255,12 @@ def commits_of_a_schedule(n):
     return scheduled(n, *["take 0", "claim 0", "commit 0"] * n, "drain")
 
 
+@shape(15_000)
+def empty_commits_of_a_schedule(n):
+    """Each leaves an empty range that is done, equal to those before it."""
+    return scheduled(1, *["take 0", "commit 0"] * n)
+
+
 @shape(5_000)
 def tries_that_fail(n):
     return scheduled(n, *["take 0", "claim 0", "fail 0", "take 0", "claim 0", "commit 0"] * n)
