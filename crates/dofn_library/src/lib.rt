@@ -116,6 +116,3 @@ macro_rules! add_functions {
         added
     }};
 }
-
-#[cfg(test)]
-mod tests;
