@@ -3,7 +3,7 @@
 
     tests/refused_memory.py PROGRAM [--seconds N] [--processors N]
 
-Plans of `examples/`, one of them over 2000 lines, are run by one worker and by four. Each allocation is refused alone, and from each one on
+`panes` and plans of `examples/`, one of them over 2000 lines, are run by one worker and by four. Each allocation is refused alone, and from each one on
 all are. So is the start of each thread, and all that takes the process above a bound. A run has to end within `--seconds` (60): with
 its whole text, or with no text and the note of status 8. Where it was the name of a file that found no place, the opening has failed, and the
 note may be that of status 5. Needs `cc`, and takes some minutes. The status is 1 where a run went wrong, and such runs are printed.
@@ -20,19 +20,20 @@ NO_THREAD = "11"  # as where there may be no more threads
 PART = re.compile(rb'"[^"]*"')
 
 
-def plans(program):
-    """What each plan shows, its command, and whether its text is the same however it is worked."""
+def commands(program):
+    """What each command shows, its words, and whether its text is the same however it is worked."""
     lines = program.folder / "lines.tsv"
     lines.write_bytes(program.run(["make", "2000", "7"]).text)
     plan = program.folder / "plan.json"
     plan.write_text((ROOT / "examples/access_log/plan.json").read_text().replace("examples/access_log/access.tsv", str(lines)))
     return [
-        ("a group", "examples/late/plan.json", True),
-        ("a stateful node", "examples/state/once/plan.json", True),
-        ("sessions", "examples/sessions/plan.json", True),
-        ("accumulating early panes", "examples/modes/plan.json", False),
-        ("two sources", "examples/two_sources/plan.json", True),
-        ("2000 lines", str(plan), True),
+        ("panes", ["panes", "examples/visits.tsv", "60000"], True),
+        ("a group", ["run", "examples/late/plan.json"], True),
+        ("a stateful node", ["run", "examples/state/once/plan.json"], True),
+        ("sessions", ["run", "examples/sessions/plan.json"], True),
+        ("accumulating early panes", ["run", "examples/modes/plan.json"], False),
+        ("two sources", ["run", "examples/two_sources/plan.json"], True),
+        ("2000 lines", ["run", str(plan)], True),
     ]
 
 
@@ -86,10 +87,10 @@ def main():
     given = reader.parse_args()
     program = Program(given.program, given.seconds)
     table = Table()
-    for name, plan, same in plans(program):
-        whole = program.run(["run", plan, "--workers", "1"]).text
+    for name, command, same in commands(program):
+        whole = program.run([*command, "--workers", "1"]).text
         for workers in ("1", "4"):
-            words = ["run", plan, "--workers", workers]
+            words = [*command, "--workers", workers]
             for (what, how), ran in each(given.processors, lambda run: program.run(words, **run[1]), injections(program, words)):
                 if ran.failed or "preexec_fn" in how:
                     table.add(f"{name}, by {workers}: {what}", came_of(ran, whole, same), [*words, how], ran)
