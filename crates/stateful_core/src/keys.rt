@@ -193,6 +193,7 @@ impl Keys {
     {
         let_all_go(&mut self.slots, &self.routes);
         self.fresh = Vec::new(self.alloc);
+        self.routes = VecDeque::new(self.alloc);
         let Routed { fresh, routes } = route_all(
             self.alloc,
             plan,
