@@ -1,12 +1,13 @@
 #!/usr/bin/env python3
 """Runs small jobs by many workers on a machine that has other work, and compares each with the run by one worker.
 
-    tests/crowded_runs.py ./beam_run [--runs N] [--seed S] [--loops N] [--seconds N]
+    tests/crowded_runs.py ./beam_run [--runs N] [--seed S] [--loops N] [--seconds N] [--most N]
 
 Each run takes one of four jobs at random, 2 to 16 workers, bundles of 1 to 64 elements and chunks of 64 to 65536 bytes, and is
 preceded by a run by one worker with the same options. Both have to print the same bytes and to end within `--seconds`. `--loops`
 endless loops keep processors busy meanwhile (four). Printed are the shares of the times, and the worst, of runs by one worker of at
-least a hundredth of a second. The status is 1 where two texts differ or a run doesn't end.
+least a hundredth of a second. The status is 1 where two texts differ, a run doesn't end, or one takes more than `--most` times (10)
+as long as by one worker.
 """
 import argparse
 import json
@@ -91,6 +92,7 @@ def main():
     words.add_argument("--seed", type=int, default=1)
     words.add_argument("--loops", type=int, default=4)
     words.add_argument("--seconds", type=float, default=120)
+    words.add_argument("--most", type=float, default=10)
     given = words.parse_args()
     program = os.path.abspath(given.program)
     loops = [multiprocessing.Process(target=spin, daemon=True) for _ in range(given.loops)]
@@ -107,8 +109,9 @@ def main():
         print(f"times one worker: median {at(0.5):.2f}, nine of ten below {at(0.9):.2f}, 999 of 1000 below {at(0.999):.2f}")
         for share, seed, workers, job, least in shares[-5:]:
             print(f"  {share:.1f}: seed {seed}, {' '.join(job)} --workers {workers}, one worker {least:.3f} s")
-    print(f"{given.runs} runs, {wrong} differ or do not end")
-    return 1 if wrong else 0
+    slow = sum(share > given.most for share, *_ in shares)
+    print(f"{given.runs} runs, {wrong} differ or do not end, {slow} take more than {given.most:g} times one worker")
+    return 1 if wrong or slow else 0
 
 
 if __name__ == "__main__":

@@ -3,6 +3,7 @@
 // numbered from 0, through all threads; those from FAIL_FROM on and before FAIL_TO fail. FAIL_HOW says how: an error's number, `none` for
 // 0 bytes, `short` for one byte at most, and `stop` stops the process before the call, which is made once the process is continued.
 // FAIL_MOST is how many bytes any other write takes at most. The file FAIL_COUNTS gets how many calls there were, and how many failed.
+// Openings below /sys/ aren't counted: the library looks there how many processors there are.
 #define _GNU_SOURCE
 #include <dlfcn.h>
 #include <errno.h>
@@ -81,7 +82,10 @@ ssize_t write(int file, const void *bytes, size_t size) {
     return moved(file == 2 ? "note" : "write", SYS_write, file, (void *)bytes, size, 0);
 }
 
-int open(const char *name, int flags, ...) { return fails("open") ? -1 : syscall(SYS_openat, AT_FDCWD, name, flags, 0); }
+int open(const char *name, int flags, ...) {
+    int is_counted = strncmp(name, "/sys/", 5);
+    return is_counted && fails("open") ? -1 : syscall(SYS_openat, AT_FDCWD, name, flags, 0);
+}
 int open64(const char *name, int flags, ...) { return open(name, flags); }
 
 int statx(int folder, const char *name, int flags, unsigned mask, struct statx *found) {

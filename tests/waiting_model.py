@@ -1,12 +1,14 @@
 #!/usr/bin/env python3
 """Searches every order of the steps of a few workers that wait, sleep, park and are let in again, as `crates/turn_desk` has them.
 
-    tests/waiting_model.py [--workers N] [--jobs N] [--fault NAME]     with no words: all that is named below, and each fault
+    tests/waiting_model.py [--workers N] [--jobs N] [--most N] [--fault NAME]     with no words: all that is named below, and each fault
 
 No proof speaks of waiting, so this stands in for one, for few workers: in each state that can be reached, the run can still end
 with every worker through. A worker that looks again and again counts as one that waits for the word to change, and none wakes for
-no reason. When a worker parks, lets another one in, gives up or finds other work is left open, so each choice is tried. With a fault
-planted the search has to find a state from which some worker never gets on; where it finds none, the status is 1.
+no reason. When a worker parks, lets another one in, gives up or finds other work is left open, so each choice is tried. But no end
+may rest on such a choice: from each state the run has to end also where none parks or gives up any more, and none lets another one in
+before it is through. From `--most` active ones on, one that enters parks at once, and none is let in before its time. With a fault planted the search
+has to find a state from which some worker never gets on; where it finds none, the status is 1.
 """
 import argparse
 import sys
@@ -26,11 +28,12 @@ FAULTS = {
     "end_counted_late": "a worker that has ended lets all in before it is counted out",
     "asks_after_parking": "a worker that parks asks to be woken after its bit is set",
     "parks_in_two_steps": "a worker sets its bit and lowers the count in two steps",
+    "enters_parked": "a worker that finds no room sets its bit without a look at who is active then",
 }
 
 # A worker is (step, x, y): what it does next, with what it has to remember.
 (ENTER, READY, DRAW, LOOK, ASK, ASKED, SLEEP, ASLEEP, TURN, ENDS, RING, QUIET, WAKE, WORK, PARK_ASK, PARK_LOOK, PARK_SET, PARK_LATE,
- PARK_SLEEP, PARKED, LET_LOOK, LET_SET, LET_RING, LET_QUIET, LET_WAKE, LEAVE, THROUGH, COUNT_LATE) = range(28)
+ PARK_SLEEP, PARKED, LET_LOOK, LET_SET, LET_RING, LET_QUIET, LET_WAKE, LEAVE, THROUGH, COUNT_LATE, ENTERS, BIT_ALONE, LET_ROOM) = range(31)
 WAITING = LOOK, ASK, ASKED, SLEEP, ASLEEP, TURN  # it has a ticket
 # What a turn is for, and what follows once its rings are done.
 TAKE, COMMIT = 0, 1
@@ -40,27 +43,38 @@ ONE, ALL, LAST = range(3)
 
 
 class Model:
-    def __init__(self, workers, jobs, fault):
-        self.fault = fault
+    def __init__(self, workers, jobs, most, fault):
+        self.most, self.fault = most, fault
         # the workers, the ticket served as a bell, the bells, those of the parked, how many are active and who is parked,
         # the jobs left, those that are worked, and whether the run is stopped
         self.first = ((ENTER, 0, 0),) * workers, 0, (0,) * BELLS, (0,) * workers, (0, 0), (jobs, 0, False)
 
     def steps(self, state):
+        """The states that may follow, and whether the worker that goes on has the choice not to go there."""
         ws, served, bells, own, word, run = state
         fault = self.fault
         drawn = sum(1 for w in ws if w[0] in WAITING)
         for i, (step, x, y) in enumerate(ws):
-            def to(w, served=served, bells=bells, own=own, word=word, run=run, ws=ws):
-                return put(ws, i, w), served, bells, own, word, run
+            def to(w, served=served, bells=bells, own=own, word=word, run=run, ws=ws, choice=False):
+                return (put(ws, i, w), served, bells, own, word, run), choice
 
-            if step == ENTER:
-                yield to((READY, 0, 0), word=(word[0] + 1, word[1]))
+            if step == ENTER:  # the first worker never parks
+                crowded = word[0] >= self.most and i > 0
+                if crowded and fault == "enters_parked":
+                    yield to((BIT_ALONE, 0, 0), own=put(own, i, 1))
+                else:
+                    yield to((ENTERS, crowded, 0))
+            elif step == ENTERS:
+                yield to((PARK_ASK if x else READY, 0, 0), word=(word[0] + 1, word[1]))
+            elif step == BIT_ALONE:
+                yield to((PARK_SLEEP, 0, 0), word=(word[0], word[1] | 1 << i))
             elif step == READY:
                 yield to((DRAW, TAKE, 0))
-                yield to((LET_LOOK, ONE, 0))
+                yield to((LET_ROOM, ONE, 0), choice=True)
                 if i > 0:
-                    yield to((PARK_ASK, 0, 0))
+                    yield to((PARK_ASK, 0, 0), choice=True)
+            elif step == LET_ROOM:  # x: whom
+                yield to((LET_LOOK, x, 0) if word[0] < self.most else self.let(x))
             elif step == DRAW:  # x: what for; y: the turns before its own
                 yield to((LOOK, x, drawn))
             elif step in (LOOK, ASKED):
@@ -91,7 +105,7 @@ class Model:
                 yield to((RING, x, y[1:]), ws=woken)
             elif step == WORK:  # where the kind of job is another one, it lets all in first
                 yield to((DRAW, COMMIT, 0))
-                yield to((LET_LOOK, ALL, 0))
+                yield to((LET_ROOM, ALL, 0), choice=True)
             elif step == PARK_ASK:
                 yield to((PARK_LOOK, 0, 0), own=own if fault == "asks_after_parking" else put(own, i, 1))
             elif step == PARK_LOOK:
@@ -146,8 +160,7 @@ class Model:
         return (LEAVE, 1, 0) if self.fault == "end_counted_late" else (THROUGH, 0, 0)
 
     def let_more(self, whom):
-        one = whom == ONE or (whom == LAST and self.fault == "end_wakes_one")
-        return self.let(whom) if one else (LET_LOOK, whom, 0)
+        return self.let(whom) if whom == ONE else (LET_ROOM if whom == ALL else LET_LOOK, whom, 0)
 
     def rung(self, what, ended, left):
         rung = ()
@@ -161,16 +174,16 @@ class Model:
     def turn(self, to, state, what, left):
         ws, served, _, _, _, (jobs, worked, stopped) = state
         if what == COMMIT:  # its job is done, or it gives up and stops the run
-            ends = [(TO_READY, (jobs, worked - 1, stopped)), (TO_LEAVE, (jobs, worked - 1, True))]
+            ends = [(TO_READY, (jobs, worked - 1, stopped), False), (TO_LEAVE, (jobs, worked - 1, True), True)]
         elif jobs and not stopped:
-            ends = [(TO_WORK, (jobs - 1, worked + 1, stopped))]
+            ends = [(TO_WORK, (jobs - 1, worked + 1, stopped), False)]
         else:  # there is nothing to do, now or ever
-            ends = [(TO_READY if worked and not stopped else TO_LEAVE, (jobs, worked, stopped))]
+            ends = [(TO_READY if worked and not stopped else TO_LEAVE, (jobs, worked, stopped), False)]
         after = tuple((w[0], w[1], w[2] - 1) if w[0] in WAITING else
                       (ENDS, w[1], (w[2][0], min(w[2][1] + 1, FAR + 1))) if w[0] == ENDS else w for w in ws)
-        for end, run in ends:
+        for end, run, choice in ends:
             w = self.rung(end, served, left) if self.fault == "drawn_read_early" else (ENDS, end, (served, 1))
-            yield to(w, served=(served + 1) % BELLS, run=run, ws=after)
+            yield to(w, served=(served + 1) % BELLS, run=run, ws=after, choice=choice)
 
 
 def put(row, at, value):
@@ -207,9 +220,11 @@ def search(model):
         state = unpack(packed.values[at])
         if all(w[0] == THROUGH for w in state[0]):
             reached.append(at)
-        for after in model.steps(state):
-            heads.append(packed.number(pack(after)))
-            tails.append(at)
+        for after, is_choice in model.steps(state):
+            number = packed.number(pack(after))
+            if not is_choice:
+                heads.append(number)
+                tails.append(at)
         at += 1
     # back from the ends
     starts = array("i", bytes(4 * (at + 1)))
@@ -238,19 +253,20 @@ def main():
     words = argparse.ArgumentParser(description=__doc__.splitlines()[0])
     words.add_argument("--workers", type=int)
     words.add_argument("--jobs", type=int, default=2)
+    words.add_argument("--most", type=int, default=99)
     words.add_argument("--fault", choices=FAULTS)
     words = words.parse_args()
     if words.workers:
-        runs = [(words.workers, words.jobs, words.fault)]
+        runs = [(words.workers, words.jobs, words.most, words.fault)]
     else:
-        runs = [(2, 3, None), *((2, 2, fault) for fault in FAULTS), (3, 1, None)]
+        runs = [(2, 3, 99, None), (2, 3, 1, None), *((2, 2, 1 if fault == "enters_parked" else 99, fault) for fault in FAULTS), (3, 1, 99, None), (3, 1, 2, None)]
     failed = False
-    for workers, jobs, fault in runs:
-        count, lost = search(Model(workers, jobs, fault))
+    for workers, jobs, most, fault in runs:
+        count, lost = search(Model(workers, jobs, most, fault))
         bad = (lost is None) == (fault is not None)
         failed |= bad
         what = f"fault {fault}: {FAULTS[fault]}" if fault else "as it is"
-        print(f"{workers} workers, {jobs} jobs, {what}: {count} states, {'one can hang' if lost else 'each can end'}{'  WRONG' if bad else ''}", flush=True)
+        print(f"{workers} workers, {jobs} jobs, {f'{most} active at most, ' if most < workers else ''}{what}: {count} states, {'one can hang' if lost else 'each can end'}{'  WRONG' if bad else ''}", flush=True)
     sys.exit(failed)
 
 

@@ -2,8 +2,8 @@
 """How long jobs take by several workers, times one worker: bench/workers/share.py PROGRAM [--mb N] [--runs N] [--loops N] [JOB ..]
 
 Each job is run by 1, 2, 4, 8 and 16 workers in shuffled order, `--runs` times (5), beside `--loops` endless loops (0). Printed are, for
-each number of workers, the best and the median time over those of one worker, then how often files were read by four workers for one
-read by one. All texts of a job have to be the same; the status is 1 where they aren't.
+each number of workers, the best and the median time over those of one worker, then how often files were read by four workers at most
+for one read by one. All texts of a job have to be the same; the status is 1 where they aren't.
 """
 import argparse
 import json
@@ -97,10 +97,11 @@ def run(program, words, workers):
 
 
 def measure(program, words, runs, choose):
-    times, texts, reads = {count: [] for count in WORKERS}, set(), {}
+    times, texts, reads = {count: [] for count in WORKERS}, set(), dict.fromkeys(WORKERS, 0)
     for _ in range(runs):
         for count in choose.sample(WORKERS, len(WORKERS)):
-            seconds, text, reads[count] = run(program, words, count)
+            seconds, text, calls = run(program, words, count)
+            reads[count] = max(reads[count], calls)
             times[count].append(seconds)
             texts.add(text)
     return times, len(texts) == 1, reads
