@@ -149,7 +149,7 @@ class Model:
                 if fault == "end_counted_late" and not x:
                     yield to((LET_LOOK, LAST, 0))
                 else:
-                    w = (THROUGH, 0, 0) if fault in ("end_wakes_nobody", "end_counted_late") else (LET_LOOK, LAST, 0)
+                    w = (THROUGH, 0, 0) if fault in ("end_wakes_nobody", "end_counted_late") else (LET_ROOM, LAST, 0)
                     yield to(w, word=(word[0] - 1, word[1]))
 
     def let(self, whom):
@@ -160,7 +160,7 @@ class Model:
         return (LEAVE, 1, 0) if self.fault == "end_counted_late" else (THROUGH, 0, 0)
 
     def let_more(self, whom):
-        return self.let(whom) if whom == ONE else (LET_ROOM if whom == ALL else LET_LOOK, whom, 0)
+        return self.let(whom) if whom == ONE else (LET_ROOM, whom, 0)
 
     def rung(self, what, ended, left):
         rung = ()

@@ -45,7 +45,7 @@ pub struct Waits {
     calm: u32,
     // Whether it has had no window yet, or none since it was let in again.
     is_new: bool,
-    // What it last worked on, and for which work it last let all in.
+    // What it last worked on, and for which work it last let others in.
     kind: Option<u32>,
     let_in_for: Option<u32>,
 }
@@ -123,7 +123,7 @@ impl Waits {
         self.calm = 0;
     }
 
-    // Whether this is its second job in a row of a kind for which it didn't last let all in. So phases of a run count, and
+    // Whether this is its second job in a row of a kind for which it didn't last let others in. So phases of a run count, and
     // jobs that change their kind all the time don't.
     fn begins_phase(&mut self, kind: u32) -> bool {
         let is_second = self.kind == Some(kind);
@@ -142,7 +142,7 @@ pub struct Parking {
     state: AtomicU64,
     // How many passes were split off.
     passes: AtomicU64,
-    // From how many active ones on none is let in until one has ended.
+    // From how many active ones on one that enters parks, and none is let in until one parks or has ended.
     most_active: AtomicU64,
     // How many calm windows in a row let one in, and whether that ever was.
     calm_needed: AtomicU64,
@@ -224,13 +224,13 @@ impl Parking {
         }
     }
 
-    /// The pass has ended, and all are let in.
+    /// The pass has ended, and others are let in. It is counted out first, so there is room for one at least.
     pub fn leave<R: Wait>(&self, rt: &R, waits: &mut Waits) {
         if waits.is_in {
             waits.is_in = false;
             self.state.fetch_sub(ACTIVE, Ordering::SeqCst);
         }
-        self.let_all_in(rt);
+        self.fill(rt);
     }
 
     fn calm_needed(&self) -> u64 {
@@ -285,17 +285,10 @@ impl Parking {
         stands_aside
     }
 
+    // Lets in as many as may be active.
     fn fill<R: Wait>(&self, rt: &R) {
         for _ in rt.forever() {
             if !self.has_room() || !self.let_in(rt) {
-                break;
-            }
-        }
-    }
-
-    fn let_all_in<R: Wait>(&self, rt: &R) {
-        for _ in rt.forever() {
-            if !self.let_in(rt) {
                 break;
             }
         }

@@ -156,8 +156,8 @@ impl Act for HelpingOther {
 
     fn after(help: &Help) -> Stance {
         match help {
-            Help::Nobody => Stance::Rests,
-            Help::Cut { .. } | Help::Refused { .. } => Stance::Stays,
+            Help::Nobody | Help::Refused { .. } => Stance::Rests,
+            Help::Cut { .. } => Stance::Stays,
         }
     }
 }
