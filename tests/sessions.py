@@ -19,7 +19,7 @@ import tempfile
 ROOT = pathlib.Path(__file__).resolve().parent.parent
 TOOLS = ("jq", "mlr", "gnuplot", "mawk", "gawk", "xxd", "dot", "iconv", "python3", "awk")
 SHOWN = re.compile(r"(?:cat|head -(?:n )?\d+) ([A-Za-z0-9_.-]+)")
-WITHIN = re.compile(r"`((?:\./beam_run (?:run|combine|panes|replay|make|drill)|awk -F|df|grep|iconv|jq|mlr|sed|tests/plans.sh) [^`]*)`")
+WITHIN = re.compile(r"`((?:\./beam_run (?:run|combine|panes|replay|make|drill)|awk -F\S+|df|grep|iconv|jq|mlr|sed|tests/plans.sh) [^`]*)`")
 
 
 def blocks(lines):
