@@ -1,30 +1,30 @@
 //! The arrivals of a commit that no Group takes, and the marks by which the others are tested.
 
-ghost use Rattle.std.specs.Prelude.{◌≡◌, not, IfOk};
+ghost use Rattle.std.specs.Prelude.{◌≡◌, not};
 ghost use Rattle.std.specs.List.{filter};
 ghost use Rattle.beam_values.specs.Marks.{marks_at};
 ghost use Rattle.group_cells.specs.Commits.{is_at_group};
 
 use crate::rules::is_group;
-use beam_values::{Arrival, Duplicate, List, Mark, NoMemory, Plan, StageMarks};
+use beam_values::{Arrival, List, Mark, Plan, StageMarks};
 use std::alloc::Global;
+use std::mem;
 
-/// Copies of the arrivals at other nodes.
-pub fn others_of(
-    alloc: Global,
-    plan: &Plan,
-    arrivals: &[Arrival],
-) -> Result<List<Arrival>, NoMemory>
-    ensures { IfOk result
-        (λ others. others ≡ filter (λ arrival. not (is_at_group plan.now arrival)) arrivals.now) }
+/// Takes the arrivals at Groups out, and leaves the others where they lie. Takes no memory.
+pub fn leave_others(alloc: Global, plan: &Plan, arrivals: &mut List<Arrival>)
+    ensures { arrivals.new
+        ≡ filter (λ arrival. not (is_at_group plan.now arrival)) arrivals.old }
 {
-    let mut others = List::new(alloc);
-    for arrival in arrivals {
-        if !is_group(plan, arrival.node) {
-            others.push(arrival.duplicate(alloc)?)?;
-        }
-    }
-    Ok(others)
+    let mut items = mem::replace(arrivals, List::new(alloc)).into_vec();
+    drop_at_groups(plan, &mut items);
+    *arrivals = List::from_vec(items);
+}
+
+fn drop_at_groups(plan: &Plan, arrivals: &mut Vec<Arrival>)
+    ensures { arrivals.new.items
+        ≡ filter (λ arrival. not (is_at_group plan.now arrival)) arrivals.old.items }
+{
+    arrivals.retain(|arrival| !is_group(plan, arrival.node));
 }
 
 /// The mark into a node; FINAL where there is no such node.

@@ -37,6 +37,7 @@ mod ranks;
 mod room;
 mod standing;
 
+use crate::arrivals::leave_others;
 use crate::groups::advance::Next;
 use crate::groups::draft::Tracked;
 use crate::groups::group_plan::GroupPlan;
@@ -143,13 +144,12 @@ impl Groups {
             &mut self.dropped,
         )?;
         let Next {
-            others,
             marks: after,
             fired,
             standing,
         } = next;
         self.standing = Some(standing);
-        *arrivals = others;
+        leave_others(self.alloc, plan, arrivals);
         marks.copy_from_slice(after.as_slice());
         Ok(fired)
     }

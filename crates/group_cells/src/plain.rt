@@ -1,14 +1,14 @@
 //! The cells of all Groups as a plain list, searched from the front: the plain program, which only
 //! comparisons use. It works on copies, which replace what there was at the end.
 
-ghost use Rattle.std.specs.Prelude.{◌≡◌, ℕ, ℤ, [], ◌++◌, length, map, not, All, IfOk, OnOk, OnErr};
+ghost use Rattle.std.specs.Prelude.{◌≡◌, ℕ, ℤ, [], ◌++◌, length, map, All, IfOk, OnOk, OnErr};
 ghost use Rattle.std.specs.List.{filter};
 ghost use Rattle.beam_values.specs.Checked.{IsChecked};
 ghost use Rattle.beam_values.specs.Marks.{AreMarks};
 ghost use Rattle.beam_values.specs.Nodes.{facts_of};
 ghost use Rattle.group_cells.specs.Commits.{AreRounds, HasGap, IsCommitted, KeepsLegal, NoneFalls};
 ghost use Rattle.group_cells.specs.Commits.{RisesFrom};
-ghost use Rattle.group_cells.specs.Commits.{dropped_arrival, is_at_group, is_dropped};
+ghost use Rattle.group_cells.specs.Commits.{dropped_arrival, is_dropped};
 ghost use Rattle.group_cells.specs.Plain.{AreCellsNext};
 ghost use Rattle.watermarks.specs.Holds.{hold_at};
 
@@ -17,7 +17,7 @@ pub mod keys;
 pub mod nodes;
 pub mod placing;
 
-use crate::arrivals::others_of;
+use crate::arrivals::leave_others;
 use crate::plain::arrivals::{dropped_of, taken_of};
 use crate::plain::keys::place_all;
 use crate::plain::nodes::fire_all;
@@ -110,13 +110,12 @@ impl PlainGroups {
         let NextGroups {
             cells,
             dropped,
-            others,
             marks: after,
             fired,
         } = next;
         self.cells = cells;
         self.dropped = dropped;
-        *arrivals = others;
+        leave_others(self.alloc, plan, arrivals);
         marks.copy_from_slice(after.as_slice());
         Ok(fired)
     }
@@ -155,8 +154,6 @@ impl PlainGroups {
 struct NextGroups {
     cells: List<Cell>,
     dropped: List<Dropped>,
-    /// The arrivals at other nodes.
-    others: List<Arrival>,
     marks: List<StageMarks>,
     fired: List<Pane>,
 }
@@ -178,14 +175,11 @@ fn next_groups(
         (hold_at holds.now) commit arrivals.now cells.now next.cells next.marks next.fired) }
     ensures dropped { IfOk result (λ next. next.dropped ≡ dropped.now
         ++ map (dropped_arrival commit) (filter (is_dropped plan.now before.now) arrivals.now)) }
-    ensures others { IfOk result (λ next. next.others
-        ≡ filter (λ arrival. not (is_at_group plan.now arrival)) arrivals.now) }
 {
     let facts = facts_of(alloc, plan.nodes.as_slice())?;
     let facts = facts.as_slice();
     let mut all_dropped = dropped.duplicate(alloc)?;
     all_dropped.append(dropped_of(alloc, plan, before, commit, arrivals)?)?;
-    let others = others_of(alloc, plan, arrivals)?;
     let mut next = cells.duplicate(alloc)?.into_vec();
     let mut marks = Vec::from_slice(alloc, before)?;
     let fired = next_cells(
@@ -194,7 +188,6 @@ fn next_groups(
     Ok(NextGroups {
         cells: List::from_vec(next),
         dropped: all_dropped,
-        others,
         marks: List::from_vec(marks),
         fired,
     })

@@ -1,18 +1,18 @@
-ghost use Rattle.std.specs.Prelude.{◌≡◌, ◌++◌, ◌+◌, ◌<◌, ◌≤◌, ◌^◌, length, map, not, take};
+ghost use Rattle.std.specs.Prelude.{◌≡◌, ◌++◌, ◌+◌, ◌<◌, ◌≤◌, ◌^◌, length, map, take};
 ghost use Rattle.std.specs.Prelude.{IfOk, IfSome, OnOk, OnErr};
 ghost use Rattle.std.specs.List.{filter};
 ghost use Rattle.beam_values.specs.Checked.{IsChecked};
 ghost use Rattle.beam_values.specs.Firing.{is_expired};
 ghost use Rattle.beam_values.specs.Marks.{marks_at};
 ghost use Rattle.group_cells.specs.Arrivals.{merging, UnmergedStand};
-ghost use Rattle.group_cells.specs.Commits.{dropped_arrival, is_at_group, is_dropped};
+ghost use Rattle.group_cells.specs.Commits.{dropped_arrival, is_dropped};
 ghost use Rattle.group_cells.specs.Drafts.{IsAtRest};
 ghost use Rattle.group_cells.specs.KnownWindows.{AreStanding};
 ghost use Rattle.group_cells.specs.Plain.{AreCellsNext};
 ghost use Rattle.group_cells.specs.Undoing.{AreOfCommit};
 ghost use Rattle.watermarks.specs.Holds.{hold_at};
 
-use crate::arrivals::{mark_into, others_of};
+use crate::arrivals::mark_into;
 use crate::groups::draft::{Draft, Tracked};
 use crate::groups::group_plan::GroupPlan;
 use crate::groups::keyed::{LedKey, standing_of};
@@ -28,8 +28,6 @@ use std::mem;
 /// What a commit answers beside the cells.
 #[derive(Debug, Drop)]
 pub struct Next {
-    /// The arrivals at other nodes.
-    pub others: List<Arrival>,
     pub marks: List<StageMarks>,
     pub fired: List<Pane>,
     pub standing: BTreeMap<LedKey, Known>,
@@ -66,8 +64,6 @@ impl Tracked {
             (length self.new.cells.items ≤ length self.old.cells.items + length arrivals.now) }
         ensures dropped { OnOk result (dropped.new.items ≡ dropped.old.items ++ map
             (dropped_arrival commit) (filter (is_dropped plan.now before.now) arrivals.now)) }
-        ensures others { IfOk result (λ next. next.others
-            ≡ filter (λ arrival. not (is_at_group plan.now arrival)) arrivals.now) }
         ensures rest { IsAtRest plan.now self.new }
         ensures err { OnErr result ((self.new.cells.items ≡ self.old.cells.items)
             × (dropped.new.items ≡ dropped.old.items)) }
@@ -118,13 +114,10 @@ impl<'a> Draft<'a> {
             (length self.new.cells ≤ length self.old.cells + length arrivals.now) }
         ensures dropped { OnOk result (dropped.new.items ≡ dropped.old.items ++ map
             (dropped_arrival commit) (filter (is_dropped plan.now before.now) arrivals.now)) }
-        ensures others { IfOk result (λ next. next.others
-            ≡ filter (λ arrival. not (is_at_group plan.now arrival)) arrivals.now) }
         ensures kept { take (length dropped.old.items) dropped.new.items ≡ dropped.old.items }
         ensures same { AreOfCommit self.old self.new }
     {
         let mut standing = known_standing(alloc, plan, before, self.cells(), standing)?;
-        let others = others_of(alloc, plan.plan(), arrivals)?;
         let later = merging_of(alloc, plan, before, arrivals)?;
         let mut marks = Vec::from_slice(alloc, before)?;
         let known = Commit {
@@ -139,7 +132,6 @@ impl<'a> Draft<'a> {
             return Err(NoMemory);
         }
         Ok(Next {
-            others,
             marks: List::from_vec(marks),
             fired,
             standing,

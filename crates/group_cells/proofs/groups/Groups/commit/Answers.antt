@@ -1,5 +1,5 @@
 use Rattle.std.proofs.Common.{◌≡◌, ◌+◌, ◌<◌, ◌^◌, ◌++◌, List, ap, arith, length, map, refl, subst, sym, ◌∙◌}
-use Rattle.std.specs.Prelude.{not, IfSome, Option}
+use Rattle.std.specs.Prelude.{IfSome, Option}
 use Rattle.std.specs.BTreeMap.{BTreeMap}
 use Rattle.std.specs.List.{filter}
 use Rattle.beam_values.specs.Checked.{IsChecked}
@@ -10,7 +10,7 @@ use Rattle.beam_values.specs.declared.marks.StageMarks.{StageMarks}
 use Rattle.beam_values.specs.declared.plan.Plan.{Plan}
 use Rattle.watermarks.specs.Holds.{hold_at}
 use Rattle.group_cells.specs.Arrivals.{UnmergedStand}
-use Rattle.group_cells.specs.Commits.{IsCommitted, KeepsLegal, NoneFalls, SeenGroups, dropped_arrival, hold_with, is_at_group, is_dropped}
+use Rattle.group_cells.specs.Commits.{IsCommitted, KeepsLegal, NoneFalls, SeenGroups, dropped_arrival, hold_with, is_dropped}
 use Rattle.group_cells.specs.KnownWindows.{AreStanding}
 use Rattle.group_cells.specs.Plain.{AreCells, AreCellsNext}
 use Rattle.group_cells.specs.declared.groups.keyed.GroupKey.{GroupKey}
@@ -99,11 +99,11 @@ returns-clause-committed c =
     (subst (λ (p : Plan). AreCellsNext p before hold c.args.commit c.as_slice.result.now c.self.inside.tracked.cells.items c.commit.new.self.cells.items next.marks next.fired) plan_is c.in_ok-next.ensures.cells)) in
     let after_is : c.copy_from_slice.new.self ≡ next.marks = c.copy_from_slice.ensures.after ∙ c.as_slice-2.ensures in
     let new : SeenGroups = record { plan = c.self.inside.plan; cells = c.commit.new.self.cells.items; dropped = c.commit.new.dropped.items } in
-    subst (λ (m : List StageMarks). IsCommitted plan c.args.commit before m hold arrivals next.others old new next.fired) (sym after_is)
-    (committed plan before hold c.args.commit arrivals old.cells c.commit.new.self.cells.items next.marks next.fired was nexts old new next.others refl refl (ap (λ (g : SeenGroups). g.plan) c.self.view_is)
+    subst (λ (m : List StageMarks). IsCommitted plan c.args.commit before m hold arrivals c.leave_others.new.arrivals old new next.fired) (sym after_is)
+    (committed plan before hold c.args.commit arrivals old.cells c.commit.new.self.cells.items next.marks next.fired was nexts old new c.leave_others.new.arrivals refl refl (ap (λ (g : SeenGroups). g.plan) c.self.view_is)
     (c.in_ok-next.ensures.dropped
     ∙ (λ i. (ap (λ (g : SeenGroups). g.dropped) c.self.view_is) i ++ map (dropped_arrival c.args.commit) (filter (is_dropped (plan_is i) before) (c.as_slice.ensures i))))
-    (c.in_ok-next.ensures.others ∙ (λ i. filter (λ arrival. not (is_at_group (plan_is i) arrival)) (c.as_slice.ensures i))))
+    c.leave_others.ensures)
 
 pub returns-clause-rises : goal.returns-clause-rises
 returns-clause-rises c =

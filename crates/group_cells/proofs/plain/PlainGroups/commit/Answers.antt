@@ -1,12 +1,11 @@
 use Rattle.std.proofs.Common.{◌≡◌, ◌++◌, List, ap, map, refl, subst, sym, ◌∙◌}
-use Rattle.std.specs.Prelude.{not}
 use Rattle.std.specs.List.{filter}
 use Rattle.beam_values.specs.declared.arrival.Arrival.{Arrival}
 use Rattle.beam_values.specs.declared.cell.Cell.{Cell}
 use Rattle.beam_values.specs.declared.marks.StageMarks.{StageMarks}
 use Rattle.beam_values.specs.declared.plan.Plan.{Plan}
 use Rattle.watermarks.specs.Holds.{hold_at}
-use Rattle.group_cells.specs.Commits.{IsCommitted, KeepsLegal, NoneFalls, SeenGroups, dropped_arrival, is_at_group, is_dropped}
+use Rattle.group_cells.specs.Commits.{IsCommitted, KeepsLegal, NoneFalls, SeenGroups, dropped_arrival, is_dropped}
 use Rattle.group_cells.specs.Plain.{AreCells, AreCellsNext}
 use Rattle.group_cells.proofs.AllKeys.{keep_legal}
 use Rattle.group_cells.proofs.PlainRounds.{cells_kept, committed, rounds, rounds_seen}
@@ -70,11 +69,11 @@ returns-clause-committed c =
     (subst (λ (l : List Cell). AreCellsNext plan before hold c.args.commit c.as_slice.result.now l next.cells next.marks next.fired) cells_are c.in_ok-next.ensures.cells) in
     let after_is : c.copy_from_slice.new.self ≡ next.marks = c.copy_from_slice.ensures.after ∙ c.as_slice-2.ensures in
     let new : SeenGroups = record { plan = c.self.inside.plan; cells = next.cells; dropped = next.dropped } in
-    subst (λ (m : List StageMarks). IsCommitted plan c.args.commit before m hold arrivals next.others old new next.fired) (sym after_is)
-    (committed plan before hold c.args.commit arrivals old.cells next.cells next.marks next.fired was nexts old new next.others refl refl (ap (λ (g : SeenGroups). g.plan) c.self.view_is)
+    subst (λ (m : List StageMarks). IsCommitted plan c.args.commit before m hold arrivals c.leave_others.new.arrivals old new next.fired) (sym after_is)
+    (committed plan before hold c.args.commit arrivals old.cells next.cells next.marks next.fired was nexts old new c.leave_others.new.arrivals refl refl (ap (λ (g : SeenGroups). g.plan) c.self.view_is)
     (c.in_ok-next.ensures.dropped
     ∙ (λ i. (ap (λ (g : SeenGroups). g.dropped) c.self.view_is) i ++ map (dropped_arrival c.args.commit) (filter (is_dropped plan before) (c.as_slice.ensures i))))
-    (c.in_ok-next.ensures.others ∙ ap (filter (λ arrival. not (is_at_group plan arrival))) c.as_slice.ensures))
+    c.leave_others.ensures)
 
 pub returns-clause-rises : goal.returns-clause-rises
 returns-clause-rises c =
