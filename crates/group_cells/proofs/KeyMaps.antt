@@ -1,11 +1,11 @@
--- Lists by Group and key: what is listed once a list was taken out or put in.
-use Rattle.std.proofs.Common.{◌≡◌, ◌+◌, ◌<◌, ◌==◌, Bool, true, false, cond, List, [], ◌∷◌, ◌++◌, map, length, Option, Some, None, refl, sym, ap, ◌∙◌, arith, append-nil}
+-- Lists by Group and key: what is listed once an item was put in or a list was taken out.
+use Rattle.std.proofs.Common.{◌≡◌, ◌+◌, ◌<◌, ◌==◌, Bool, true, false, cond, List, [], ◌∷◌, ◌++◌, map, length, Option, Some, None, refl, sym, ap, ◌∙◌, arith, append-nil, length-append}
 use Rattle.std.specs.Prelude.{◌&&◌, unwrap_or}
 use Rattle.std.specs.BTreeMap as tree
-use Rattle.std.specs.BTreeMap.{BTreeMap, insert_entry, is_at}
+use Rattle.std.specs.BTreeMap.{BTreeMap, insert_entry}
 use Rattle.std.specs.Cmp.{IsTotalOrder, tied_then}
 use Rattle.std.specs.List.{filter, sum_by}
-use Rattle.std.specs.Map.{lookup, remove_entry, values_of}
+use Rattle.std.specs.Map.{lookup, values_of}
 use Rattle.std.specs.Option.{option_map}
 use Rattle.std.specs.Ordering.{is_eq, nat_cmp}
 use Rattle.std.specs.Str.{bytes_eq}
@@ -15,7 +15,7 @@ use Rattle.std.proofs.lemmas.Cmp.{nat_cmp_total, nat_list_cmp_total, on_total, t
 use Rattle.std.proofs.lemmas.List.{map-append}
 use Rattle.std.proofs.lemmas.List.Elements.{filter-append}
 use Rattle.std.proofs.lemmas.List.Sums.{sum_by-cons}
-use Rattle.std.proofs.lemmas.Map.Entries.{sum_by-remove_entry, sum_by-insert_entry}
+use Rattle.std.proofs.lemmas.Map.Entries.{sum_by-insert_entry}
 use Rattle.std.proofs.lemmas.Map.Text.{is_eq-slice_cmp}
 use Rattle.std.proofs.lemmas.Slice.Eq.{bytes_eq-Decides}
 use Rattle.beam_values.specs.Grouping.{key_of}
@@ -30,7 +30,7 @@ use Rattle.group_cells.specs.Commits.{elements_keyed}
 use Rattle.group_cells.specs.KeyLists.{all_listed, group_key_cmp, led_key_cmp, listed}
 use Rattle.group_cells.specs.Plain.{is_arrival_at}
 use Rattle.group_cells.specs.declared.groups.keyed.GroupKey.{GroupKey}
-use Rattle.group_cells.proofs.PlacedKeys.{at_itself, is_at as is_here}
+use Rattle.group_cells.proofs.PlacedKeys.{is_at as is_here}
 
 -- keys compare as equal exactly where they are one
 pub same_key : (a q : GroupKey) → is_eq (group_key_cmp a q) ≡ is_here q.node q.key a.node a.key
@@ -55,9 +55,6 @@ led_same a q =
     sym (tied_then (nat_cmp (key_hash a.key) (key_hash q.key)) (group_key_cmp a q))
     ∙ ap (λ b. is_eq (nat_cmp (key_hash a.key) (key_hash q.key)) && b) (same_key a q)
     ∙ hashed_alike a q (is_here q.node q.key a.node a.key) refl
-
-pub key_itself : (a : GroupKey) → is_eq (group_key_cmp a a) ≡ true
-key_itself a = same_key a a ∙ at_itself a.node a.key
 
 key_total : IsTotalOrder group_key_cmp
 key_total = then_total (on_total (λ (k : GroupKey). k.node) nat_cmp_total) (on_total (λ (k : GroupKey). spelling k.key) nat_list_cmp_total)
@@ -85,20 +82,16 @@ module _ {X : Type 0} where
   counted None = refl
   counted (Some list) = refl
 
-  pub count_after_remove : (old new : BTreeMap GroupKey (List X)) (key : GroupKey) → new.entries ≡ remove_entry (is_at (group_key_cmp key)) old.entries
-      → all_listed new + length (listed old key) ≡ all_listed old
-  count_after_remove old new key entries =
-      omega (arith, ap (λ es. sum_by length (values_of es)) entries, sum_by-remove_entry length (is_at (group_key_cmp key)) old.entries, counted (tree.get group_key_cmp old key))
-
-  pub count_after_insert : (old new : BTreeMap GroupKey (List X)) (key : GroupKey) (list : List X) → tree.IsOrdered group_key_cmp old
+  count_after_insert : (old new : BTreeMap GroupKey (List X)) (key : GroupKey) (list : List X) → tree.IsOrdered group_key_cmp old
       → new.entries ≡ insert_entry group_key_cmp old.entries key list → all_listed new + length (listed old key) ≡ all_listed old + length list
   count_after_insert old new key list ordered entries =
       omega (arith, ap (λ es. sum_by length (values_of es)) entries, sum_by-insert_entry length key_total old.entries key list ordered, counted (tree.get group_key_cmp old key))
 
-  -- one more item at the end of a list that was taken out and is put in again
-  pub pushed : (b : Bool) (one two three : List X) → cond b one (cond b two three) ≡ cond b one three
-  pushed true one two three = refl
-  pushed false one two three = refl
+  -- one more item at the end of a list
+  pub count_after_push : (old new : BTreeMap GroupKey (List X)) (key : GroupKey) (list : List X) (item : X) → tree.IsOrdered group_key_cmp old
+      → new.entries ≡ insert_entry group_key_cmp old.entries key list → list ≡ listed old key ++ item ∷ [] → all_listed new ≡ all_listed old + 1
+  count_after_push old new key list item ordered entries pushed =
+      omega (arith, count_after_insert old new key list ordered entries, ap length pushed, length-append (listed old key) (item ∷ []))
 
 -- ---- one more arrival, one more cell
 

@@ -162,38 +162,6 @@ impl Ord for LedKey {
     }
 }
 
-/// Takes the list of a Group and key out. Takes no memory.
-pub fn take<T: Drop>(
-    alloc: Global,
-    lists: &mut BTreeMap<GroupKey, List<T>>,
-    key: &GroupKey,
-) -> List<T>
-    ensures list { result ≡ listed lists.old key.now }
-    ensures others { (q : GroupKeyOf) → listed lists.new q
-        ≡ (if is_eq (group_key_cmp key.now q) then [] else listed lists.old q) }
-    ensures count { all_listed lists.new + length result ≡ all_listed lists.old }
-{
-    match lists.remove(key) {
-        None => List::new(alloc),
-        Some(list) => list,
-    }
-}
-
-/// Puts the list of a Group and key in, in the place of the one that is there.
-pub fn put<T: Drop>(
-    lists: &mut BTreeMap<GroupKey, List<T>>,
-    key: GroupKey,
-    list: List<T>,
-) -> Result<(), NoMemory>
-    ensures others { OnOk result ((q : GroupKeyOf)
-        → listed lists.new q ≡ (if is_eq (group_key_cmp key q) then list else listed lists.old q)) }
-    ensures count { OnOk result (all_listed lists.new + length (listed lists.old key)
-        ≡ all_listed lists.old + length list) }
-{
-    lists.insert(key, list)?;
-    Ok(())
-}
-
 /// One more item at the end of the list of a Group and key.
 fn push<T: Drop>(
     alloc: Global,
@@ -206,9 +174,7 @@ fn push<T: Drop>(
         then listed lists.old key ++ item ∷ [] else listed lists.old q)) }
     ensures count { OnOk result (all_listed lists.new ≡ all_listed lists.old + 1) }
 {
-    let mut list = take(alloc, lists, &key);
-    list.push(item)?;
-    put(lists, key, list)
+    lists.entry(key)?.or_insert(List::new(alloc)).push(item)
 }
 
 /// Arrivals by Group and key, those of each in their order.

@@ -1,28 +1,17 @@
-use Rattle.std.proofs.Common.{◌∙◌, ◌++◌, ◌∷◌, [], ap, arith, cond, length, length-append}
-use Rattle.std.specs.Ordering.{is_eq}
+use Rattle.std.proofs.Common.{◌≡◌, ◌+◌, List, rules}
+use Rattle.std.specs.BTreeMap.{BTreeMap, insert_entry}
 use Rattle.std.proofs.lemmas.Result.{on_ok_weaker}
-use Rattle.group_cells.specs.KeyLists.{group_key_cmp, listed}
-use Rattle.group_cells.proofs.KeyMaps.{key_itself, pushed}
+use Rattle.group_cells.specs.KeyLists.{all_listed, group_key_cmp}
+use Rattle.group_cells.specs.declared.groups.keyed.GroupKey.{GroupKey}
+use Rattle.group_cells.proofs.KeyMaps.{count_after_push}
 use Rattle.group_cells.proofs.groups.keyed.push.Goals as goal
-
-pub returns-clause-others : goal.returns-clause-others
-returns-clause-others g c =
-    on_ok_weaker c.put.result
-    (λ after q.
-    after q
-    ∙ (λ i. cond (is_eq (group_key_cmp c.args.key q)) ((c.in_ok-push.ensures.ok ∙ ap (λ l. l ++ c.args.item ∷ []) c.take-list.ensures.list) i) (c.take-list.ensures.others q i))
-    ∙ pushed (is_eq (group_key_cmp c.args.key q)) (listed c.args.lists.now c.args.key ++ c.args.item ∷ []) [] (listed c.args.lists.now q))
-    c.put.ensures.others
 
 pub returns-clause-count : goal.returns-clause-count
 returns-clause-count g c =
-    on_ok_weaker c.put.result
-    (λ counted. omega (
-      arith,
-      counted,
-      c.take-list.ensures.count,
-      ap length (c.take-list.ensures.others c.args.key ∙ ap (λ b. cond b [] (listed c.args.lists.now c.args.key)) (key_itself c.args.key)),
-      ap length c.in_ok-push.ensures.ok,
-      length-append c.take-list.result (c.args.item ∷ []),
-    ))
-    c.put.ensures.count
+    on_ok_weaker c.push.result
+    (λ pushed.
+    let count : (new : BTreeMap GroupKey (List g.row.T.Denot)) → new.entries ≡ insert_entry group_key_cmp c.args.lists.now.entries c.args.key c.push.new.self
+    → all_listed new ≡ all_listed c.args.lists.now + 1 =
+    λ new entries. count_after_push c.args.lists.now new c.args.key c.push.new.self c.args.item c.in_ok-lists.ensures.ordered entries (search rules) in
+    search (rules, count))
+    c.push.ensures.ok
