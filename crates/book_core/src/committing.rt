@@ -65,7 +65,7 @@ pub struct Own {
     pub count: usize,
 }
 
-/// Those of the job that a slot works.
+/// What the job of a slot holds back: a node and how many; without a job node 0, and none.
 pub fn own_in(slots: &[Option<Live>], slot: u32) -> Own
     ensures node { (job : Live) → slice_get slots.now slot ≡ Some (Some job)
         → result.node ≡ node_of job }
@@ -270,7 +270,7 @@ pub fn hold_residual(held: &mut NodeHolds, plan: &Plan, residual: &Option<Piece>
     }
 }
 
-/// Takes it out again.
+/// Takes the mark of what is left of a range out again.
 pub fn free_residual(held: &mut NodeHolds, plan: &Plan, residual: &Option<Piece>)
     requires checked { IsChecked plan.now }
     requires holds { (holds : List Hold)

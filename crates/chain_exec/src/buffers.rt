@@ -39,7 +39,7 @@ impl Buffers {
         }
     }
 
-    /// Empties what a refused call has left. After any other call that is nothing.
+    /// Empties what a refused call has left, and forgets the declared mark.
     pub(crate) fn clear(&mut self)
         ensures unused { IsUnused self.new }
         ensures emission { self.new.emission ≡ record { items = []; declared = None } }

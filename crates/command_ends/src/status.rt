@@ -70,7 +70,7 @@ impl From<NoMemory> for Status {
     }
 }
 
-/// That no file of this name is there.
+/// The status of an absent file; NoMemory where there is no place for its name.
 pub fn no_source(alloc: Global, name: &[u8]) -> Status
     ensures { IsNoSourceOrNoMemory name.now result }
 {

@@ -85,7 +85,7 @@ impl<'a> Model for Draft<'a> {
     ghost invariant = { λ d. IsTracked d.plan.now d.tracked };
 }
 
-/// Where a cell has its place, an entry goes to it. A key that takes memory of its own is shared with the
+/// The cell at a place takes an entry. A key that takes memory of its own is shared with the
 /// entry before it, so that it lies in memory once for each cell.
 fn put_at(cells: &mut Vec<Cell>, place: u32, entry: Entry) -> Result<(), NoMemory>
     requires { place < length cells.old.items }
