@@ -61,6 +61,15 @@ joined_tables {A} stands held a b rows others falling also merged parts more_par
     (subst (λ (t : Table A). IsPermutation t.rows falling) seen moved) (subst (λ (t : Table A). IsPermutation t.rows also) seen_also turned) up upward merges
     (omega (arith, ap (λ (t : Table A). t.parts) seen, ap (λ (t : Table A). t.parts) seen_also)) standing other
 
+-- rows in another order stand for the same
+pub settled : {A : Type 0} (stands : A → List Value → Type 0) (old : Table A) (rows new : List (Row A)) (parts : ℕ) → record { rows = rows; parts = parts } ≡ old
+    → IsPermutation rows new → (added : List Added) → StandsFor stands old added → StandsFor stands (record { rows = new; parts = parts }) added
+settled {A} stands old rows new parts seen moved added standing = record {
+  each = λ key span.
+      stands_permuted stands key span (parts_of key span added) old.rows new (subst (λ (t : Table A). IsPermutation t.rows new) seen moved) (standing.each key span);
+  parts = ap (λ (t : Table A). t.parts) seen ∙ standing.parts;
+}
+
 pub none_stand : {A : Type 0} (stands : A → List Value → Type 0) (rows : List (Row A)) → rows ≡ [] → StandsFor stands (record { rows = rows; parts = 0 }) []
 none_stand {A} stands rows none = record {
   each = λ key span. subst (λ (l : List (Row A)). OneStandsFor stands (accs_of key span l) []) (sym none) refl;

@@ -5,9 +5,9 @@
 //! A [`Combiner`] folds parts into an accumulator; its contract says which list of parts an accumulator
 //! stands for, and that the order of that list is no matter. [`SumOf`], [`CountOf`] and [`MaxOf`] stand for
 //! the functions SumSeq, CountSeq and MaxSeq of `beam_model`. A [`Partials`] has an accumulator for each key
-//! and window, and takes those of another one. The layer above may rely on what such a table stands for
-//! (`specs/Tables.antt`) and gives (`specs/Folds.antt`). [`shape_refusal`] tells which plans may be combined
-//! so. Read `combiner.rt` first, then `partials.rt`.
+//! and window, and takes those of another one, after each was settled where it was filled. The layer above may
+//! rely on what such a table stands for (`specs/Tables.antt`) and gives (`specs/Folds.antt`). [`shape_refusal`]
+//! tells which plans may be combined so. Read `combiner.rt` first, then `partials.rt`.
 #![tactic(auto)]
 
 mod combined;

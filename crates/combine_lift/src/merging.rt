@@ -1,5 +1,5 @@
-//! How two tables become one, in time that grows with their rows: both are put in order, and the least rows
-//! are taken one after another.
+//! How two tables become one: both are put in order, in time that grows with their rows where they are in order
+//! or in just the other one, and the least rows are taken one after another.
 
 ghost use Rattle.std.specs.Prelude.{◌≡◌, ◌⊎◌, ◌+◌, ◌<◌, ◌≤◌, ◌^◌, [], length, reverse, vec_capacity};
 ghost use Rattle.std.specs.Prelude.{IfNone, IfSome, IsNone};

@@ -1,9 +1,10 @@
 ghost use Rattle.std.specs.Prelude.{◌≡◌, ◌+◌, ◌<◌, ◌≤◌, ◌^◌, ◌∷◌, ◌++◌, ◌↔◌, [], length, Some};
 ghost use Rattle.std.specs.Prelude.{IfErr, IfOk, IfSome, IsNone, IsSome, IsTrue, OnErr, OnOk};
-ghost use Rattle.std.specs.Prelude.{List as ListOf, vec_capacity};
+ghost use Rattle.std.specs.Prelude.{List as ListOf, reverse, vec_capacity};
 ghost use Rattle.std.specs.Bool.{OnFalse, OnTrue};
+ghost use Rattle.std.specs.List.Sorted.{IsPermutation, IsSorted};
 ghost use Rattle.combine_lift.specs.Folds.{AreFolds};
-ghost use Rattle.combine_lift.specs.Tables.{held_in, row_place, AddsAt, Added as AddedOf, IsRowAt, StandsFor};
+ghost use Rattle.combine_lift.specs.Tables.{held_in, row_cmp, row_place, AddsAt, Added as AddedOf, IsRowAt, StandsFor};
 ghost use Rattle.combine_lift.specs.Views.{view_value};
 
 use crate::combined::Combined;
@@ -21,7 +22,7 @@ use std::mem;
 /// What was combined so far: a row for each key and window to which a part came. A key lies in memory once
 /// for each of its rows, and once more, shared where it is long, in the index.
 ///
-/// A table is filled by one worker; [`Partials::absorb`] takes the rows of another one.
+/// A table is filled by one worker, who settles it; [`Partials::absorb`] takes the rows of another one.
 #[derive(Drop)]
 pub struct Partials<C: Combiner> {
     combiner: C,
@@ -210,7 +211,24 @@ impl<C: Combiner> Partials<C> {
         }
     }
 
-    /// Takes all rows of another table. For want of memory the other one is handed back.
+    /// Puts the rows in falling order and gives up the index and the guesses: what is to be done before rows are
+    /// merged, so that each worker can do it in a thread of its own. Takes no memory. Where more is added, the
+    /// index is made anew.
+    pub fn settle(&mut self, alloc: Global)
+        ensures stands { (added : ListOf AddedOf)
+            → StandsFor C.stands self.old added → StandsFor C.stands self.new added }
+        ensures parts { self.new.parts ≡ self.old.parts }
+        ensures same { IsPermutation self.old.rows self.new.rows }
+        ensures falling { IsSorted row_cmp (reverse self.new.rows) }
+    {
+        self.index = CellIndex::new(alloc);
+        self.indexed = false;
+        self.guesses = Guesses::new(alloc);
+        settle(&mut self.rows);
+    }
+
+    /// Takes all rows of another table, in time that grows with the rows of both where the other one is settled
+    /// and this one is so, or empty, or made by absorbing. For want of memory the other one is handed back.
     pub fn absorb(&mut self, alloc: Global, other: Partials<C>) -> Result<(), Partials<C>>
         requires { self.old.parts + other.parts < 2 ^ 63 }
         ensures ok { OnOk result ((added more : ListOf AddedOf)
@@ -239,19 +257,21 @@ impl<C: Combiner> Partials<C> {
         let Partials {
             combiner: _,
             rows: others,
-            index: _,
+            index,
             indexed: _,
-            guesses: _,
+            guesses,
             parts,
         } = other;
+        drop(index);
+        drop(guesses);
+        self.index = CellIndex::new(alloc);
+        self.indexed = false;
+        self.guesses = Guesses::new(alloc);
         let mut others = others;
         let mut rows = mem::replace(&mut self.rows, Vec::new(alloc));
         settle(&mut rows);
         settle(&mut others);
         self.rows = merge(&self.combiner, rows, others, room);
-        self.index = CellIndex::new(alloc);
-        self.indexed = false;
-        self.guesses.forget();
         self.parts += parts;
     }
 
@@ -263,11 +283,13 @@ impl<C: Combiner> Partials<C> {
         let Partials {
             combiner,
             rows,
-            index: _,
+            index,
             indexed: _,
-            guesses: _,
+            guesses,
             parts: _,
         } = self;
+        drop(index);
+        drop(guesses);
         extract_all(alloc, &combiner, rows)
     }
 }

@@ -22,7 +22,7 @@ pub invariant_of-self : goal.invariant_of-self
 invariant_of-self g c =
     let moved : IsPermutation c.self.inside.rows.items c.settle.new.rows.items =
     subst (λ l. IsPermutation l c.settle.new.rows.items) (ap vec_items c.replace-rows.ensures.value) c.settle.ensures.same in
-    kept_merged g.C.Combiner.stands g.C.Combiner.held c.new-2.result c.self.inside.rows.items c.other.inside.rows.items c.settle.new.rows.items c.settle-2.new.rows.items
+    kept_merged g.C.Combiner.stands g.C.Combiner.held c.new.result c.self.inside.rows.items c.other.inside.rows.items c.settle.new.rows.items c.settle-2.new.rows.items
     c.merge.result.items c.self.inside.parts c.other.inside.parts moved c.settle-2.ensures.same c.merge.ensures c.self.invariant.total c.other.invariant.total
 
 pub returns-clause-stands : goal.returns-clause-stands
