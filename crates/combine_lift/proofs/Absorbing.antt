@@ -4,12 +4,12 @@ use Rattle.std.specs.Cmp.{IsTotalOrder}
 use Rattle.std.specs.List.Sorted.{IsPermutation, IsSorted}
 use Rattle.std.specs.Ordering.{is_lt}
 use Rattle.std.specs.declared.cmp.Ordering.{Ordering}
-use Rattle.std.proofs.lemmas.List.{get_or-reverse, length-reverse}
+use Rattle.std.proofs.lemmas.List.{get_or-reverse, length-reverse, nil_from_length}
 use Rattle.std.proofs.lemmas.List.Elements.{recursion_from_All}
 use Rattle.std.proofs.lemmas.List.Sorted.{IsPermutation-reverse, IsPermutation-trans, ranks_by, sorted_far}
 use Rattle.beam_values.specs.declared.value.Value.{Value}
 use Rattle.combine_lift.specs.Merging.{Merges}
-use Rattle.combine_lift.specs.Tables.{Added, Table, accs_of, parts_of, row_cmp, OneStandsFor, StandsFor}
+use Rattle.combine_lift.specs.Tables.{Added, Table, accs_of, held_in, parts_of, row_cmp, OneStandsFor, StandsFor}
 use Rattle.combine_lift.specs.declared.row.Row.{Row}
 use Rattle.combine_lift.proofs.Joined.{Ascends, joined_stand, merged_rows}
 use Rattle.combine_lift.proofs.Pointwise.{parts_append, stands_permuted}
@@ -69,6 +69,23 @@ settled {A} stands old rows new parts seen moved added standing = record {
       stands_permuted stands key span (parts_of key span added) old.rows new (subst (λ (t : Table A). IsPermutation t.rows new) seen moved) (standing.each key span);
   parts = ap (λ (t : Table A). t.parts) seen ∙ standing.parts;
 }
+
+-- a table without rows stands for nothing
+pub nothing_before : {A : Type 0} (held : A → ℕ) (old : Table A) (rows : List (Row A)) (parts : ℕ) → record { rows = rows; parts = parts } ≡ old
+    → parts ≡ held_in held rows → rows ≡ [] → old.parts ≡ 0
+nothing_before {A} held old rows parts seen total none = sym (ap (λ (t : Table A). t.parts) seen) ∙ total ∙ ap (held_in held) none
+
+pub joined_to_none : {A : Type 0} (stands : A → List Value → Type 0) (old other : Table A) (rows : List (Row A)) (parts : ℕ) → record { rows = rows; parts = parts } ≡ other
+    → old.parts ≡ 0 → (added more : List Added) → StandsFor stands old added → StandsFor stands other more
+    → StandsFor stands (record { rows = rows; parts = parts }) (added ++ more)
+joined_to_none {A} stands old other rows parts seen nothing added more standing also =
+    let now : Table A = record { rows = rows; parts = parts } in
+    subst (λ (l : List Added). StandsFor stands now (l ++ more)) (sym (nil_from_length added (sym standing.parts ∙ nothing)))
+    (subst (λ (t : Table A). StandsFor stands t more) (sym seen) also)
+
+pub parts_of_none : {A : Type 0} (old other : Table A) (rows : List (Row A)) (parts : ℕ) → record { rows = rows; parts = parts } ≡ other
+    → old.parts ≡ 0 → parts ≡ old.parts + other.parts
+parts_of_none {A} old other rows parts seen nothing = omega (arith, ap (λ (t : Table A). t.parts) seen, nothing)
 
 pub none_stand : {A : Type 0} (stands : A → List Value → Type 0) (rows : List (Row A)) → rows ≡ [] → StandsFor stands (record { rows = rows; parts = 0 }) []
 none_stand {A} stands rows none = record {

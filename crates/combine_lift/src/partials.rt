@@ -227,8 +227,9 @@ impl<C: Combiner> Partials<C> {
         settle(&mut self.rows);
     }
 
-    /// Takes all rows of another table, in time that grows with the rows of both where the other one is settled
-    /// and this one is so, or empty, or made by absorbing. For want of memory the other one is handed back.
+    /// Takes all rows of another table: as they are where there is none here, and else in time that grows with
+    /// the rows of both, where both are settled or made by absorbing. For want of memory the other one is handed
+    /// back.
     pub fn absorb(&mut self, alloc: Global, other: Partials<C>) -> Result<(), Partials<C>>
         requires { self.old.parts + other.parts < 2 ^ 63 }
         ensures ok { OnOk result ((added more : ListOf AddedOf)
@@ -237,6 +238,10 @@ impl<C: Combiner> Partials<C> {
         ensures parts { OnOk result (self.new.parts ≡ self.old.parts + other.parts) }
         ensures err { IfErr result (λ back. (self.new ≡ self.old) × (back ≡ other)) }
     {
+        if self.rows.is_empty() {
+            *self = other;
+            return Ok(());
+        }
         let Some(room) = room_for(alloc, self.rows.len(), other.rows.len()) else {
             return Err(other);
         };
