@@ -52,6 +52,11 @@ module _ {A : Type 0} (stands : A → List Value → Type 0) (known : Surroundin
   pub folded_from : (ranges : List Done) (start table : Table A) → StandsFor stands start [] → Folded ranges start table → IsFold stands known plan ranges table
   folded_from ranges start table nothing folded = record { arrivals = folded.arrivals; told = folded.told; standing = folded.standing [] nothing }
 
+  -- of a table that stands for what the other one does
+  pub fold_kept : (ranges : List Done) (table new : Table A) → ((added : List Added) → StandsFor stands table added → StandsFor stands new added)
+      → IsFold stands known plan ranges table → IsFold stands known plan ranges new
+  fold_kept ranges table new keeps fold = record { arrivals = fold.arrivals; told = fold.told; standing = keeps (added_by fold.arrivals) fold.standing }
+
   module _ (node item : ℕ) where
     abbrev span : ℕ → ℕ → List Done
     span from to = done_range node item from to ∷ []

@@ -40,7 +40,7 @@ use std::alloc::Global;
 /// The most parts that a table stands for.
 pub const MOST_PARTS: u64 = i64::MAX as u64;
 
-/// Works pieces with a kit, and adds what arrives of them to a table.
+/// Works pieces with a kit, and adds what arrives of them to a table, which is settled here, in the kit's own thread.
 pub fn fold_pieces<C: Combiner, F: Shelf, S: Store>(
     alloc: Global,
     graph: &Graph,
@@ -78,6 +78,7 @@ pub fn fold_pieces<C: Combiner, F: Shelf, S: Store>(
             &mut partials,
         )?;
     }
+    partials.settle(alloc);
     Ok(partials)
 }
 

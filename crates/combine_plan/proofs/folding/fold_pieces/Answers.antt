@@ -6,8 +6,9 @@ use Rattle.bundle_work.specs.Openings.{AreOpened, file_names}
 use Rattle.bundle_work.specs.Reading.{length_in, opened_lengths}
 use Rattle.bundle_work.proofs.Answered.{kit_onward, kit_same}
 use Rattle.bundle_work.proofs.Told.{opened_known}
+use Rattle.split_core.specs.Partition.{range_of}
 use Rattle.combine_plan.specs.Dealing.{IsInside}
-use Rattle.combine_plan.proofs.Folded.{folded_none}
+use Rattle.combine_plan.proofs.Folded.{fold_kept, folded_none}
 use Rattle.combine_plan.proofs.PieceWork.{pieces_all, pieces_more, pieces_refused}
 use Rattle.combine_plan.proofs.folding.fold_pieces.Goals as goal
 
@@ -80,5 +81,6 @@ loop-piece-preserved g c =
 
 pub returns-clause-folded : goal.returns-clause-folded
 returns-clause-folded g c =
-    pieces_all g.F.Shelf.strict g.F.Shelf.faults g.S.Store.files g.S.Store.faults g.S.Store.opened g.C.Combiner.stands g.C.Combiner.takes g.setting.known c.args.graph.now c.args.options.now.attempts
-    c.args.pieces.now c.loop-piece.piece-index c.new-partials.result c.loop-piece.partials (omega arith) c.new-partials.ensures.stands c.loop-piece.invariant.folded
+    fold_kept g.C.Combiner.stands g.setting.known c.args.graph.now (map range_of c.args.pieces.now) c.loop-piece.partials c.settle.new.self c.settle.ensures.stands
+    (pieces_all g.F.Shelf.strict g.F.Shelf.faults g.S.Store.files g.S.Store.faults g.S.Store.opened g.C.Combiner.stands g.C.Combiner.takes g.setting.known c.args.graph.now c.args.options.now.attempts
+    c.args.pieces.now c.loop-piece.piece-index c.new-partials.result c.loop-piece.partials (omega arith) c.new-partials.ensures.stands c.loop-piece.invariant.folded)
