@@ -66,6 +66,7 @@ module _ (shelf : ObservedShelf) (files : Option (List FileText)) (less more : â
     place = up.place;
     poison = up.poison;
     at = up.at;
+    read = up.read;
   }
 
   cause_since : (plan : Plan) (attempts group function : â„•) (work : FnKind) (why : CombineRefusal)

@@ -164,7 +164,7 @@ module _ {A : Type 0} (stands : A → List Value → Type 0) (known : Surroundin
         tried.0 ∙ ap (λ (p : Piece). record p { attempts = p.attempts + 1 }) is in
         subst (λ (l : Piece). IsLeftBehind stands known shelf store plan attempts rest l old new) (sym left_is)
         (left_after (rest.attempts + 1) (omega (arith, tried.1)) (omega arith)
-        (inr (refl, rest.node, Read, record { counted = rose; call = λ never. absurd (read_no_call never) })))
+        (inr (refl, rest.node, Read, record { counted = rose; call = λ never. absurd (read_no_call never); read = λ is. refl })))
       where
         read_no_call : Read ≡ Call → ⊥
         read_no_call e = cc

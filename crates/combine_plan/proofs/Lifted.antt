@@ -1,5 +1,5 @@
 -- What folding and the last job show of the whole input: that what was combined is plain, and the cause of each refusal.
-use Rattle.std.proofs.Common.{◌≡◌, inl, inr, ℕ, ◌<◌, ◌≤◌, Bool, true, List, [], map, Some, sym, subst, add-zero, zero-add, arith}
+use Rattle.std.proofs.Common.{◌≡◌, inl, inr, ℕ, ◌<◌, ◌≤◌, Bool, true, List, [], map, Some, sym, subst, ◌∙◌, add-zero, zero-add, arith}
 use Rattle.std.specs.Prelude.{◌==◌, ◌&&◌}
 use Rattle.std.specs.List.{All, count_by, list_all, list_any}
 use Rattle.beam_values.specs.Bags.{IsSameBag}
@@ -9,7 +9,7 @@ use Rattle.beam_values.specs.Storable.{IsStorable}
 use Rattle.beam_values.specs.declared.arrival.Arrival.{Arrival}
 use Rattle.beam_values.specs.declared.element.Element.{Element}
 use Rattle.beam_values.specs.declared.fault.Cause.{Cause}
-use Rattle.beam_values.specs.declared.fault.Cause.TheVariants.{Call}
+use Rattle.beam_values.specs.declared.fault.Cause.TheVariants.{Call, Read}
 use Rattle.beam_values.specs.declared.fault.FaultNote.{FaultNote}
 use Rattle.beam_values.specs.declared.file_text.FileText.{FileText}
 use Rattle.beam_values.specs.declared.piece.Done.{Done}
@@ -72,6 +72,7 @@ module _ (known : Surroundings) (shelf : ObservedShelf) (store : ObservedStore) 
     poison = λ some strict told is.
         inl (has_poison plan checked told group function work liftable has ranges (all told is) (spent.tries.poison some strict told is));
     at = λ call strict told is. inl (spent.call call strict told is);
+    read = spent.read;
   }
 
   pub fold_refused : ((node item : ℕ) → list_any (λ range. range.node == node && range.item == item) ranges ≡ true → list_any (λ it. it.node == node && it.item == item) (items [] plan) ≡ true)
@@ -121,8 +122,12 @@ module _ (known : Surroundings) (shelf : ObservedShelf) (store : ObservedStore) 
             cause = call_counted shelf store note.cause spent.cause (omega (arith, counted, rises, some));
             poison = λ more is_strict told is. inr (note.at, poison told is is_strict);
             at = λ call is_strict told is. inr (record { node = spent.node; item = spent.item; poison = poison told is is_strict });
+            read = λ is. absurd (call_no_read (sym spent.cause ∙ is));
           }
         where
+          call_no_read : Call ≡ Read → ⊥
+          call_no_read e = cc
+
           poison : (told : List FileText) → known.told ≡ Some told → known.strict ≡ true → MeetsPoison plan (items told plan) group function work note.at
           poison told is is_strict =
               meets_poison plan checked told group function work liftable has ranges (all told is) fold.arrivals (fold.told told is) rows folds elements note.at each storable (spent.poison (strict is_strict))

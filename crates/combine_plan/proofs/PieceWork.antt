@@ -129,6 +129,7 @@ module _ {F S : Type 0} (strict : F → Bool) (faults : F → ℕ) (files : S �
                     ∙ ap (λ (item : ℕ). spread_done plan (items told plan) (done_range piece.node item within.at (within.at + 1))) last.item)
                     ∙ within.poison;
               };
+          read = λ is. last.failed.read is ∙ sym last.node;
         }
 
         whole : (from n : ℕ) → piece.range.from ≤ from → from ≤ piece.range.to → HasFolded stands known plan (done_range piece.node piece.item piece.range.from from ∷ []) old mid → (refusal : CombineRefusal)

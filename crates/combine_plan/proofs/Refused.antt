@@ -91,6 +91,7 @@ module _ (takes : Value → Bool) (known : Surroundings) (shelf : ObservedShelf)
         };
         cause = refused.cause;
         call = refused.call;
+        read = refused.read;
       }
   refused_as ranges others parts same names NoMemory refused = tt
 
@@ -125,5 +126,6 @@ module _ {F S : Type 0} (strict : F → Bool) (faults : F → ℕ) (files_of : S
           refused.tries;
       cause = counted_from strict faults files_of fails opened f0 f1 f2 s0 s1 s2 kept note.cause refused.cause;
       call = refused.call;
+      read = refused.read;
     }
     refused_within NoMemory refused = tt

@@ -98,6 +98,7 @@ module _ (takes : Value → Bool) (shelf all : ObservedShelf) (store every : Obs
         cause = counted_in shelf all store every seen note.cause spent.cause;
         call = λ is strict. where_told (λ files. IsPoisonItem plan (items files plan) note) (λ files. IsPoisonItem plan (items files plan) note) store.files every.files seen.told (λ files poison. poison)
             (spent.call is (seen.strict strict));
+        read = spent.read;
       }
   refused_in (Lift lift.Part) meets = any_told (is_untaken takes) meets
   refused_in (Lift lift.Many) meets =

@@ -2,7 +2,7 @@
 use Rattle.std.specs.Prelude.{◌≡◌, ◌⊎◌, ℕ, ◌+◌, ◌<◌, ◌≤◌, ◌==◌, ◌&&◌, true, List, [], slice_get, Option, Some, Result, Err, IfOk, IfErr}
 use Rattle.std.specs.List.{AllByRecursion, list_any}
 use Rattle.beam_values.specs.declared.arrival.Arrival.{Arrival}
-use Rattle.beam_values.specs.declared.fault.Cause.TheVariants.{Call}
+use Rattle.beam_values.specs.declared.fault.Cause.TheVariants.{Call, Read}
 use Rattle.beam_values.specs.declared.fault.FaultNote.{FaultNote}
 use Rattle.beam_values.specs.declared.file_text.FileText.{FileText}
 use Rattle.beam_values.specs.declared.plan.FnKind.{FnKind}
@@ -50,7 +50,7 @@ IsFunctionNote function note = (note.node ≡ function) × (note.item ≡ 0) × 
 -- ---- why nothing was combined
 
 -- Work on some item or at the function was given up: it failed as often as it may, by its causes, and each time that was counted. Over strict shelves calls
--- fail at poison alone, and the note is of a position of its item, or of what was combined.
+-- fail at poison alone, and the note is of a position of its item, or of what was combined. A read fails at the source: of node 1, the note's `at` is 1.
 pub record IsGivenUp (known : Surroundings) (shelf : ObservedShelf) (store : ObservedStore) (plan : Plan) (attempts group function : ℕ) (work : FnKind) (note : FaultNote) : Type 0 where
   pub place : IsItemNote plan note ⊎ IsFunctionNote function note
   pub attempt : note.attempt ≡ attempts
@@ -63,6 +63,7 @@ pub record IsGivenUp (known : Surroundings) (shelf : ObservedShelf) (store : Obs
   pub poison : 0 < calls → known.strict ≡ true → WhereTold known.told (λ files. IsSomePoison plan (items files plan) group function work)
   pub at : note.cause ≡ Call → known.strict ≡ true
       → WhereTold known.told (λ files. IsPoisonItem plan (items files plan) note ⊎ IsLastNote plan (items files plan) group function work note)
+  pub read : note.cause ≡ Read → note.at ≡ note.node
 
 -- the cause of each refusal, of a plan with this Group and function
 abbrev pub IsLiftedRefused : Surroundings → ObservedShelf → ObservedStore → Plan → ℕ → ℕ → ℕ → FnKind → CombineRefusal → Type 0

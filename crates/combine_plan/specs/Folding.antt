@@ -3,7 +3,7 @@ use Rattle.std.specs.Prelude.{◌≡◌, ◌⊎◌, ℕ, ◌+◌, ◌-◌, ◌<�
 use Rattle.std.specs.List.{count_by, list_any}
 use Rattle.beam_values.specs.declared.arrival.Arrival.{Arrival}
 use Rattle.beam_values.specs.declared.fault.Cause.{Cause}
-use Rattle.beam_values.specs.declared.fault.Cause.TheVariants.{Call}
+use Rattle.beam_values.specs.declared.fault.Cause.TheVariants.{Call, Read}
 use Rattle.beam_values.specs.declared.fault.FaultNote.{FaultNote}
 use Rattle.beam_values.specs.declared.piece.Done.{Done}
 use Rattle.beam_values.specs.declared.piece.Piece.{Piece}
@@ -55,9 +55,11 @@ pub record IsPoisonWithin (plan : Plan) (items : List SourceItem) (range : Done)
   pub poison : first_poison (spread_done plan items (done_range range.node range.item at (at + 1))) ≡ Some node
 
 -- Work on a range failed, at this node, and was counted by its cause: a call at the shelf, a read at the store. Over strict shelves a call fails at poison alone.
+-- A read fails at the source.
 pub record HasFailed (known : Surroundings) (shelf : ObservedShelf) (store : ObservedStore) (plan : Plan) (range : Done) (at : ℕ) (cause : Cause) : Type 0 where
   pub counted : IsCountedAs shelf store cause
   pub call : cause ≡ Call → known.strict ≡ true → WhereTold known.told (λ files. IsPoisonWithin plan (items files plan) range at)
+  pub read : cause ≡ Read → at ≡ range.node
 
 -- Work on ranges failed so often, by its causes, and each time that was counted. Over strict shelves calls fail only where some position is poison.
 pub record AreTries (known : Surroundings) (shelf : ObservedShelf) (store : ObservedStore) (plan : Plan) (ranges : List Done) (tries : ℕ) : Type 0 where
@@ -73,13 +75,14 @@ pub record IsPoisonItem (plan : Plan) (items : List SourceItem) (note : FaultNot
   pub at : ℕ
   pub poison : first_poison (spread_done plan items (done_range note.node note.item at (at + 1))) ≡ Some note.at
 
--- work on one of the ranges was given up, after so many attempts
+-- Work on one of the ranges was given up, after so many attempts. Where a read failed last the note is of the source alone.
 pub record IsSpent (known : Surroundings) (shelf : ObservedShelf) (store : ObservedStore) (plan : Plan) (attempts : ℕ) (ranges : List Done) (note : FaultNote) : Type 0 where
   pub listed : list_any (λ range. range.node == note.node && range.item == note.item) ranges ≡ true
   pub attempt : note.attempt ≡ attempts
   pub tries : AreTries known shelf store plan ranges attempts
   pub cause : IsCountedAs shelf store note.cause
   pub call : note.cause ≡ Call → known.strict ≡ true → WhereTold known.told (λ files. IsPoisonItem plan (items files plan) note)
+  pub read : note.cause ≡ Read → note.at ≡ note.node
 
 -- ---- refusals
 
