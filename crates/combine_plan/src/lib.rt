@@ -3,9 +3,10 @@
 //! Combine; the lifting of combiners above a GroupByKey).
 //!
 //! The layer above may rely on [`combine_plan`] alone. The pieces of all items are dealt to the kits
-//! (`pieces.rt`). Each kit works its pieces bundle by bundle, as a run does, and adds what arrives to a
-//! table of its own (`folding.rt`); the tables become one (`crew.rt`), and the combined elements are worked as
-//! one job (`last.rt`). Read `plan.rt` first, then `folding.rt`.
+//! (`pieces.rt`). Each kit adds lines of its pieces to a table of its own where views tell what they bring
+//! (`skimming.rt`), works the others bundle by bundle, as a run does, and settles its table (`folding.rt`); the
+//! tables become one (`crew.rt`), and the combined elements are worked as one job (`last.rt`). Read `plan.rt`
+//! first, then `folding.rt`.
 #![tactic(auto)]
 
 mod claims;
