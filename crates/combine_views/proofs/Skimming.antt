@@ -1,5 +1,5 @@
 -- Positions of a file: what the bytes show of one is what the model says, and one more is worked behind others.
-use Rattle.std.proofs.Common.{◌≡◌, ℕ, ℤ, pos, ◌+◌, ◌-◌, ◌<◌, ◌≤◌, Bool, true, false, cond, drop, min, List, [], ◌∷◌, ◌++◌, length, map, Option, Some, None, refl, sym, ap, subst, ◌∙◌, arith, append-nil, append_assoc, length-append}
+use Rattle.std.proofs.Common.{◌≡◌, ℕ, pos, ◌+◌, ◌-◌, ◌<◌, ◌≤◌, Bool, true, false, cond, drop, min, List, [], ◌++◌, length, map, Option, Some, None, refl, sym, ap, subst, ◌∙◌, arith, append-nil, append_assoc, length-append}
 use Rattle.std.specs.Prelude.{IsSomeAnd}
 use Rattle.std.proofs.lemmas.Bool.{false≢true}
 use Rattle.std.proofs.lemmas.List.{length-drop, map-append}
@@ -24,14 +24,13 @@ use Rattle.beam_ports.specs.Files.{KeepsOpenings, Opening}
 use Rattle.dofn_traits.specs.Calls.{is_cut_short}
 use Rattle.sdf_library.specs.Paging.{HoldsFile, IsQuiet, Paged, Serves, ShowsText, is_line_cut, noted_next}
 use Rattle.sdf_library.specs.Sources.{emission_seen, next_seen}
-use Rattle.sdf_library.specs.declared.quiet.Quiet.{Quiet}
 use Rattle.sdf_library.proofs.Pages.{told_before}
 use Rattle.sdf_library.proofs.Views.{emission_is_seen, next_is_seen, next_seen_within}
 use Rattle.chain_exec.specs.Sources.{IsPagerOf, IsText, skipped_to}
 use Rattle.chain_exec.proofs.Looks.{skips}
 use Rattle.combine_lift.specs.Tables.{Added, StandsFor, Table}
 use Rattle.combine_laws.specs.Brought.{added_by, added_of}
-use Rattle.combine_views.specs.Lines.{HasAdded, emission_of_line, outputs_seen}
+use Rattle.combine_views.specs.Lines.{HasAdded, outputs_seen}
 use Rattle.combine_views.specs.Skims.{HasSkimmed, HasWorkedAt, outputs_of}
 
 -- ---- what the bytes show of a position

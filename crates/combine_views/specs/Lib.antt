@@ -1,5 +1,6 @@
 pub mod Seen
+pub mod Passing
 pub mod Lines
-pub mod Brings
+pub mod Told
 pub mod Skims
 pub mod Steps

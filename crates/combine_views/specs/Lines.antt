@@ -1,5 +1,5 @@
 -- What a line brings to the Group, and what is added of it.
-use Rattle.std.specs.Prelude.{◌≡◌, ℕ, ◌+◌, ◌-◌, if◌then◌else◌, List, [], ◌∷◌, ◌++◌, length, map}
+use Rattle.std.specs.Prelude.{◌≡◌, ℕ, ◌+◌, ◌-◌, if◌then◌else◌, List, [], ◌++◌, length, map}
 use Rattle.beam_values.specs.Functions.{timed_line}
 use Rattle.beam_values.specs.Lines.{line_at, starts_line}
 use Rattle.beam_values.specs.Times.{least_time}
@@ -9,17 +9,18 @@ use Rattle.beam_values.specs.declared.plan.Plan.{Plan}
 use Rattle.beam_values.specs.declared.plan.SourceKind.{SourceKind}
 use Rattle.beam_values.specs.declared.plan.SourceKind.TheVariants.{Lines, TimedLines}
 use Rattle.beam_values.specs.declared.value.Value.{Value}
-use Rattle.beam_model.specs.Chains.{Output, Arrives, arrives_at}
+use Rattle.beam_model.specs.Chains.{Output, Arrives}
 use Rattle.beam_model.specs.Positions.{Emission, emits_one, line_emission, nothing}
 use Rattle.beam_model.specs.Spread.{emission_outputs}
 use Rattle.beam_model.specs.Values.{blob}
 use Rattle.combine_lift.specs.Tables.{Added, StandsFor, Table}
-use Rattle.combine_laws.specs.Brought.{added_by}
+use Rattle.combine_laws.specs.Brought.{added_by, added_of}
 
--- the outputs are one element, which arrives at some barrier
-pub record IsAtBarrier (outputs : List Output) (e : Element) : Type 0 where
-  pub node : ℕ
-  pub is : outputs ≡ arrives_at node e
+-- the outputs are these elements, in this order, each of which arrives at some barrier
+pub record AreAtBarrier (outputs : List Output) (elements : List Element) : Type 0 where
+  pub arrivals : List Arrival
+  pub all : map Arrives arrivals ≡ outputs
+  pub are : map (λ arrival. arrival.element) arrivals ≡ elements
 
 -- what a source emits where this line starts; of what is counted or made there are no lines
 abbrev pub emission_of_line : SourceKind → List ℕ → Emission
@@ -39,3 +40,8 @@ pub record HasAdded {A : Type 0} (stands : A → List Value → Type 0) (outputs
   pub all : map Arrives arrivals ≡ outputs
   pub parts : new.parts ≡ old.parts + length arrivals
   pub standing : (added : List Added) → StandsFor stands old added → StandsFor stands new (added ++ added_by arrivals)
+
+-- The parts of these elements came to the table, in this order.
+pub record HasTaken {A : Type 0} (stands : A → List Value → Type 0) (elements : List Element) (old new : Table A) : Type 0 where
+  pub parts : new.parts ≡ old.parts + length elements
+  pub standing : (added : List Added) → StandsFor stands old added → StandsFor stands new (added ++ map added_of elements)

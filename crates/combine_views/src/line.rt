@@ -1,15 +1,13 @@
-ghost use Rattle.std.specs.Prelude.{◌≡◌, ◌+◌, ◌<◌, ◌≤◌, ◌^◌, [], length, IfOk, OnErr, List as ListOf};
+ghost use Rattle.std.specs.Prelude.{◌≡◌, ◌<◌, ◌∷◌, [], length, IfOk, IfSome, OnErr};
 ghost use Rattle.std.specs.Bool.{OnFalse, OnTrue};
-ghost use Rattle.beam_model.specs.Chains.{Output};
-ghost use Rattle.beam_model.specs.Positions.{emits_one};
 ghost use Rattle.beam_model.specs.Spread.{emission_outputs};
-ghost use Rattle.beam_model.specs.Values.{blob};
-ghost use Rattle.combine_views.specs.Brings.{IsBrought};
-ghost use Rattle.combine_views.specs.Lines.{HasAdded, IsAtBarrier, emission_of_line};
+ghost use Rattle.combine_views.specs.Lines.{AreAtBarrier, HasAdded, HasTaken, emission_of_line};
 ghost use Rattle.combine_views.specs.Seen.{element_seen};
+ghost use Rattle.combine_views.specs.Told.{elements_told};
 
 use crate::Seen;
-use crate::passing::at_group;
+use crate::passing::brought_by_text;
+use crate::told::Told;
 use beam_lines::{TimedLine, timed_line};
 use beam_values::{NoMemory, SourceKind, Time};
 use combine_lift::{Combiner, Partials};
@@ -18,15 +16,6 @@ use std::alloc::Global;
 
 /// The most parts that a table stands for.
 const MOST_PARTS: u64 = i64::MAX as u64;
-
-/// What a line is seen to bring to the Group.
-#[derive(Clone, Copy)]
-enum Brings<'a> {
-    Nothing,
-    One(Seen<'a>),
-    /// What it brings views don't tell.
-    Unknown,
-}
 
 /// Adds what a line of a source brings to the Group, where views tell that, and answers whether they do. Where
 /// they don't, and where its part isn't taken, the table stays as it is.
@@ -46,58 +35,61 @@ pub fn add_line<C: Combiner>(
     ensures err { OnErr result (partials.new ≡ partials.old) }
 {
     match brought(graph, source, work, line) {
-        Brings::Nothing => Ok(true),
-        Brings::One(seen) => add_seen(alloc, &seen, partials),
-        Brings::Unknown => Ok(false),
+        Some(told) => add_told(alloc, &told, partials),
+        None => Ok(false),
     }
 }
 
 /// What a line of a source brings to the Group.
-fn brought<'a>(graph: &Graph, source: u32, work: SourceKind, line: &'a [u8]) -> Brings<'a>
+fn brought<'a>(graph: &Graph, source: u32, work: SourceKind, line: &'a [u8]) -> Option<Told<'a>>
     requires { source < length graph.now.nodes }
-    ensures { IsBrought
-        (emission_outputs graph.now source (emission_of_line work line.now)) result }
+    ensures { IfSome result (λ told. AreAtBarrier
+        (emission_outputs graph.now source (emission_of_line work line.now)) (elements_told told)) }
 {
     match work {
         SourceKind::Lines => brought_by_text(graph, source, line, Time::LEAST),
         SourceKind::TimedLines => match timed_line(line) {
             TimedLine::Timed(time, text) => brought_by_text(graph, source, text, time),
-            TimedLine::Declared(_) => Brings::Nothing,
-            TimedLine::Poison => Brings::Unknown,
+            TimedLine::Declared(_) => Some(Told::Nothing),
+            TimedLine::Poison => None,
         },
-        SourceKind::Count | SourceKind::Made => Brings::Unknown,
+        SourceKind::Count | SourceKind::Made => None,
     }
 }
 
-/// What a text that a source emits brings.
-fn brought_by_text<'a>(graph: &Graph, source: u32, text: &'a [u8], time: Time) -> Brings<'a>
-    requires { source < length graph.now.nodes }
-    ensures { IsBrought
-        (emission_outputs graph.now source (emits_one (blob text.now) time)) result }
+/// Adds the parts of the elements that are told.
+fn add_told<C: Combiner>(
+    alloc: Global,
+    told: &Told<'_>,
+    partials: &mut Partials<C>,
+) -> Result<bool, NoMemory>
+    ensures added { IfOk result (λ known. OnTrue known (HasTaken C.stands
+        (elements_told told.now) partials.old partials.new)) }
+    ensures kept { IfOk result (λ known. OnFalse known (partials.new ≡ partials.old)) }
+    ensures err { OnErr result (partials.new ≡ partials.old) }
 {
-    match at_group(graph, source, &Seen::from_source(text, time)) {
-        Some(seen) => Brings::One(seen),
-        None => Brings::Unknown,
+    match told {
+        Told::Nothing => Ok(true),
+        Told::One(seen) => add_seen(alloc, seen, partials),
     }
 }
 
-/// Adds what an element that arrives brings.
+/// Adds the part of an element that arrives.
 fn add_seen<C: Combiner>(
     alloc: Global,
     seen: &Seen<'_>,
     partials: &mut Partials<C>,
 ) -> Result<bool, NoMemory>
-    ensures added { IfOk result (λ known. OnTrue known ((outputs : ListOf Output)
-        → IsAtBarrier outputs (element_seen seen.now)
-        → HasAdded C.stands outputs partials.old partials.new)) }
+    ensures added { IfOk result (λ known. OnTrue known (HasTaken C.stands
+        (element_seen seen.now ∷ []) partials.old partials.new)) }
     ensures kept { IfOk result (λ known. OnFalse known (partials.new ≡ partials.old)) }
     ensures err { OnErr result (partials.new ≡ partials.old) }
 {
     if partials.parts() >= MOST_PARTS {
         return Ok(false);
     }
-    match seen.keyed() {
-        Some((key, part)) => partials.add(alloc, key, seen.span, part),
-        None => Ok(false),
-    }
+    let Some((key, part)) = seen.keyed() else {
+        return Ok(false);
+    };
+    partials.add(alloc, key, seen.span, part)
 }

@@ -1,6 +1,4 @@
-use Rattle.std.proofs.Common.{List, ℕ, refl, ap, subst, sym, ◌∙◌, arith}
-use Rattle.std.specs.Prelude.{Some}
-use Rattle.beam_ports.specs.Files.{Opening}
+use Rattle.std.proofs.Common.{ℕ, refl, subst, sym, ◌∙◌, arith}
 use Rattle.combine_views.specs.Skims.{HasSkimmed}
 use Rattle.combine_views.specs.Steps.{IsStep}
 use Rattle.combine_views.specs.declared.skim.Step.{Step}
