@@ -1,5 +1,5 @@
 -- What a line brings to the Group, and what is added of it.
-use Rattle.std.specs.Prelude.{◌≡◌, ℕ, ◌+◌, ◌-◌, if◌then◌else◌, List, [], ◌++◌, length, map}
+use Rattle.std.specs.Prelude.{◌≡◌, ℕ, ◌+◌, ◌-◌, ◌<◌, if◌then◌else◌, List, [], ◌++◌, length, map, take}
 use Rattle.beam_values.specs.Functions.{timed_line}
 use Rattle.beam_values.specs.Lines.{line_at, starts_line}
 use Rattle.beam_values.specs.Times.{least_time}
@@ -45,3 +45,21 @@ pub record HasAdded {A : Type 0} (stands : A → List Value → Type 0) (outputs
 pub record HasTaken {A : Type 0} (stands : A → List Value → Type 0) (elements : List Element) (old new : Table A) : Type 0 where
   pub parts : new.parts ≡ old.parts + length elements
   pub standing : (added : List Added) → StandsFor stands old added → StandsFor stands new (added ++ map added_of elements)
+
+-- the first ones of these came, maybe none, and not all
+pub record HasTakenSome {A : Type 0} (stands : A → List Value → Type 0) (elements : List Element) (old new : Table A) : Type 0 where
+  pub count : ℕ
+  pub less : count < length elements
+  pub first : HasTaken stands (take count elements) old new
+
+-- The first outputs came, maybe none, and not all: of a line that brings one element, none.
+pub record HasAddedSome {A : Type 0} (stands : A → List Value → Type 0) (outputs : List Output) (old new : Table A) : Type 0 where
+  pub count : ℕ
+  pub less : count < length outputs
+  pub first : HasAdded stands (take count outputs) old new
+
+-- those came that stand before these last ones
+pub record HasTakenUpTo {A : Type 0} (stands : A → List Value → Type 0) (elements rest : List Element) (old new : Table A) : Type 0 where
+  pub front : List Element
+  pub all : front ++ rest ≡ elements
+  pub taken : HasTaken stands front old new

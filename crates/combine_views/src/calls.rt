@@ -1,16 +1,18 @@
 ghost use Rattle.std.specs.Prelude.{◌≡◌, ◌∷◌, [], slice_get, IfSome, Some};
 ghost use Rattle.beam_values.specs.Windows.{or_zero};
-ghost use Rattle.beam_values.specs.declared.plan.FnKind.TheVariants.{KeepPrefix};
-ghost use Rattle.beam_model.specs.Functions.{emits, later_by, number_arg};
+ghost use Rattle.beam_values.specs.declared.plan.FnKind.TheVariants.{KeepPrefix, Words};
+ghost use Rattle.beam_values.specs.declared.plan.Args.{Args as ArgsOf};
+ghost use Rattle.beam_model.specs.Functions.{emits, number_arg};
 ghost use Rattle.beam_model.specs.Texts.{fields};
 ghost use Rattle.combine_views.specs.Seen.{element_seen};
 ghost use Rattle.combine_views.specs.Told.{elements_told};
 
 use crate::Seen;
-use crate::texts::{begins_with, field, later};
+use crate::each_word::{EachWord, Shown};
+use crate::texts::{begins_with, field, shifted};
 use crate::told::Told;
 use beam_lines::key_field;
-use beam_values::{Args, FnKind, Time};
+use beam_values::{Args, FnKind};
 use combine_lift::View;
 use dofn_library::int_of;
 
@@ -21,6 +23,7 @@ pub fn given<'a>(work: FnKind, args: &Args, seen: &Seen<'a>) -> Option<Told<'a>>
 {
     match work {
         FnKind::KeepPrefix => kept(args, seen),
+        FnKind::Words => words_given(seen),
         _ => match one_given(work, args, seen) {
             Some(given) => Some(Told::One(given)),
             None => None,
@@ -40,6 +43,25 @@ fn kept<'a>(args: &Args, seen: &Seen<'a>) -> Option<Told<'a>>
             } else {
                 Some(Told::Nothing)
             }
+        }
+        _ => None,
+    }
+}
+
+/// What Words gives: each word as a text.
+fn words_given<'a>(seen: &Seen<'a>) -> Option<Told<'a>>
+    ensures { IfSome result (λ told. (args : ArgsOf)
+        → emits Words args (element_seen seen.now) ≡ Some (elements_told told)) }
+{
+    match (seen.key, seen.part) {
+        (None, View::Text(text)) => {
+            let each = EachWord {
+                key: None,
+                part: Shown::Word,
+                time: seen.time,
+                span: seen.span,
+            };
+            Some(Told::Words(text, each))
         }
         _ => None,
     }
@@ -91,16 +113,6 @@ fn numbered_field<'a>(args: &Args, text: &'a [u8]) -> Option<&'a [u8]>
 {
     match args {
         Args::Number(number) => field(text, usize::try_from(*number).unwrap_or(0)),
-        _ => None,
-    }
-}
-
-/// A time, later by the number among the arguments.
-fn shifted(args: &Args, time: Time) -> Option<Time>
-    ensures { IfSome result (λ shifted. shifted ≡ later_by (number_arg args.now) time) }
-{
-    match args {
-        Args::Number(delay) => later(time, *delay),
         _ => None,
     }
 }

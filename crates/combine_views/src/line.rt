@@ -2,12 +2,14 @@ ghost use Rattle.std.specs.Prelude.{◌≡◌, ◌<◌, ◌∷◌, [], length, I
 ghost use Rattle.std.specs.Bool.{OnFalse, OnTrue};
 ghost use Rattle.beam_model.specs.Spread.{emission_outputs};
 ghost use Rattle.combine_views.specs.Lines.{AreAtBarrier, HasAdded, HasTaken, emission_of_line};
+ghost use Rattle.combine_views.specs.Lines.{HasAddedSome, HasTakenSome};
 ghost use Rattle.combine_views.specs.Seen.{element_seen};
 ghost use Rattle.combine_views.specs.Told.{elements_told};
 
 use crate::Seen;
 use crate::passing::brought_by_text;
 use crate::told::Told;
+use crate::word_parts::add_words;
 use beam_lines::{TimedLine, timed_line};
 use beam_values::{NoMemory, SourceKind, Time};
 use combine_lift::{Combiner, Partials};
@@ -15,10 +17,11 @@ use pipeline_graph::Graph;
 use std::alloc::Global;
 
 /// The most parts that a table stands for.
-const MOST_PARTS: u64 = i64::MAX as u64;
+pub const MOST_PARTS: u64 = i64::MAX as u64;
 
 /// Adds what a line of a source brings to the Group, where views tell that, and answers whether they do. Where
-/// they don't, and where its part isn't taken, the table stays as it is.
+/// they don't, and where its part isn't taken, the table stays as it is. For want of memory the first of its
+/// words are added.
 pub fn add_line<C: Combiner>(
     alloc: Global,
     graph: &Graph,
@@ -32,7 +35,9 @@ pub fn add_line<C: Combiner>(
         (emission_outputs graph.now source (emission_of_line work line.now))
         partials.old partials.new)) }
     ensures kept { IfOk result (λ known. OnFalse known (partials.new ≡ partials.old)) }
-    ensures err { OnErr result (partials.new ≡ partials.old) }
+    ensures err { OnErr result (HasAddedSome C.stands
+        (emission_outputs graph.now source (emission_of_line work line.now))
+        partials.old partials.new) }
 {
     match brought(graph, source, work, line) {
         Some(told) => add_told(alloc, &told, partials),
@@ -66,11 +71,13 @@ fn add_told<C: Combiner>(
     ensures added { IfOk result (λ known. OnTrue known (HasTaken C.stands
         (elements_told told.now) partials.old partials.new)) }
     ensures kept { IfOk result (λ known. OnFalse known (partials.new ≡ partials.old)) }
-    ensures err { OnErr result (partials.new ≡ partials.old) }
+    ensures err { OnErr result (HasTakenSome C.stands
+        (elements_told told.now) partials.old partials.new) }
 {
     match told {
         Told::Nothing => Ok(true),
         Told::One(seen) => add_seen(alloc, seen, partials),
+        Told::Words(text, each) => add_words(alloc, text, each, partials),
     }
 }
 

@@ -1,4 +1,4 @@
-ghost use Rattle.std.specs.Prelude.{◌≡◌, ◌<◌, ◌∷◌, [], IfSome, length};
+ghost use Rattle.std.specs.Prelude.{◌≡◌, ◌<◌, ◌∷◌, [], ℕ, IfSome, length, List as ListOf};
 ghost use Rattle.beam_values.specs.Strategies.{IsAllowed};
 ghost use Rattle.beam_values.specs.Windows.{windows_of};
 ghost use Rattle.beam_model.specs.Chains.{chain};
@@ -10,9 +10,11 @@ ghost use Rattle.combine_views.specs.Lines.{AreAtBarrier};
 ghost use Rattle.combine_views.specs.Passing.{GoesOn, PutsOut};
 ghost use Rattle.combine_views.specs.Seen.{element_seen};
 ghost use Rattle.combine_views.specs.Told.{elements_told};
+ghost use Rattle.combine_views.specs.Words.{AreWordsAtBarrier, IsWord, element_of_word};
 
 use crate::Seen;
 use crate::calls::given;
+use crate::each_word::{EachWord, given_of_each};
 use crate::seen::all_of_time;
 use crate::told::Told;
 use beam_values::{NodeKind, Span, Strategy, Time};
@@ -50,6 +52,27 @@ fn at_group<'a>(graph: &Graph, from: u32, seen: &Seen<'a>) -> Option<Told<'a>>
         _ => match passed(kind, seen) {
             Some(Told::Nothing) => Some(Told::Nothing),
             Some(Told::One(passed)) => at_group(graph, next, &passed),
+            Some(Told::Words(text, each)) => match words_at_group(graph, next, &each) {
+                Some(there) => Some(Told::Words(text, there)),
+                None => None,
+            },
+            None => None,
+        },
+    }
+}
+
+/// What each word that a node puts out brings to the Group, where that is made of each in the same way.
+fn words_at_group(graph: &Graph, from: u32, each: &EachWord) -> Option<EachWord>
+    requires { from < length graph.now.nodes }
+    ensures { IfSome result (AreWordsAtBarrier graph.now from each.now) }
+{
+    let Some((next, kind)) = only_follower(graph, from) else {
+        return None;
+    };
+    match kind {
+        NodeKind::Group { .. } => Some(*each),
+        _ => match passed_of_each(kind, each) {
+            Some(passed) => words_at_group(graph, next, &passed),
             None => None,
         },
     }
@@ -81,6 +104,23 @@ fn passed<'a>(kind: &NodeKind, seen: &Seen<'a>) -> Option<Told<'a>>
         NodeKind::Flatten => Some(Told::One(seen.again())),
         NodeKind::WindowInto { strategy } => match only_window(strategy, seen.time) {
             Some(span) => Some(Told::One(Seen { span, ..*seen })),
+            None => None,
+        },
+        _ => None,
+    }
+}
+
+/// What a node of this kind puts out of each word, where that is one element, made of each in the same way.
+fn passed_of_each(kind: &NodeKind, each: &EachWord) -> Option<EachWord>
+    requires { HasSettings kind.now }
+    ensures { IfSome result (λ passed. (word : ListOf ℕ) → IsWord word
+        → PutsOut kind.now (element_of_word each.now word) (element_of_word passed word ∷ [])) }
+{
+    match kind {
+        NodeKind::ParDo { work, args } => given_of_each(*work, args, each),
+        NodeKind::Flatten => Some(*each),
+        NodeKind::WindowInto { strategy } => match only_window(strategy, each.time) {
+            Some(span) => Some(EachWord { span, ..*each }),
             None => None,
         },
         _ => None,

@@ -2,11 +2,11 @@
 
 ghost use Rattle.std.specs.Prelude.{◌≡◌, slice_get, IfSome};
 ghost use Rattle.std.specs.Option.{option_copied};
-ghost use Rattle.beam_model.specs.Functions.{later_by};
+ghost use Rattle.beam_model.specs.Functions.{later_by, number_arg};
 ghost use Rattle.beam_model.specs.Texts.{begins_with, fields};
 
 use beam_lines::key_field;
-use beam_values::Time;
+use beam_values::{Args, Time};
 
 /// The field of this number, counted from 0. Fields have a TAB between them.
 pub fn field(text: &[u8], number: usize) -> Option<&[u8]>
@@ -31,11 +31,21 @@ pub fn begins_with(text: &[u8], prefix: &[u8]) -> bool
 }
 
 /// The time so many milliseconds after one, or the greatest time.
-pub fn later(time: Time, delay: i64) -> Option<Time>
+fn later(time: Time, delay: i64) -> Option<Time>
     ensures { IfSome result (λ later. later ≡ later_by delay time) }
 {
     if delay < 0 {
         return None;
     }
     Time::new(time.ms().saturating_add(delay).min(Time::GREATEST_MS))
+}
+
+/// A time, later by the number among the arguments.
+pub fn shifted(args: &Args, time: Time) -> Option<Time>
+    ensures { IfSome result (λ shifted. shifted ≡ later_by (number_arg args.now) time) }
+{
+    match args {
+        Args::Number(delay) => later(time, *delay),
+        _ => None,
+    }
 }
