@@ -228,8 +228,8 @@ impl<C: Combiner> Partials<C> {
     }
 
     /// Takes all rows of another table: as they are where there is none here, and else in time that grows with
-    /// the rows of both, where both are settled or made by absorbing. For want of memory the other one is handed
-    /// back.
+    /// the rows of both, where each is settled, or made by absorbing such ones. For want of memory the other one is
+    /// handed back.
     pub fn absorb(&mut self, alloc: Global, other: Partials<C>) -> Result<(), Partials<C>>
         requires { self.old.parts + other.parts < 2 ^ 63 }
         ensures ok { OnOk result ((added more : ListOf AddedOf)

@@ -7,10 +7,11 @@
 //! Flatten, and global and fixed windows. Words passes where KeyField, Swap, Values, Shift, Flatten and such
 //! windows make the same of each word, and none of them brings a part of its own: then all parts are taken or
 //! none is. Whatever views can't tell is left to the objects: a line that is poison, a function that makes other
-//! values, a node that gives several elements, or has several followers.
+//! values, windows that overlap, or a node that has several followers.
 //!
 //! The layer above may rely on this: what was added of a line is exactly what the model says that it brings, and
-//! of any other line nothing was. Read `line.rt` first, then `told.rt`, `seen.rt` and `each_word.rt`.
+//! of any other line nothing was. For want of memory the first of what a line brings may have come to the table.
+//! Read `line.rt` first, then `told.rt`, `seen.rt` and `each_word.rt`.
 #![tactic(auto)]
 
 mod calls;

@@ -21,7 +21,7 @@ pub const MOST_PARTS: u64 = i64::MAX as u64;
 
 /// Adds what a line of a source brings to the Group, where views tell that, and answers whether they do. Where
 /// they don't, and where its part isn't taken, the table stays as it is. For want of memory the first of its
-/// words are added.
+/// words are added, maybe none, and not all.
 pub fn add_line<C: Combiner>(
     alloc: Global,
     graph: &Graph,

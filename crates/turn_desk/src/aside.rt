@@ -13,7 +13,7 @@ const SPINS: u32 = 63;
 const YIELDS: u32 = 16;
 
 impl<V: Held> Desk<V> {
-    /// Where so many passes are active, or four if that is more, one that enters parks, until there is room or one leaves.
+    /// Where so many passes are active, or four if that is more, one that enters parks, until another pass lets it in.
     pub fn limit_active(&self, most: u64) {
         self.parking.limit_active(most);
     }
@@ -57,7 +57,7 @@ impl<V: Held> Desk<V> {
         self.parking.turn_to(rt, &mut pass.waits, kind);
     }
 
-    /// The pass takes no more jobs, and others are let in again.
+    /// The pass takes no more jobs, and as many others are let in as may be active.
     pub fn leave<R: Wait>(&self, rt: &R, pass: &mut Pass<V>)
         requires desk { IsPassOf self.now pass.old }
         ensures desk { IsPassOf self.now pass.new }

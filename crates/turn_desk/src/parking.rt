@@ -224,7 +224,8 @@ impl Parking {
         }
     }
 
-    /// The pass has ended, and others are let in. It is counted out first, so there is room for one at least.
+    /// The pass has ended: it is counted out first, and then as many are let in as may be active. Where more were active
+    /// than that, none is.
     pub fn leave<R: Wait>(&self, rt: &R, waits: &mut Waits) {
         if waits.is_in {
             waits.is_in = false;
