@@ -1,5 +1,5 @@
 ghost use Rattle.std.specs.Prelude.{◌≡◌, ◌↔◌, ◌≢◌, ◌+◌, ◌<◌, ◌≤◌, [], ◌∷◌, ◌++◌, List, false};
-ghost use Rattle.std.specs.Prelude.{length, reverse, All, IsTrue, OnOk, OnErr, IfNone, IfSome};
+ghost use Rattle.std.specs.Prelude.{length, reverse, All, IsOk, IsTrue, OnOk, OnErr, IfNone, IfSome};
 ghost use Rattle.std.specs.Prelude.{MatchOption};
 ghost use Rattle.beam_values.specs.declared.piece.Done.{Done};
 ghost use Rattle.beam_values.specs.declared.piece.FileLen.{FileLen};
@@ -123,6 +123,23 @@ impl Pieces {
         ensures kept { self.old.room ≤ self.new.room }
     {
         self.keep_more(places as usize)
+    }
+
+    /// Keeps at least so many places. Where they are kept already, nothing changes and no memory is taken.
+    pub fn keep_at_least(&mut self, places: u32) -> Result<(), NoMemory>
+        ensures pending { self.new.pending ≡ self.old.pending }
+        ensures ok { OnOk result (places ≤ self.new.room) }
+        ensures err { OnErr result (self.new ≡ self.old) }
+        ensures kept { self.old.room ≤ self.new.room }
+        ensures had { places ≤ self.old.room → IsOk result }
+        ensures same { places ≤ self.old.room → self.new ≡ self.old }
+    {
+        let kept = self.places - self.items.len();
+        let places = places as usize;
+        if places <= kept {
+            return Ok(());
+        }
+        self.keep_more(places - kept)
     }
 
     fn keep_more(&mut self, more: usize) -> Result<(), NoMemory>

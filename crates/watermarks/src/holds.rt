@@ -1,5 +1,5 @@
 ghost use Rattle.std.specs.Prelude.{◌≡◌, ◌+◌, ◌<◌, ◌≤◌, [], ◌∷◌, List, ℤ};
-ghost use Rattle.std.specs.Prelude.{Contains, IsOk, OnOk, OnErr, MatchOption};
+ghost use Rattle.std.specs.Prelude.{length, Contains, IsOk, OnOk, OnErr, MatchOption};
 ghost use Rattle.beam_values.specs.Bags.{IsSameBag};
 ghost use Rattle.beam_values.specs.Marks.{least_mark};
 ghost use Rattle.watermarks.specs.Holds.{IsLeast};
@@ -67,6 +67,16 @@ impl Holds {
         self.listed.items.reserve(1)?;
         self.listed.add_kept(m);
         Ok(())
+    }
+
+    /// One more of a mark that is held already. Takes no memory, and uses no place.
+    pub fn add_again(&mut self, m: Mark)
+        requires held { Contains self.old.marks m }
+        requires few { length self.old.marks < 18446744073709551615 }
+        ensures added { IsSameBag self.new.marks (m ∷ self.old.marks) }
+        ensures kept { self.old.room ≤ self.new.room }
+    {
+        self.listed.add_again(m);
     }
 
     /// Takes one of the mark out. Its place is kept.

@@ -100,6 +100,21 @@ impl Listed {
         self.lowest = lowest;
     }
 
+    /// One more of a mark that is held. Takes no memory, and uses no place.
+    pub fn add_again(&mut self, m: Mark)
+        requires kept { AreKept self.old.items.items self.old.ordered self.old.first self.old.lowest }
+        requires held { Contains (marks_of self.old.items.items) m }
+        requires few { length (marks_of self.old.items.items) < 18446744073709551615 }
+        ensures kept { AreKept self.new.items.items self.new.ordered self.new.first self.new.lowest }
+        ensures added { IsSameBag (marks_of self.new.items.items)
+            (m ∷ marks_of self.old.items.items) }
+        ensures fewer { vec_len self.new.items ≤ vec_len self.old.items }
+        ensures capacity { vec_capacity self.new.items ≡ vec_capacity self.old.items }
+    {
+        let at = self.place_to_take(m);
+        self.raise_at(at);
+    }
+
     /// One of a mark goes, whose place is kept.
     pub fn remove(&mut self, m: Mark)
         requires kept { AreKept self.old.items.items self.old.ordered self.old.first self.old.lowest }
@@ -206,6 +221,21 @@ impl Listed {
         self.first = first_held(self.items.as_slice(), self.first, self.ordered);
     }
 
+    fn raise_at(&mut self, at: usize)
+        requires kept { AreKept self.old.items.items self.old.ordered self.old.first self.old.lowest }
+        requires within { at < length self.old.items.items }
+        requires held { (d : HeldOf) → 0 < (slice_index_or self.old.items.items at d).count }
+        requires room { (d : HeldOf)
+            → (slice_index_or self.old.items.items at d).count + 1 < 2 ^ 64 }
+        ensures kept { AreKept self.new.items.items self.new.ordered self.new.first self.new.lowest }
+        ensures added { (d : HeldOf) → IsSameBag (marks_of self.new.items.items)
+            ((slice_index_or self.old.items.items at d).mark ∷ marks_of self.old.items.items) }
+        ensures len { vec_len self.new.items ≡ vec_len self.old.items }
+        ensures capacity { vec_capacity self.new.items ≡ vec_capacity self.old.items }
+    {
+        raise(self.items.as_mut_slice(), at);
+    }
+
     fn put_in_order(&mut self)
         ensures kept { AreKept self.new.items.items self.new.ordered self.new.first self.new.lowest }
         ensures same { IsSameBag (marks_of self.old.items.items) (marks_of self.new.items.items) }
@@ -266,7 +296,7 @@ fn raise_last(items: &mut [Held])
         ((slice_index_or items.old (length items.old - 1) d).mark ∷ marks_of items.old) }
 {
     let last = items.len() - 1;
-    items[last].count += 1;
+    raise(items, last);
 }
 
 /// Where a mark is held behind the items that ascend, the last first, where these are few.
@@ -376,6 +406,22 @@ fn first_held(items: &[Held], from: usize, to: usize) -> usize
         at += 1;
     }
     at
+}
+
+/// One more of the mark at a place.
+fn raise(items: &mut [Held], at: usize)
+    requires within { at < length items.old }
+    requires room { (d : HeldOf) → (slice_index_or items.old at d).count + 1 < 2 ^ 64 }
+    ensures marks { (k : ℕ) (d : HeldOf)
+        → (slice_index_or items.new k d).mark ≡ (slice_index_or items.old k d).mark }
+    ensures counts { (k : ℕ) (d : HeldOf)
+        → (slice_index_or items.old k d).count ≤ (slice_index_or items.new k d).count }
+    ensures others { (k : ℕ) (d : HeldOf) → (k ≡ at → ⊥)
+        → slice_index_or items.new k d ≡ slice_index_or items.old k d }
+    ensures added { (d : HeldOf) → IsSameBag (marks_of items.new)
+        ((slice_index_or items.old at d).mark ∷ marks_of items.old) }
+{
+    items[at].count += 1;
 }
 
 /// One of the marks at a place goes.

@@ -1,4 +1,4 @@
-use Rattle.std.proofs.Common.{◌≡◌, ◌∷◌, ◌-◌, List, ℤ, arith, length, subst, sym}
+use Rattle.std.proofs.Common.{◌≡◌, ◌∷◌, List, ℤ, arith, length, subst, sym}
 use Rattle.std.proofs.lemmas.List.{take_at}
 use Rattle.beam_values.specs.Bags.{IsSameBag}
 use Rattle.watermarks.specs.declared.listed.Held.{Held}

@@ -1,4 +1,4 @@
-use Rattle.std.proofs.Common.{◌≡◌, ◌∙◌, ◌+◌, ◌∷◌, ◌++◌, [], List, ap, arith, length, subst, sym}
+use Rattle.std.proofs.Common.{◌≡◌, ◌+◌, ◌∷◌, ◌++◌, [], List, arith, length, subst, sym}
 use Rattle.watermarks.specs.declared.listed.Held.{Held}
 use Rattle.watermarks.specs.HeldMarks.{AreKept}
 use Rattle.watermarks.proofs.KeptMarks.{held, kept_later}
