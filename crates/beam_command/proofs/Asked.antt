@@ -17,7 +17,7 @@ use Rattle.bundle_work.specs.Kits.{EachBecomes, observed_shelves, sum_rises, tol
 use Rattle.bundle_work.specs.declared.kit.Kit.{Kit}
 use Rattle.run_engine.specs.Kits.{observed_each}
 use Rattle.run_engine.specs.Openings.{HasFailed, HasLength, IsFirstAbsent, IsOpeningRefused}
-use Rattle.run_engine.specs.PlanRun.{surroundings_of}
+use Rattle.run_engine.specs.PlanRun.{IsEndedBy, IsOutcomeWhere, surroundings_of}
 use Rattle.command_ends.specs.declared.status.Status.{Status}
 use Rattle.command_ends.specs.declared.status.Status.TheVariants as status
 use Rattle.beam_command.specs.Asking.{IsPlanOf, report_of}
@@ -30,7 +30,7 @@ use Rattle.command_ends.specs.PlanFiles.{IsPlanRefused}
 use Rattle.beam_command.specs.Kits.{observed_at, observed_in_use}
 use Rattle.beam_command.specs.Pipelines.{IsGraphEnd}
 use Rattle.beam_command.specs.declared.pipeline.Report.TheVariants.{Rendering}
-use Rattle.beam_command.proofs.Graphs.{spent_since, stopped_since}
+use Rattle.beam_command.proofs.Graphs.{spent_since, stopped_since, through_since}
 use Rattle.beam_command.proofs.Stores.{rise_since, tells_first}
 
 -- ---- a pipeline that was asked for
@@ -109,10 +109,13 @@ module _ (shelf : ObservedShelf) (told : Option (List FileText)) (less more : �
       → IsDocumentRefused at_call asked options.attempts s ⊎ AreSourcesRefused at_call asked options.attempts s ⊎ (s ≡ status.NoMemory)
   unbegun s why = elim why [ inl is ↦ inr (inl (first, plan, is_first, of_first, refused s is)) | inr none ↦ inr (inr none) ]
 
+  ended : (o : Outcome) → IsOutcomeWhere (surroundings_of at_run.kits) plan options (IsEndedBy at_run.kits) o → IsOutcomeWhere (surroundings_of at_call.kits) plan options (IsEndedBy at_call.kits) o
+  ended o run = through_since shelf told less more stores since grows (surroundings_of at_run.kits) plan options o run
+
   -- the run of its plan is its own
   pub pipeline_end : (s : Status) (outcome : Option Outcome) → IsGraphEnd at_run plan options (report_of asked) failed s outcome → IsPipelineEnd at_call asked options s outcome
-  pipeline_end status.Ok outcome end = (end.1.0, end.1.1, (plan, of, end.0, end.1.2), end.1.3)
-  pipeline_end status.SinkFault outcome end = (end.1.0, end.1.1, (plan, of, end.0, end.1.2), end.1.3)
+  pipeline_end status.Ok outcome end = (end.1.0, end.1.1, (plan, of, end.0, ended end.1.0 end.1.2), end.1.3)
+  pipeline_end status.SinkFault outcome end = (end.1.0, end.1.1, (plan, of, end.0, ended end.1.0 end.1.2), end.1.3)
   pipeline_end (status.WorkFault note) outcome end = (
     end.0,
     (end.2.0, end.2.1, (plan, of, end.1, stopped_since shelf told less more stores since grows (surroundings_of at_run.kits) plan options note end.2.0 end.2.2)),

@@ -12,10 +12,11 @@ use Rattle.beam_values.specs.declared.outcome.StopCause.TheVariants as stop
 use Rattle.beam_values.specs.declared.plan.Plan.{Plan}
 use Rattle.beam_ports.specs.Counts.{rise}
 use Rattle.beam_ports.specs.Observed.{ObservedStore, WhereTold}
-use Rattle.book_core.specs.Book.{SeenBook}
+use Rattle.book_core.specs.Book.{SeenBook, sets_aside}
 use Rattle.book_core.specs.Runs.{AreTold, HonestlyReached}
 use Rattle.book_core.specs.Work.{Surroundings}
-use Rattle.ended_runs.specs.Unpoisoned.{TakesNoPoison}
+use Rattle.ended_runs.specs.DeadLetters.{HasNoPoisonPosition, IsStoppedByRead}
+use Rattle.ended_runs.specs.Unpoisoned.{TakesNoPoison, TakesNoPoisonBeside}
 use Rattle.command_words.specs.Commands.{Asked, Help, Panes, Run, Replay, Make, Drill, Combine}
 use Rattle.bundle_work.specs.Openings.{file_names}
 use Rattle.run_engine.specs.Openings.{HasChanged, HasFailed, IsOpeningRefused, failed_before}
@@ -23,7 +24,7 @@ use Rattle.run_engine.specs.PlanRun.{IsStoppedBy, surroundings_of}
 use Rattle.command_ends.specs.declared.status.Status.{Status}
 use Rattle.command_ends.specs.declared.status.Status.TheVariants as status
 use Rattle.beam_command.specs.Asking.{IsPlanOf, IsPlanRead, WherePipeline}
-use Rattle.beam_command.specs.Completeness.{AreFaultsFew, AreKitFaultsFew, AreReadFaultsFew, HasCleanInputs, HasInputs, IsChange, IsEndOfClean, IsEndOfFewFaults, IsStrict}
+use Rattle.beam_command.specs.Completeness.{AreFaultsFew, AreKitFaultsFew, AreReadFaultsFew, HasCleanInputs, HasCleanPositions, HasInputs, HasInputsAside, IsChange, IsEndOfClean, IsEndOfFewFaults, IsNoReadFault, IsStrict}
 use Rattle.beam_command.specs.Ends.{AreSourcesRefused, IsDocumentRefused, IsEndOf, IsOutcomeOfAsked, IsPipelineEnd}
 use Rattle.beam_command.specs.Observing.{Observed, AreFound}
 use Rattle.command_ends.specs.PlanFiles.{IsPlanRefused}
@@ -314,58 +315,129 @@ few_faults (Some (Drill count number options)) observed of_one s outcome end = �
 
 -- ---- a shelf that fails on poison alone
 
-module _ (observed : Observed) (of_one : AreOfOne observed.kits) (s : Status) (outcome : Option Outcome)
-    (by_reads : (known : Surroundings) (told : List FileText) (b : SeenBook) (note : FaultNote) → known.told ≡ Some told → known.strict ≡ true → AreTold told b
-    → TakesNoPoison known b.plan b.options → HonestlyReached known b → b.stopped ≡ Some (stop.Spent note) → b.options.attempts ≤ b.reads) where
-  module _ (told : List FileText) (tells : observed.kits.store.files ≡ Some told) (own : Asked) (options : Options) (strict : observed.kits.shelf.strict ≡ true)
-      (inputs : HasCleanInputs told own options) (few : AreReadFaultsFew options.attempts observed) where
-    takes_none : (plan : Plan) (own_options : Options) → plan ≡ inputs.0 → own_options ≡ options → TakesNoPoison (surroundings_of observed.kits) plan own_options
-    takes_none plan own_options same with_options =
-        let known : record { told = Some told; strict = true } ≡ surroundings_of observed.kits = λ i. record { told = sym tells i; strict = sym strict i } in
-        subst (λ (k : Surroundings). TakesNoPoison k plan own_options) known
-        (subst (λ (p : Plan). TakesNoPoison (record { told = Some told; strict = true }) p own_options) (sym same)
-        (subst (λ (o : Options). TakesNoPoison (record { told = Some told; strict = true }) inputs.0 o) (sym with_options) inputs.3))
+module _ (observed : Observed) (of_one : AreOfOne observed.kits) (s : Status) (outcome : Option Outcome) where
+  module _ (told : List FileText) (tells : observed.kits.store.files ≡ Some told) (own : Asked) (options : Options) where
+    -- a pipeline comes to its end whose inputs are there, which isn't given up, and where few faults of the store and the sink were counted
+    module _ (inputs : HasInputs told own) (few : AreReadFaultsFew options.attempts observed)
+        (goes_on : (note : FaultNote) (o : Outcome) → IsOutcomeOfAsked observed own options (IsStoppedBy observed.kits note) o → ⊥) where
+      unstarted : (it : Status)
+          → (IsDocumentRefused observed own options.attempts it ⊎ AreSourcesRefused observed own options.attempts it ⊎ (it ≡ status.NoMemory)) → IsEndOfClean it
+      unstarted it why = inr (began observed of_one told tells options.attempts few.store own inputs it why)
 
-    -- what was given up failed by reads, and the store counted them
-    not_given_up : (note : FaultNote) (o : Outcome) → IsOutcomeOfAsked observed own options (IsStoppedBy observed.kits note) o → ⊥
-    not_given_up note o run =
-        let book = run.3.book in
-        let plan = run.3.of_plan ∙ plan_is observed.kits.store told tells own inputs.0 run.0 inputs.1 run.1 in
-        let many = by_reads (surroundings_of observed.kits) told book note tells strict (run.3.lengths told tells)
-        (takes_none book.plan book.options plan run.3.with_options) run.3.reached run.3.is.noted in
-        let limit : book.options.attempts ≡ options.attempts = ap (λ (o : Options). o.attempts) run.3.with_options in
-        absurd (omega (arith, many, limit, run.3.is.reads, few.store))
+      strictly_completes : (it : Status) → IsPipelineEnd observed own options it outcome → IsEndOfClean it
+      strictly_completes status.Ok end = inl refl
+      strictly_completes status.SinkFault end = absurd (omega (arith, end.3.2.0, few.out))
+      strictly_completes (status.WorkFault note) end = absurd (goes_on note end.1.0 end.1.2)
+      strictly_completes (status.NoSource name) end = unstarted (status.NoSource name) end.2
+      strictly_completes (status.SourceFault kit) end = unstarted (status.SourceFault kit) end.2
+      strictly_completes (status.FileChanged name len other) end = unstarted (status.FileChanged name len other) end.2
+      strictly_completes (status.BadPlan refusal) end = unstarted (status.BadPlan refusal) end.2
+      strictly_completes status.NoMemory end = unstarted status.NoMemory end.2
+      strictly_completes status.Help end = unstarted status.Help end.2
+      strictly_completes status.Usage end = unstarted status.Usage end.2
+      strictly_completes (status.BadSchedule why) end = unstarted (status.BadSchedule why) end.2
+      strictly_completes (status.NotLifted why) end = unstarted (status.NotLifted why) end.2
 
-    unstarted : (it : Status)
-        → (IsDocumentRefused observed own options.attempts it ⊎ AreSourcesRefused observed own options.attempts it ⊎ (it ≡ status.NoMemory)) → IsEndOfClean it
-    unstarted it why = inr (began observed of_one told tells options.attempts few.store own (inputs.0, inputs.1, inputs.2) it why)
+    module _ (strict : observed.kits.shelf.strict ≡ true) where
+      -- what holds of the plan over these files holds of the plan of a book in the surroundings of its run
+      takes_here : (Takes : Surroundings → Plan → Options → Type 0) (wanted plan : Plan) (own_options : Options) → plan ≡ wanted → own_options ≡ options
+          → Takes (record { told = Some told; strict = true }) wanted options → Takes (surroundings_of observed.kits) plan own_options
+      takes_here Takes wanted plan own_options same with_options takes =
+          let known : record { told = Some told; strict = true } ≡ surroundings_of observed.kits = λ i. record { told = sym tells i; strict = sym strict i } in
+          subst (λ (k : Surroundings). Takes k plan own_options) known
+          (subst (λ (p : Plan). Takes (record { told = Some told; strict = true }) p own_options) (sym same)
+          (subst (λ (o : Options). Takes (record { told = Some told; strict = true }) wanted o) (sym with_options) takes))
 
-    strictly_completes : (it : Status) → IsPipelineEnd observed own options it outcome → IsEndOfClean it
-    strictly_completes status.Ok end = inl refl
-    strictly_completes status.SinkFault end = absurd (omega (arith, end.3.2.0, few.out))
-    strictly_completes (status.WorkFault note) end = absurd (not_given_up note end.1.0 end.1.2)
-    strictly_completes (status.NoSource name) end = unstarted (status.NoSource name) end.2
-    strictly_completes (status.SourceFault kit) end = unstarted (status.SourceFault kit) end.2
-    strictly_completes (status.FileChanged name len other) end = unstarted (status.FileChanged name len other) end.2
-    strictly_completes (status.BadPlan refusal) end = unstarted (status.BadPlan refusal) end.2
-    strictly_completes status.NoMemory end = unstarted status.NoMemory end.2
-    strictly_completes status.Help end = unstarted status.Help end.2
-    strictly_completes status.Usage end = unstarted status.Usage end.2
-    strictly_completes (status.BadSchedule why) end = unstarted (status.BadSchedule why) end.2
-    strictly_completes (status.NotLifted why) end = unstarted (status.NotLifted why) end.2
+      module _ (wanted : Plan) (is_wanted : IsPlanOf (Some told) own wanted) (note : FaultNote) (o : Outcome)
+          (run : IsOutcomeOfAsked observed own options (IsStoppedBy observed.kits note) o) where
+        plan_wanted : run.3.book.plan ≡ wanted
+        plan_wanted = run.3.of_plan ∙ plan_is observed.kits.store told tells own wanted run.0 is_wanted run.1
 
-  -- so it comes to its end where it takes no poison and few faults of the store were counted
-  pub complete_strict : (asked : Option Asked) → IsEndOf asked observed s outcome
-      → WherePipeline asked (λ own options. IsStrict observed.kits.shelf
-      → WhereTold observed.kits.store.files (λ told. HasCleanInputs told own options → AreReadFaultsFew options.attempts observed → IsEndOfClean s))
-  complete_strict None end = tt
-  complete_strict (Some Help) end = tt
-  complete_strict (Some (Panes file size options)) end = λ strict told tells inputs few.
-      strictly_completes told tells (Panes file size options) options strict inputs few s end
-  complete_strict (Some (Run name options)) end = λ strict told tells inputs few.
-      strictly_completes told tells (Run name options) options strict inputs few s end
-  complete_strict (Some (Replay name schedule options)) end = tt
-  complete_strict (Some (Combine name options)) end = tt
-  complete_strict (Some (Make count number)) end = tt
-  complete_strict (Some (Drill count number options)) end = λ strict told tells inputs few.
-      strictly_completes told tells (Drill count number options) options strict inputs few s end
+        -- where it is given up only by as many reads as a job has attempts, the store counted these
+        few_fail : run.3.book.options.attempts ≤ run.3.book.reads → rise observed.kits.store.before observed.kits.store.after < options.attempts → ⊥
+        few_fail many few = absurd (omega (arith, many, ap (λ (x : Options). x.attempts) run.3.with_options, run.3.is.reads, few))
+
+        none_fails : 1 ≤ run.3.book.reads → rise observed.kits.store.before observed.kits.store.after ≡ 0 → ⊥
+        none_fails some none = absurd (omega (arith, some, run.3.is.reads, none))
+
+  -- it takes no poison
+  module _ (by_reads : (known : Surroundings) (told : List FileText) (b : SeenBook) (note : FaultNote) → known.told ≡ Some told → known.strict ≡ true → AreTold told b
+      → TakesNoPoison known b.plan b.options → HonestlyReached known b → b.stopped ≡ Some (stop.Spent note) → b.options.attempts ≤ b.reads) where
+    clean_ends : (told : List FileText) → observed.kits.store.files ≡ Some told → (own : Asked) (options : Options) → observed.kits.shelf.strict ≡ true → HasCleanInputs told own options
+        → AreReadFaultsFew options.attempts observed → IsPipelineEnd observed own options s outcome → IsEndOfClean s
+    clean_ends told tells own options strict inputs few end =
+        strictly_completes told tells own options (inputs.0, inputs.1, inputs.2) few
+        (λ note o run.
+        let same = plan_wanted told tells own options strict inputs.0 inputs.1 note o run in
+        let takes = takes_here told tells own options strict TakesNoPoison inputs.0 run.3.book.plan run.3.book.options same run.3.with_options inputs.3 in
+        few_fail told tells own options strict inputs.0 inputs.1 note o run
+        (by_reads (surroundings_of observed.kits) told run.3.book note tells strict (run.3.lengths told tells) takes run.3.reached run.3.is.noted) few.store)
+        s end
+
+    -- so it comes to its end where few faults of the store were counted
+    pub complete_strict : (asked : Option Asked) → IsEndOf asked observed s outcome
+        → WherePipeline asked (λ own options. IsStrict observed.kits.shelf
+        → WhereTold observed.kits.store.files (λ told. HasCleanInputs told own options → AreReadFaultsFew options.attempts observed → IsEndOfClean s))
+    complete_strict None end = tt
+    complete_strict (Some Help) end = tt
+    complete_strict (Some (Panes file size options)) end = λ strict told tells inputs few. clean_ends told tells (Panes file size options) options strict inputs few end
+    complete_strict (Some (Run name options)) end = λ strict told tells inputs few. clean_ends told tells (Run name options) options strict inputs few end
+    complete_strict (Some (Replay name schedule options)) end = tt
+    complete_strict (Some (Combine name options)) end = tt
+    complete_strict (Some (Make count number)) end = tt
+    complete_strict (Some (Drill count number options)) end = λ strict told tells inputs few. clean_ends told tells (Drill count number options) options strict inputs few end
+
+  -- it sets positions aside, and takes no batch and no key job that is poison
+  module _ (by_read : (known : Surroundings) (b : SeenBook) → known.strict ≡ true → sets_aside b.plan ≡ true → WhereTold known.told (λ told. AreTold told b)
+      → TakesNoPoisonBeside known b.plan b.options → HonestlyReached known b → IsStoppedByRead b) where
+    aside_ends : (told : List FileText) → observed.kits.store.files ≡ Some told → (own : Asked) (options : Options) → observed.kits.shelf.strict ≡ true → HasInputsAside told own options
+        → IsNoReadFault options.attempts observed → IsPipelineEnd observed own options s outcome → IsEndOfClean s
+    aside_ends told tells own options strict inputs none end =
+        strictly_completes told tells own options (inputs.0, inputs.1, inputs.2) (record { store = omega (arith, none.store, none.out); out = none.out })
+        (λ note o run.
+        let same = plan_wanted told tells own options strict inputs.0 inputs.1 note o run in
+        let takes = takes_here told tells own options strict TakesNoPoisonBeside inputs.0 run.3.book.plan run.3.book.options same run.3.with_options inputs.4 in
+        let read = by_read (surroundings_of observed.kits) run.3.book strict (ap sets_aside same ∙ inputs.3) run.3.lengths takes run.3.reached note run.3.is.noted in
+        none_fails told tells own options strict inputs.0 inputs.1 note o run read.1 none.store)
+        s end
+
+    -- so it comes to its end where no read failed
+    pub complete_aside : (asked : Option Asked) → IsEndOf asked observed s outcome
+        → WherePipeline asked (λ own options. IsStrict observed.kits.shelf
+        → WhereTold observed.kits.store.files (λ told. HasInputsAside told own options → IsNoReadFault options.attempts observed → IsEndOfClean s))
+    complete_aside None end = tt
+    complete_aside (Some Help) end = tt
+    complete_aside (Some (Panes file size options)) end = λ strict told tells inputs none. aside_ends told tells (Panes file size options) options strict inputs none end
+    complete_aside (Some (Run name options)) end = λ strict told tells inputs none. aside_ends told tells (Run name options) options strict inputs none end
+    complete_aside (Some (Replay name schedule options)) end = tt
+    complete_aside (Some (Combine name options)) end = tt
+    complete_aside (Some (Make count number)) end = tt
+    complete_aside (Some (Drill count number options)) end = λ strict told tells inputs none. aside_ends told tells (Drill count number options) options strict inputs none end
+
+  -- no position is poison, nor a batch or a key job that it takes
+  module _ (by_reads : (known : Surroundings) (told : List FileText) (b : SeenBook) (note : FaultNote) → known.told ≡ Some told → known.strict ≡ true → AreTold told b
+      → HasNoPoisonPosition told b.plan → TakesNoPoisonBeside known b.plan b.options → HonestlyReached known b → b.stopped ≡ Some (stop.Spent note) → b.options.attempts ≤ b.reads) where
+    positions_end : (told : List FileText) → observed.kits.store.files ≡ Some told → (own : Asked) (options : Options) → observed.kits.shelf.strict ≡ true → HasCleanPositions told own options
+        → AreReadFaultsFew options.attempts observed → IsPipelineEnd observed own options s outcome → IsEndOfClean s
+    positions_end told tells own options strict inputs few end =
+        strictly_completes told tells own options (inputs.0, inputs.1, inputs.2) few
+        (λ note o run.
+        let same = plan_wanted told tells own options strict inputs.0 inputs.1 note o run in
+        let takes = takes_here told tells own options strict TakesNoPoisonBeside inputs.0 run.3.book.plan run.3.book.options same run.3.with_options inputs.4 in
+        few_fail told tells own options strict inputs.0 inputs.1 note o run
+        (by_reads (surroundings_of observed.kits) told run.3.book note tells strict (run.3.lengths told tells) (subst (HasNoPoisonPosition told) (sym same) inputs.3) takes run.3.reached
+        run.3.is.noted) few.store)
+        s end
+
+    -- so it comes to its end where few faults of the store were counted
+    pub complete_positions : (asked : Option Asked) → IsEndOf asked observed s outcome
+        → WherePipeline asked (λ own options. IsStrict observed.kits.shelf
+        → WhereTold observed.kits.store.files (λ told. HasCleanPositions told own options → AreReadFaultsFew options.attempts observed → IsEndOfClean s))
+    complete_positions None end = tt
+    complete_positions (Some Help) end = tt
+    complete_positions (Some (Panes file size options)) end = λ strict told tells inputs few. positions_end told tells (Panes file size options) options strict inputs few end
+    complete_positions (Some (Run name options)) end = λ strict told tells inputs few. positions_end told tells (Run name options) options strict inputs few end
+    complete_positions (Some (Replay name schedule options)) end = tt
+    complete_positions (Some (Combine name options)) end = tt
+    complete_positions (Some (Make count number)) end = tt
+    complete_positions (Some (Drill count number options)) end = λ strict told tells inputs few. positions_end told tells (Drill count number options) options strict inputs few end

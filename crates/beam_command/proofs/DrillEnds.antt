@@ -14,14 +14,13 @@ use Rattle.beam_values.specs.declared.outcome.Outcome.{Outcome}
 use Rattle.beam_values.specs.declared.plan.Plan.{Plan}
 use Rattle.beam_ports.specs.Observed.{ObservedSink}
 use Rattle.book_core.specs.Book.{SeenBook}
-use Rattle.book_core.specs.Runs.{IsEnded}
 use Rattle.book_core.specs.Work.{Surroundings}
 use Rattle.bundle_work.specs.Bundles.{IsCountedAs}
 use Rattle.bundle_work.specs.Openings.{file_names}
 use Rattle.command_words.specs.Commands.{Drill}
 use Rattle.run_engine.specs.Kits.{ObservedKits}
 use Rattle.run_engine.specs.Openings.{IsOpeningRefused}
-use Rattle.run_engine.specs.PlanRun.{IsOutcomeWhere, IsSpent, IsStoppedBy, surroundings_of}
+use Rattle.run_engine.specs.PlanRun.{IsEndedBy, IsOutcomeWhere, IsSpent, IsStoppedBy, surroundings_of}
 use Rattle.command_ends.specs.declared.status.Status.{Status}
 use Rattle.command_ends.specs.declared.status.Status.TheVariants as status
 use Rattle.beam_command.specs.DrillPlans.{drill_plan}
@@ -82,7 +81,10 @@ module _ (count number : ℕ) (plan : Plan) (of : plan ≡ drill_plan count numb
       spent attempts note is = record { attempt = is.attempt; counted = is.counted; cause = counted_as note.cause is.cause }
 
       stopped : (note : FaultNote) (b : SeenBook) → IsStoppedBy seen note b → IsStoppedBy kits note b
-      stopped note b is = record { noted = is.noted; calls = is.calls; reads = is.reads }
+      stopped note b is = record { noted = is.noted; beside = is.beside; calls = is.calls; reads = is.reads }
+
+      ended : (b : SeenBook) → IsEndedBy seen b → IsEndedBy kits b
+      ended b is = record { ended = is.ended; calls = is.calls; reads = is.reads }
 
       refused : (attempts failed : ℕ) (s : Status) → IsOpeningRefused seen.stores plan attempts failed s → IsOpeningRefused kits.stores plan attempts failed s
       refused attempts failed (status.NoSource name) is = absurd (no_name is.before is.after name (sym names_are ∙ is.names_are))
@@ -109,9 +111,9 @@ module _ (count number : ℕ) (plan : Plan) (of : plan ≡ drill_plan count numb
 
         ends_over_none : (s : Status) (outcome : Option Outcome) → Ends seen s outcome → Ends kits s outcome
         ends_over_none status.Ok outcome end =
-            (found (Some []), (end.1.0, end.1.1, outcome_told (surroundings_of seen) IsEnded IsEnded end.1.0 (λ b is. is) end.1.2, end.1.3))
+            (found (Some []), (end.1.0, end.1.1, outcome_told (surroundings_of seen) (IsEndedBy seen) (IsEndedBy kits) end.1.0 ended end.1.2, end.1.3))
         ends_over_none status.SinkFault outcome end =
-            (found (Some []), (end.1.0, end.1.1, outcome_told (surroundings_of seen) IsEnded IsEnded end.1.0 (λ b is. is) end.1.2, end.1.3))
+            (found (Some []), (end.1.0, end.1.1, outcome_told (surroundings_of seen) (IsEndedBy seen) (IsEndedBy kits) end.1.0 ended end.1.2, end.1.3))
         ends_over_none (status.WorkFault note) outcome end = (
           end.0,
           found (Some []),

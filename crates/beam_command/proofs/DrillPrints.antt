@@ -1,5 +1,5 @@
 -- What a drill prints, whatever its kits told, counted and did.
-use Rattle.std.proofs.Common.{◌≡◌, ℕ, true, List, [], map, Option, Some, None, refl, sym, ap, subst, ◌∙◌}
+use Rattle.std.proofs.Common.{◌≡◌, ℕ, true, false, List, [], map, Option, Some, None, refl, sym, ap, subst, ◌∙◌}
 use Rattle.std.specs.List.{All}
 use Rattle.beam_values.specs.Checked.{IsChecked}
 use Rattle.beam_values.specs.Nodes.{is_write}
@@ -12,14 +12,14 @@ use Rattle.beam_model.specs.Plain.{ArePlainlyWritten, ArePlainlyWrittenWhere}
 use Rattle.beam_model.specs.Positions.{items, item_len}
 use Rattle.beam_model.specs.Rendering.{summary}
 use Rattle.beam_ports.specs.Observed.{WhereTold}
-use Rattle.book_core.specs.Book.{SeenBook}
+use Rattle.book_core.specs.Book.{SeenBook, sets_aside}
 use Rattle.book_core.specs.Calls.{IsOutcomeOf}
 use Rattle.book_core.specs.Facts.{AreAtWrites}
-use Rattle.book_core.specs.Runs.{AreTold, HonestlyReached, IsEnded, IsThrough, Reached}
+use Rattle.book_core.specs.Runs.{AreTold, HonestlyReached, IsThrough, Reached}
 use Rattle.book_core.specs.Work.{Surroundings}
 use Rattle.command_words.specs.Commands.{Asked, Help, Panes, Run, Replay, Make, Drill, Combine}
 use Rattle.ended_runs.specs.Storable.{ArePanesStorable}
-use Rattle.run_engine.specs.PlanRun.{surroundings_of}
+use Rattle.run_engine.specs.PlanRun.{IsEndedBy, surroundings_of}
 use Rattle.command_ends.specs.declared.status.Status.{Status}
 use Rattle.command_ends.specs.declared.status.Status.TheVariants as status
 use Rattle.beam_command.specs.Asking.{WhereDrill}
@@ -39,10 +39,11 @@ drill_always count number files o checked is plain = λ told tells. drill_plainl
 module _ (observed : Observed) (runs : (known : Surroundings) (b : SeenBook) → HonestlyReached known b → Reached known.told b)
     (writes : (told : Option (List FileText)) (b : SeenBook) → Reached told b → AreAtWrites b)
     (plainly : (told : List FileText) (b : SeenBook) (o : Outcome) → Reached (Some told) b → AreTold told b → IsThrough b → IsOutcomeOf b o → ArePanesStorable o
-    → ArePlainlyWrittenWhere (items told b.plan) o) where
+    → ArePlainlyWrittenWhere (items told b.plan) o)
+    (none_aside : (told : Option (List FileText)) (b : SeenBook) (o : Outcome) → Reached told b → sets_aside b.plan ≡ false → IsOutcomeOf b o → o.dead ≡ []) where
   module _ (none : observed.kits.store.files ≡ Some []) (count number : ℕ) (options : Options) where
     -- the outcome of a drill is summed up in its text
-    text_of : (o : Outcome) → IsOutcomeOfAsked observed (Drill count number options) options IsEnded o → IsDrillText count number (summary o)
+    text_of : (o : Outcome) → IsOutcomeOfAsked observed (Drill count number options) options (IsEndedBy observed.kits) o → IsDrillText count number (summary o)
     text_of o run =
         let book = run.3.book in
         let same = run.3.of_book.plan in
@@ -50,10 +51,10 @@ module _ (observed : Observed) (runs : (known : Surroundings) (b : SeenBook) →
         let lengths = run.3.lengths [] none in
         let over_none = subst (λ (files : Option (List FileText)). Reached files book) none reached in
         let written = subst (λ (p : Plan). All (λ arrival. is_write p arrival.node ≡ true) book.written) (sym same) (writes observed.kits.store.files book reached).written in
-        drill_text count number o (checked_of (surroundings_of observed.kits) run.0 options IsEnded o run.3) (same ∙ run.3.of_plan ∙ run.1) run.3.of_book.dead
+        drill_text count number o (checked_of (surroundings_of observed.kits) run.0 options (IsEndedBy observed.kits) o run.3) (same ∙ run.3.of_plan ∙ run.1) (none_aside observed.kits.store.files book o reached (ap sets_aside (run.3.of_plan ∙ run.1)) run.3.of_book)
         (run.3.of_book.files ∙ lengths ∙ ap (λ (p : Plan). map item_len (items [] p)) (sym same))
         (subst (λ (w : List Arrival). All (λ arrival. is_write o.plan arrival.node ≡ true) w) (sym run.3.of_book.written) written)
-        (subst (λ (p : Plan). ArePlainlyWrittenWhere (items [] p) o) (sym same) (plainly [] book o over_none lengths run.3.is.through run.3.of_book run.3.storable))
+        (subst (λ (p : Plan). ArePlainlyWrittenWhere (items [] p) o) (sym same) (plainly [] book o over_none lengths run.3.is.ended.through run.3.of_book run.3.storable))
 
     printed : (s : Status) (outcome : Option Outcome) → IsPipelineEnd observed (Drill count number options) options s outcome
         → IsDrillPrinted observed.out options.attempts count number s

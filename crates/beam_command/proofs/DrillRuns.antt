@@ -51,7 +51,7 @@ module _ (count number : ℕ) where
     given_same (job.Span piece) attempted receipt given =
         let upto = worked_to piece attempted in
         let known = subst (λ (whole : Bool). IsWorkOnRange whole told plan piece upto receipt) (known_whole told piece.node) given.0 in
-        (subst (λ (l : List SourceItem). IsWorkOnItem plan piece upto (item_at l piece.node piece.item) receipt) (items_same told) known, given.1)
+        (subst (λ (l : List SourceItem). IsWorkOnItem plan piece upto (item_at l piece.node piece.item) receipt) (items_same told) known, given.1, given.2)
     given_same (job.Batch node first panes attempts) attempted receipt given = given
     given_same (job.Key node cell key span inputs state timers attempts) attempted receipt given = given
 

@@ -17,12 +17,12 @@ use Rattle.beam_values.specs.declared.outcome.Outcome.{Outcome}
 use Rattle.beam_values.specs.declared.plan.Plan.{Plan}
 use Rattle.beam_ports.specs.Files.{Opening}
 use Rattle.beam_ports.specs.declared.store.Opened.{Opened}
-use Rattle.book_core.specs.Runs.{IsEnded}
+use Rattle.book_core.specs.Book.{SeenBook}
 use Rattle.book_core.specs.Work.{Surroundings}
 use Rattle.bundle_work.specs.Bundles.{IsCountedAs}
 use Rattle.bundle_work.specs.Openings.{AreOpened, file_names}
 use Rattle.run_engine.specs.Kits.{ObservedKits}
-use Rattle.run_engine.specs.PlanRun.{IsOutcomeWhere, IsPlanEnd, IsSpent, IsStoppedBy, surroundings_of}
+use Rattle.run_engine.specs.PlanRun.{IsEndedBy, IsOutcomeWhere, IsPlanEnd, IsSpent, IsStoppedBy, surroundings_of}
 use Rattle.command_ends.specs.declared.status.Status.{Status}
 use Rattle.command_ends.specs.declared.status.Status.TheVariants as status
 use Rattle.beam_command.specs.Observing.{Observed, AreFound, IsUnwritten}
@@ -51,7 +51,7 @@ are_found files opened plan kept are = λ told is. opened_are_found files told i
 
 -- the text of a run that came to its end was written, or was not
 pub printed_end : (observed : Observed) (plan : Plan) (options : Options) (report : Report) (failed : ℕ) (o : Outcome) (s : Status) (outcome : Option Outcome) → AreFound observed.kits.store.files plan
-    → IsOutcomeWhere (surroundings_of observed.kits) plan options IsEnded o → IsRunPrinted observed.out options.attempts report o s outcome
+    → IsOutcomeWhere (surroundings_of observed.kits) plan options (IsEndedBy observed.kits) o → IsRunPrinted observed.out options.attempts report o s outcome
     → IsGraphEnd observed plan options report failed s outcome
 printed_end observed plan options report failed o status.Ok outcome there run printed = (there, (o, printed.0, run, printed.1))
 printed_end observed plan options report failed o status.SinkFault outcome there run printed = (there, (o, printed.0, run, printed.1))
@@ -67,6 +67,20 @@ printed_end observed plan options report failed o (status.BadSchedule why) outco
 printed_end observed plan options report failed o (status.NotLifted why) outcome there run printed = absurd printed
 
 -- ---- a run, seen from a call that began before it
+
+-- what holds of the book of an outcome
+outcome_where : (known : Surroundings) (plan : Plan) (options : Options) (P Q : SeenBook → Type 0) (o : Outcome) → ((b : SeenBook) → P b → Q b) → IsOutcomeWhere known plan options P o
+    → IsOutcomeWhere known plan options Q o
+outcome_where known plan options P Q o holds run = record {
+  book = run.book;
+  reached = run.reached;
+  of_plan = run.of_plan;
+  with_options = run.with_options;
+  lengths = run.lengths;
+  is = holds run.book run.is;
+  of_book = run.of_book;
+  storable = run.storable;
+}
 
 -- the store counted at least as much in the whole call
 module _ (shelf : ObservedShelf) (files : Option (List FileText)) (less more : ℕ) (stores since : List ObservedStore) (grows : less ≤ more) where
@@ -90,20 +104,20 @@ module _ (shelf : ObservedShelf) (files : Option (List FileText)) (less more : �
   -- what stopped a run stopped it also in the call
   pub stopped_since : (known : Surroundings) (plan : Plan) (options : Options) (note : FaultNote) (o : Outcome)
       → IsOutcomeWhere known plan options (IsStoppedBy in_run note) o → IsOutcomeWhere known plan options (IsStoppedBy in_call note) o
-  stopped_since known plan options note o run = record {
-    book = run.book;
-    reached = run.reached;
-    of_plan = run.of_plan;
-    with_options = run.with_options;
-    lengths = run.lengths;
-    is = record { noted = run.is.noted; calls = run.is.calls; reads = omega (arith, run.is.reads, rises) };
-    of_book = run.of_book;
-    storable = run.storable;
-  }
+  stopped_since known plan options note o run =
+      outcome_where known plan options (IsStoppedBy in_run note) (IsStoppedBy in_call note) o
+      (λ b is. record { noted = is.noted; beside = is.beside; calls = is.calls; reads = omega (arith, is.reads, rises) }) run
+
+  -- and what failed in a run that came to its end was counted also in the call
+  pub through_since : (known : Surroundings) (plan : Plan) (options : Options) (o : Outcome)
+      → IsOutcomeWhere known plan options (IsEndedBy in_run) o → IsOutcomeWhere known plan options (IsEndedBy in_call) o
+  through_since known plan options o run =
+      outcome_where known plan options (IsEndedBy in_run) (IsEndedBy in_call) o
+      (λ b is. record { ended = is.ended; calls = is.calls; reads = omega (arith, is.reads, rises) }) run
 
   -- the end of a run is one also of the call
   pub ended_since : (plan : Plan) (options : Options) (s : Status) (outcome : Option Outcome) → IsPlanEnd in_run plan options s outcome → IsPlanEnd in_call plan options s outcome
-  ended_since plan options status.Ok outcome end = end
+  ended_since plan options status.Ok outcome end = (end.0, end.1, through_since (surroundings_of in_run) plan options end.0 end.2)
   ended_since plan options (status.WorkFault note) outcome end =
       ((end.0.0, end.0.1, stopped_since (surroundings_of in_run) plan options note end.0.0 end.0.2), spent_since options.attempts note end.1)
   ended_since plan options status.NoMemory outcome end = end

@@ -1,5 +1,5 @@
 -- How `panes` ends where little or nothing outside fails, and that no run over poison ends Ok.
-use Rattle.std.proofs.Common.{◌≡◌, ◌⊎◌, inl, inr, ℕ, zero, suc, ◌+◌, ◌<◌, ◌≤◌, ℤ, true, cond, List, [], ◌∷◌, ◌++◌, map, Option, Some, None, IsSome, refl, sym, ap, subst, ◌∙◌, arith}
+use Rattle.std.proofs.Common.{◌≡◌, ◌⊎◌, inl, inr, ℕ, zero, suc, ◌+◌, ◌<◌, ◌≤◌, ℤ, true, false, cond, List, [], ◌∷◌, ◌++◌, map, Option, Some, None, IsSome, refl, sym, ap, subst, ◌∙◌, arith}
 use Rattle.std.specs.List.{All, list_any, count_by}
 use Rattle.std.proofs.lemmas.Bool.{false≢true}
 use Rattle.std.proofs.lemmas.List.Elements.{All-cons, All-head, All-nil}
@@ -26,9 +26,9 @@ use Rattle.beam_model.specs.Spread.{HasPoison, is_poison, spread_all}
 use Rattle.beam_model.proofs.DeadPositions.{without_none}
 use Rattle.beam_ports.specs.Counts.{Rose, rise}
 use Rattle.beam_ports.specs.Observed.{WhereTold}
-use Rattle.book_core.specs.Book.{SeenBook}
+use Rattle.book_core.specs.Book.{SeenBook, sets_aside}
 use Rattle.book_core.specs.Facts.{AreKept}
-use Rattle.book_core.specs.Runs.{AreTold, HonestlyReached, IsEnded, Reached}
+use Rattle.book_core.specs.Runs.{AreTold, HonestlyReached, Reached}
 use Rattle.book_core.specs.Work.{Surroundings}
 use Rattle.command_words.specs.Commands.{Asked, Help, Panes, Run, Replay, Make, Drill, Combine}
 use Rattle.command_words.specs.Rules.{Asks, ByDefault, ForHelp, ForPanes, ForRun, ForReplay, ForMake, ForCombine, ForDrill, Given, IsValue}
@@ -40,7 +40,7 @@ use Rattle.bundle_work.specs.Bundles.{IsCountedAs}
 use Rattle.bundle_work.specs.Openings.{file_names}
 use Rattle.run_engine.specs.Openings.{IsOpeningRefused}
 use Rattle.command_ends.specs.Statuses.{IsNoSourceOrNoMemory}
-use Rattle.run_engine.specs.PlanRun.{IsStoppedBy, surroundings_of}
+use Rattle.run_engine.specs.PlanRun.{IsEndedBy, IsStoppedBy, surroundings_of}
 use Rattle.command_ends.specs.declared.status.Status.{Status}
 use Rattle.command_ends.specs.declared.status.Status.TheVariants as status
 use Rattle.beam_command.specs.Asking.{IsPlanOf, WherePanes}
@@ -115,13 +115,14 @@ some_attempts _ _ (ForDrill program words parts count number options are two giv
 
 module _ (asked : Option Asked) (observed : Observed) (told : List FileText) (tells : observed.kits.store.files ≡ Some told) where
   -- an outcome of a run that came to its end is of a plan without poison
-  pub unpoisoned : (own : Asked) (options : Options) (o : Outcome) → asked ≡ Some own → IsOutcomeOfAsked observed own options IsEnded o
-      → WhereTold observed.kits.store.files (λ told. IsAccounted (items told o.plan) o) → AsksForPoison told asked → ⊥
-  unpoisoned own options o is run account poison =
+  pub unpoisoned : (own : Asked) (options : Options) (o : Outcome) → asked ≡ Some own → IsOutcomeOfAsked observed own options (IsEndedBy observed.kits) o
+      → WhereTold observed.kits.store.files (λ told. IsAccounted (items told o.plan) o) → (sets_aside o.plan ≡ false → o.dead ≡ []) → AsksForPoison told asked → ⊥
+  unpoisoned own options o is run account none_aside poison =
       let kept = subst (λ (a : Option Asked). IsPlanAsked observed.kits.store.files a o.plan) is (plan_kept asked observed own options o is run) in
       let asks = subst (λ (a : Option Asked). IsPlanAsked (Some told) a poison.0) is poison.1 in
       let same = plan_is observed.kits.store told tells own poison.0 o.plan asks kept in
-      accounted-no_poison (items told o.plan) o (nothing_left_out (items told o.plan) o run.3.of_book.dead) (account told tells) (subst (λ (p : Plan). HasPoison p (items told p)) (sym same) poison.2)
+      accounted-no_poison (items told o.plan) o (nothing_left_out (items told o.plan) o (none_aside (ap sets_aside same ∙ poison.2))) (account told tells)
+      (subst (λ (p : Plan). HasPoison p (items told p)) (sym same) poison.3)
 
 -- what is so of the outcome of a run that came to its end is so at Ok, where a plan is asked for
 ran : (asked : Option Asked) (plan : Plan) (told : List FileText) (s : Status) (outcome : Option Outcome) (Q : Type 0) → IsPlanAsked (Some told) asked plan
@@ -137,10 +138,12 @@ ran (Some (Drill count number options)) plan told s outcome Q of run is = (subst
 
 -- so no run over poison ends Ok
 pub not_ok : (asked : Option Asked) (observed : Observed)
-    → ((own : Asked) (options : Options) (o : Outcome) → asked ≡ Some own → IsOutcomeOfAsked observed own options IsEnded o → WhereTold observed.kits.store.files (λ told. IsAccounted (items told o.plan) o))
+    → ((own : Asked) (options : Options) (o : Outcome) → asked ≡ Some own → IsOutcomeOfAsked observed own options (IsEndedBy observed.kits) o → WhereTold observed.kits.store.files (λ told. IsAccounted (items told o.plan) o))
+    → ((own : Asked) (options : Options) (o : Outcome) → asked ≡ Some own → IsOutcomeOfAsked observed own options (IsEndedBy observed.kits) o → sets_aside o.plan ≡ false → o.dead ≡ [])
     → (s : Status) (outcome : Option Outcome) → IsEndOf asked observed s outcome → WhereTold observed.kits.store.files (λ told. AsksForPoison told asked → s ≡ status.Ok → ⊥)
-not_ok asked observed account s outcome end = λ told tells poison is.
-    let run = promised asked observed (λ o. ⊥) (λ own options o same run. unpoisoned asked observed told tells own options o same run (account own options o same run) poison) s outcome end in
+not_ok asked observed account none_aside s outcome end = λ told tells poison is.
+    let run = promised asked observed (λ options o. ⊥)
+    (λ own options o same run. unpoisoned asked observed told tells own options o same run (account own options o same run) (none_aside own options o same run) poison) s outcome end in
     absurd (ran asked poison.0 told s outcome ⊥ poison.1 run is)
 
 -- ---- the ends of `panes`
@@ -222,7 +225,7 @@ module _ (observed : Observed) (of_one : AreOfOne observed.kits) (told : List Fi
     unbegun : (s : Status) → Begins s → s ≡ status.NoMemory
     unbegun s why = began observed of_one told tells options.attempts few own inputs s why
 
-    module _ (strict : observed.kits.shelf.strict ≡ true) (never : (o : Outcome) → IsOutcomeOfAsked observed own options IsEnded o → ⊥) where
+    module _ (strict : observed.kits.shelf.strict ≡ true) (never : (o : Outcome) → IsOutcomeOfAsked observed own options (IsEndedBy observed.kits) o → ⊥) where
       faulted : (note : FaultNote) (o : Outcome) → IsOutcomeOfAsked observed own options (IsStoppedBy observed.kits note) o → (cause : Cause) → note.cause ≡ cause
           → IsCountedAs observed.kits.shelf observed.kits.store cause → IsEndOfPoison options (status.WorkFault note)
       faulted note o run Call is counted = inl (ap (λ (n : FaultNote). status.WorkFault n) (stops strict note o run is).0)
@@ -270,21 +273,23 @@ module _ (observed : Observed) (of_one : AreOfOne observed.kits) (s : Status) (o
         (found.0 ∙ ap first_fault run.3.with_options, found.1)
 
     pub poison : (asked : Option Asked) → ((own : Asked) → asked ≡ Some own → HasAttempts own)
-        → ((own : Asked) (options : Options) (o : Outcome) → asked ≡ Some own → IsOutcomeOfAsked observed own options IsEnded o → WhereTold observed.kits.store.files (λ told. IsAccounted (items told o.plan) o))
+        → ((own : Asked) (options : Options) (o : Outcome) → asked ≡ Some own → IsOutcomeOfAsked observed own options (IsEndedBy observed.kits) o
+        → WhereTold observed.kits.store.files (λ told. IsAccounted (items told o.plan) o))
+        → ((own : Asked) (options : Options) (o : Outcome) → asked ≡ Some own → IsOutcomeOfAsked observed own options (IsEndedBy observed.kits) o → sets_aside o.plan ≡ false → o.dead ≡ [])
         → IsEndOf asked observed s outcome
         → WherePanes asked (λ file size options. HasNotFailed observed.kits.store → IsStrict observed.kits.shelf
         → WhereTold observed.kits.store.files (λ told. IsSome (first_named file told) → AsksForPoison told asked → IsEndOfPoison options s))
-    poison None tried account end = tt
-    poison (Some Help) tried account end = tt
-    poison (Some (Run name options)) tried account end = tt
-    poison (Some (Replay name schedule options)) tried account end = tt
-    poison (Some (Combine name options)) tried account end = tt
-    poison (Some (Make count number)) tried account end = tt
-    poison (Some (Drill count number options)) tried account end = tt
-    poison (Some (Panes file size options)) tried account end = λ whole strict told tells found asks.
+    poison None tried account none_aside end = tt
+    poison (Some Help) tried account none_aside end = tt
+    poison (Some (Run name options)) tried account none_aside end = tt
+    poison (Some (Replay name schedule options)) tried account none_aside end = tt
+    poison (Some (Combine name options)) tried account none_aside end = tt
+    poison (Some (Make count number)) tried account none_aside end = tt
+    poison (Some (Drill count number options)) tried account none_aside end = tt
+    poison (Some (Panes file size options)) tried account none_aside end = λ whole strict told tells found asks.
         let own = Panes file size options in
         poison_ends observed of_one told tells file size options (tried own refl) whole found (stopped told tells file size options) strict
-        (λ o run. unpoisoned (Some own) observed told tells own options o refl run (account own options o refl run) asks) s outcome end
+        (λ o run. unpoisoned (Some own) observed told tells own options o refl run (account own options o refl run) (none_aside own options o refl run) asks) s outcome end
 
     pub clean : ((known : Surroundings) (told : List FileText) (b : SeenBook) (note : FaultNote) → known.told ≡ Some told → known.strict ≡ true → AreTold told b
         → TakesNoPoison known b.plan b.options → HonestlyReached known b → b.stopped ≡ Some (stop.Spent note) → b.options.attempts ≤ b.reads)
@@ -301,7 +306,7 @@ module _ (observed : Observed) (of_one : AreOfOne observed.kits) (s : Status) (o
     clean by_reads (Some (Panes file size options)) end = λ few shelf told tells found never.
         let own = Panes file size options in
         let seen : Surroundings = record { told = Some told; strict = true } in
-        let none = takes_none file size told (λ poison. never (panes_plan file size, refl, poison)) options (λ b reached. kept (Some told) b (runs seen b reached)) in
+        let none = takes_none file size told (λ poison. never (panes_plan file size, refl, refl, poison)) options (λ b reached. kept (Some told) b (runs seen b reached)) in
         elim shelf [
           | inl strict ↦
               complete_strict observed of_one s outcome by_reads (Some own) end strict told tells

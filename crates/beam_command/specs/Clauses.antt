@@ -1,5 +1,5 @@
 -- What the clauses of a command speak of, and what they say, each in one word.
-use Rattle.std.specs.Prelude.{◌≡◌, ℕ, ◌≤◌, List, [], length, map, Option, Some, None, Vec, IfSome}
+use Rattle.std.specs.Prelude.{◌≡◌, ℕ, ◌≤◌, false, List, [], length, map, Option, Some, None, Vec, IfSome}
 use Rattle.std.specs.declared.alloc.Global.{Global}
 use Rattle.std.specs.declared.string.String.{String}
 use Rattle.beam_ports.specs.Observed.{ObservedSink, WhereTold}
@@ -13,16 +13,18 @@ use Rattle.beam_model.specs.Plain.{ArePlainlyWritten, ArePlainlyWrittenWhere}
 use Rattle.beam_model.specs.Positions.{item_len, items}
 use Rattle.command_words.specs.Commands.{Asked, Panes, Run, Replay, Drill, Combine, command_of, words_of}
 use Rattle.dofn_traits.specs.declared.shelf.Shelf.{Ghosts as ShelfGhosts}
+use Rattle.book_core.specs.Book.{sets_aside}
 use Rattle.bundle_work.specs.Kits.{EachBecomes}
 use Rattle.bundle_work.specs.declared.kit.Kit.{Kit}
+use Rattle.run_engine.specs.SetAside.{HasDeadLetters}
 use Rattle.run_engine.specs.declared.run_end.RunEnd.{RunEnd}
 use Rattle.command_ends.specs.Writing.{IsWritten}
 use Rattle.command_ends.specs.declared.status.Status.{Status}
 use Rattle.command_ends.specs.declared.status.Status.TheVariants as status
-use Rattle.beam_command.specs.Asking.{WhereDrill}
+use Rattle.beam_command.specs.Asking.{WhereDrill, WherePipeline}
 use Rattle.beam_command.specs.Drilling.{IsDrillText}
 use Rattle.beam_command.specs.Observing.{Observed, AreFound}
-use Rattle.beam_command.specs.Ends.{IsEndOf}
+use Rattle.beam_command.specs.Ends.{HasRun, IsEndOf}
 use Rattle.beam_command.specs.Kits.{AreKitsLeft, IsOutcomeOfKits, TriesUnbegun, in_use, observed_in_use, told_files, told_for}
 use Rattle.beam_command.specs.Promises.{AsksPlainPlan, IsPlanAsked}
 use Rattle.beam_command.specs.ReplayEnds.{text_attempts}
@@ -93,12 +95,17 @@ pub record IsOfAsked (asking : Asking) (o : Outcome) : Type 0 where
   pub found : AreFound asking.files o.plan
   pub lengths : WhereTold asking.files (λ told. o.files ≡ map item_len (items told o.plan))
 
--- each offset of each item is in exactly one committed range, and no position is set aside
+-- each offset of each item is in exactly one committed range or is a dead position, and there is none of a plan of version 1
 pub record IsPartitioned (o : Outcome) : Type 0 where
   pub cover : IsCovered o
-  pub no_dead : o.dead ≡ []
+  pub no_dead : sets_aside o.plan ≡ false → o.dead ≡ []
 
--- where the files are told: what arrived is what flows, each once
+-- its dead positions, of a run that came to its end
+abbrev pub SetsAside : Option Asked → Observed → RunEnd → Type 0
+SetsAside asked observed end =
+    WherePipeline asked (λ own options. HasRun end.status end.outcome (HasDeadLetters observed.kits options.attempts))
+
+-- where the files are told: what arrived is what flows, each once, but for the dead positions
 abbrev pub IsAccountedFor : Asking → Outcome → Type 0
 IsAccountedFor asking o = WhereTold asking.files (λ told. IsAccounted (items told o.plan) o)
 

@@ -1,5 +1,5 @@
 -- How a command must end where little or nothing outside fails: then the files decide.
-use Rattle.std.specs.Prelude.{◌≡◌, ◌⊎◌, true, ℕ, ◌+◌, ◌<◌, ◌≤◌, List, Option, Some, None, IsSome}
+use Rattle.std.specs.Prelude.{◌≡◌, ◌⊎◌, true, false, ℕ, ◌+◌, ◌<◌, ◌≤◌, List, Option, Some, None, IsSome}
 use Rattle.beam_values.specs.Files.{first_named}
 use Rattle.beam_values.specs.declared.fault.Cause.TheVariants.{Call}
 use Rattle.beam_values.specs.declared.fault.FaultNote.{FaultNote}
@@ -12,7 +12,9 @@ use Rattle.beam_model.specs.Spread.{HasPoison}
 use Rattle.beam_ports.specs.Counts.{Rose, rise}
 use Rattle.beam_ports.specs.Observed.{ObservedSink, ObservedStore, WhereTold}
 use Rattle.chain_exec.specs.Causes.{ObservedShelf}
-use Rattle.ended_runs.specs.Unpoisoned.{TakesNoPoison}
+use Rattle.book_core.specs.Book.{sets_aside}
+use Rattle.ended_runs.specs.DeadLetters.{HasNoPoisonPosition}
+use Rattle.ended_runs.specs.Unpoisoned.{TakesNoPoison, TakesNoPoisonBeside}
 use Rattle.beam_text.specs.declared.refusal.ScheduleRefusal.{ScheduleRefusal}
 use Rattle.beam_text.specs.declared.refusal.ScheduleRefusal.TheVariants as refusal
 use Rattle.command_words.specs.Commands.{Asked}
@@ -31,9 +33,9 @@ use Rattle.beam_command.specs.ReplayEnds.{AreInputsOf, IsRefusedOf, Replayed}
 
 -- ---- what is asked for
 
--- of these files, a position that the plan reads is poison
+-- of these files, a position is poison that a plan reads which sets none aside
 abbrev pub AsksForPoison : List FileText → Option Asked → Type 0
-AsksForPoison told asked = (plan : Plan) × IsPlanAsked (Some told) asked plan × HasPoison plan (items told plan)
+AsksForPoison told asked = (plan : Plan) × IsPlanAsked (Some told) asked plan × (sets_aside plan ≡ false) × HasPoison plan (items told plan)
 
 -- the plan is there, and so is each file that it reads
 abbrev pub HasInputs : List FileText → Asked → Type 0
@@ -43,6 +45,18 @@ HasInputs told asked = (plan : Plan) × IsPlanOf (Some told) asked plan × AreFo
 abbrev pub HasCleanInputs : List FileText → Asked → Options → Type 0
 HasCleanInputs told asked options =
     (plan : Plan) × IsPlanOf (Some told) asked plan × AreFound (Some told) plan × TakesNoPoison (record { told = Some told; strict = true }) plan options
+
+-- the same, of a plan that sets positions aside, and no run of it takes a batch or a key job that is poison
+abbrev pub HasInputsAside : List FileText → Asked → Options → Type 0
+HasInputsAside told asked options =
+    (plan : Plan) × IsPlanOf (Some told) asked plan × AreFound (Some told) plan × (sets_aside plan ≡ true)
+    × TakesNoPoisonBeside (record { told = Some told; strict = true }) plan options
+
+-- the plan is there with its files, no position is poison, and no run of it takes a batch or a key job that is
+abbrev pub HasCleanPositions : List FileText → Asked → Options → Type 0
+HasCleanPositions told asked options =
+    (plan : Plan) × IsPlanOf (Some told) asked plan × AreFound (Some told) plan × HasNoPoisonPosition told plan
+    × TakesNoPoisonBeside (record { told = Some told; strict = true }) plan options
 
 -- a position of the plan of this file is poison
 abbrev pub ReadsPoison : List FileText → List ℕ → Type 0
@@ -106,6 +120,11 @@ pub record AreFaultsFew (attempts : ℕ) (observed : Observed) : Type 0 where
 -- so few in all stores together and in the sink, however many the shelves counted
 pub record AreReadFaultsFew (attempts : ℕ) (observed : Observed) : Type 0 where
   pub store : rise observed.kits.store.before observed.kits.store.after < attempts
+  pub out : rise observed.out.before observed.out.after < attempts
+
+-- none in all stores together, and so few in the sink, however many the shelves counted
+pub record IsNoReadFault (attempts : ℕ) (observed : Observed) : Type 0 where
+  pub store : rise observed.kits.store.before observed.kits.store.after ≡ 0
   pub out : rise observed.out.before observed.out.after < attempts
 
 -- ---- the ends
@@ -176,7 +195,7 @@ pub record IsDecided (asked : Option Asked) (observed : Observed) (end : RunEnd)
   -- no line of that file is poison, and few reads and writes fail
   pub clean : WherePanes asked (λ file size options. AreReadFaultsFew options.attempts observed → FailsOnPoison observed.kits.shelf
       → WhereTold observed.kits.store.files (λ told. IsSome (first_named file told) → (AsksForPoison told asked → ⊥) → IsEndOfClean end.status))
-  -- no pipeline ends Ok of which a position is poison
+  -- no pipeline ends Ok of which a position is poison, but where positions are set aside
   pub not_ok : WhereTold observed.kits.store.files (λ told. AsksForPoison told asked → end.status ≡ status.Ok → ⊥)
   -- all files of the pipeline are there, and few faults are counted
   pub complete : WherePipeline asked (λ own options.
@@ -184,6 +203,12 @@ pub record IsDecided (asked : Option Asked) (observed : Observed) (end : RunEnd)
   -- no run of the plan takes a job that is poison, over strict shelves, and few reads and writes fail
   pub complete_strict : WherePipeline asked (λ own options. IsStrict observed.kits.shelf
       → WhereTold observed.kits.store.files (λ told. HasCleanInputs told own options → AreReadFaultsFew options.attempts observed → IsEndOfClean end.status))
+  -- positions are set aside, and no run takes a batch or a key job that is poison, over strict shelves; no read fails, and few writes do
+  pub complete_aside : WherePipeline asked (λ own options. IsStrict observed.kits.shelf
+      → WhereTold observed.kits.store.files (λ told. HasInputsAside told own options → IsNoReadFault options.attempts observed → IsEndOfClean end.status))
+  -- no position is poison, nor a batch or a key job that a run takes, over strict shelves, and few reads and writes fail
+  pub complete_positions : WherePipeline asked (λ own options. IsStrict observed.kits.shelf
+      → WhereTold observed.kits.store.files (λ told. HasCleanPositions told own options → AreReadFaultsFew options.attempts observed → IsEndOfClean end.status))
   -- what a replay works on is there, and few reads and writes fail, however many calls of functions do
   pub replay : WhereReplay asked (λ name schedule options. AreReadFaultsFew options.attempts observed
       → WhereTold observed.kits.store.files (λ told. HasReplayInputs told name schedule → IsEndOfReplay end.status))

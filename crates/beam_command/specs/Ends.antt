@@ -6,11 +6,10 @@ use Rattle.beam_values.specs.declared.plan.Plan.{Plan}
 use Rattle.beam_model.specs.Rendering.{IsRendering, summary}
 use Rattle.beam_ports.specs.Observed.{ObservedStore, ObservedSink}
 use Rattle.book_core.specs.Book.{SeenBook}
-use Rattle.book_core.specs.Runs.{IsEnded}
 use Rattle.command_words.specs.Commands.{Asked, Help, Panes, Run, Replay, Make, Drill, Combine}
 use Rattle.command_words.specs.HelpText.{help_text}
 use Rattle.run_engine.specs.Openings.{IsOpeningRefused}
-use Rattle.run_engine.specs.PlanRun.{IsOutcomeWhere, IsSpent, IsStoppedBy, surroundings_of}
+use Rattle.run_engine.specs.PlanRun.{IsEndedBy, IsOutcomeWhere, IsSpent, IsStoppedBy, surroundings_of}
 use Rattle.run_engine.specs.declared.run_end.RunEnd.{RunEnd}
 use Rattle.command_ends.specs.PlanFiles.{IsPlanRefused}
 use Rattle.command_ends.specs.Writing.{IsWritten}
@@ -59,7 +58,7 @@ IsOutcomeOfAsked observed asked options P o =
 -- the run came to its end, and what is printed of it was written
 abbrev pub IsRunThrough : Observed → Asked → Options → Status → Option Outcome → Type 0
 IsRunThrough observed asked options s outcome =
-    (o : Outcome) × (outcome ≡ Some o) × IsOutcomeOfAsked observed asked options IsEnded o × IsPrinted observed.out options.attempts (report_of asked) s o
+    (o : Outcome) × (outcome ≡ Some o) × IsOutcomeOfAsked observed asked options (IsEndedBy observed.kits) o × IsPrinted observed.out options.attempts (report_of asked) s o
 
 abbrev pub IsPipelineEnd : Observed → Asked → Options → Status → Option Outcome → Type 0
 IsPipelineEnd observed asked options status.Ok outcome = IsRunThrough observed asked options status.Ok outcome

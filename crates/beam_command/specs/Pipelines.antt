@@ -4,9 +4,8 @@ use Rattle.beam_ports.specs.Observed.{ObservedSink}
 use Rattle.beam_values.specs.declared.options.Options.{Options}
 use Rattle.beam_values.specs.declared.outcome.Outcome.{Outcome}
 use Rattle.beam_values.specs.declared.plan.Plan.{Plan}
-use Rattle.book_core.specs.Runs.{IsEnded}
 use Rattle.run_engine.specs.Openings.{IsOpeningRefused}
-use Rattle.run_engine.specs.PlanRun.{IsOutcomeWhere, IsSpent, IsStoppedBy, surroundings_of}
+use Rattle.run_engine.specs.PlanRun.{IsEndedBy, IsOutcomeWhere, IsSpent, IsStoppedBy, surroundings_of}
 use Rattle.command_ends.specs.declared.status.Status.{Status}
 use Rattle.command_ends.specs.declared.status.Status.TheVariants as status
 use Rattle.beam_command.specs.declared.pipeline.Report.{Report}
@@ -24,7 +23,7 @@ IsRunPrinted out attempts report o _ outcome = ⊥
 abbrev pub IsGraphThrough : Observed → Plan → Options → Report → Status → Option Outcome → Type 0
 IsGraphThrough observed plan options report s outcome =
     AreFound observed.kits.store.files plan
-    × ((o : Outcome) × (outcome ≡ Some o) × IsOutcomeWhere (surroundings_of observed.kits) plan options IsEnded o × IsPrinted observed.out options.attempts report s o)
+    × ((o : Outcome) × (outcome ≡ Some o) × IsOutcomeWhere (surroundings_of observed.kits) plan options (IsEndedBy observed.kits) o × IsPrinted observed.out options.attempts report s o)
 
 abbrev pub IsGraphEnd : Observed → Plan → Options → Report → ℕ → Status → Option Outcome → Type 0
 IsGraphEnd observed plan options report failed status.Ok outcome = IsGraphThrough observed plan options report status.Ok outcome

@@ -20,7 +20,7 @@ ghost use Rattle.beam_command.specs.Completeness.{EndsWhereFewFail, IsDecided};
 ghost use Rattle.beam_command.specs.Clauses.{asked_by, asking, attempts_of, observed_by, EndsAsAsked};
 ghost use Rattle.beam_command.specs.Clauses.{EndsWithOpened, IsAccountedFor, IsOfAsked};
 ghost use Rattle.beam_command.specs.Clauses.{IsPartitioned, IsPlain, LeavesKits, LeavesNothing};
-ghost use Rattle.beam_command.specs.Clauses.{PrintsDrill, TriesInUse};
+ghost use Rattle.beam_command.specs.Clauses.{PrintsDrill, SetsAside, TriesInUse};
 
 use crate::combines::run_combine;
 use crate::pipeline::{Report, ended, run_graph};
@@ -35,9 +35,11 @@ use command_words::laws::words_ask_by_the_rules;
 use command_words::{Command, Usage, help_text, read_words};
 use dofn_traits::Shelf;
 use ended_runs::laws::{
-    nothing_is_set_aside, outcomes_are_accounted, outcomes_are_covered,
+    dead_positions_are_poison, nothing_is_set_aside, outcomes_are_accounted, outcomes_are_covered,
     outcomes_are_plainly_written, outcomes_have_legal_logs, outcomes_have_legal_panes,
-    runs_without_poison_fail_by_reads, stops_are_honest,
+    outcomes_have_their_dead_letters, runs_that_set_aside_are_stopped_by_reads,
+    runs_without_poison_fail_by_reads, runs_without_poison_positions_fail_by_reads,
+    stops_are_honest,
 };
 use run_engine::{Kit, RunEnd, Status};
 use std::alloc::Global;
@@ -76,12 +78,17 @@ pub fn beam_main<R: Threads + Wait + Sync, F: Shelf, S: Store, W: Sink, N: Sink,
     // The outcome is of the plan that is asked for and of the files that it names, which are there.
     ensures plan { IsRun (asked_by words.now) result (IsOfAsked (asking S.Store words.now kits.old)) }
 
-    // The committed ranges partition each item: no position is set aside, so nothing is left out of the
-    // account and of plain grouping.
+    // The committed ranges and the dead positions partition each item. A plan of version 1 has no dead one, so
+    // nothing is left out of its account and of plain grouping.
     ensures cover { IsRun (asked_by words.now) result IsPartitioned }
 
-    // The outputs of every position, every pane, and what each call of a Stateful node gave, arrived at each
-    // barrier that they reach exactly once.
+    // Which positions are dead: each failed as often as it may, the last time in a call, and each of these fails
+    // was counted. Of told files each position that is poison by itself is dead, and over strict functions no other.
+    ensures dead_letters { SetsAside (asked_by words.now)
+        (observed_by F.Shelf S.Store W.Sink words.now kits.old kits.new out.old out.new) result }
+
+    // The outputs of every position that isn't dead, every pane, and what each call of a Stateful node gave,
+    // arrived at each barrier that they reach exactly once.
     ensures account { IsRun (asked_by words.now) result (IsAccountedFor (asking S.Store words.now kits.old)) }
 
     // The panes are legal under the trigger of each Group, commit by commit.
@@ -92,7 +99,8 @@ pub fn beam_main<R: Threads + Wait + Sync, F: Shelf, S: Store, W: Sink, N: Sink,
     ensures legal_logs { IsRun (asked_by words.now) result HasLegalLogs }
 
     // At each Write with the default trigger and sound estimators above it: what was written is plain
-    // grouping of the whole input, and nothing was dropped. So it is always for `panes` and for `drill`.
+    // grouping of the whole input without the dead positions, and nothing was dropped. So it is always for
+    // `panes` and for `drill`.
     ensures plain { IsRun (asked_by words.now) result (IsPlain (asking S.Store words.now kits.old)) }
 
     // What a drill prints is the summary of plain grouping of its made lines.
@@ -139,6 +147,10 @@ pub fn beam_main<R: Threads + Wait + Sync, F: Shelf, S: Store, W: Sink, N: Sink,
     cells_are_kept();
     stops_are_honest();
     runs_without_poison_fail_by_reads();
+    outcomes_have_their_dead_letters();
+    dead_positions_are_poison();
+    runs_that_set_aside_are_stopped_by_reads();
+    runs_without_poison_positions_fail_by_reads();
     let RunEnd { status, outcome } = run(rt, alloc, words, kits.as_mut_slice(), out, gate);
     let status = noted(alloc, status, notes);
     let outcome = unless_no_memory(&status, outcome);

@@ -6,7 +6,7 @@ use Rattle.beam_values.specs.declared.options.Options.{Options}
 use Rattle.beam_values.specs.declared.piece.FileLen.{FileLen}
 use Rattle.beam_values.specs.declared.plan.Plan.{Plan}
 use Rattle.book_core.specs.Book.{SeenBook}
-use Rattle.book_core.specs.Facts.{AreCellsKept, AreKept, AreKeptOf, AreSeenBefore, IsBalanced, IsEarlyBook}
+use Rattle.book_core.specs.Facts.{AreCellsKept, AreKept, AreKeptOf, AreSeenBefore, AreSetAside, IsBalanced, IsEarlyBook}
 use Rattle.book_core.specs.Jobs.{next_job}
 use Rattle.book_core.specs.Runs.{HonestRun, HonestlyReached, IsOpening, IsThrough, MadeStep, Reached, Run, opened}
 use Rattle.book_core.specs.Sane.{AreKeptWith, IsSane}
@@ -20,11 +20,13 @@ use Rattle.book_core.proofs.EarlyEnds.{WindowsOfKind}
 use Rattle.book_core.proofs.Ended.{SettingsOfPlans, kept_through}
 use Rattle.book_core.proofs.SaneAlways.{sane_always, step_sane}
 use Rattle.book_core.proofs.SeenAlways.{AreWithin, keeps_seen}
+use Rattle.book_core.proofs.SetAside.{aside_kept, opening_aside}
+use Rattle.book_core.proofs.Sources.{AreLiveSound, source_step}
 
 -- ---- whatever the files are
 
-kept_from : (b : SeenBook) → IsSane b → AreCellsKept b → AreKept b
-kept_from b sane cells = record {
+kept_from : (b : SeenBook) → IsSane b → AreCellsKept b → AreSetAside b → AreKept b
+kept_from b sane cells aside = record {
   partitioned = sane.partitioned;
   attempted = sane.attempted;
   marks = sane.marks;
@@ -32,9 +34,24 @@ kept_from b sane cells = record {
   held = sane.held;
   writes = sane.writes;
   attempts = sane.attempts;
+  aside = aside;
   formed = sane.formed;
   stop = sane.stop;
 }
+
+aside_step : (told : Option (List FileText)) (b new : SeenBook) (slot : ℕ) (action : Action) (answer : Answer) → Step told b slot action answer new → IsSane b → AreSetAside b → AreSetAside new
+aside_step told b new slot action answer step sane h =
+    let sound : AreLiveSound b = record { attempted = sane.attempted; below = sane.attempts.worked_pieces } in
+    aside_kept b slot action new (source_step told b new slot action answer step sound) h
+
+pub aside_always : (told : Option (List FileText)) → AreAlways told (Both IsSane AreSetAside)
+aside_always told = record {
+  opens = λ b first opening. ((sane_always told).opens b first opening, opening_aside b first opening);
+  steps = λ b new slot action answer step h. (step_sane told b new slot action answer step h.0, aside_step told b new slot action answer step h.0 h.1);
+}
+
+pub reached_aside : (told : Option (List FileText)) (b : SeenBook) → Reached told b → AreSetAside b
+reached_aside told b reached = (always_reached told (Both IsSane AreSetAside) (aside_always told) b reached).1
 
 module _ (strategies : StrategiesOfPlans) (settings : SettingsOfPlans) (windows : WindowsOfKind) where
   pub kept_always : (told : Option (List FileText)) → AreAlways told AreKeptWith
@@ -43,14 +60,15 @@ module _ (strategies : StrategiesOfPlans) (settings : SettingsOfPlans) (windows 
         let sane = (sane_always told).opens b first opening in
         record {
           sane = sane;
-          kept = kept_from first sane ((keeps_celled strategies told).opens b first opening);
+          kept = kept_from first sane ((keeps_celled strategies told).opens b first opening) (opening_aside b first opening);
           early = (keeps_early strategies windows settings told).opens b first opening;
         };
     steps = λ b new slot action answer step h.
         let sane = step_sane told b new slot action answer step h.sane in
         record {
           sane = sane;
-          kept = kept_from new sane (step_keeps told IsSane AreCellsKept (keeps_celled strategies told) b new slot action answer step h.sane h.kept.cells);
+          kept = kept_from new sane (step_keeps told IsSane AreCellsKept (keeps_celled strategies told) b new slot action answer step h.sane h.kept.cells)
+              (aside_step told b new slot action answer step h.sane h.kept.aside);
           early = step_keeps told (Both IsSane AreCellsKept) IsEarlyBook (keeps_early strategies windows settings told) b new slot action answer step (h.sane, h.kept.cells) h.early;
         };
   }

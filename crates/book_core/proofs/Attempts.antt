@@ -28,10 +28,14 @@ use Rattle.book_core.proofs.Taking.{IsAmong, IsNextCell, IsOldest}
 abbrev pub MayBeWorked : ℕ → ℕ → ℕ → Type 0
 MayBeWorked limit total attempts = (attempts < limit) × (attempts ≤ total)
 
+-- a piece that isn't spent has failed less often than it may
+abbrev pub IsFreshBelow : ℕ → Piece → Type 0
+IsFreshBelow limit piece = piece.spent ≡ None → piece.attempts < limit
+
 pub record AreCounted (limit total : ℕ) (running : Type 0) (pending : List Piece) (returned : List Batch) (slots : List (Option Live)) : Type 0 where
-  pub worked_pieces : All (λ piece. piece.attempts < limit) (flat_map piece_of slots)
+  pub worked_pieces : All (IsFreshBelow limit) (flat_map piece_of slots)
   pub worked_batches : All (λ batch. MayBeWorked limit total batch.attempts) (flat_map batch_of slots)
-  pub pending_below : running → All (λ piece. piece.attempts < limit) pending
+  pub pending_below : running → All (IsFreshBelow limit) pending
   pub returned_below : running → All (λ batch. batch.attempts < limit) returned
   pub pending_most : All (λ piece. piece.attempts ≤ limit) pending
   pub returned_most : All (λ batch. (batch.attempts ≤ limit) × (batch.attempts ≤ total)) returned
@@ -76,13 +80,13 @@ pub record IsCounted (b : SeenBook) : Type 0 where
 
 module _ (limit total : ℕ) (running : Type 0) where
   abbrev pub IsPiece : Piece → Type 0
-  IsPiece piece = piece.attempts < limit
+  IsPiece piece = IsFreshBelow limit piece
 
   abbrev pub IsBatch : Batch → Type 0
   IsBatch batch = MayBeWorked limit total batch.attempts
 
   abbrev pub IsPieceBelow : Piece → Type 0
-  IsPieceBelow piece = piece.attempts < limit
+  IsPieceBelow piece = IsFreshBelow limit piece
 
   abbrev pub IsBatchBelow : Batch → Type 0
   IsBatchBelow batch = batch.attempts < limit
@@ -110,7 +114,7 @@ module _ (limit total : ℕ) (running : Type 0) where
     fresh_counted piece zero_tried some = record {
       worked_pieces = h.worked_pieces;
       worked_batches = h.worked_batches;
-      pending_below = λ runs. All-with_piece IsPieceBelow piece pending (omega arith) (h.pending_below runs);
+      pending_below = λ runs. All-with_piece IsPieceBelow piece pending (λ fresh. omega (arith, zero_tried, some)) (h.pending_below runs);
       returned_below = h.returned_below;
       pending_most = All-with_piece IsPieceMost piece pending (omega arith) h.pending_most;
       returned_most = h.returned_most;
@@ -137,7 +141,7 @@ module _ (limit total : ℕ) (running : Type 0) where
     piece_back piece below most = record {
       worked_pieces = h.worked_pieces;
       worked_batches = h.worked_batches;
-      pending_below = λ runs. All-with_piece IsPieceBelow piece pending (below runs) (h.pending_below runs);
+      pending_below = λ runs. All-with_piece IsPieceBelow piece pending (λ fresh. below runs) (h.pending_below runs);
       returned_below = h.returned_below;
       pending_most = All-with_piece IsPieceMost piece pending most h.pending_most;
       returned_most = h.returned_most;

@@ -13,6 +13,7 @@ use Rattle.beam_values.proofs.Bags.{sum_by-map, sum_by-flat_map}
 use Rattle.beam_values.specs.declared.arrival.Arrival.{Arrival}
 use Rattle.beam_values.specs.declared.cell.Cell.{Cell}
 use Rattle.beam_values.specs.declared.cell.Pane.{Pane}
+use Rattle.beam_values.specs.declared.fault.FaultNote.{FaultNote}
 use Rattle.beam_values.specs.declared.file_text.FileText.{FileText}
 use Rattle.beam_values.specs.declared.marks.StageMarks.{StageMarks}
 use Rattle.beam_values.specs.declared.piece.Done.{Done}
@@ -27,11 +28,11 @@ use Rattle.beam_model.specs.Spread.{spread_range}
 use Rattle.bundle_commit.specs.declared.job.Receipt.{Receipt}
 use Rattle.group_cells.proofs.Counting.{All-unmap}
 use Rattle.book_core.specs.Book.{SeenBook, HeldPane, batch_of, held, held_in, panes_of, queued, live_batches, last_marks}
-use Rattle.book_core.specs.Changes.{committed, done_after, done_cmp, done_of, with_done}
+use Rattle.book_core.specs.Changes.{committed, done_after, done_cmp, done_of, done_with, with_done}
 use Rattle.book_core.specs.Facts.{AreHeldOnce, IsBalanced, IsHeldPane, IsWellFormed, held_chains}
 use Rattle.book_core.specs.Jobs.{attempted_of, job_of}
 use Rattle.book_core.specs.Steps.{IsWorking}
-use Rattle.book_core.specs.Work.{IsGiven, IsWorkOnItem, worked_to}
+use Rattle.book_core.specs.Work.{IsGiven, IsOfSpent, IsWorkOnItem, worked_to}
 use Rattle.book_core.specs.declared.live.Batch.{Batch}
 use Rattle.book_core.specs.declared.live.Live.{Live}
 use Rattle.book_core.specs.declared.live.Live.TheVariants as live
@@ -169,9 +170,26 @@ module _ (told : List FileText) (b : SeenBook) (slot : ℕ) (receipt : Receipt) 
   ended : (outputs : List Output) → map Arrives receipt.arrivals ≡ outputs → All (IsEnded b.plan) outputs → All (IsEnd b.plan) receipt.arrivals
   ended outputs same all = All-unmap (IsEnded b.plan) Arrives receipt.arrivals (subst (All (IsEnded b.plan)) (sym same) all)
 
-  span_balanced : (piece : Piece) (attempted : Option ℕ) (found : Option SourceItem) → item_at (items told b.plan) piece.node piece.item ≡ found
+  -- a spent piece brings nothing, and does nothing
+  spent_balanced : (piece : Piece) (attempted : Option ℕ) (note : FaultNote) → piece.spent ≡ Some note → receipt.arrivals ≡ [] → IsReceiptBalanced told b (live.Span piece attempted) receipt
+  spent_balanced piece attempted note spent none = record {
+    ends = subst (All (IsEnd b.plan)) (sym none) (All-nil (IsEnd b.plan));
+    weighs = λ w.
+        let done : done_after b.done (live.Span piece attempted) ≡ b.done = ap (λ (s : Option FaultNote). done_with s piece attempted b.done) spent in
+        let same = ap (λ (l : List Done). sum_by w (spread_dones b.plan (items told b.plan) l)) done in
+        let nothing : sum_by w (map Arrives receipt.arrivals) ≡ 0 = ap (λ (l : List Arrival). sum_by w (map Arrives l)) none in
+        omega (arith, same, nothing, same_chains w);
+  }
+
+  span_balanced : (piece : Piece) (attempted : Option ℕ) (found : Option SourceItem) → piece.spent ≡ None → item_at (items told b.plan) piece.node piece.item ≡ found
       → IsWorkOnItem b.plan piece (worked_to piece attempted) found receipt → IsReceiptBalanced told b (live.Span piece attempted) receipt
-  span_balanced piece attempted found at given = record { ends = by_ends found given; weighs = λ w. omega (arith, by_weight w found at given, same_chains w) }
+  span_balanced piece attempted found fresh at given = record {
+    ends = by_ends found given;
+    weighs = λ w.
+        let done : done_after b.done (live.Span piece attempted) ≡ with_done (done_of piece attempted) b.done = ap (λ (s : Option FaultNote). done_with s piece attempted b.done) fresh in
+        let same = ap (λ (l : List Done). sum_by w (spread_dones b.plan (items told b.plan) l)) done in
+        omega (arith, same, by_weight w found at given, same_chains w);
+  }
     where
       by_ends : (found : Option SourceItem) → IsWorkOnItem b.plan piece (worked_to piece attempted) found receipt → All (IsEnd b.plan) receipt.arrivals
       by_ends None given = subst (All (IsEnd b.plan)) (sym given.0) (All-nil (IsEnd b.plan))
@@ -236,7 +254,11 @@ module _ (told : List FileText) (b : SeenBook) (slot : ℕ) (receipt : Receipt) 
           }
 
   pub job_balanced : (job : Live) → IsWorking b slot job → IsGiven (Some told) b.plan (job_of b.panes job) (attempted_of job) receipt → IsReceiptBalanced told b job receipt
-  job_balanced (live.Span piece attempted) works given = span_balanced piece attempted (item_at (items told b.plan) piece.node piece.item) refl given.0
+  job_balanced (live.Span piece attempted) works given = by piece.spent refl given.2
+    where
+      by : (spent : Option FaultNote) → piece.spent ≡ spent → IsOfSpent spent piece receipt → IsReceiptBalanced told b (live.Span piece attempted) receipt
+      by None e nothing = span_balanced piece attempted (item_at (items told b.plan) piece.node piece.item) e refl given.0
+      by (Some note) e nothing = spent_balanced piece attempted note e nothing.0
   job_balanced (live.Key turn) works given = turn_balanced turn works given
   job_balanced (live.Batch batch) works given =
       batch_balanced batch (batch_held b slot once batch works) given.0

@@ -20,7 +20,7 @@ use Rattle.beam_model.specs.Coverings.{spread_dones}
 use Rattle.beam_model.specs.Flow.{pane_chains}
 use Rattle.beam_model.specs.Positions.{items}
 use Rattle.book_core.specs.Book.{SeenBook, HeldPane, held, panes_of}
-use Rattle.book_core.specs.Changes.{with_slot, cut_to, split_off, failed, given_back, counted, stopped_where, ends_run, note_of}
+use Rattle.book_core.specs.Changes.{with_slot, cut_to, split_off, tried_again, broken, given_back, counted, stopped_where, ends_run, note_of}
 use Rattle.book_core.specs.Facts.{IsBalanced, held_chains}
 use Rattle.book_core.specs.Jobs.{Next, next_job}
 use Rattle.book_core.specs.Runs.{IsOpening, opened}
@@ -113,7 +113,7 @@ stop_keys : (spent : Bool) (x : SeenBook) (note : FaultNote) → (stopped_where 
 stop_keys true x note = refl
 stop_keys false x note = refl
 
-fail_balanced : (b : SeenBook) (slot at : ℕ) (job : Live) (cause : Cause) → IsWorking b slot job → StaysBalanced b (failed b slot job at cause)
+fail_balanced : (b : SeenBook) (slot at : ℕ) (job : Live) (cause : Cause) → IsWorking b slot job → StaysBalanced b (tried_again b slot job at cause)
 fail_balanced b slot at job cause works =
     let back = given_back (with_slot b slot None) job at cause in
     let more = counted back cause in
@@ -124,8 +124,8 @@ fail_balanced b slot at job cause works =
       came = ap key_arrivals keys ∙ (back_logged b slot job at cause).came;
       same = fail_stays b slot at job cause;
       done = stopped.1 ∙ (counted_same back cause).1 ∙ back_done b slot job at cause;
-      held = bag_trans (held (failed b slot job at cause)) (held back) (held b)
-          (bag_from_same (held (failed b slot job at cause)) (held back) (stopped.0 ∙ (counted_same back cause).0)) (back_moves b slot job at cause works);
+      held = bag_trans (held (tried_again b slot job at cause)) (held back) (held b)
+          (bag_from_same (held (tried_again b slot job at cause)) (held back) (stopped.0 ∙ (counted_same back cause).0)) (back_moves b slot job at cause works);
     }
 
 -- ---- each step
@@ -149,7 +149,7 @@ keeps_balanced told = record {
         done = refl;
         logs = refl;
         came = refl;
-        held = set_moves b slot (Some (live.Span piece attempted)) (Some (live.Span piece (Some p))) works refl refl;
+        held = set_moves b slot (Some (live.Span piece attempted)) (Some (live.Span piece (Some p))) works.works refl refl;
       }) h;
   splits = λ b slot at piece attempted known h works inside behind within.
       balanced_onward told b (split_off b slot piece attempted at) (record {
@@ -161,6 +161,14 @@ keeps_balanced told = record {
       }) h;
   commits = λ b slot job receipt cells fired marks known h made.
       commit_balanced told b slot job receipt cells fired marks known.sane.formed known.sane.held known.sane.keys known.sane.turns known.kept.cells.legal made h;
-  fails = λ b slot at job cause known h works. balanced_onward told b (failed b slot job at cause) (fail_balanced b slot at job cause works) h;
+  fails = λ b slot at job cause known h works fresh unbroken. balanced_onward told b (tried_again b slot job at cause) (fail_balanced b slot at job cause works) h;
+  breaks = λ b slot at piece attempted known h works fresh is.
+      balanced_onward told b (broken b slot piece attempted (note_of (live.Span piece attempted) at Call)) (record {
+        same = record { plan = refl; commits = refl; cells = refl; dropped = refl; panes = refl; written = refl };
+        done = refl;
+        logs = refl;
+        came = refl;
+        held = set_moves b slot (Some (live.Span piece attempted)) None works refl refl;
+      }) h;
   stops = λ b known h. h;
 }

@@ -21,7 +21,7 @@ use Rattle.group_cells.proofs.FirstCommit.{nothing_legal}
 use Rattle.group_cells.proofs.KeptGaps.{gaps_stay}
 use Rattle.group_cells.proofs.KeyCells.{all_entries}
 use Rattle.book_core.specs.Book.{SeenBook, last_marks}
-use Rattle.book_core.specs.Changes.{with_slot, committed, failed}
+use Rattle.book_core.specs.Changes.{with_slot, committed, tried_again}
 use Rattle.book_core.specs.Facts.{AreCellsKept}
 use Rattle.book_core.specs.Runs.{IsOpening}
 use Rattle.book_core.specs.Sane.{IsSane}
@@ -99,6 +99,7 @@ keeps_celled strategies told = record {
   claims = λ b slot p piece attempted sane h works may. record { legal = h.legal; gaps = h.gaps };
   splits = λ b slot at piece attempted sane h works inside behind within. record { legal = h.legal; gaps = h.gaps };
   commits = λ b slot job receipt cells fired marks sane h made. commit_celled strategies told b slot job receipt cells fired marks sane h made;
-  fails = λ b slot at job cause sane h works. celled_onward b (failed b slot job at cause) (fail_stays b slot at job cause) h;
+  fails = λ b slot at job cause sane h works fresh unbroken. celled_onward b (tried_again b slot job at cause) (fail_stays b slot at job cause) h;
+  breaks = λ b slot at piece attempted sane h works fresh is. record { legal = h.legal; gaps = h.gaps };
   stops = λ b sane h. record { legal = h.legal; gaps = h.gaps };
 }

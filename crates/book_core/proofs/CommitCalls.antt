@@ -12,6 +12,8 @@ use Rattle.beam_values.specs.declared.cell.Pane.{Pane}
 use Rattle.beam_values.specs.declared.file_text.FileText.{FileText}
 use Rattle.beam_values.specs.declared.marks.CommitMarks.{CommitMarks}
 use Rattle.beam_values.specs.declared.marks.StageMarks.{StageMarks}
+use Rattle.beam_values.specs.declared.fault.FaultNote.{FaultNote}
+use Rattle.beam_values.specs.declared.piece.Dead.{Dead}
 use Rattle.beam_values.specs.declared.piece.Done.{Done}
 use Rattle.beam_values.specs.declared.piece.Piece.{Piece}
 use Rattle.beam_values.specs.declared.plan.Plan.{Plan}
@@ -25,9 +27,9 @@ use Rattle.stateful_core.specs.Placing.{Done as KeyDone, place}
 use Rattle.stateful_core.specs.declared.key_job.KeyTurn.{KeyTurn}
 use Rattle.bundle_commit.specs.declared.job.Logged.{Logged}
 use Rattle.std.proofs.lemmas.Option.{slice_get_within}
-use Rattle.book_core.specs.Book.{SeenBook, last_marks, waiting_in}
+use Rattle.book_core.specs.Book.{SeenBook, last_marks, waiting_in, live_pieces}
 use Rattle.book_core.specs.Changes.{key_done, keys_after, with_fired, with_slot}
-use Rattle.book_core.specs.Committing.{node_of, job_holds, residual_in, residual_holds, HasRoom}
+use Rattle.book_core.specs.Committing.{node_of, job_holds, residual_in, residual_holds, HasRoom, residual_with}
 use Rattle.book_core.specs.Facts.{AreTurnsKept, IsAttemptedWithin}
 use Rattle.book_core.proofs.KeysKept.{keys_within}
 use Rattle.book_core.proofs.Turns.{turn_at}
@@ -47,7 +49,7 @@ use Rattle.book_core.proofs.HeldMarks.{held_as, least_held, marks_as}
 use Rattle.book_core.proofs.HeldOnce.{group_within}
 use Rattle.book_core.proofs.LeastHolds.{least_of_both}
 use Rattle.book_core.proofs.Holding.{bag_held}
-use Rattle.book_core.proofs.Limits.{pieces_after}
+use Rattle.book_core.proofs.Limits.{pieces_after, kept_one}
 use Rattle.book_core.proofs.Slots.{All-slice_get}
 use Rattle.book_core.proofs.Splitting.{node_within}
 
@@ -63,7 +65,7 @@ given_there told b slot job receipt can mine =
 pub left_there : (P : ℕ → Type 0) (job : Live) (receipt : Receipt) → P (node_of job) → ForSome (residual_in job receipt) (λ piece. P piece.node)
 left_there P (live.Batch batch) receipt h = λ x e. absurd (cc)
 left_there P (live.Key turn) receipt h = λ x e. absurd (cc)
-left_there P (live.Span piece attempted) receipt h = by (nat_lt (worked_to piece attempted) piece.range.to)
+left_there P (live.Span piece attempted) receipt h = by_spent piece.spent
   where
     by : (t : Bool) → ForSome (cond t (Some (record piece { range = record { from = worked_to piece attempted; to = piece.range.to }; seen = receipt.seen; attempts = 0 })) None) (λ (p : Piece). P p.node)
     by true = λ x e.
@@ -71,13 +73,17 @@ left_there P (live.Span piece attempted) receipt h = by (nat_lt (worked_to piece
         subst (λ (p : Piece). P p.node) same h
     by false = λ x e. absurd (cc)
 
+    by_spent : (spent : Option FaultNote) → ForSome (residual_with spent piece attempted receipt) (λ p. P p.node)
+    by_spent None = by (nat_lt (worked_to piece attempted) piece.range.to)
+    by_spent (Some note) = λ x e. absurd (cc)
+
 -- a place is kept for it
 pub left_room : (b : SeenBook) (slot : ℕ) (job : Live) (receipt : Receipt) (held : List SeenHolds) (piece_room batch_room : ℕ) → IsWorking b slot job → IsIndexed b held piece_room batch_room
     → ForSome (residual_in job receipt) (λ _. 0 < piece_room)
 left_room b slot (live.Batch batch) receipt held piece_room batch_room works k = λ x e. absurd (cc)
 left_room b slot (live.Key turn) receipt held piece_room batch_room works k = λ x e. absurd (cc)
 left_room b slot (live.Span piece attempted) receipt held piece_room batch_room works k =
-    left_there (λ n. 0 < piece_room) (live.Span piece attempted) receipt (omega (arith, k.pieces, pieces_after b.slots slot (Some (live.Span piece attempted)) None works))
+    left_there (λ n. 0 < piece_room) (live.Span piece attempted) receipt (omega (arith, k.pieces, kept_one b.plan (length (live_pieces (with_slot b slot None))) (length (live_pieces b)) (omega (arith, pieces_after b.slots slot (Some (live.Span piece attempted)) None works))))
 
 turned : (a b : ℤ) → int_min a b ≡ int_min b a
 turned a b = grind (arith, ints)
@@ -143,15 +149,16 @@ module _ (b : SeenBook) (slot : ℕ) (job : Live) (receipt : Receipt) (held : Li
 -- ---- a refused commit
 
 -- lists that keep more room are the same lists
-pub same_data : (b : SeenBook) (queues : List (List WaitingPane)) (panes : List Pane) (done : List Done) (written : List Arrival) (commits : List CommitMarks)
-    → queues ≡ b.queues → panes ≡ b.panes → done ≡ b.done → written ≡ b.written → commits ≡ b.commits
-    → record b { queues = queues; panes = panes; done = done; written = written; commits = commits } ≡ b
-same_data b queues panes done written commits e1 e2 e3 e4 e5 =
-    ap (λ x. record b { queues = x; panes = panes; done = done; written = written; commits = commits }) e1
-    ∙ ap (λ x. record b { panes = x; done = done; written = written; commits = commits }) e2
-    ∙ ap (λ x. record b { done = x; written = written; commits = commits }) e3
-    ∙ ap (λ x. record b { written = x; commits = commits }) e4
-    ∙ ap (λ x. record b { commits = x }) e5
+pub same_data : (b : SeenBook) (queues : List (List WaitingPane)) (panes : List Pane) (done : List Done) (dead : List Dead) (written : List Arrival) (commits : List CommitMarks)
+    → queues ≡ b.queues → panes ≡ b.panes → done ≡ b.done → dead ≡ b.dead → written ≡ b.written → commits ≡ b.commits
+    → record b { queues = queues; panes = panes; done = done; dead = dead; written = written; commits = commits } ≡ b
+same_data b queues panes done dead written commits e1 e2 e3 e4 e5 e6 =
+    ap (λ x. record b { queues = x; panes = panes; done = done; dead = dead; written = written; commits = commits }) e1
+    ∙ ap (λ x. record b { panes = x; done = done; dead = dead; written = written; commits = commits }) e2
+    ∙ ap (λ x. record b { done = x; dead = dead; written = written; commits = commits }) e3
+    ∙ ap (λ x. record b { dead = x; written = written; commits = commits }) e4
+    ∙ ap (λ x. record b { written = x; commits = commits }) e5
+    ∙ ap (λ x. record b { commits = x }) e6
 
 pub set_back : {X : Type 0} (xs : List X) (i : ℕ) (x y : X) → slice_get xs i ≡ Some x → slice_set (slice_set xs i y) i x ≡ xs
 set_back [] i x y e = absurd (cc)
@@ -159,17 +166,17 @@ set_back (z ∷ xs) Rattle.std.proofs.Common.zero x y e = let same : z ≡ x = c
 set_back (z ∷ xs) (Rattle.std.proofs.Common.suc i) x y e = ap (λ l. z ∷ l) (set_back xs i x y e)
 
 -- the job is back in its slot, and the Groups are as before
-pub same_back : (b : SeenBook) (slot : ℕ) (job : Live) (old new : SeenGroups) (slots : List (Option Live)) (queues : List (List WaitingPane)) (panes : List Pane) (done : List Done) (written : List Arrival)
+pub same_back : (b : SeenBook) (slot : ℕ) (job : Live) (old new : SeenGroups) (slots : List (Option Live)) (queues : List (List WaitingPane)) (panes : List Pane) (done : List Done) (dead : List Dead) (written : List Arrival)
     (commits : List CommitMarks) (keys : List KeyCell) → IsWorking b slot job → slots ≡ slice_set b.slots slot None → new ≡ old → old.cells ≡ b.cells → old.dropped ≡ b.dropped
-    → queues ≡ b.queues → panes ≡ b.panes → done ≡ b.done → written ≡ b.written → commits ≡ b.commits → keys ≡ b.keys
-    → record b { slots = slice_set slots slot (Some job); queues = queues; cells = new.cells; dropped = new.dropped; keys = keys; panes = panes; done = done; written = written; commits = commits } ≡ b
-same_back b slot job old new slots queues panes done written commits keys works e0 g c d e1 e2 e3 e4 e5 e6 =
-    ap (λ x. record b { slots = x; queues = queues; cells = new.cells; dropped = new.dropped; keys = keys; panes = panes; done = done; written = written; commits = commits })
+    → queues ≡ b.queues → panes ≡ b.panes → done ≡ b.done → dead ≡ b.dead → written ≡ b.written → commits ≡ b.commits → keys ≡ b.keys
+    → record b { slots = slice_set slots slot (Some job); queues = queues; cells = new.cells; dropped = new.dropped; keys = keys; panes = panes; done = done; dead = dead; written = written; commits = commits } ≡ b
+same_back b slot job old new slots queues panes done dead written commits keys works e0 g c d e1 e2 e3 e4 e5 e6 e7 =
+    ap (λ x. record b { slots = x; queues = queues; cells = new.cells; dropped = new.dropped; keys = keys; panes = panes; done = done; dead = dead; written = written; commits = commits })
     (ap (λ (l : List (Option Live)). slice_set l slot (Some job)) e0 ∙ set_back b.slots slot (Some job) None works)
-    ∙ ap (λ x. record b { queues = queues; cells = x; dropped = new.dropped; keys = keys; panes = panes; done = done; written = written; commits = commits }) (ap (λ (s : SeenGroups). s.cells) g ∙ c)
-    ∙ ap (λ x. record b { queues = queues; dropped = x; keys = keys; panes = panes; done = done; written = written; commits = commits }) (ap (λ (s : SeenGroups). s.dropped) g ∙ d)
-    ∙ ap (λ x. record b { queues = queues; keys = x; panes = panes; done = done; written = written; commits = commits }) e6
-    ∙ same_data b queues panes done written commits e1 e2 e3 e4 e5
+    ∙ ap (λ x. record b { queues = queues; cells = x; dropped = new.dropped; keys = keys; panes = panes; done = done; dead = dead; written = written; commits = commits }) (ap (λ (s : SeenGroups). s.cells) g ∙ c)
+    ∙ ap (λ x. record b { queues = queues; dropped = x; keys = keys; panes = panes; done = done; dead = dead; written = written; commits = commits }) (ap (λ (s : SeenGroups). s.dropped) g ∙ d)
+    ∙ ap (λ x. record b { queues = queues; keys = x; panes = panes; done = done; dead = dead; written = written; commits = commits }) e7
+    ∙ same_data b queues panes done dead written commits e1 e2 e3 e4 e5 e6
 
 -- the indexes of the same book, where as much is held
 pub indexed_as : (b new : SeenBook) (held after : List SeenHolds) (piece_room batch_room : ℕ) → new ≡ b → AreHeldIn after (own_holds b) → length after ≡ length held

@@ -10,6 +10,7 @@ use Rattle.beam_values.specs.Marks.{mark_of, marks_at}
 use Rattle.beam_values.proofs.Bags.{sum_by-map}
 use Rattle.beam_values.specs.declared.cell.Cell.{Cell}
 use Rattle.beam_values.specs.declared.cell.Pane.{Pane}
+use Rattle.beam_values.specs.declared.fault.FaultNote.{FaultNote}
 use Rattle.beam_values.specs.declared.file_text.FileText.{FileText}
 use Rattle.beam_values.specs.declared.marks.StageMarks.{StageMarks}
 use Rattle.beam_values.specs.declared.piece.Piece.{Piece}
@@ -20,8 +21,8 @@ use Rattle.group_cells.specs.Commits.{RisesFrom}
 use Rattle.split_core.proofs.Ordered.{bag_with_piece}
 use Rattle.watermarks.proofs.Rising.{mark_of_rises}
 use Rattle.book_core.specs.Book.{SeenBook, last_marks, AreMarksOfBook}
-use Rattle.book_core.specs.Changes.{with_slot, committed, keys_after, pending_after, with_residual, key_done}
-use Rattle.book_core.specs.Committing.{job_holds, residual_in, residual_holds}
+use Rattle.book_core.specs.Changes.{with_slot, committed, keys_after, pending_after, pending_with, residual_of, with_residual, key_done}
+use Rattle.book_core.specs.Committing.{job_holds, residual_in, residual_holds, residual_with}
 use Rattle.stateful_core.specs.Cells.{key_holds}
 use Rattle.book_core.specs.Indexes.{all_holds, own_holds}
 use Rattle.book_core.proofs.HoldBags.{all_of}
@@ -82,7 +83,11 @@ with_residual_weighs w plan (Some piece) pending =
     )
 
 pub pending_is : (pending : List Piece) (job : Live) (receipt : Receipt) → pending_after pending job receipt ≡ with_residual (residual_in job receipt) pending
-pending_is pending (live.Span piece attempted) receipt = refl
+pending_is pending (live.Span piece attempted) receipt = by piece.spent
+  where
+    by : (spent : Option FaultNote) → pending_with spent piece attempted receipt pending ≡ with_residual (residual_with spent piece attempted receipt) pending
+    by None = refl
+    by (Some note) = refl
 pending_is pending (live.Batch batch) receipt = refl
 pending_is pending (live.Key turn) receipt = refl
 
@@ -144,8 +149,13 @@ module _ (plan : Plan) (before : List StageMarks) where
   unfolding IsHoldUp
   left_up told panes (live.Batch batch) receipt given up = All-nil (IsHoldUp plan before)
   left_up told panes (live.Key turn) receipt given up = All-nil (IsHoldUp plan before)
-  left_up told panes (live.Span piece attempted) receipt given up = by (nat_lt (worked_to piece attempted) piece.range.to)
+  left_up told panes (live.Span piece attempted) receipt given up = by_spent piece.spent (by (nat_lt (worked_to piece attempted) piece.range.to))
     where
+      by_spent : (spent : Option FaultNote) → All (IsHoldUp plan before) (residual_holds plan (residual_of piece attempted receipt))
+          → All (IsHoldUp plan before) (residual_holds plan (residual_with spent piece attempted receipt))
+      by_spent None h = h
+      by_spent (Some note) h = All-nil (IsHoldUp plan before)
+
       risen : mark_of (estimator_of plan piece.node) piece.seen ≤ℤ mark_of (estimator_of plan piece.node) receipt.seen
       risen = mark_of_rises (estimator_of plan piece.node) piece.seen receipt.seen
           (receipt_rises (is_known told plan piece.node) told plan piece (worked_to piece attempted) receipt given.0)

@@ -1,6 +1,6 @@
 -- A commit of a job that goes on lowers what is left: at the job's node there is less, and before it as much as there was.
-use Rattle.std.proofs.Common.{◌≡◌, inl, inr, ℕ, zero, suc, ◌+◌, ◌-◌, ◌<◌, ◌≤◌, min, Bool, true, false, cond, List, [], ◌∷◌, ◌++◌, length, map, refl, sym, ap, subst, ◌∙◌, arith}
-use Rattle.std.specs.Prelude.{Option, Some, None, ◌==◌, nat_lt, slice_get}
+use Rattle.std.proofs.Common.{◌≡◌, inl, inr, ℕ, zero, suc, ◌+◌, ◌*◌, ◌-◌, ◌<◌, ◌≤◌, Bool, true, false, cond, List, [], ◌∷◌, ◌++◌, length, map, refl, sym, ap, subst, ◌∙◌, arith}
+use Rattle.std.specs.Prelude.{Option, Some, None, ◌==◌, max, nat_lt, slice_get}
 use Rattle.std.specs.List.{All, count_by, enumerate_from, flat_map, sum_by}
 use Rattle.std.proofs.lemmas.Bool.{cases_lt}
 use Rattle.std.proofs.lemmas.Bool.Decides.{nat_tests}
@@ -12,6 +12,7 @@ use Rattle.beam_values.proofs.Bags.{bag_count}
 use Rattle.beam_values.specs.declared.arrival.Arrival.{Arrival}
 use Rattle.beam_values.specs.declared.cell.Cell.{Cell}
 use Rattle.beam_values.specs.declared.cell.Pane.{Pane}
+use Rattle.beam_values.specs.declared.fault.FaultNote.{FaultNote}
 use Rattle.beam_values.specs.declared.file_text.FileText.{FileText}
 use Rattle.beam_values.specs.declared.marks.StageMarks.{StageMarks}
 use Rattle.beam_values.specs.declared.piece.Piece.{Piece}
@@ -26,10 +27,10 @@ use Rattle.stateful_core.specs.declared.key_job.KeyTurn.{KeyTurn}
 use Rattle.stateful_core.proofs.OnceOnly.{belongs_keyed}
 use Rattle.stateful_core.proofs.WhatIsLeft.{done_lowers}
 use Rattle.book_core.specs.Book.{SeenBook, HeldPane, batch_of, held, held_at, held_in, last_marks, live_pieces, piece_of}
-use Rattle.book_core.specs.Changes.{committed, residual_of, with_residual}
+use Rattle.book_core.specs.Changes.{committed, pending_after, pending_with, with_residual}
 use Rattle.book_core.specs.Committing.{node_of}
 use Rattle.book_core.specs.Facts.{IsAttemptedWithin}
-use Rattle.book_core.specs.Left.{GoesOn, IsBelow, attempts_left, left, left_at, offsets_and_one}
+use Rattle.book_core.specs.Left.{GoesOn, IsBelow, attempts_left, left, left_at, left_in, left_of_size}
 use Rattle.book_core.specs.Sane.{IsSane}
 use Rattle.book_core.specs.Steps.{IsWorking}
 use Rattle.book_core.specs.Work.{worked_to}
@@ -44,7 +45,7 @@ use Rattle.book_core.proofs.HeldMoves.{IsNonempty, fired_held}
 use Rattle.book_core.proofs.HeldOnce.{commit_bag, group_within}
 use Rattle.book_core.proofs.HoldBags.{piece_set_weighs, with_piece_weight}
 use Rattle.book_core.proofs.KeysKept.{cells_within}
-use Rattle.book_core.proofs.Lowered.{at_node, cell_left, left_at_weighs}
+use Rattle.book_core.proofs.Lowered.{at_node, cell_left, fresh_size, left_at_weighs}
 use Rattle.book_core.proofs.Onward.{ArriveBehind, given_arrives}
 use Rattle.book_core.proofs.PiecesListed.{IsPlaced, placed_of}
 use Rattle.book_core.proofs.Queues.{held_fired}
@@ -75,45 +76,63 @@ lower_at b new n plan inside same less =
 
 -- ---- pieces
 
--- what is left of a piece and one more, where something is
+-- a piece that is worked is of a node of the plan
+pub worked_placed : (b : SeenBook) → IsSane b → (slot : ℕ) (piece : Piece) (attempted : Option ℕ) → IsWorking b slot (live.Span piece attempted) → piece.node < length b.plan.nodes
+worked_placed b sane slot piece attempted works =
+    let live_placed = All-append_right (IsPlaced b) b.pending (live_pieces b) (placed_of b sane.formed sane.listed sane.partitioned) in
+    (All-head (IsPlaced b) piece [] (All-flat_at piece_of b.slots slot (IsPlaced b) (Some (live.Span piece attempted)) works live_placed)).0
+
+-- what is left of a piece behind what was worked, where something is; of a spent one nothing
+rest_of_size : Option FaultNote → Piece → ℕ → ℕ
+rest_of_size None piece upto = cond (nat_lt upto piece.range.to) (max 1 (3 * (piece.range.to - upto) - 1)) 0
+rest_of_size (Some note) piece upto = 0
+
 rest_size : Piece → ℕ → ℕ
-rest_size piece upto = cond (nat_lt upto piece.range.to) (piece.range.to - upto + 1) 0
+rest_size piece upto = rest_of_size piece.spent piece upto
 
 rest_weighs : (piece : Piece) (attempted : Option ℕ) (receipt : Receipt) (pending : List Piece) (m : ℕ)
-    → sum_by (at_node m) (with_residual (residual_of piece attempted receipt) pending) ≡ cond (piece.node == m) (rest_size piece (worked_to piece attempted)) 0 + sum_by (at_node m) pending
-unfolding rest_size at_node
-rest_weighs piece attempted receipt pending m = by (nat_lt (worked_to piece attempted) piece.range.to)
+    → sum_by (at_node m) (pending_after pending (live.Span piece attempted) receipt) ≡ cond (piece.node == m) (rest_size piece (worked_to piece attempted)) 0 + sum_by (at_node m) pending
+unfolding rest_size rest_of_size at_node
+rest_weighs piece attempted receipt pending m = by_spent piece.spent refl
   where
     none : (t : Bool) → cond {A = ℕ} t 0 0 ≡ 0
     none true = refl
     none false = refl
 
-    by : (t : Bool)
+    by : (t : Bool) → piece.spent ≡ None
         → sum_by (at_node m) (with_residual (cond t (Some (record piece { range = record { from = worked_to piece attempted; to = piece.range.to }; seen = receipt.seen; attempts = 0 })) None) pending)
-        ≡ cond (piece.node == m) (cond t (piece.range.to - worked_to piece attempted + 1) 0) 0 + sum_by (at_node m) pending
-    by true = with_piece_weight (at_node m) (record piece { range = record { from = worked_to piece attempted; to = piece.range.to }; seen = receipt.seen; attempts = 0 }) pending
-    by false = omega (arith, none (piece.node == m))
+        ≡ cond (piece.node == m) (cond t (max 1 (3 * (piece.range.to - worked_to piece attempted) - 1)) 0) 0 + sum_by (at_node m) pending
+    by true fresh =
+        let size = ap (λ (n : ℕ). cond (piece.node == m) n 0) (fresh_size piece.spent (piece.range.to - worked_to piece attempted) fresh) in
+        omega (arith, size, with_piece_weight (at_node m) (record piece { range = record { from = worked_to piece attempted; to = piece.range.to }; seen = receipt.seen; attempts = 0 }) pending)
+    by false fresh = omega (arith, none (piece.node == m))
 
--- less is left behind a position that was attempted
+    by_spent : (spent : Option FaultNote) → piece.spent ≡ spent
+        → sum_by (at_node m) (pending_with spent piece attempted receipt pending) ≡ cond (piece.node == m) (rest_of_size spent piece (worked_to piece attempted)) 0 + sum_by (at_node m) pending
+    by_spent None e = by (nat_lt (worked_to piece attempted) piece.range.to) e
+    by_spent (Some note) e = omega (arith, none (piece.node == m))
+
+-- less is left behind a position that was attempted, and of a spent piece nothing
 rest_less : (piece : Piece) (attempted : Option ℕ) → IsAttemptedWithin (Some (live.Span piece attempted)) → GoesOn (live.Span piece attempted)
-    → rest_size piece (worked_to piece attempted) < offsets_and_one piece
-unfolding rest_size
-rest_less piece None within goes = by (nat_lt (worked_to piece None) piece.range.to) refl
+    → rest_size piece (worked_to piece attempted) < left_in piece
+unfolding rest_size rest_of_size
+rest_less piece attempted within goes = by_spent piece.spent refl
   where
-    by : (t : Bool) → nat_lt (worked_to piece None) piece.range.to ≡ t → cond t (piece.range.to - worked_to piece None + 1) 0 < offsets_and_one piece
-    by true e = absurd (all piece.range.from piece.range.to goes e)
-      where
-        all : (from to : ℕ) → to ≤ from → nat_lt (min from to) to ≡ true → ⊥
-        all from to most e = let less : min from to < to = grind (arith, nat_tests) in omega (arith, most, less)
-    by false e = omega arith
-rest_less piece (Some p) within goes = by (nat_lt (worked_to piece (Some p)) piece.range.to) refl
-  where
-    by : (t : Bool) → nat_lt (worked_to piece (Some p)) piece.range.to ≡ t → cond t (piece.range.to - worked_to piece (Some p) + 1) 0 < offsets_and_one piece
-    by true e = part piece.range.from piece.range.to p within e
-      where
-        part : (from to last : ℕ) → from ≤ last → nat_lt (min (last + 1) to) to ≡ true → to - min (last + 1) to + 1 < to - from + 1
-        part from to last low e = let less : min (last + 1) to < to = grind (arith, nat_tests) in omega (arith, low, less)
-    by false e = omega arith
+    fewer : (last : Option ℕ) → piece.spent ≡ None → IsAttemptedWithin (Some (live.Span piece last)) → GoesOn (live.Span piece last) → worked_to piece last < piece.range.to
+        → piece.range.from < worked_to piece last
+    fewer None fresh low on less = absurd (omega (arith, on fresh, less))
+    fewer (Some p) fresh low on less = omega (arith, low, less)
+
+    by : (t : Bool) → nat_lt (worked_to piece attempted) piece.range.to ≡ t → piece.spent ≡ None
+        → cond t (max 1 (3 * (piece.range.to - worked_to piece attempted) - 1)) 0 < max 1 (3 * (piece.range.to - piece.range.from) - 1)
+    by true e fresh =
+        let less : worked_to piece attempted < piece.range.to = grind (arith, nat_tests) in
+        omega (arith, less, fewer attempted fresh within goes less)
+    by false e fresh = omega arith
+
+    by_spent : (spent : Option FaultNote) → piece.spent ≡ spent → rest_of_size spent piece (worked_to piece attempted) < left_of_size spent (piece.range.to - piece.range.from)
+    by_spent None e = by (nat_lt (worked_to piece attempted) piece.range.to) refl e
+    by_spent (Some note) e = omega arith
 
 -- ---- panes
 
@@ -143,10 +162,10 @@ batch_counts m node (w ∷ ws) =
     by true e later sum = let one : cond {A = ℕ} (node == m) 1 0 ≡ 1 = ap (λ (t : Bool). cond {A = ℕ} t 1 0) e in omega (arith, later, sum, one)
     by false e later sum = let none : cond {A = ℕ} (node == m) 1 0 ≡ 0 = ap (λ (t : Bool). cond {A = ℕ} t 1 0) e in omega (arith, later, sum, none)
 
-other : (a m v : ℕ) → m < a → cond {A = ℕ} (a == m) v 0 ≡ 0
+pub other : (a m v : ℕ) → m < a → cond {A = ℕ} (a == m) v 0 ≡ 0
 other a m v less = let off : (a == m) ≡ false = grind (arith, nat_tests) in ap (λ (t : Bool). cond {A = ℕ} t v 0) off
 
-own : (a v : ℕ) → cond {A = ℕ} (a == a) v 0 ≡ v
+pub own : (a v : ℕ) → cond {A = ℕ} (a == a) v 0 ≡ v
 own a v = let same : (a == a) ≡ true = grind (arith, nat_tests) in ap (λ (t : Bool). cond {A = ℕ} t v 0) same
 
 -- ---- key cells
@@ -201,7 +220,7 @@ span_left : (b : SeenBook) (slot : ℕ) (piece : Piece) (attempted : Option ℕ)
     → IsWorking b slot (live.Span piece attempted) → (m : ℕ)
     → count_by (λ (pane : HeldPane). pane.node == m) (held (committed b slot (live.Span piece attempted) receipt cells fired marks)) + 0 ≡ count_by (λ (pane : HeldPane). pane.node == m) (held b)
     → All (IsWeightless (cell_left m) b.plan (last_marks b)) receipt.arrivals
-    → left_at (committed b slot (live.Span piece attempted) receipt cells fired marks) m + cond (piece.node == m) (offsets_and_one piece) 0
+    → left_at (committed b slot (live.Span piece attempted) receipt cells fired marks) m + cond (piece.node == m) (left_in piece) 0
     ≡ left_at b m + cond (piece.node == m) (rest_size piece (worked_to piece attempted)) 0
 unfolding at_node
 span_left b slot piece attempted receipt cells fired marks works m panes none =
@@ -261,14 +280,14 @@ commit_lowers told b slot (live.Span piece attempted) receipt cells fired marks 
     (panes_upto told b slot job receipt cells fired marks sane made m upto) (none_left told b slot job receipt cells fired marks sane made m upto) in
     let rest = rest_size piece (worked_to piece attempted) in
     let less = rest_less piece attempted (All-slice_get IsAttemptedWithin b.slots slot (Some job) made.works sane.attempted) goes in
-    lower_at b new piece.node refl (All-head (IsPlaced b) piece [] (All-flat_at piece_of b.slots slot (IsPlaced b) (Some job) made.works (All-append_right (IsPlaced b) b.pending (live_pieces b) (placed_of b sane.formed sane.listed sane.partitioned)))).0
+    lower_at b new piece.node refl (worked_placed b sane slot piece attempted made.works)
     (λ m low.
     let is = at m (omega (arith, low)) in
-    let a = other piece.node m (offsets_and_one piece) low in
+    let a = other piece.node m (left_in piece) low in
     let c = other piece.node m rest low in
     omega (arith, is, a, c))
     (let is = at piece.node (omega arith) in
-    let a = own piece.node (offsets_and_one piece) in
+    let a = own piece.node (left_in piece) in
     let c = own piece.node rest in
     omega (arith, is, a, c, less))
 commit_lowers told b slot (live.Batch batch) receipt cells fired marks sane made goes =

@@ -1,5 +1,5 @@
 -- A commit, as its parts are written, is the step, and what is kept of the book's indexes.
-use Rattle.std.proofs.Common.{◌≡◌, ℕ, suc, ◌+◌, ◌≤◌, ◌<◌, ℤ, Bool, true, false, cond, List, [], ◌∷◌, ◌++◌, length, map, refl, sym, ap, subst, ◌∙◌, length-append, arith}
+use Rattle.std.proofs.Common.{◌≡◌, ℕ, suc, ◌+◌, ◌*◌, ◌≤◌, ◌<◌, ℤ, Bool, true, false, cond, List, [], ◌∷◌, ◌++◌, length, map, refl, sym, ap, subst, ◌∙◌, length-append, arith}
 use Rattle.std.specs.Prelude.{Option, Some, None, nat_lt, slice_set, option_to_list}
 use Rattle.std.specs.Int.{int_min}
 use Rattle.std.specs.List.{All, filter, enumerate_from}
@@ -14,20 +14,23 @@ use Rattle.beam_values.specs.declared.cell.Pane.{Pane}
 use Rattle.beam_values.specs.declared.file_text.FileText.{FileText}
 use Rattle.beam_values.specs.declared.marks.CommitMarks.{CommitMarks}
 use Rattle.beam_values.specs.declared.marks.StageMarks.{StageMarks}
+use Rattle.beam_values.specs.declared.fault.FaultNote.{FaultNote}
+use Rattle.beam_values.specs.declared.piece.Dead.{Dead}
 use Rattle.beam_values.specs.declared.piece.Done.{Done}
 use Rattle.beam_values.specs.declared.piece.Piece.{Piece}
+use Rattle.beam_values.specs.declared.plan.Plan.{Plan}
 use Rattle.beam_model.specs.Holds.{Hold, pane_hold, least_hold}
 use Rattle.bundle_commit.specs.declared.job.Receipt.{Receipt}
 use Rattle.group_cells.specs.Commits.{AreRounds, as_commit, dropped_arrival, hold_with, is_dropped, IsCommitted, SeenGroups}
 use Rattle.split_core.proofs.Ordered.{length-with_piece}
 use Rattle.watermarks.specs.Holds.{SeenHolds}
 use Rattle.stateful_core.specs.Cells.{KeyCell, key_holds}
-use Rattle.book_core.specs.Book.{SeenBook, piece_of, last_marks, AreMarksOfBook, waiting_in}
+use Rattle.book_core.specs.Book.{SeenBook, piece_of, last_marks, AreMarksOfBook, waiting_in, live_pieces, most_parts, places_kept, sets_aside}
 use Rattle.stateful_core.specs.Placing.{finish}
 use Rattle.stateful_core.proofs.FinishedHolds.{finish_sized}
 use Rattle.book_core.proofs.KeyDones.{finish_most}
-use Rattle.book_core.specs.Changes.{committed, done_after, key_done, keys_after, with_fired, with_residual, IsCommit}
-use Rattle.book_core.specs.Committing.{done_in, residual_in, with_done_in}
+use Rattle.book_core.specs.Changes.{committed, done_after, key_done, keys_after, with_fired, with_residual, IsCommit, dead_after, dead_with, done_with}
+use Rattle.book_core.specs.Committing.{done_in, residual_in, with_done_in, dead_in, position_dead, range_done, residual_with, with_dead_in}
 use Rattle.book_core.specs.Indexes.{IsIndexed, AreHeldIn, all_holds, least_in, least_with, own_holds}
 use Rattle.book_core.specs.Sane.{IsSane}
 use Rattle.book_core.specs.Steps.{Commit, Committed, CanCommit, IsCommitting, IsWorking, IsWithinLimits}
@@ -78,11 +81,23 @@ no_longer p (x ∷ xs) = by (p x) (no_longer p xs)
 residual_many : (job : Live) (receipt : Receipt) → length (option_to_list (residual_in job receipt)) ≤ length (piece_of (Some job))
 residual_many (live.Batch batch) receipt = omega arith
 residual_many (live.Key turn) receipt = omega arith
-residual_many (live.Span piece attempted) receipt = by (nat_lt (worked_to piece attempted) piece.range.to)
+residual_many (live.Span piece attempted) receipt = by_spent piece.spent
   where
     by : (t : Bool) → length (option_to_list (cond t (Some (record piece { range = record { from = worked_to piece attempted; to = piece.range.to }; seen = receipt.seen; attempts = 0 })) None)) ≤ 1
     by true = omega arith
     by false = omega arith
+
+    by_spent : (spent : Option FaultNote) → length (option_to_list (residual_with spent piece attempted receipt)) ≤ 1
+    by_spent None = by (nat_lt (worked_to piece attempted) piece.range.to)
+    by_spent (Some note) = omega arith
+
+-- what is left of a job takes no more places than were kept for it
+left_places : (plan : Plan) (few many own left : ℕ) → few + own ≡ many → left ≤ own → left + most_parts plan few ≤ most_parts plan many
+left_places plan few many own left same less = by (sets_aside plan)
+  where
+    by : (t : Bool) → left + cond t (3 * few) few ≤ cond t (3 * many) many
+    by true = omega (arith, same, less)
+    by false = omega (arith, same, less)
 
 pending_many : (residual : Option Piece) (pending : List Piece) → length (with_residual residual pending) ≡ length pending + length (option_to_list residual)
 pending_many None pending = omega arith
@@ -123,6 +138,11 @@ module _ (b : SeenBook) (slot : ℕ) (job : Live) (receipt : Receipt) (old new :
     rounds = subst (λ (l : List Cell). AreRounds b.plan (length b.commits) (last_marks b) marks receipt.arrivals l new.cells fired) h.cells h.rounds;
   }
 
+  places : length (option_to_list (residual_in job receipt)) + places_kept after ≤ places_kept b
+  places =
+      left_places b.plan (length (live_pieces after)) (length (live_pieces b)) (length (piece_of (Some job))) (length (option_to_list (residual_in job receipt)))
+      (omega (arith, pieces_after b.slots slot (Some job) None h.works)) (residual_many job receipt)
+
   within : IsWithinLimits after
   within =
       let was = sane.formed.within in
@@ -157,8 +177,7 @@ module _ (b : SeenBook) (slot : ℕ) (job : Live) (receipt : Receipt) (old new :
           was.pieces,
           ap length (pending_is b.pending job receipt),
           pending_many (residual_in job receipt) b.pending,
-          residual_many job receipt,
-          pieces_after b.slots slot (Some job) None h.works,
+          places,
         );
       }
 
@@ -187,29 +206,43 @@ module _ (b : SeenBook) (slot : ℕ) (job : Live) (receipt : Receipt) (old new :
         sane = step_sane None b after slot Commit Committed (receipt, (commits_after None can).0, (commits_after None can).1) sane;
         sized = sized ∙ k.sized;
         holds_back = holding;
-        pieces = omega (arith, k.pieces, room, residual_many job receipt, pieces_after b.slots slot (Some job) None h.works);
+        pieces = omega (arith, k.pieces, room, places);
         batches = omega (arith, k.batches, batches_after b.slots slot (Some job) None h.works);
       }
 
   -- ---- as it is written
 
-  pub record AreWritten (slots : List (Option Live)) (pending : List Piece) (queues : List (List WaitingPane)) (keys : List KeyCell) (panes : List Pane) (done : List Done) (written : List Arrival) (commits : List CommitMarks) : Type 0 where
+  pub record AreWritten (slots : List (Option Live)) (pending : List Piece) (queues : List (List WaitingPane)) (keys : List KeyCell) (panes : List Pane) (done : List Done) (dead : List Dead) (written : List Arrival) (commits : List CommitMarks) : Type 0 where
     pub slots_are : slots ≡ slice_set b.slots slot None
     pub pending_are : pending ≡ with_residual (residual_in job receipt) b.pending
     pub queues_are : queues ≡ map (with_fired (last_marks b) (enumerate_from (length b.panes) fired)) (enumerate_from 0 b.queues)
     pub keys_are : keys ≡ keys_after b job receipt
     pub panes_are : panes ≡ b.panes ++ fired
     pub done_are : done ≡ with_done_in (done_in job) b.done
+    pub dead_are : dead ≡ with_dead_in (dead_in job) b.dead
     pub written_are : written ≡ b.written ++ filter (λ arrival. is_write b.plan arrival.node) left
     pub commits_are : commits ≡ b.commits ++ as_commit marks ∷ []
 
   done_is : (job : Live) (done : List Done) → with_done_in (done_in job) done ≡ done_after done job
-  done_is (live.Span piece attempted) done = refl
+  done_is (live.Span piece attempted) done = by piece.spent
+    where
+      by : (spent : Option FaultNote) → with_done_in (range_done spent piece attempted) done ≡ done_with spent piece attempted done
+      by None = refl
+      by (Some note) = refl
   done_is (live.Batch batch) done = refl
   done_is (live.Key turn) done = refl
 
-  abbrev pub as_written : List (Option Live) → List Piece → List (List WaitingPane) → List KeyCell → List Pane → List Done → List Arrival → List CommitMarks → SeenBook
-  as_written slots pending queues keys panes done written commits = record b {
+  dead_is : (job : Live) (dead : List Dead) → with_dead_in (dead_in job) dead ≡ dead_after dead job
+  dead_is (live.Span piece attempted) dead = by piece.spent
+    where
+      by : (spent : Option FaultNote) → with_dead_in (position_dead spent piece) dead ≡ dead_with spent piece dead
+      by None = refl
+      by (Some note) = refl
+  dead_is (live.Batch batch) dead = refl
+  dead_is (live.Key turn) dead = refl
+
+  abbrev pub as_written : List (Option Live) → List Piece → List (List WaitingPane) → List KeyCell → List Pane → List Done → List Dead → List Arrival → List CommitMarks → SeenBook
+  as_written slots pending queues keys panes done dead written commits = record b {
     slots = slots;
     pending = pending;
     queues = queues;
@@ -218,36 +251,38 @@ module _ (b : SeenBook) (slot : ℕ) (job : Live) (receipt : Receipt) (old new :
     keys = keys;
     panes = panes;
     done = done;
+    dead = dead;
     written = written;
     commits = commits;
   }
 
-  module _ (slots : List (Option Live)) (pending : List Piece) (queues : List (List WaitingPane)) (keys : List KeyCell) (panes : List Pane) (done : List Done) (written : List Arrival) (commits : List CommitMarks)
-      (e : AreWritten slots pending queues keys panes done written commits) where
-    written_is : as_written slots pending queues keys panes done written commits ≡ after
+  module _ (slots : List (Option Live)) (pending : List Piece) (queues : List (List WaitingPane)) (keys : List KeyCell) (panes : List Pane) (done : List Done) (dead : List Dead) (written : List Arrival) (commits : List CommitMarks)
+      (e : AreWritten slots pending queues keys panes done dead written commits) where
+    written_is : as_written slots pending queues keys panes done dead written commits ≡ after
     written_is =
         let dropped_are : new.dropped ≡ after.dropped =
         h.committed.dropped ∙ ap (λ (l : List Dropped). l ++ map (dropped_arrival (length b.commits)) (filter (is_dropped b.plan (last_marks b)) receipt.arrivals)) h.dropped in
         let writes : written ≡ after.written =
         e.written_are ∙ ap (λ (l : List Arrival). b.written ++ filter (λ arrival. is_write b.plan arrival.node) l) h.committed.others
         ∙ ap (λ (l : List Arrival). b.written ++ l) (written_same b.plan receipt.arrivals) in
-        ap (λ (x : List (Option Live)). as_written x pending queues keys panes done written commits) e.slots_are
-        ∙ ap (λ (x : List Piece). as_written after.slots x queues keys panes done written commits) (e.pending_are ∙ sym (pending_is b.pending job receipt))
-        ∙ ap (λ (x : List (List WaitingPane)). as_written after.slots after.pending x keys panes done written commits) e.queues_are
-        ∙ ap (λ (x : List KeyCell). as_written after.slots after.pending after.queues x panes done written commits) e.keys_are
-        ∙ ap (λ (x : List Pane). as_written after.slots after.pending after.queues after.keys x done written commits) e.panes_are
-        ∙ ap (λ (x : List Done). as_written after.slots after.pending after.queues after.keys after.panes x written commits) (e.done_are ∙ done_is job b.done)
-        ∙ ap (λ (x : List Arrival). as_written after.slots after.pending after.queues after.keys after.panes after.done x commits) writes
-        ∙ ap (λ (x : List CommitMarks). as_written after.slots after.pending after.queues after.keys after.panes after.done after.written x) e.commits_are
+        ap (λ (x : List (Option Live)). as_written x pending queues keys panes done dead written commits) e.slots_are
+        ∙ ap (λ (x : List Piece). as_written after.slots x queues keys panes done dead written commits) (e.pending_are ∙ sym (pending_is b.pending job receipt))
+        ∙ ap (λ (x : List (List WaitingPane)). as_written after.slots after.pending x keys panes done dead written commits) e.queues_are
+        ∙ ap (λ (x : List KeyCell). as_written after.slots after.pending after.queues x panes done dead written commits) e.keys_are
+        ∙ ap (λ (x : List Pane). as_written after.slots after.pending after.queues after.keys x done dead written commits) e.panes_are
+        ∙ ap (λ (x : List Done). as_written after.slots after.pending after.queues after.keys after.panes x dead written commits) (e.done_are ∙ done_is job b.done)
+        ∙ ap (λ (x : List Dead). as_written after.slots after.pending after.queues after.keys after.panes after.done x written commits) (e.dead_are ∙ dead_is job b.dead)
+        ∙ ap (λ (x : List Arrival). as_written after.slots after.pending after.queues after.keys after.panes after.done after.dead x commits) writes
+        ∙ ap (λ (x : List CommitMarks). as_written after.slots after.pending after.queues after.keys after.panes after.done after.dead after.written x) e.commits_are
         ∙ ap (λ (x : List Dropped). record after { dropped = x }) dropped_are
 
     pub commit_written : (told : Option (List FileText)) → CanCommit told b slot receipt
-        → IsCommitting told b slot receipt (as_written slots pending queues keys panes done written commits) × IsWithinLimits (as_written slots pending queues keys panes done written commits)
+        → IsCommitting told b slot receipt (as_written slots pending queues keys panes done dead written commits) × IsWithinLimits (as_written slots pending queues keys panes done dead written commits)
     commit_written told can = subst (λ (d : SeenBook). IsCommitting told b slot receipt d × IsWithinLimits d) (sym written_is) (commits_after told can)
 
     pub commit_indexed : CanCommit None b slot receipt → (before after_held : List SeenHolds) (piece_room fewer batch_room : ℕ) → IsIndexed b before piece_room batch_room
         → ((holds : List Hold) → AreHeldIn held holds → AreHeldIn after_held (map (pane_hold (last_marks b)) fired ++ holds)) → length after_held ≡ length before
         → piece_room ≤ fewer + length (option_to_list (residual_in job receipt))
-        → IsIndexed (as_written slots pending queues keys panes done written commits) after_held fewer batch_room
+        → IsIndexed (as_written slots pending queues keys panes done dead written commits) after_held fewer batch_room
     commit_indexed can before after_held piece_room fewer batch_room k add sized room =
         subst (λ (d : SeenBook). IsIndexed d after_held fewer batch_room) (sym written_is) (indexed_after can before after_held piece_room fewer batch_room k add sized room)

@@ -12,7 +12,8 @@ use Rattle.std.proofs.lemmas.Map.Lookups.{exact_unsigned}
 use Rattle.beam_values.specs.declared.piece.Done.{Done}
 use Rattle.book_core.specs.Changes.{done_cmp, with_done}
 use Rattle.book_core.proofs.CommitParts.{All-take_within, All-drop_within}
-use Rattle.book_core.proofs.Formed.{done_total, NoneBelow, sorted_first, sorted_rest}
+use Rattle.book_core.proofs.Formed.{done_total}
+use Rattle.book_core.proofs.InOrder.{NoneBelow, sorted_first, sorted_rest}
 
 -- a range is put behind those that are lower or equal
 abbrev behind : Done → List Done → List Done
@@ -55,13 +56,13 @@ le_from_lt Greater lt = absurd (cc)
 
 behind_same : (new : Done) (done : List Done) → IsSorted done_cmp done → with_done new done ≡ behind new done
 behind_same new [] up = refl
-behind_same new (d ∷ done) up = by (is_lt (done_cmp d new)) (is_le (done_cmp d new)) refl refl (behind_same new done (sorted_rest d done up)) (sorted_first d done up)
+behind_same new (d ∷ done) up = by (is_lt (done_cmp d new)) (is_le (done_cmp d new)) refl refl (behind_same new done (sorted_rest done_cmp d done up)) (sorted_first done_cmp d done up)
   where
-    before_rest : (l : List Done) → (x : Done) → x ≡ new → NoneBelow x l → with_done new l ≡ new ∷ l
+    before_rest : (l : List Done) → (x : Done) → x ≡ new → NoneBelow done_cmp x l → with_done new l ≡ new ∷ l
     before_rest [] x is low = refl
     before_rest (y ∷ l) x is low = ap (λ (t : Bool). cond t (y ∷ with_done new l) (new ∷ y ∷ l)) (subst (λ (z : Done). is_lt (done_cmp y z) ≡ false) is low)
 
-    by : (t s : Bool) → is_lt (done_cmp d new) ≡ t → is_le (done_cmp d new) ≡ s → with_done new done ≡ behind new done → NoneBelow d done
+    by : (t s : Bool) → is_lt (done_cmp d new) ≡ t → is_le (done_cmp d new) ≡ s → with_done new done ≡ behind new done → NoneBelow done_cmp d done
         → cond t (d ∷ with_done new done) (new ∷ d ∷ done) ≡ cond s (d ∷ behind new done) (new ∷ d ∷ done)
     by true true lt le rest low = ap (λ (l : List Done). d ∷ l) rest
     by true false lt le rest low = absurd (false≢true (sym le ∙ le_from_lt (done_cmp d new) lt))

@@ -37,7 +37,7 @@ use Rattle.group_cells.specs.Commits.{is_taken, taken_arrival}
 use Rattle.group_cells.proofs.Counting.{All-unmap}
 use Rattle.group_cells.proofs.WindowTests.{span_itself}
 use Rattle.book_core.specs.Book.{SeenBook, last_marks, pane_at, panes_of}
-use Rattle.book_core.specs.Changes.{with_slot, committed, failed}
+use Rattle.book_core.specs.Changes.{with_slot, committed, tried_again}
 use Rattle.book_core.specs.Facts.{AreCellsKept, EndsEarly, IsEarlyBook, IsEarlyPane, greatest_end}
 use Rattle.book_core.specs.Jobs.{attempted_of, job_of}
 use Rattle.book_core.specs.Sane.{IsSane}
@@ -199,7 +199,7 @@ module _ (strategies : StrategiesOfPlans) (windows : WindowsOfKind) (settings : 
   stop_keys x true note h = h
   stop_keys x false note h = h
 
-  fail_keys : (b : SeenBook) (slot at : ℕ) (job : Live) (cause : Cause) → All IsEarlyCell b.keys → All IsEarlyCell (failed b slot job at cause).keys
+  fail_keys : (b : SeenBook) (slot at : ℕ) (job : Live) (cause : Cause) → All IsEarlyCell b.keys → All IsEarlyCell (tried_again b slot job at cause).keys
   fail_keys b slot at job cause h =
       stop_keys (counted (given_back (with_slot b slot None) job at cause) cause) (ends_run b job cause) (note_of job at cause)
       (counted_keys (given_back (with_slot b slot None) job at cause) cause (back_keys b slot job at cause h))
@@ -253,6 +253,7 @@ module _ (strategies : StrategiesOfPlans) (windows : WindowsOfKind) (settings : 
     claims = λ b slot p piece attempted known h works may. record { taken = h.taken; panes = h.panes; keys = h.keys };
     splits = λ b slot at piece attempted known h works inside behind within. record { taken = h.taken; panes = h.panes; keys = h.keys };
     commits = λ b slot job receipt cells fired marks known h made. commit_early b slot job receipt cells fired marks known.0 known.1 h made;
-    fails = λ b slot at job cause known h works. early_onward b (failed b slot job at cause) (fail_stays b slot at job cause) (fail_keys b slot at job cause h.keys) h;
+    fails = λ b slot at job cause known h works fresh unbroken. early_onward b (tried_again b slot job at cause) (fail_stays b slot at job cause) (fail_keys b slot at job cause h.keys) h;
+    breaks = λ b slot at piece attempted known h works fresh is. record { taken = h.taken; panes = h.panes; keys = h.keys };
     stops = λ b known h. record { taken = h.taken; panes = h.panes; keys = h.keys };
   }

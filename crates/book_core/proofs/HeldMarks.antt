@@ -14,7 +14,7 @@ use Rattle.beam_values.specs.declared.plan.Plan.{Plan}
 use Rattle.beam_values.specs.Times.{final_mark}
 use Rattle.beam_values.proofs.Bags.{bag_sym, bag_trans, bag_cons}
 use Rattle.beam_model.specs.Holds.{Hold, marks_held, least_hold}
-use Rattle.watermarks.proofs.BagMembers.{bag_least, bag_contains}
+use Rattle.watermarks.proofs.BagMembers.{bag_least, bag_contains, bag_length}
 use Rattle.watermarks.specs.Holds.{SeenHolds}
 use Rattle.book_core.specs.Indexes.{marks_in, least_in, room_in, AreHeldIn}
 
@@ -84,6 +84,31 @@ removed held node mark old new within is bag holds h = record { each = λ n. by 
         (subst (λ (ms : List ℤ). IsSameBag (marks_in held n) ms) (held_cons (record { node = node; mark = mark }) holds n true (eq_true node n (sym e))) (h.each n)) in
         subst (λ (ms : List ℤ). IsSameBag ms (marks_held holds n)) (sym (ap (marks_in (slice_set held node new)) e ∙ marks_here held node new within))
         (record { weighs = λ w. omega (arith, bag.weighs w, here.weighs w, sum_by-cons w mark new.marks, sum_by-cons w mark (marks_held holds n)) })
+
+-- ---- once more
+
+pub among_new : (held : List SeenHolds) (node : ℕ) (mark : ℤ) (old new : SeenHolds) → node < length held → IsSameBag new.marks (mark ∷ old.marks)
+    → Contains (marks_in (slice_set held node new) node) mark
+among_new held node mark old new within bag =
+    subst (λ (ms : List ℤ). Contains ms mark) (sym (marks_here held node new within))
+    (bag_contains (mark ∷ old.marks) new.marks mark (bag_sym new.marks (mark ∷ old.marks) bag) (0, omega arith, refl))
+
+pub longer_new : (held : List SeenHolds) (node : ℕ) (mark : ℤ) (old new : SeenHolds) → node < length held → old ≡ get_or held node old → IsSameBag new.marks (mark ∷ old.marks)
+    → length (marks_in (slice_set held node new) node) ≡ length (marks_in held node) + 1
+longer_new held node mark old new within is bag =
+    omega (arith, ap length (marks_here held node new within), ap length (marks_read held node old within is), bag_length new.marks (mark ∷ old.marks) bag)
+
+-- a node has no more marks than there are holds
+few_here : (holds : List Hold) (n : ℕ) → length (marks_held holds n) ≤ length holds
+few_here [] n = omega arith
+few_here (h ∷ holds) n = by (h.node == n) refl (few_here holds n)
+  where
+    by : (t : Bool) → (h.node == n) ≡ t → length (marks_held holds n) ≤ length holds → length (marks_held (h ∷ holds) n) ≤ length (h ∷ holds)
+    by true e few = omega (arith, ap length (held_cons h holds n true e), few)
+    by false e few = omega (arith, ap length (held_cons h holds n false e), few)
+
+pub few_marks : (held : List SeenHolds) (holds : List Hold) → AreHeldIn held holds → (n : ℕ) → length (marks_in held n) ≤ length holds
+few_marks held holds h n = omega (arith, few_here holds n, bag_length (marks_in held n) (marks_held holds n) (h.each n))
 
 -- ---- room
 

@@ -301,14 +301,17 @@ keeps_held told = record {
       (All-append IsNonempty b.returned (live_batches b ++ []) (returned_some b h) (All-append IsNonempty (live_batches b) [] (live_some b h) (All-nil IsNonempty)))) h;
   takes = λ b slot next formed h running free is within. take_keeps b h formed slot next free is;
   claims = λ b slot p piece attempted formed h works may.
-      set_keeps b h slot (Some (live.Span piece attempted)) (Some (live.Span piece (Some p))) works refl refl;
+      set_keeps b h slot (Some (live.Span piece attempted)) (Some (live.Span piece (Some p))) works.works refl refl;
   splits = λ b slot at piece attempted formed h works inside behind within.
       let set = set_keeps b h slot (Some (live.Span piece attempted)) (Some (live.Span (cut_to piece (record { from = piece.range.from; to = at })) attempted)) works refl refl in
       record { panes = set.panes; once = set.once; batches = set.batches };
   commits = λ b slot job receipt cells fired marks formed h made. commit_keeps_held told b slot job receipt cells fired marks formed h made;
-  fails = λ b slot at job cause formed h works.
+  fails = λ b slot at job cause formed h works fresh unbroken.
       stop_where_held (ends_run b job cause) (counted (given_back (with_slot b slot None) job at cause) cause) (note_of job at cause)
       (counted_held (given_back (with_slot b slot None) job at cause) cause (back_keeps b h slot job at cause works));
+  breaks = λ b slot at piece attempted formed h works fresh is.
+      let back = back_keeps b h slot (live.Span piece attempted) at Call works in
+      record { panes = back.panes; once = back.once; batches = back.batches };
   stops = λ b formed h. stop_held b (or_stopped b.stopped stop.NoMemory) h;
 }
 

@@ -1,10 +1,12 @@
 -- The holds of a book as one bag: which steps leave each node's least hold.
-use Rattle.std.proofs.Common.{◌≡◌, ℕ, ◌+◌, ℤ, Bool, true, false, cond, List, [], ◌∷◌, ◌++◌, map, refl, sym, ap, ◌∙◌, arith}
+use Rattle.std.proofs.Common.{◌≡◌, ℕ, ◌+◌, ◌≤◌, ℤ, Bool, true, false, cond, List, [], ◌∷◌, ◌++◌, length, map, refl, sym, ap, ◌∙◌, arith}
 use Rattle.std.specs.Prelude.{Option, Some, None, ◌==◌, slice_get, fold}
 use Rattle.std.specs.Int.{int_min}
-use Rattle.std.specs.List.{filter, sum_by}
+use Rattle.std.specs.List.{All, filter, sum_by}
 use Rattle.std.proofs.lemmas.Int.{ints, clamps}
+use Rattle.std.proofs.lemmas.List.{length-map}
 use Rattle.std.proofs.lemmas.List.Concat.{flat_map-append}
+use Rattle.std.proofs.lemmas.List.Elements.{All-head, All-tail, All-map}
 use Rattle.std.proofs.lemmas.List.Sums.{sum_by-cons, sum_by-append}
 use Rattle.beam_values.specs.Bags.{IsSameBag}
 use Rattle.beam_values.specs.Marks.{least_mark, node_marks, AreMarks}
@@ -12,19 +14,21 @@ use Rattle.beam_values.specs.Times.{final_mark}
 use Rattle.beam_values.proofs.Bags.{bag_filter, bag_map, sum_by-map}
 use Rattle.beam_values.specs.declared.marks.StageMarks.{StageMarks}
 use Rattle.beam_values.specs.declared.fault.Cause.{Cause}
+use Rattle.beam_values.specs.declared.fault.FaultNote.{FaultNote}
 use Rattle.beam_values.specs.declared.piece.Piece.{Piece}
 use Rattle.beam_values.specs.declared.plan.Plan.{Plan}
 use Rattle.beam_model.specs.Holds.{Hold, piece_hold, marks_held, least_hold}
-use Rattle.split_core.specs.Order.{with_piece}
+use Rattle.split_core.specs.Order.{with_piece, with_pieces}
 use Rattle.split_core.proofs.Ordered.{bag_with_piece}
 use Rattle.watermarks.proofs.BagMembers.{bag_least}
 use Rattle.book_core.specs.Book.{SeenBook, piece_of, live_pieces, held, hold_of}
-use Rattle.book_core.specs.Changes.{with_slot, cut_to, rest_of, split_off, given_back, tried_piece}
+use Rattle.book_core.specs.Changes.{with_slot, cut_to, rest_of, split_off, given_back, tried_piece, broken, broken_parts}
 use Rattle.book_core.specs.Facts.{AreHeldOnce}
 use Rattle.book_core.specs.Jobs.{GivenBack, Oldest, Next, next_job, with_key, without_due}
 use Rattle.book_core.specs.Steps.{IsWorking, IsFree}
 use Rattle.book_core.specs.declared.live.Live.{Live}
 use Rattle.book_core.specs.declared.live.Live.TheVariants as live
+use Rattle.book_core.proofs.Broken.{broken_all, broken_some}
 use Rattle.book_core.proofs.HeldMoves.{take_moves, set_moves, enroll_moves, back_moves}
 use Rattle.book_core.proofs.Slotted.{flat_set_weighs, one_weighs}
 use Rattle.book_core.proofs.Taking.{take_cases}
@@ -81,6 +85,11 @@ piece_set_weighs w b slot old new at = flat_set_weighs piece_of b.slots slot w o
 
 pub with_piece_weight : (w : Piece → ℕ) (piece : Piece) (pending : List Piece) → sum_by w (with_piece piece pending) ≡ w piece + sum_by w pending
 with_piece_weight w piece pending = (bag_with_piece piece pending).weighs w ∙ sum_by-cons w piece pending
+
+pub with_pieces_weight : (w : Piece → ℕ) (pieces l : List Piece) → sum_by w (with_pieces pieces l) ≡ sum_by w pieces + sum_by w l
+with_pieces_weight w [] l = omega arith
+with_pieces_weight w (piece ∷ pieces) l =
+    omega (arith, with_pieces_weight w pieces (with_piece piece l), with_piece_weight w piece l, sum_by-cons w piece pieces)
 
 -- ---- which steps leave the bag
 
@@ -184,6 +193,23 @@ back_holds b slot (live.Batch batch) at cause works = record {
   );
 }
 
+-- ---- a range that is worked
+
+-- it holds its source once, besides what else holds the book
+without_range : (b : SeenBook) (slot : ℕ) (piece : Piece) (attempted : Option ℕ) → IsWorking b slot (live.Span piece attempted)
+    → IsSameBag (own_holds b) (piece_hold b.plan piece ∷ own_holds (with_slot b slot None))
+without_range b slot piece attempted works = record {
+  weighs = λ w. omega (
+    arith,
+    holds_weigh w b,
+    holds_weigh w (with_slot b slot None),
+    (set_moves b slot (Some (live.Span piece attempted)) None works refl refl).weighs (λ h. w (hold_of h)),
+    piece_set_weighs (piece_weight b.plan w) b slot (Some (live.Span piece attempted)) None works,
+    one_weighs (piece_weight b.plan w) piece,
+    sum_by-cons w (piece_hold b.plan piece) (own_holds (with_slot b slot None)),
+  );
+}
+
 -- ---- a split doubles the hold of its piece
 
 module _ (b : SeenBook) (slot at : ℕ) (piece : Piece) (attempted : Option ℕ) (works : IsWorking b slot (live.Span piece attempted)) where
@@ -193,28 +219,12 @@ module _ (b : SeenBook) (slot at : ℕ) (piece : Piece) (attempted : Option ℕ)
   abbrev rest : Piece
   rest = rest_of piece (record { from = at; to = piece.range.to })
 
-  abbrev others : SeenBook
-  others = with_slot b slot None
-
-  old_bag : IsSameBag (own_holds b) (piece_hold b.plan piece ∷ own_holds others)
-  old_bag = record {
-    weighs = λ w. omega (
-      arith,
-      holds_weigh w b,
-      holds_weigh w others,
-      (set_moves b slot (Some (live.Span piece attempted)) None works refl refl).weighs (λ h. w (hold_of h)),
-      piece_set_weighs (piece_weight b.plan w) b slot (Some (live.Span piece attempted)) None works,
-      one_weighs (piece_weight b.plan w) piece,
-      sum_by-cons w (piece_hold b.plan piece) (own_holds others),
-    );
-  }
-
-  new_bag : IsSameBag (own_holds (split_off b slot piece attempted at)) (piece_hold b.plan piece ∷ piece_hold b.plan piece ∷ own_holds others)
+  new_bag : IsSameBag (own_holds (split_off b slot piece attempted at)) (piece_hold b.plan piece ∷ piece_hold b.plan piece ∷ own_holds (with_slot b slot None))
   new_bag = record {
     weighs = λ w. omega (
       arith,
       holds_weigh w b,
-      holds_weigh w others,
+      holds_weigh w (with_slot b slot None),
       holds_weigh w (split_off b slot piece attempted at),
       (set_moves b slot (Some (live.Span piece attempted)) None works refl refl).weighs (λ h. w (hold_of h)),
       (set_moves b slot (Some (live.Span piece attempted)) (Some (live.Span front attempted)) works refl refl).weighs (λ h. w (hold_of h)),
@@ -223,16 +233,58 @@ module _ (b : SeenBook) (slot at : ℕ) (piece : Piece) (attempted : Option ℕ)
       with_piece_weight (piece_weight b.plan w) rest b.pending,
       one_weighs (piece_weight b.plan w) piece,
       one_weighs (piece_weight b.plan w) front,
-      sum_by-cons w (piece_hold b.plan piece) (piece_hold b.plan piece ∷ own_holds others),
-      sum_by-cons w (piece_hold b.plan piece) (own_holds others),
+      sum_by-cons w (piece_hold b.plan piece) (piece_hold b.plan piece ∷ own_holds (with_slot b slot None)),
+      sum_by-cons w (piece_hold b.plan piece) (own_holds (with_slot b slot None)),
     );
   }
 
   pub split_least : (n : ℕ) → least_hold (own_holds (split_off b slot piece attempted at)) n ≡ least_hold (own_holds b) n
   split_least n =
-      least_of_bag (own_holds (split_off b slot piece attempted at)) (piece_hold b.plan piece ∷ piece_hold b.plan piece ∷ own_holds others) new_bag n
-      ∙ least_twice (piece_hold b.plan piece) (own_holds others) n
-      ∙ sym (least_of_bag (own_holds b) (piece_hold b.plan piece ∷ own_holds others) old_bag n)
+      least_of_bag (own_holds (split_off b slot piece attempted at)) (piece_hold b.plan piece ∷ piece_hold b.plan piece ∷ own_holds (with_slot b slot None)) new_bag n
+      ∙ least_twice (piece_hold b.plan piece) (own_holds (with_slot b slot None)) n
+      ∙ sym (least_of_bag (own_holds b) (piece_hold b.plan piece ∷ own_holds (with_slot b slot None)) (without_range b slot piece attempted works) n)
+
+-- ---- the parts of a broken range hold as the whole did
+
+least_many : (h : Hold) (ks hs : List Hold) (n : ℕ) → All (λ (k : Hold). k ≡ h) ks → 1 ≤ length ks → least_hold (ks ++ hs) n ≡ least_hold (h ∷ hs) n
+least_many h [] hs n same some = absurd (omega (arith, some))
+least_many h (k ∷ []) hs n same some = ap (λ (x : Hold). least_hold (x ∷ hs) n) (All-head (λ (x : Hold). x ≡ h) k [] same)
+least_many h (k ∷ j ∷ ks) hs n same some =
+    let later = All-tail (λ (x : Hold). x ≡ h) k (j ∷ ks) same in
+    let second = All-head (λ (x : Hold). x ≡ h) j ks later in
+    ap (λ (x : Hold). least_hold (x ∷ j ∷ (ks ++ hs)) n) (All-head (λ (x : Hold). x ≡ h) k (j ∷ ks) same)
+    ∙ ap (λ (x : Hold). least_hold (h ∷ x ∷ (ks ++ hs)) n) second
+    ∙ least_twice h (ks ++ hs) n
+    ∙ ap (λ (x : Hold). least_hold (x ∷ (ks ++ hs)) n) (sym second)
+    ∙ least_many h (j ∷ ks) hs n later (omega arith)
+
+module _ (b : SeenBook) (slot : ℕ) (piece : Piece) (attempted : Option ℕ) (note : FaultNote) (works : IsWorking b slot (live.Span piece attempted)) where
+  abbrev parts : List Piece
+  parts = broken_parts piece attempted note
+
+  pub broken_bag : IsSameBag (own_holds (broken b slot piece attempted note)) (map (piece_hold b.plan) parts ++ own_holds (with_slot b slot None))
+  broken_bag = record {
+    weighs = λ w. omega (
+      arith,
+      holds_weigh w (with_slot b slot None),
+      holds_weigh w (broken b slot piece attempted note),
+      with_pieces_weight (piece_weight b.plan w) parts b.pending,
+      sum_by-append w (map (piece_hold b.plan) parts) (own_holds (with_slot b slot None)),
+      sum_by-map w (piece_hold b.plan) parts,
+    );
+  }
+
+  parts_hold : All (λ (part : Piece). piece_hold b.plan part ≡ piece_hold b.plan piece) parts
+  parts_hold = broken_all (λ part. piece_hold b.plan part ≡ piece_hold b.plan piece) piece attempted note (λ from to low high. refl) (λ one. refl)
+
+  pub broken_least : (n : ℕ) → least_hold (own_holds (broken b slot piece attempted note)) n ≡ least_hold (own_holds b) n
+  broken_least n =
+      let h = piece_hold b.plan piece in
+      let rest = own_holds (with_slot b slot None) in
+      least_of_bag (own_holds (broken b slot piece attempted note)) (map (piece_hold b.plan) parts ++ rest) broken_bag n
+      ∙ least_many h (map (piece_hold b.plan) parts) rest n (All-map (λ (k : Hold). k ≡ h) (piece_hold b.plan) parts parts_hold)
+      (omega (arith, length-map parts (piece_hold b.plan), broken_some piece attempted note))
+      ∙ sym (least_of_bag (own_holds b) (h ∷ rest) (without_range b slot piece attempted works) n)
 
 -- ---- what key cells hold
 

@@ -87,7 +87,7 @@ keeps_keys told = record {
   );
   enrolls = λ b known h within. (h.0, let t = enroll_turns b h.1 in record { once = t.once; turns = t.turns });
   takes = λ b slot next known h running free is within. take_keys b slot next known.0.0 free h.0 h.1 is;
-  claims = λ b slot p piece attempted known h works may. (h.0, same_turns b slot (Some (live.Span piece attempted)) (Some (live.Span piece (Some p))) works refl tt h.1);
+  claims = λ b slot p piece attempted known h works may. (h.0, same_turns b slot (Some (live.Span piece attempted)) (Some (live.Span piece (Some p))) works.works refl tt h.1);
   splits = λ b slot at piece attempted known h works inside behind within. (
     h.0,
     let t = same_turns b slot (Some (live.Span piece attempted)) (Some (live.Span (cut_to piece (record { from = piece.range.from; to = at })) attempted)) works refl tt h.1 in record { once = t.once; turns = t.turns },
@@ -96,8 +96,12 @@ keeps_keys told = record {
     commit_keys told b slot job receipt cells fired marks known.0.0 known.0.1 known.1 h.0 h.1 made,
     let t = commit_turns told b slot job receipt h.0 h.1 made.works made.given in record { once = t.once; turns = t.turns },
   );
-  fails = λ b slot at job cause known h works.
+  fails = λ b slot at job cause known h works fresh unbroken.
       stop_keys (counted (given_back (with_slot b slot None) job at cause) cause) (ends_run b job cause) (note_of job at cause)
       (counted_keys (given_back (with_slot b slot None) job at cause) cause (back_keys b slot job at cause h.0 h.1 works));
+  breaks = λ b slot at piece attempted known h works fresh is. (
+    h.0,
+    let t = same_turns b slot (Some (live.Span piece attempted)) None works refl tt h.1 in record { once = t.once; turns = t.turns },
+  );
   stops = λ b known h. (h.0, record { once = h.1.once; turns = h.1.turns });
 }

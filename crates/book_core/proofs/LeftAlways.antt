@@ -8,16 +8,17 @@ use Rattle.beam_values.specs.declared.piece.Piece.{Piece}
 use Rattle.beam_values.proofs.Bags.{bag_count}
 use Rattle.bundle_commit.specs.declared.job.Job.{Job}
 use Rattle.book_core.specs.Book.{SeenBook, HeldPane, AreMarksOfBook, batch_of, held}
-use Rattle.book_core.specs.Changes.{with_slot}
-use Rattle.book_core.specs.Left.{GoesOnAt, IsBelow, attempts_left, left, left_at, left_of_batch, left_of_piece, rounds_left}
+use Rattle.book_core.specs.Changes.{is_broken, with_slot}
+use Rattle.book_core.specs.Left.{BreaksNoEmpty, GoesOnAt, IsBelow, attempts_left, left, left_at, left_of_batch, left_of_piece, rounds_left}
 use Rattle.book_core.specs.Sane.{IsSane}
 use Rattle.book_core.specs.Steps.{Action, Answer, Claim, Claimed, Commit, Committed, Fail, IsClaiming, IsFailing, IsTaking, IsWithinLimits, IsWorking, Step, Take, TakenJob}
 use Rattle.book_core.specs.declared.live.Live.TheVariants as live
+use Rattle.book_core.proofs.BreakLowers.{fail_lowers}
 use Rattle.book_core.proofs.Cases.{Commits}
 use Rattle.book_core.proofs.CommitLowers.{commit_lowers}
 use Rattle.book_core.proofs.HeldMoves.{set_moves}
 use Rattle.book_core.proofs.HoldBags.{piece_set_weighs}
-use Rattle.book_core.proofs.Lowered.{at_node, attempts_weigh, fail_lowers, left_at_weighs}
+use Rattle.book_core.proofs.Lowered.{at_node, attempts_weigh, left_at_weighs}
 use Rattle.book_core.proofs.Reaching.{step_same}
 use Rattle.book_core.proofs.Rounds.{fewer_rounds, same_rounds}
 use Rattle.book_core.proofs.SaneAlways.{step_sane}
@@ -52,7 +53,7 @@ attempt_left b slot piece attempted later works = λ i. map (λ m. nodes m i) (o
         )
 
 pub claim_leaves : (b new : SeenBook) (slot p : ℕ) (granted : Bool) → IsClaiming b slot p granted new → left new ≡ left b
-claim_leaves b new slot p granted step = ap left step.is ∙ attempt_left b slot step.piece step.attempted (Some p) step.works
+claim_leaves b new slot p granted step = ap left step.is ∙ attempt_left b slot step.piece step.attempted (Some p) step.works.works
 
 -- ---- a take and a fail
 
@@ -60,8 +61,10 @@ pub take_leaves : (b new : SeenBook) (slot : ℕ) (job : Job) → IsSane b → I
 take_leaves b new slot job sane step =
     subst (λ (x : SeenBook). IsBelow (left x) (left b) ⊎ (left x ≡ left b)) (sym step.is) (take_no_higher b slot sane.formed sane.held step.free step.next step.is_next)
 
-pub fail_leaves : (b new : SeenBook) (slot at : ℕ) (cause : Cause) (answer : Answer) → IsSane b → IsFailing b slot at cause answer new → IsBelow (left new) (left b)
-fail_leaves b new slot at cause answer sane step = subst (λ (x : SeenBook). IsBelow (left x) (left b)) (sym step.is) (fail_lowers b slot at step.job cause sane.attempts sane.turns step.works)
+pub fail_leaves : (b new : SeenBook) (slot at : ℕ) (cause : Cause) (answer : Answer) → IsSane b → BreaksNoEmpty b slot cause → IsFailing b slot at cause answer new → IsBelow (left new) (left b)
+fail_leaves b new slot at cause answer sane some step =
+    subst (λ (x : SeenBook). IsBelow (left x) (left b)) (sym step.is)
+    (fail_lowers b slot at step.job cause (is_broken b step.job cause) refl sane step.works.works step.works.fresh (some step.job step.works.works))
 
 -- ---- a commit
 
@@ -104,5 +107,5 @@ claim_rounds b new slot p granted step = same_rounds b new (step_same None b new
 pub commit_rounds : (told : Option (List FileText)) (b new : SeenBook) (slot : ℕ) → IsSane b → Step told b slot Commit Committed new → GoesOnAt b slot → rounds_left new < rounds_left b
 commit_rounds told b new slot sane step goes = fewer told b new slot Commit Committed sane step (commit_leaves told b new slot sane step goes)
 
-pub fail_rounds : (b new : SeenBook) (slot at : ℕ) (cause : Cause) (answer : Answer) → IsSane b → IsFailing b slot at cause answer new → rounds_left new < rounds_left b
-fail_rounds b new slot at cause answer sane step = fewer None b new slot (Fail at cause) answer sane step (fail_leaves b new slot at cause answer sane step)
+pub fail_rounds : (b new : SeenBook) (slot at : ℕ) (cause : Cause) (answer : Answer) → IsSane b → BreaksNoEmpty b slot cause → IsFailing b slot at cause answer new → rounds_left new < rounds_left b
+fail_rounds b new slot at cause answer sane some step = fewer None b new slot (Fail at cause) answer sane step (fail_leaves b new slot at cause answer sane some step)

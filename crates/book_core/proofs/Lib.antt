@@ -3,10 +3,15 @@ pub mod Writes
 pub mod Weighing
 pub mod Kept
 pub mod Partitioned
+pub mod PieceMoves
+pub mod Sources
+pub mod SetAside
+pub mod Broken
 pub mod Cases
 pub mod Taking
 pub mod KeyChanges
 pub mod Slotted
+pub mod InOrder
 pub mod Formed
 pub mod Queues
 pub mod HeldMoves
@@ -58,11 +63,14 @@ pub mod TakenLeft
 pub mod Onward
 pub mod Settled
 pub mod CommitLowers
+pub mod BreakLowers
 pub mod Rounds
 pub mod LeftAlways
 pub mod Rooms
 pub mod CommitParts
 mod DonePlaces
+mod DeadPlaces
+mod PartHolds
 pub mod CommitRooms
 pub mod CommitFired
 pub mod CommitHolds

@@ -1,6 +1,6 @@
--- A fail lowers what is left of a run, and a take doesn't raise it.
+-- A fail after which the job is tried again lowers what is left of a run.
 use Rattle.std.proofs.Common.{◌≡◌, inl, inr, ℕ, ◌+◌, ◌-◌, ◌*◌, ◌<◌, Bool, true, false, cond, List, [], ◌∷◌, ◌++◌, length, map, refl, sym, ap, subst, ◌∙◌, arith}
-use Rattle.std.specs.Prelude.{Some, None, ◌==◌}
+use Rattle.std.specs.Prelude.{Option, Some, None, ◌==◌, max}
 use Rattle.std.specs.List.{count_by, filter, sum_by}
 use Rattle.std.proofs.lemmas.List.Elements.{All-head}
 use Rattle.std.proofs.lemmas.List.Sums.{length-filter, sum_by-append}
@@ -14,10 +14,10 @@ use Rattle.stateful_core.specs.Cells.{KeyCell}
 use Rattle.stateful_core.specs.Lasting.{left_of}
 use Rattle.stateful_core.specs.Taking.{is_some, tried, with_job}
 use Rattle.book_core.specs.Book.{SeenBook, HeldPane, piece_of, batch_of, live_pieces, live_batches, held, queued}
-use Rattle.book_core.specs.Changes.{with_slot, failed, given_back, counted, stopped_where, tried_piece, tried_batch, ends_run, note_of}
+use Rattle.book_core.specs.Changes.{with_slot, tried_again, given_back, counted, stopped_where, tried_piece, tried_batch, ends_run, note_of}
 use Rattle.book_core.specs.Facts.{AreAttemptsCounted, AreTurnsKept}
-use Rattle.book_core.specs.Left.{IsBelow, attempts_left, left, left_at, left_of_batch, left_of_cell, left_of_piece, offsets_and_one}
-use Rattle.book_core.specs.Steps.{IsWorking}
+use Rattle.book_core.specs.Left.{IsBelow, attempts_left, left, left_at, left_in, left_of_batch, left_of_cell, left_of_piece, left_of_size}
+use Rattle.book_core.specs.Steps.{IsFresh, IsWorking}
 use Rattle.book_core.specs.declared.live.Batch.{Batch}
 use Rattle.book_core.specs.declared.live.Live.{Live}
 use Rattle.book_core.specs.declared.live.Live.TheVariants as live
@@ -48,10 +48,15 @@ lower_last b new plan same less =
 -- ---- what is left weighs
 
 unfoldable pub at_node : ℕ → Piece → ℕ
-at_node node piece = cond (piece.node == node) (offsets_and_one piece) 0
+at_node node piece = cond (piece.node == node) (left_in piece) 0
 
 unfoldable pub cell_left : ℕ → KeyCell → ℕ
 cell_left node cell = cond (cell.log.node == node) (left_of cell) 0
+
+-- what is left in a size that isn't spent
+pub fresh_size : (spent : Option FaultNote) (size : ℕ) → spent ≡ None → left_of_size spent size ≡ max 1 (3 * size - 1)
+fresh_size None size e = refl
+fresh_size (Some note) size e = absurd (cc)
 
 -- a job that is taken or given back leaves what is left of its cell
 pub taken_left : (node bundle : ℕ) (cell : KeyCell) → cell_left node (with_job bundle cell) ≡ cell_left node cell
@@ -72,7 +77,7 @@ unfolding at_node
 left_at_weighs b node =
     omega (
       arith,
-      sum_by-filter offsets_and_one (λ (piece : Piece). piece.node == node) (b.pending ++ live_pieces b),
+      sum_by-filter left_in (λ (piece : Piece). piece.node == node) (b.pending ++ live_pieces b),
       sum_by-append (at_node node) b.pending (live_pieces b),
       length-filter (λ (pane : HeldPane). pane.node == node) (held b),
       cells_weigh node b.keys,
@@ -132,10 +137,10 @@ module _ (b : SeenBook) (slot at : ℕ) (cause : Cause) (counts : AreAttemptsCou
   one_less : (attempts : ℕ) → attempts < most → most - (attempts + 1) + 1 ≡ most - attempts
   one_less attempts less = omega arith
 
-  back_lower : (job : Live) → IsWorking b slot job → attempts_left (back job) + 1 ≡ attempts_left b
-  back_lower (live.Span piece attempted) works =
-      let below = All-head (λ (p : Piece). p.attempts < most) piece []
-      (All-flat_at piece_of b.slots slot (λ (p : Piece). p.attempts < most) (Some (live.Span piece attempted)) works counts.worked_pieces) in
+  back_lower : (job : Live) → IsWorking b slot job → IsFresh job → attempts_left (back job) + 1 ≡ attempts_left b
+  back_lower (live.Span piece attempted) works fresh =
+      let below = All-head (λ (p : Piece). p.spent ≡ None → p.attempts < most) piece []
+      (All-flat_at piece_of b.slots slot (λ (p : Piece). p.spent ≡ None → p.attempts < most) (Some (live.Span piece attempted)) works counts.worked_pieces) fresh in
       omega (
         arith,
         attempts_weigh b,
@@ -146,7 +151,7 @@ module _ (b : SeenBook) (slot at : ℕ) (cause : Cause) (counts : AreAttemptsCou
         flat_set_weighs batch_of b.slots slot (left_of_batch most) (Some (live.Span piece attempted)) None works,
         one_less piece.attempts below,
       )
-  back_lower (live.Batch batch) works =
+  back_lower (live.Batch batch) works fresh =
       let below = All-head (λ (x : Batch). x.attempts < most) batch []
       (All-flat_at batch_of b.slots slot (λ (x : Batch). x.attempts < most) (Some (live.Batch batch)) works counts.worked_batches) in
       omega (
@@ -160,7 +165,7 @@ module _ (b : SeenBook) (slot at : ℕ) (cause : Cause) (counts : AreAttemptsCou
         one_weighs (left_of_batch most) batch,
         one_less batch.attempts below,
       )
-  back_lower (live.Key turn) works =
+  back_lower (live.Key turn) works fresh =
       let own = turn_at b slot turn turns works in
       let below = All-slice_get (λ (c : KeyCell). is_some c.live ≡ true → c.attempts < most) b.keys turn.cell own.cell own.is_at counts.worked_keys (ap is_some own.works) in
       omega (
@@ -193,11 +198,12 @@ back_plan b slot (live.Span piece attempted) at cause = refl
 back_plan b slot (live.Batch batch) at cause = refl
 back_plan b slot (live.Key turn) at cause = refl
 
-pub fail_lowers : (b : SeenBook) (slot at : ℕ) (job : Live) (cause : Cause) → AreAttemptsCounted b → AreTurnsKept b → IsWorking b slot job → IsBelow (left (failed b slot job at cause)) (left b)
-fail_lowers b slot at job cause counts turns works =
+pub tried_lowers : (b : SeenBook) (slot at : ℕ) (job : Live) (cause : Cause) → AreAttemptsCounted b → AreTurnsKept b → IsWorking b slot job → IsFresh job
+    → IsBelow (left (tried_again b slot job at cause)) (left b)
+tried_lowers b slot at job cause counts turns works fresh =
     let back = given_back (with_slot b slot None) job at cause in
     let first = counted_left back cause in
     let then = stop_left (ends_run b job cause) (counted back cause) (note_of job at cause) in
-    lower_last b (failed b slot job at cause) (then.plan ∙ first.plan ∙ back_plan b slot job at cause)
+    lower_last b (tried_again b slot job at cause) (then.plan ∙ first.plan ∙ back_plan b slot job at cause)
     (λ node. then.nodes node ∙ first.nodes node ∙ back_nodes b slot at cause counts turns job works node)
-    (omega (arith, then.attempts, first.attempts, back_lower b slot at cause counts turns job works))
+    (omega (arith, then.attempts, first.attempts, back_lower b slot at cause counts turns job works fresh))

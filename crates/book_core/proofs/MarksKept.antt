@@ -13,6 +13,7 @@ use Rattle.beam_values.specs.Times.{final_mark}
 use Rattle.beam_values.proofs.Bags.{bag_sym}
 use Rattle.beam_values.specs.declared.cell.Cell.{Cell}
 use Rattle.beam_values.specs.declared.cell.Pane.{Pane}
+use Rattle.beam_values.specs.declared.fault.FaultNote.{FaultNote}
 use Rattle.beam_values.specs.declared.file_text.FileText.{FileText}
 use Rattle.beam_values.specs.declared.marks.StageMarks.{StageMarks}
 use Rattle.beam_values.specs.declared.piece.Piece.{Piece}
@@ -23,7 +24,7 @@ use Rattle.group_cells.specs.Commits.{NoneFalls}
 use Rattle.split_core.proofs.Ordered.{All-with_piece}
 use Rattle.watermarks.proofs.Rising.{mark_of_rises, marks_rise, below_hold}
 use Rattle.book_core.specs.Book.{SeenBook, HeldPane, piece_of, batch_of, live_pieces, held, held_in, hold_of, holds, last_marks, AreMarksOfBook}
-use Rattle.book_core.specs.Changes.{committed, pending_after, residual_of, with_residual, key_done}
+use Rattle.book_core.specs.Changes.{committed, pending_after, pending_with, residual_of, with_residual, key_done}
 use Rattle.book_core.specs.Facts.{AreHeldOnce, IsWellFormed}
 use Rattle.book_core.specs.Jobs.{job_of, attempted_of}
 use Rattle.book_core.specs.Work.{IsGiven, worked_to, is_known}
@@ -185,8 +186,11 @@ module _ (plan : Plan) (before : List StageMarks) where
   pending_up : (told : Option (List FileText)) (panes : List Pane) (job : Live) (receipt : Receipt) (pending : List Piece)
       → IsGiven told plan (job_of panes job) (attempted_of job) receipt → All (IsPieceUp plan before) (piece_of (Some job)) → All (IsPieceUp plan before) pending
       → All (IsPieceUp plan before) (pending_after pending job receipt)
-  pending_up told panes (live.Span piece attempted) receipt pending given up all =
-      residual_up told piece attempted receipt pending given (All-head (IsPieceUp plan before) piece [] up) all
+  pending_up told panes (live.Span piece attempted) receipt pending given up all = by piece.spent
+    where
+      by : (spent : Option FaultNote) → All (IsPieceUp plan before) (pending_with spent piece attempted receipt pending)
+      by None = residual_up told piece attempted receipt pending given (All-head (IsPieceUp plan before) piece [] up) all
+      by (Some note) = all
   pending_up told panes (live.Batch batch) receipt pending given up all = all
   pending_up told panes (live.Key turn) receipt pending given up all = all
 

@@ -12,7 +12,7 @@ use Rattle.book_core.specs.declared.live.Live.{Live}
 use Rattle.book_core.specs.declared.live.Live.TheVariants as live
 
 abbrev pub IsLeft : List (Option Live) → ℕ → Option ℕ → Type 0
-IsLeft slots slot None = (piece : Piece) (attempted : Option ℕ) → slice_get slots slot ≡ Some (Some (live.Span piece attempted))
+IsLeft slots slot None = (piece : Piece) (attempted : Option ℕ) → slice_get slots slot ≡ Some (Some (live.Span piece attempted)) → piece.spent ≡ None
     → piece.range.to ≤ split_point_of (tracker_of piece attempted) 1 2
 IsLeft slots slot (Some left) = IsLeftOf slots slot left
 
@@ -27,7 +27,7 @@ same_left slots slot a b h k =
     omega (arith, h.is, k.is, same)
 
 none_left : (slots : List (Option Live)) (slot left : ℕ) → IsLeft slots slot None → IsLeftOf slots slot left → ⊥
-none_left slots slot left h k = omega (arith, h k.piece k.attempted k.works, k.splits)
+none_left slots slot left h k = omega (arith, h k.piece k.attempted k.works k.fresh, k.splits)
 
 below_or_at : (other count : ℕ) → other < count + 1 → (other < count) ⊎ (other ≡ count)
 below_or_at other count h = grind arith
@@ -110,13 +110,13 @@ left_of piece None h = omega (arith, h)
 left_of piece (Some p) h = omega (arith, h)
 
 would_left : (b : SeenBook) (slot : ℕ) (piece : Piece) (attempted : Option ℕ) → WouldSplit b slot piece attempted → IsLeftOf b.slots slot (left_behind piece attempted - 1)
-would_left b slot piece attempted h = record { piece = piece; attempted = attempted; works = h.works; splits = h.splits; is = left_of piece attempted h.splits }
+would_left b slot piece attempted h = record { piece = piece; attempted = attempted; works = h.works.works; fresh = h.works.fresh; splits = h.splits; is = left_of piece attempted h.splits }
 
 left_would : (b : SeenBook) (slot left : ℕ) (h : IsLeftOf b.slots slot left) → WouldSplit b slot h.piece h.attempted
-left_would b slot left h = record { works = h.works; splits = h.splits }
+left_would b slot left h = record { works = record { works = h.works; fresh = h.fresh }; splits = h.splits }
 
 slot_below : (b : SeenBook) (slot : ℕ) (piece : Piece) (attempted : Option ℕ) → WouldSplit b slot piece attempted → slot < length b.slots
-slot_below b slot piece attempted h = slice_get_within b.slots slot (Some (live.Span piece attempted)) h.works
+slot_below b slot piece attempted h = slice_get_within b.slots slot (Some (live.Span piece attempted)) h.works.works
 
 before_of : (a i b j most left : ℕ) → most + 1 ≡ a → left + 1 ≡ b → IsBefore most i left j → IsBefore a i b j
 before_of a i b j most left e f (inl h) = inl (omega (arith, e, f, h))
@@ -138,7 +138,7 @@ next_is b slot (Some chosen) h =
 
 pub left_from : (slots : List (Option Live)) (slot : ℕ) (left : Option ℕ)
     → MatchOption left
-    ((piece : Piece) (attempted : Option ℕ) → slice_get slots slot ≡ Some (Some (live.Span piece attempted)) → piece.range.to ≤ split_point_of (tracker_of piece attempted) 1 2)
+    ((piece : Piece) (attempted : Option ℕ) → slice_get slots slot ≡ Some (Some (live.Span piece attempted)) → piece.spent ≡ None → piece.range.to ≤ split_point_of (tracker_of piece attempted) 1 2)
     (IsLeftOf slots slot)
     → IsLeft slots slot left
 left_from slots slot None h = h

@@ -1,5 +1,5 @@
 -- A book is opened: its pieces, what holds its nodes back, and the marks of these.
-use Rattle.std.proofs.Common.{◌≡◌, ℕ, ◌+◌, ◌<◌, zero, suc, ℤ, List, [], ◌∷◌, ◌++◌, map, length, reverse, replicate, take, drop, get_or, refl, sym, ap, subst, ◌∙◌, arith}
+use Rattle.std.proofs.Common.{◌≡◌, ℕ, ◌+◌, ◌<◌, zero, suc, ℤ, Bool, true, false, cond, List, [], ◌∷◌, ◌++◌, map, length, reverse, replicate, take, drop, get_or, refl, sym, ap, subst, ◌∙◌, arith}
 use Rattle.std.specs.Prelude.{slice_get, unwrap_or, Option, Some, None}
 use Rattle.std.specs.Option.{option_map}
 use Rattle.std.specs.List.{All, sum_by, flat_map, enumerate_from}
@@ -24,7 +24,7 @@ use Rattle.beam_model.specs.Positions.{items}
 use Rattle.split_core.proofs.Ordered.{reverse-cons}
 use Rattle.watermarks.specs.Holds.{SeenHolds, hold_at}
 use Rattle.group_cells.specs.Commits.{as_commit}
-use Rattle.book_core.specs.Book.{SeenBook, HeldPane, held_at}
+use Rattle.book_core.specs.Book.{SeenBook, HeldPane, held_at, most_parts, sets_aside}
 use Rattle.book_core.specs.Indexes.{IsIndexed, AreHeldIn, marks_in, least_in, all_holds, own_holds}
 use Rattle.book_core.proofs.HoldBags.{all_of, least_of_bag}
 use Rattle.book_core.specs.Runs.{AreOptions, AreLengthsOf, IsOpening, opened, pieces_of}
@@ -139,6 +139,14 @@ pub record IsFound (plan : Plan) (files : List FileLen) (options : Options) (hel
   pub sized : length held ≡ length plan.nodes
   pub marked : AreMarks plan (least_in held) marks
 
+-- no place is kept while no piece is worked
+none_kept : (plan : Plan) → most_parts plan 0 ≡ 0
+none_kept plan = by (sets_aside plan)
+  where
+    by : (t : Bool) → cond {A = ℕ} t 0 0 ≡ 0
+    by true = refl
+    by false = refl
+
 module _ (plan : Plan) (files : List FileLen) (options : Options) (held : List SeenHolds) (pending listed : List Piece) (marks : List StageMarks)
     (h : IsFound plan files options held pending listed marks) where
   all_held : AreHeldIn held (own_holds (opened plan files options marks))
@@ -167,7 +175,7 @@ module _ (plan : Plan) (files : List FileLen) (options : Options) (held : List S
       keys = omega arith;
       waiting = omega arith;
       slots = omega arith;
-      pieces = omega (arith, h.few, ap (length {A = Piece}) h.pending_is);
+      pieces = omega (arith, h.few, ap (length {A = Piece}) h.pending_is, none_kept plan);
     };
   }
 
@@ -176,15 +184,15 @@ module _ (plan : Plan) (files : List FileLen) (options : Options) (held : List S
     sane = opened_sane plan files options (opened plan files options marks) is_opening;
     sized = h.sized;
     holds_back = all_held;
-    pieces = omega arith;
+    pieces = omega (arith, none_kept plan);
     batches = omega arith;
   }
 
 -- the book as its fields are made
 pub opened_as : (plan : Plan) (files : List FileLen) (options : Options) (marks : List StageMarks) (b : SeenBook) → b.plan ≡ plan → b.files ≡ files → b.options ≡ options
     → b.pending ≡ pieces_of options.chunk files → b.slots ≡ [] → b.queues ≡ map (λ (node : Node). []) plan.nodes → b.returned ≡ [] → b.cells ≡ [] → b.dropped ≡ [] → b.keys ≡ [] → b.panes ≡ []
-    → b.done ≡ [] → b.written ≡ [] → b.commits ≡ as_commit marks ∷ [] → b.calls ≡ 0 → b.reads ≡ 0 → b.stopped ≡ None → opened plan files options marks ≡ b
-opened_as plan files options marks b e1 e2 e3 e4 e5 e6 e7 e8 e9 e_keys e10 e11 e12 e13 e14 e15 e16 = sym (
+    → b.done ≡ [] → b.dead ≡ [] → b.written ≡ [] → b.commits ≡ as_commit marks ∷ [] → b.calls ≡ 0 → b.reads ≡ 0 → b.stopped ≡ None → opened plan files options marks ≡ b
+opened_as plan files options marks b e1 e2 e3 e4 e5 e6 e7 e8 e9 e_keys e10 e11 e_dead e12 e13 e14 e15 e16 = sym (
     ap (λ x. record b { plan = x }) e1
     ∙ ap (λ x. record b { plan = plan; files = x }) e2
     ∙ ap (λ x. record b { plan = plan; files = files; options = x }) e3
@@ -192,11 +200,12 @@ opened_as plan files options marks b e1 e2 e3 e4 e5 e6 e7 e8 e9 e_keys e10 e11 e
     ∙ ap (λ x. record b { plan = plan; files = files; options = options; pending = pieces_of options.chunk files; slots = x }) e5
     ∙ ap (λ x. record b { plan = plan; files = files; options = options; pending = pieces_of options.chunk files; slots = []; queues = x }) e6
     ∙ ap (λ x. record b { plan = plan; files = files; options = options; pending = pieces_of options.chunk files; slots = []; queues = map (λ (node : Node). []) plan.nodes; returned = x }) e7
-    ∙ ap (λ x. record (opened plan files options marks) { cells = x; dropped = b.dropped; keys = b.keys; panes = b.panes; done = b.done; written = b.written; commits = b.commits; calls = b.calls; reads = b.reads; stopped = b.stopped }) e8
-    ∙ ap (λ x. record (opened plan files options marks) { dropped = x; keys = b.keys; panes = b.panes; done = b.done; written = b.written; commits = b.commits; calls = b.calls; reads = b.reads; stopped = b.stopped }) e9
-    ∙ ap (λ x. record (opened plan files options marks) { keys = x; panes = b.panes; done = b.done; written = b.written; commits = b.commits; calls = b.calls; reads = b.reads; stopped = b.stopped }) e_keys
-    ∙ ap (λ x. record (opened plan files options marks) { panes = x; done = b.done; written = b.written; commits = b.commits; calls = b.calls; reads = b.reads; stopped = b.stopped }) e10
-    ∙ ap (λ x. record (opened plan files options marks) { done = x; written = b.written; commits = b.commits; calls = b.calls; reads = b.reads; stopped = b.stopped }) e11
+    ∙ ap (λ x. record (opened plan files options marks) { cells = x; dropped = b.dropped; keys = b.keys; panes = b.panes; done = b.done; dead = b.dead; written = b.written; commits = b.commits; calls = b.calls; reads = b.reads; stopped = b.stopped }) e8
+    ∙ ap (λ x. record (opened plan files options marks) { dropped = x; keys = b.keys; panes = b.panes; done = b.done; dead = b.dead; written = b.written; commits = b.commits; calls = b.calls; reads = b.reads; stopped = b.stopped }) e9
+    ∙ ap (λ x. record (opened plan files options marks) { keys = x; panes = b.panes; done = b.done; dead = b.dead; written = b.written; commits = b.commits; calls = b.calls; reads = b.reads; stopped = b.stopped }) e_keys
+    ∙ ap (λ x. record (opened plan files options marks) { panes = x; done = b.done; dead = b.dead; written = b.written; commits = b.commits; calls = b.calls; reads = b.reads; stopped = b.stopped }) e10
+    ∙ ap (λ x. record (opened plan files options marks) { done = x; dead = b.dead; written = b.written; commits = b.commits; calls = b.calls; reads = b.reads; stopped = b.stopped }) e11
+    ∙ ap (λ x. record (opened plan files options marks) { dead = x; written = b.written; commits = b.commits; calls = b.calls; reads = b.reads; stopped = b.stopped }) e_dead
     ∙ ap (λ x. record (opened plan files options marks) { written = x; commits = b.commits; calls = b.calls; reads = b.reads; stopped = b.stopped }) e12
     ∙ ap (λ x. record (opened plan files options marks) { commits = x; calls = b.calls; reads = b.reads; stopped = b.stopped }) e13
     ∙ ap (λ x. record (opened plan files options marks) { calls = x; reads = b.reads; stopped = b.stopped }) e14

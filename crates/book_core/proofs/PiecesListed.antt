@@ -18,11 +18,11 @@ use Rattle.beam_values.specs.declared.piece.FileLen.{FileLen}
 use Rattle.beam_values.specs.declared.piece.Piece.{Piece}
 use Rattle.bundle_commit.specs.declared.job.Receipt.{Receipt}
 use Rattle.group_cells.proofs.Counting.{count_member, counted_has}
-use Rattle.split_core.specs.Order.{with_piece}
+use Rattle.split_core.specs.Order.{with_piece, with_pieces}
 use Rattle.split_core.specs.Partition.{IsListed}
 use Rattle.split_core.proofs.Ordered.{All-with_piece}
 use Rattle.book_core.specs.Book.{SeenBook, piece_of, live_pieces}
-use Rattle.book_core.specs.Changes.{with_slot, cut_to, rest_of, split_off, given_back, tried_piece, counted, done_after, done_cmp, done_of, stopped_where, ends_run, note_of, pending_after, residual_of, with_done, with_residual}
+use Rattle.book_core.specs.Changes.{with_slot, cut_to, rest_of, split_off, given_back, tried_piece, counted, done_with, done_after, done_cmp, done_of, stopped_where, ends_run, broken, broken_parts, note_of, pending_with, pending_after, residual_of, with_done, with_residual}
 use Rattle.book_core.specs.Facts.{ArePartitioned, IsWellFormed}
 use Rattle.book_core.specs.Jobs.{Next, with_key}
 use Rattle.book_core.specs.Left.{all_lengths}
@@ -32,6 +32,7 @@ use Rattle.book_core.specs.Steps.{IsWorking}
 use Rattle.book_core.specs.Work.{worked_to}
 use Rattle.book_core.specs.declared.live.Live.{Live}
 use Rattle.book_core.specs.declared.live.Live.TheVariants as live
+use Rattle.book_core.proofs.Broken.{All-with_pieces, broken_all}
 use Rattle.book_core.proofs.Cases.{Keeps, Anything}
 use Rattle.book_core.proofs.OpenedPieces.{IsFileBelow, all_files_below, enrolled_of, pieces_of_files}
 use Rattle.book_core.proofs.Slotted.{All-append_left, All-append_right, All-flat_set, All-flat_at}
@@ -101,13 +102,20 @@ module _ (b : SeenBook) (h : AreListed b) where
       by false = pending_listed
 
   commit_pieces : (slot : ℕ) (job : Live) (receipt : Receipt) → IsWorking b slot job → All (IsOf b.files) (pending_after b.pending job receipt ++ flat_map piece_of (slice_set b.slots slot None))
-  commit_pieces slot (live.Span piece attempted) receipt works =
-      set_listed (with_residual (residual_of piece attempted receipt) b.pending) slot None (residual_listed slot piece attempted receipt works) (All-nil (IsOf b.files))
+  commit_pieces slot (live.Span piece attempted) receipt works = by piece.spent
+    where
+      by : (spent : Option FaultNote) → All (IsOf b.files) (pending_with spent piece attempted receipt b.pending ++ flat_map piece_of (slice_set b.slots slot None))
+      by None = set_listed (with_residual (residual_of piece attempted receipt) b.pending) slot None (residual_listed slot piece attempted receipt works) (All-nil (IsOf b.files))
+      by (Some note) = set_listed b.pending slot None pending_listed (All-nil (IsOf b.files))
   commit_pieces slot (live.Batch batch) receipt works = set_listed b.pending slot None pending_listed (All-nil (IsOf b.files))
   commit_pieces slot (live.Key turn) receipt works = set_listed b.pending slot None pending_listed (All-nil (IsOf b.files))
 
   commit_done : (slot : ℕ) (job : Live) → IsWorking b slot job → All (IsDoneOf b.files) (done_after b.done job)
-  commit_done slot (live.Span piece attempted) works = All-with_done (IsDoneOf b.files) (done_of piece attempted) b.done (worked_listed slot piece attempted works) h.done
+  commit_done slot (live.Span piece attempted) works = by piece.spent
+    where
+      by : (spent : Option FaultNote) → All (IsDoneOf b.files) (done_with spent piece attempted b.done)
+      by None = All-with_done (IsDoneOf b.files) (done_of piece attempted) b.done (worked_listed slot piece attempted works) h.done
+      by (Some note) = h.done
   commit_done slot (live.Batch batch) works = h.done
   commit_done slot (live.Key turn) works = h.done
 
@@ -119,6 +127,17 @@ back_listed b slot (live.Span piece attempted) at cause h works = record {
 }
 back_listed b slot (live.Batch batch) at cause h works = record { pieces = set_listed b h b.pending slot None (pending_listed b h) (All-nil (IsOf b.files)); done = h.done }
 back_listed b slot (live.Key turn) at cause h works = record { pieces = set_listed b h b.pending slot None (pending_listed b h) (All-nil (IsOf b.files)); done = h.done }
+
+broken_listed : (b : SeenBook) (slot : ℕ) (piece : Piece) (attempted : Option ℕ) (note : FaultNote) → AreListed b → IsWorking b slot (live.Span piece attempted)
+    → AreListed (broken b slot piece attempted note)
+broken_listed b slot piece attempted note h works =
+    let was = worked_listed b h slot piece attempted works in
+    let parts = broken_parts piece attempted note in
+    record {
+      pieces = set_listed b h (with_pieces parts b.pending) slot None
+          (All-with_pieces (IsOf b.files) parts b.pending (broken_all (IsOf b.files) piece attempted note (λ from to low high. was) (λ one. was)) (pending_listed b h)) (All-nil (IsOf b.files));
+      done = h.done;
+    }
 
 counted_listed : (x : SeenBook) (cause : Cause) → AreListed x → AreListed (counted x cause)
 counted_listed x Call h = record { pieces = h.pieces; done = h.done }
@@ -165,7 +184,7 @@ keeps_listed told = record {
       (λ place cell found. record { pieces = set_listed b h b.pending slot (Some (with_key b place.at cell).job) (pending_listed b h) (All-nil (IsOf b.files)); done = h.done })
       (λ piece later e. record { pieces = take_listed b h slot piece later e; done = h.done }) next is;
   claims = λ b slot p piece attempted known h works may. record {
-    pieces = set_listed b h b.pending slot (Some (live.Span piece (Some p))) (pending_listed b h) (one_listed b h piece (worked_listed b h slot piece attempted works));
+    pieces = set_listed b h b.pending slot (Some (live.Span piece (Some p))) (pending_listed b h) (one_listed b h piece (worked_listed b h slot piece attempted works.works));
     done = h.done;
   };
   splits = λ b slot at piece attempted known h works inside behind within. split_listed b h slot at piece attempted works;
@@ -173,9 +192,10 @@ keeps_listed told = record {
     pieces = commit_pieces b h slot job receipt made.works;
     done = commit_done b h slot job made.works;
   };
-  fails = λ b slot at job cause known h works.
+  fails = λ b slot at job cause known h works fresh unbroken.
       stop_listed (ends_run b job cause) (counted (given_back (with_slot b slot None) job at cause) cause) (note_of job at cause)
       (counted_listed (given_back (with_slot b slot None) job at cause) cause (back_listed b slot job at cause h works));
+  breaks = λ b slot at piece attempted known h works fresh is. broken_listed b slot piece attempted (note_of (live.Span piece attempted) at Call) h works;
   stops = λ b known h. record { pieces = h.pieces; done = h.done };
 }
 

@@ -9,7 +9,7 @@ use Rattle.beam_values.specs.declared.options.Options.{Options}
 use Rattle.beam_values.specs.declared.piece.FileLen.{FileLen}
 use Rattle.beam_values.specs.declared.plan.Plan.{Plan}
 use Rattle.book_core.specs.Book.{SeenBook}
-use Rattle.book_core.specs.Changes.{with_slot, given_back, counted, stopped_where, ends_run, note_of}
+use Rattle.book_core.specs.Changes.{counted, ends_run, failed_where, given_back, is_broken, note_of, stopped_where, tried_again, with_slot}
 use Rattle.book_core.specs.Jobs.{Next, next_job}
 use Rattle.book_core.specs.Runs.{MadeStep, Run, Reached, IsOpening}
 use Rattle.book_core.specs.Steps.{Action, Enroll, Take, Claim, Split, Commit, Fail, Stop, Answer, Enrolled, TakenJob, Nothing, Finished, Stopped, Claimed, SplitAt, Committed, Noted, NoMemory, Step}
@@ -57,14 +57,19 @@ stopped_same : (spent : Bool) (b : SeenBook) (note : FaultNote) → HasSamePlan 
 stopped_same true b note = record { plan = refl; files = refl; options = refl }
 stopped_same false b note = record { plan = refl; files = refl; options = refl }
 
-failed_same : (b : SeenBook) (slot at : ℕ) (job : Live) (cause : Cause)
-    → HasSamePlan b (stopped_where (ends_run b job cause) (counted (given_back (with_slot b slot None) job at cause) cause) (note_of job at cause))
-failed_same b slot at job cause =
+tried_same : (b : SeenBook) (slot at : ℕ) (job : Live) (cause : Cause) → HasSamePlan b (tried_again b slot job at cause)
+tried_same b slot at job cause =
     let back = given_back (with_slot b slot None) job at cause in
     let more = counted back cause in
     same_onward b more _
     (same_onward b back more (same_onward b (with_slot b slot None) back (slot_same b slot None) (back_same (with_slot b slot None) job at cause)) (counted_same back cause))
     (stopped_same (ends_run b job cause) more (note_of job at cause))
+
+failed_same : (broken : Bool) (b : SeenBook) (slot at : ℕ) (job : Live) (cause : Cause) → HasSamePlan b (failed_where broken b slot job at cause)
+failed_same true b slot at (live.Span piece attempted) cause = record { plan = refl; files = refl; options = refl }
+failed_same true b slot at (live.Batch batch) cause = tried_same b slot at (live.Batch batch) cause
+failed_same true b slot at (live.Key turn) cause = tried_same b slot at (live.Key turn) cause
+failed_same false b slot at job cause = tried_same b slot at job cause
 
 pub step_same : (told : Option (List FileText)) (b new : SeenBook) (slot : ℕ) (action : Action) (answer : Answer) → Step told b slot action answer new → HasSamePlan b new
 step_same told b new slot Enroll (Enrolled number) step = subst (HasSamePlan b) (sym step.2) (record { plan = refl; files = refl; options = refl })
@@ -82,7 +87,7 @@ step_same told b new slot (Split num den) (SplitAt None) step = same_where b new
 step_same told b new slot (Split num den) NoMemory step = same_where b new step
 step_same told b new slot Commit Committed step = subst (HasSamePlan b) (sym step.1.commit.is) (record { plan = refl; files = refl; options = refl })
 step_same told b new slot Commit NoMemory step = same_where b new step.1
-step_same told b new slot (Fail at cause) answer step = subst (HasSamePlan b) (sym step.is) (failed_same b slot at step.job cause)
+step_same told b new slot (Fail at cause) answer step = subst (HasSamePlan b) (sym step.is) (failed_same (is_broken b step.job cause) b slot at step.job cause)
 step_same told b new slot Stop Noted step = subst (HasSamePlan b) (sym step) (record { plan = refl; files = refl; options = refl })
 step_same told b new slot _ _ step = absurd step
 

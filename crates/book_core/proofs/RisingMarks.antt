@@ -21,7 +21,7 @@ use Rattle.bundle_commit.specs.declared.job.Receipt.{Receipt}
 use Rattle.group_cells.specs.Commits.{NeverFalls, NoneFalls, as_commit}
 use Rattle.group_cells.proofs.FirstCommit.{never_longer}
 use Rattle.book_core.specs.Book.{SeenBook, last_marks, AreMarksOfBook}
-use Rattle.book_core.specs.Changes.{with_slot, split_off, committed, given_back, counted, stopped_where, ends_run, note_of, or_stopped}
+use Rattle.book_core.specs.Changes.{with_slot, split_off, committed, given_back, broken, counted, stopped_where, ends_run, note_of, or_stopped}
 use Rattle.book_core.specs.Facts.{AreMarksKept, AreHeldOnce, IsWellFormed}
 use Rattle.book_core.specs.Jobs.{Next, next_job}
 use Rattle.book_core.specs.Runs.{IsOpening}
@@ -31,7 +31,7 @@ use Rattle.book_core.specs.declared.live.Live.TheVariants as live
 use Rattle.book_core.proofs.Cases.{Keeps, Commits, Both, enrolled}
 use Rattle.stateful_core.specs.Cells.{key_holds}
 use Rattle.book_core.proofs.KeysKept.{KeysKept}
-use Rattle.book_core.proofs.HoldBags.{least_as, least_of_bag, marks_of_least, enroll_holds, take_holds, claim_holds, back_holds, split_least}
+use Rattle.book_core.proofs.HoldBags.{least_as, least_of_bag, marks_of_least, enroll_holds, take_holds, claim_holds, back_holds, split_least, broken_least}
 use Rattle.book_core.specs.Indexes.{all_holds, own_holds}
 use Rattle.book_core.proofs.MarksKept.{none_falls}
 use Rattle.stateful_core.proofs.LeftAs.{give_back_leaves, take_leaves}
@@ -152,11 +152,11 @@ keeps_marked told = record {
   takes = λ b slot next known h running free is within. take_marked b slot next known.0.1 free is h;
   claims = λ b slot p piece attempted known h works may.
       let new = with_slot b slot (Some (live.Span piece (Some p))) in
-      marked_onward b new (record { plan = refl; commits = refl; least = least_as b new refl (least_of_bag (own_holds new) (own_holds b) (claim_holds b slot p piece attempted works)) }) h;
+      marked_onward b new (record { plan = refl; commits = refl; least = least_as b new refl (least_of_bag (own_holds new) (own_holds b) (claim_holds b slot p piece attempted works.works)) }) h;
   splits = λ b slot at piece attempted known h works inside behind within.
       marked_onward b (split_off b slot piece attempted at) (record { plan = refl; commits = refl; least = least_as b (split_off b slot piece attempted at) refl (split_least b slot at piece attempted works) }) h;
   commits = λ b slot job receipt cells fired marks known h made. commit_marked told b slot job receipt cells fired marks known.0.0 known.0.1 known.1 h made;
-  fails = λ b slot at job cause known h works.
+  fails = λ b slot at job cause known h works fresh unbroken.
       let back = given_back (with_slot b slot None) job at cause in
       stop_where_marked (ends_run b job cause) (counted back cause) (note_of job at cause)
       (counted_marked back cause
@@ -165,6 +165,10 @@ keeps_marked told = record {
         commits = (back_same b slot job at cause).commits;
         least = least_as b back (back_same b slot job at cause).keys (least_of_bag (own_holds back) (own_holds b) (back_holds b slot job at cause works));
       }) h));
+  breaks = λ b slot at piece attempted known h works fresh is.
+      let note = note_of (live.Span piece attempted) at Call in
+      let new = broken b slot piece attempted note in
+      marked_onward b new (record { plan = refl; commits = refl; least = least_as b new refl (broken_least b slot piece attempted note works) }) h;
   stops = λ b known h. stop_marked b (or_stopped b.stopped stop.NoMemory) h;
 }
 

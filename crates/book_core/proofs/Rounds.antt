@@ -1,6 +1,6 @@
 -- What is left of a run as one number: its digits stay below the base, so each round lowers it.
 use Rattle.std.proofs.Common.{◌≡◌, inl, inr, ℕ, zero, suc, ◌+◌, ◌-◌, ◌*◌, ◌<◌, ◌≤◌, Bool, true, false, cond, List, [], ◌∷◌, ◌++◌, length, map, get_or, ap, subst, ◌∙◌, mul-le-mul_left, length-append, arith}
-use Rattle.std.specs.Prelude.{◌==◌, fold, nat_lt}
+use Rattle.std.specs.Prelude.{◌==◌, fold, nat_lt, Option, Some, None}
 use Rattle.std.specs.List.{All, count_by, filter, flat_map, sum_by}
 use Rattle.std.proofs.lemmas.Bool.{cases_lt}
 use Rattle.std.proofs.lemmas.Bool.Decides.{nat_tests}
@@ -9,15 +9,16 @@ use Rattle.std.proofs.lemmas.List.Elements.{All-nil, All-cons, All-head, All-tai
 use Rattle.std.proofs.lemmas.List.Sums.{length-filter, sum_by-cons}
 use Rattle.std.proofs.lemmas.Option.{slice_get_within}
 use Rattle.beam_values.specs.Lines.{offsets}
+use Rattle.beam_values.specs.declared.fault.FaultNote.{FaultNote}
 use Rattle.beam_values.specs.declared.options.Options.{Options}
 use Rattle.beam_values.specs.declared.piece.FileLen.{FileLen}
 use Rattle.beam_values.specs.declared.piece.Piece.{Piece}
 use Rattle.beam_values.specs.declared.plan.Plan.{Plan}
 use Rattle.group_cells.proofs.Counting.{count_none, filter_all}
 use Rattle.stateful_core.specs.Cells.{KeyCell}
-use Rattle.book_core.specs.Book.{SeenBook, HeldPane, held, held_in, live_batches, live_pieces, queued, waiting_in}
+use Rattle.book_core.specs.Book.{SeenBook, HeldPane, held, held_in, live_batches, live_pieces, places_kept, queued, sets_aside, waiting_in}
 use Rattle.book_core.specs.Facts.{AreHeldOnce, IsHeldPane, IsWellFormed, is_held_at}
-use Rattle.book_core.specs.Left.{IsBelow, above_each, all_lengths, attempts_left, left, left_at, left_of_batch, left_of_cell, left_of_piece, offsets_and_one, rounds_left}
+use Rattle.book_core.specs.Left.{IsBelow, above_each, all_lengths, attempts_left, left, left_at, left_in, left_of_batch, left_of_cell, left_of_piece, left_of_size, rounds_left}
 use Rattle.book_core.specs.Sane.{IsSane}
 use Rattle.book_core.specs.declared.live.Batch.{Batch}
 use Rattle.book_core.specs.declared.live.WaitingPane.{WaitingPane}
@@ -122,22 +123,37 @@ sum_most f most (x ∷ xs) each =
 abbrev EndsBy : ℕ → Piece → Type 0
 EndsBy most piece = piece.range.from < piece.range.to → piece.range.to ≤ most
 
-one_most : (most from to : ℕ) → (from < to → to ≤ most) → to - from + 1 ≤ most + 1
+one_most : (most from to : ℕ) → (from < to → to ≤ most) → to - from ≤ most
 one_most most from to ends = elim (cases_lt from to) [
   | inl some ↦ let low = ends some in omega (arith, low)
   | inr none ↦ omega (arith, none)
 ]
 
-pieces_most : (p : Piece → Bool) (most : ℕ) (xs : List Piece) → All (EndsBy most) xs → sum_by offsets_and_one (filter p xs) ≤ (most + 1) * length xs
+left_most : (most : ℕ) (piece : Piece) → EndsBy most piece → left_in piece ≤ 3 * most + 1
+left_most most piece ends = by piece.spent (one_most most piece.range.from piece.range.to ends)
+  where
+    by : (spent : Option FaultNote) → piece.range.to - piece.range.from ≤ most → left_of_size spent (piece.range.to - piece.range.from) ≤ 3 * most + 1
+    by None few = omega (arith, few)
+    by (Some note) few = omega arith
+
+pieces_most : (p : Piece → Bool) (most : ℕ) (xs : List Piece) → All (EndsBy most) xs → sum_by left_in (filter p xs) ≤ (3 * most + 1) * length xs
 pieces_most p most [] all = omega arith
 pieces_most p most (x ∷ xs) all = by (p x) (pieces_most p most xs (All-tail (EndsBy most) x xs all))
   where
-    whole : (n : ℕ) → (most + 1) * (1 + n) ≡ (most + 1) + (most + 1) * n
+    whole : (n : ℕ) → (3 * most + 1) * (1 + n) ≡ (3 * most + 1) + (3 * most + 1) * n
     whole n = grind arith
 
-    by : (t : Bool) → sum_by offsets_and_one (filter p xs) ≤ (most + 1) * length xs → sum_by offsets_and_one (cond t (x ∷ filter p xs) (filter p xs)) ≤ (most + 1) * length (x ∷ xs)
-    by true few = omega (arith, few, whole (length xs), sum_by-cons offsets_and_one x (filter p xs), one_most most x.range.from x.range.to (All-head (EndsBy most) x xs all))
+    by : (t : Bool) → sum_by left_in (filter p xs) ≤ (3 * most + 1) * length xs → sum_by left_in (cond t (x ∷ filter p xs) (filter p xs)) ≤ (3 * most + 1) * length (x ∷ xs)
+    by true few = omega (arith, few, whole (length xs), sum_by-cons left_in x (filter p xs), left_most most x (All-head (EndsBy most) x xs all))
     by false few = omega (arith, few, whole (length xs))
+
+-- a place at least is kept for each piece that is worked
+pub places_kept_most : (b : SeenBook) → length (live_pieces b) ≤ places_kept b
+places_kept_most b = by (sets_aside b.plan) (length (live_pieces b))
+  where
+    by : (t : Bool) (n : ℕ) → n ≤ cond {A = ℕ} t (3 * n) n
+    by true n = omega arith
+    by false n = omega arith
 
 module _ (b : SeenBook) (sane : IsSane b) where
   abbrev formed : IsWellFormed b
@@ -152,19 +168,22 @@ module _ (b : SeenBook) (sane : IsSane b) where
   few_held : length (held b) < 4294967295
   few_held = omega (arith, held_few b once, formed.within.panes)
 
+  few_pieces : length (b.pending ++ live_pieces b) < 4294967295
+  few_pieces = omega (arith, formed.within.pieces, places_kept_most b, length-append b.pending (live_pieces b))
+
   node_below : (m : ℕ) → left_at b m < above_each b
   node_below m =
       let pieces = b.pending ++ live_pieces b in
       let most = all_lengths b in
       let sum = pieces_most (λ (piece : Piece). piece.node == m) most pieces (All-weaker (IsPlaced b) (EndsBy most) (λ piece is. is.1) pieces placed) in
-      let all : (most + 1) * length pieces ≤ (most + 1) * 4294967295 = mul-le-mul_left {m = length pieces} {n = 4294967295} (most + 1) (omega (arith, formed.within.pieces, length-append b.pending (live_pieces b))) in
+      let all : (3 * most + 1) * length pieces ≤ (3 * most + 1) * 4294967295 = mul-le-mul_left {m = length pieces} {n = 4294967295} (3 * most + 1) (omega (arith, few_pieces)) in
       let panes = filtered_few (λ (pane : HeldPane). pane.node == m) (held b) in
       let cells = cells_most b.plan b.commits (λ (cell : KeyCell). cell.log.node == m) b.keys sane.keys.each in
       bounded most b.options.attempts (length (filter (λ (pane : HeldPane). pane.node == m) (held b))) (waiting_in b.keys) (length b.keys) (omega (arith, panes, few_held)) formed.within.waiting
       formed.within.keys (omega (arith, sum, all)) cells
     where
-      bounded : (most attempts panes waiting keys : ℕ) {offsets cells : ℕ} → panes < 4294967295 → waiting < 4294967295 → keys < 4294967295 → offsets ≤ (most + 1) * 4294967295
-          → cells ≤ 9 * waiting + keys → offsets + panes + cells < 4294967296 * (most + 4 * attempts + 20)
+      bounded : (most attempts panes waiting keys : ℕ) {offsets cells : ℕ} → panes < 4294967295 → waiting < 4294967295 → keys < 4294967295 → offsets ≤ (3 * most + 1) * 4294967295
+          → cells ≤ 9 * waiting + keys → offsets + panes + cells < 4294967296 * (3 * most + 4 * attempts + 20)
       bounded most attempts panes waiting keys few few_waiting few_keys sum left = omega (arith, few, few_waiting, few_keys, sum, left)
 
   attempts_below : attempts_left b < above_each b
@@ -185,7 +204,7 @@ module _ (b : SeenBook) (sane : IsSane b) where
         batches_few b.returned (All-append_left IsNonempty b.returned (live_batches b) once.batches),
         batches_few (live_batches b) (All-append_right IsNonempty b.returned (live_batches b) once.batches),
       ) in
-      bounded (all_lengths b) limit (product limit (length pieces) (omega (arith, formed.within.pieces, length-append b.pending (live_pieces b)))) (product limit (length batches) (omega (arith, few_batches, few_held)))
+      bounded (all_lengths b) limit (product limit (length pieces) (omega (arith, few_pieces))) (product limit (length batches) (omega (arith, few_batches, few_held)))
       (product limit (length (queued b)) (omega (arith, few_queued, few_held))) (product limit (length b.keys) (omega (arith, formed.within.keys))) first second third
     where
       less : (limit attempts : ℕ) → limit - attempts ≤ limit
@@ -195,7 +214,7 @@ module _ (b : SeenBook) (sane : IsSane b) where
       product limit n few = mul-le-mul_left {m = n} {n = 4294967295} limit few
 
       bounded : (most limit : ℕ) {p q r s x y z : ℕ} → p ≤ limit * 4294967295 → q ≤ limit * 4294967295 → r ≤ limit * 4294967295 → s ≤ limit * 4294967295 → x ≤ p → y ≤ q → z ≤ s
-          → x + y + r + z < 4294967296 * (most + 4 * limit + 20)
+          → x + y + r + z < 4294967296 * (3 * most + 4 * limit + 20)
       bounded most limit a c d e f g h = omega (arith, a, c, d, e, f, g, h)
 
   digits : All (λ x. x < above_each b) (left b)
@@ -207,8 +226,8 @@ module _ (b : SeenBook) (sane : IsSane b) where
 -- the base stays while the plan, the files and the options do
 base_same : (b new : SeenBook) → HasSamePlan b new → above_each new ≡ above_each b
 base_same b new same =
-    ap (λ (files : List FileLen). 4294967296 * (sum_by (λ file. file.len) files + 4 * new.options.attempts + 20)) same.files
-    ∙ ap (λ (options : Options). 4294967296 * (all_lengths b + 4 * options.attempts + 20)) same.options
+    ap (λ (files : List FileLen). 4294967296 * (3 * sum_by (λ file. file.len) files + 4 * new.options.attempts + 20)) same.files
+    ∙ ap (λ (options : Options). 4294967296 * (3 * all_lengths b + 4 * options.attempts + 20)) same.options
 
 as_many : (b new : SeenBook) → new.plan ≡ b.plan → length (left new) ≡ length (left b)
 as_many b new plan =

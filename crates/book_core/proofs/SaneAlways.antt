@@ -3,14 +3,13 @@ use Rattle.std.proofs.Common.{ℕ, ◌+◌, ◌≤◌, List, [], ◌++◌, arith
 use Rattle.std.specs.Prelude.{Option}
 use Rattle.std.specs.List.{All}
 use Rattle.std.proofs.lemmas.List.Elements.{All-append}
-use Rattle.std.proofs.lemmas.List.Sums.{sum_by-append}
 use Rattle.beam_values.specs.declared.file_text.FileText.{FileText}
 use Rattle.beam_values.specs.declared.options.Options.{Options}
 use Rattle.beam_values.specs.declared.piece.FileLen.{FileLen}
 use Rattle.beam_values.specs.declared.piece.Piece.{Piece}
 use Rattle.beam_values.specs.declared.plan.Plan.{Plan}
 use Rattle.book_core.specs.Book.{SeenBook, live_batches, live_pieces}
-use Rattle.book_core.specs.Facts.{AreAttemptsCounted, AreHeldOnce, AreTurnsKept, IsStopNoted, IsWellFormed}
+use Rattle.book_core.specs.Facts.{AreAttemptsCounted, AreHeldOnce, IsAttemptedWithin, IsStopNoted, IsWellFormed}
 use Rattle.book_core.specs.Runs.{IsOpening, Reached, opened}
 use Rattle.book_core.specs.Sane.{AreListed, AreWaitingInOrder, IsSane}
 use Rattle.book_core.specs.Steps.{Action, Answer, Step}
@@ -20,14 +19,16 @@ use Rattle.book_core.proofs.AttemptsKept.{keeps_counted}
 use Rattle.book_core.proofs.Cases.{AreAlways, Anything, Both, always_reached, step_keeps}
 use Rattle.book_core.proofs.Formed.{keeps_formed}
 use Rattle.book_core.proofs.HeldOnce.{keeps_held}
-use Rattle.book_core.proofs.Partitioned.{opening_partitioned, parted_of, partitioned_of, step_partitions}
+use Rattle.book_core.proofs.Partitioned.{keeps_within, opening_partitioned, partition_kept}
 use Rattle.book_core.proofs.KeysAlways.{AreKeysSane, keeps_keys}
 use Rattle.book_core.proofs.KeysKept.{KeysKept}
 use Rattle.book_core.proofs.PiecesListed.{at_most, keeps_listed}
 use Rattle.book_core.proofs.RisingMarks.{IsMarked, kept_marks, keeps_marked, marked_of}
 use Rattle.book_core.proofs.SaneResults.{AreSaneResults, keeps_results}
+use Rattle.book_core.proofs.SetAside.{opening_spent, spent_kept}
 use Rattle.book_core.proofs.Slotted.{All-append_left, All-append_right}
-use Rattle.book_core.proofs.TriesSummed.{IsTried, keeps_tried}
+use Rattle.book_core.proofs.Sources.{AreLiveSound, source_step}
+use Rattle.book_core.proofs.TriesSummed.{AreTogether, opening_together, together_kept}
 use Rattle.book_core.proofs.WaitingOrder.{keeps_order}
 
 -- ---- attempts, as they are counted and as it is said
@@ -52,11 +53,8 @@ counted_of b h stop = record {
   reads = h.reads;
 }
 
-tried_of : (b : SeenBook) → AreAttemptsCounted b → IsTried b
-tried_of b h = record { tried = omega (arith, h.together, sum_by-append (λ (piece : Piece). piece.attempts) b.pending (live_pieces b)) }
-
-attempts_of : (b : SeenBook) → IsCounted b → IsTried b → AreAttemptsCounted b
-attempts_of b h tried = record {
+attempts_of : (b : SeenBook) → IsCounted b → AreTogether b → AreAttemptsCounted b
+attempts_of b h together = record {
   worked_pieces = h.counts.worked_pieces;
   worked_batches = λ k d inside. (h.counts.worked_batches k d inside).0;
   worked_keys = h.cells.worked;
@@ -66,7 +64,7 @@ attempts_of b h tried = record {
   pending_most = h.counts.pending_most;
   returned_most = λ k d inside. (h.counts.returned_most k d inside).0;
   keys_most = h.cells.most;
-  together = omega (arith, tried.tried, sum_by-append (λ (piece : Piece). piece.attempts) b.pending (live_pieces b));
+  together = together;
   keys_failed = h.cells.failed;
   batches =
       let total = b.calls + b.reads in
@@ -85,16 +83,16 @@ each_tried b h k d inside = omega (arith, h.together, at_most (λ (piece : Piece
 opening_sane : (b first : SeenBook) → IsOpening b.plan b.files b.options first → IsSane first
 opening_sane b first opening =
     let none : Option (List FileText) = Rattle.std.specs.Prelude.None in
-    let parted = opening_partitioned first b opening in
     let counted = (keeps_counted none).opens b first opening in
     let results = (keeps_results none).opens b first opening in
     let keyed = (keeps_keys none).opens b first opening in
     record {
       formed = (keeps_formed none).opens b first opening;
       listed = (keeps_listed none).opens b first opening;
-      partitioned = partitioned_of first parted;
-      attempted = parted.attempted;
-      attempts = attempts_of first counted ((keeps_tried none).opens b first opening);
+      partitioned = opening_partitioned b first opening;
+      attempted = (keeps_within none).opens b first opening;
+      attempts = attempts_of first counted (opening_together b first opening);
+      spent = opening_spent b first opening;
       stop = counted.stop;
       held = (keeps_held none).opens b first opening;
       order = (keeps_order none).opens b first opening;
@@ -116,8 +114,9 @@ pub step_sane : (told : Option (List FileText)) (b new : SeenBook) (slot : ℕ) 
 step_sane told b new slot action answer step h =
     let counted = counted_of b h.attempts h.stop in
     let marked = marked_of b h.marks in
-    let now_counted = step_keeps told (Both IsWellFormed AreTurnsKept) IsCounted (keeps_counted told) b new slot action answer step (h.formed, h.turns) counted in
-    let now_parted = step_partitions told b new slot action answer step (parted_of b h.partitioned h.attempted) in
+    let now_counted = step_keeps told IsSane IsCounted (keeps_counted told) b new slot action answer step h counted in
+    let sound : AreLiveSound b = record { attempted = h.attempted; below = h.attempts.worked_pieces } in
+    let source = source_step told b new slot action answer step sound in
     let now_marked = step_keeps told (Both (Both IsWellFormed AreHeldOnce) KeysKept) IsMarked (keeps_marked told) b new slot action answer step ((h.formed, h.held), h.keys) marked in
     let now_keyed = step_keeps told (Both (Both IsWellFormed AreHeldOnce) IsMarked) AreKeysSane (keeps_keys told) b new slot action answer step ((h.formed, h.held), marked) (h.keys, h.turns) in
     let now_left =
@@ -126,9 +125,10 @@ step_sane told b new slot action answer step h =
     record {
       formed = step_keeps told Anything IsWellFormed (keeps_formed told) b new slot action answer step tt h.formed;
       listed = step_keeps told Anything AreListed (keeps_listed told) b new slot action answer step tt h.listed;
-      partitioned = partitioned_of new now_parted;
-      attempted = now_parted.attempted;
-      attempts = attempts_of new now_counted (step_keeps told (Both IsWellFormed IsCounted) IsTried (keeps_tried told) b new slot action answer step (h.formed, counted) (tried_of b h.attempts));
+      partitioned = partition_kept b slot action new source h.spent h.partitioned;
+      attempted = step_keeps told Anything (λ (x : SeenBook). All IsAttemptedWithin x.slots) (keeps_within told) b new slot action answer step tt h.attempted;
+      attempts = attempts_of new now_counted (together_kept b h.formed h.spent sound h.attempts.pending_most slot action new source h.attempts.together);
+      spent = spent_kept b slot action new source h.spent;
       stop = now_counted.stop;
       held = step_keeps told IsWellFormed AreHeldOnce (keeps_held told) b new slot action answer step h.formed h.held;
       order = step_keeps told AreHeldOnce AreWaitingInOrder (keeps_order told) b new slot action answer step h.held h.order;

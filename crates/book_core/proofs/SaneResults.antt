@@ -18,6 +18,7 @@ use Rattle.beam_values.specs.declared.fault.FaultNote.{FaultNote}
 use Rattle.beam_values.specs.declared.file_text.FileText.{FileText}
 use Rattle.beam_values.specs.declared.marks.CommitMarks.{CommitMarks}
 use Rattle.beam_values.specs.declared.marks.StageMarks.{StageMarks}
+use Rattle.beam_values.specs.declared.piece.Piece.{Piece}
 use Rattle.beam_values.specs.declared.plan.Plan.{Plan}
 use Rattle.bundle_commit.specs.declared.job.Receipt.{Receipt}
 use Rattle.group_cells.specs.Commits.{as_commit, dropped_arrival, is_at_group, is_dropped, arrives_in_time, NoneFalls}
@@ -26,7 +27,7 @@ use Rattle.group_cells.proofs.CountedPanes.{panes_counted}
 use Rattle.group_cells.proofs.KeptSane.{none_sane, sane_kept}
 use Rattle.group_cells.proofs.LongerMarks.{panes_ordered}
 use Rattle.book_core.specs.Book.{SeenBook, last_marks}
-use Rattle.book_core.specs.Changes.{with_slot, committed, failed, given_back, counted, stopped_where, ends_run, note_of, written_by}
+use Rattle.book_core.specs.Changes.{with_slot, committed, tried_again, broken, given_back, counted, stopped_where, ends_run, note_of, written_by}
 use Rattle.book_core.specs.Facts.{AreAtWrites, AreHeldOnce, IsWellFormed}
 use Rattle.book_core.specs.Jobs.{Next, next_job}
 use Rattle.book_core.specs.Sane.{AreCellsSane, AreDroppedAtGroups, ArePanesSane}
@@ -74,9 +75,12 @@ stop_stays : (b x : SeenBook) (spent : Bool) (note : FaultNote) → StaysCelled 
 stop_stays b x true note s = record { plan = s.plan; commits = s.commits; cells = s.cells; dropped = s.dropped; panes = s.panes; written = s.written }
 stop_stays b x false note s = s
 
-pub fail_stays : (b : SeenBook) (slot at : ℕ) (job : Live) (cause : Cause) → StaysCelled b (failed b slot job at cause)
+pub fail_stays : (b : SeenBook) (slot at : ℕ) (job : Live) (cause : Cause) → StaysCelled b (tried_again b slot job at cause)
 fail_stays b slot at job cause =
     stop_stays b (counted (given_back (with_slot b slot None) job at cause) cause) (ends_run b job cause) (note_of job at cause) (back_stays b slot job at cause)
+
+pub broken_stays : (b : SeenBook) (slot : ℕ) (piece : Piece) (attempted : Option ℕ) (note : FaultNote) → StaysCelled b (broken b slot piece attempted note)
+broken_stays b slot piece attempted note = record { plan = refl; commits = refl; cells = refl; dropped = refl; panes = refl; written = refl }
 
 -- ---- what commits left, by itself
 
@@ -189,6 +193,9 @@ keeps_results told = record {
   splits = λ b slot at piece attempted known h works inside behind within.
       results_onward b _ (record { plan = refl; commits = refl; cells = refl; dropped = refl; panes = refl; written = refl }) h;
   commits = λ b slot job receipt cells fired marks known h made. commit_results told b slot job receipt cells fired marks known.0.0.0 known.0.0.1 known.0.1 known.1 h made;
-  fails = λ b slot at job cause known h works. results_onward b (failed b slot job at cause) (fail_stays b slot at job cause) h;
+  fails = λ b slot at job cause known h works fresh unbroken. results_onward b (tried_again b slot job at cause) (fail_stays b slot at job cause) h;
+  breaks = λ b slot at piece attempted known h works fresh is.
+      let note = note_of (live.Span piece attempted) at Call in
+      results_onward b (broken b slot piece attempted note) (broken_stays b slot piece attempted note) h;
   stops = λ b known h. results_onward b _ (record { plan = refl; commits = refl; cells = refl; dropped = refl; panes = refl; written = refl }) h;
 }

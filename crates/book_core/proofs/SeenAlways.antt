@@ -14,10 +14,10 @@ use Rattle.beam_values.specs.declared.piece.Piece.{Piece}
 use Rattle.beam_model.specs.Coverings.{item_at}
 use Rattle.beam_model.specs.Positions.{SourceItem, items}
 use Rattle.bundle_commit.specs.declared.job.Receipt.{Receipt}
-use Rattle.split_core.specs.Order.{with_piece}
+use Rattle.split_core.specs.Order.{with_piece, with_pieces}
 use Rattle.split_core.proofs.Ordered.{All-with_piece}
 use Rattle.book_core.specs.Book.{SeenBook, piece_of, live_pieces}
-use Rattle.book_core.specs.Changes.{with_slot, cut_to, rest_of, split_off, given_back, tried_piece, counted, stopped_where, ends_run, note_of, pending_after, residual_of, with_residual}
+use Rattle.book_core.specs.Changes.{with_slot, cut_to, rest_of, split_off, given_back, tried_piece, counted, stopped_where, ends_run, note_of, pending_after, pending_with, residual_of, with_residual, broken, broken_parts, spent_piece}
 use Rattle.book_core.specs.Facts.{IsAttemptedWithin, IsSeenOf}
 use Rattle.book_core.specs.Jobs.{Next, attempted_of, job_of, with_key}
 use Rattle.book_core.specs.Runs.{IsOpening, opened, pieces_of}
@@ -25,6 +25,7 @@ use Rattle.book_core.specs.Steps.{IsWorking}
 use Rattle.book_core.specs.Work.{IsGiven, IsWorkOnItem, worked_to}
 use Rattle.book_core.specs.declared.live.Live.{Live}
 use Rattle.book_core.specs.declared.live.Live.TheVariants as live
+use Rattle.book_core.proofs.Broken.{All-with_pieces, broken_all}
 use Rattle.book_core.proofs.Cases.{Keeps}
 use Rattle.book_core.proofs.OpenedPieces.{all_pieces, enrolled_of}
 use Rattle.book_core.proofs.SeenBefore.{seen_cut, seen_least, seen_left}
@@ -104,10 +105,26 @@ module _ (told : List FileText) where
 
     commit_seen : (slot : ℕ) (job : Live) (receipt : Receipt) → AreWithin b → IsWorking b slot job → IsGiven (Some told) b.plan (job_of b.panes job) (attempted_of job) receipt
         → All (SeenOf b) (pending_after b.pending job receipt ++ flat_map piece_of (slice_set b.slots slot None))
-    commit_seen slot (live.Span piece attempted) receipt within works given =
-        set_seen (with_residual (residual_of piece attempted receipt) b.pending) slot None (residual_seen slot piece attempted receipt within works given.0) (All-nil (SeenOf b))
+    commit_seen slot (live.Span piece attempted) receipt within works given = by piece.spent
+      where
+        by : (spent : Option FaultNote) → All (SeenOf b) (pending_with spent piece attempted receipt b.pending ++ flat_map piece_of (slice_set b.slots slot None))
+        by None = set_seen (with_residual (residual_of piece attempted receipt) b.pending) slot None (residual_seen slot piece attempted receipt within works given.0) (All-nil (SeenOf b))
+        by (Some note) = set_seen b.pending slot None pending_seen (All-nil (SeenOf b))
     commit_seen slot (live.Batch batch) receipt within works given = set_seen b.pending slot None pending_seen (All-nil (SeenOf b))
     commit_seen slot (live.Key turn) receipt within works given = set_seen b.pending slot None pending_seen (All-nil (SeenOf b))
+
+    -- what was seen before a range was seen before each of its parts
+    broken_seen : (slot : ℕ) (piece : Piece) (attempted : Option ℕ) (note : FaultNote) → AreWithin b → IsWorking b slot (live.Span piece attempted)
+        → Seen (broken b slot piece attempted note)
+    broken_seen slot piece attempted note within works =
+        let was = worked_seen slot piece attempted works in
+        let inside = All-slice_get IsAttemptedWithin b.slots slot (Some (live.Span piece attempted)) works within in
+        let parts = broken_parts piece attempted note in
+        set_seen (with_pieces parts b.pending) slot None
+        (All-with_pieces (SeenOf b) parts b.pending
+        (broken_all (SeenOf b) piece attempted note
+        (λ from to low high. seen_cut b (found_in b piece) piece (rest_of piece (record { from = from; to = to })) refl refl (low inside) was)
+        (λ one. seen_cut b (found_in b piece) piece (spent_piece piece note) refl refl (omega arith) was)) pending_seen) (All-nil (SeenOf b))
 
     back_seen : (slot : ℕ) (job : Live) (at : ℕ) (cause : Cause) → IsWorking b slot job → Seen (counted (given_back (with_slot b slot None) job at cause) cause)
     back_seen slot (live.Span piece attempted) at Call works =
@@ -148,10 +165,11 @@ module _ (told : List FileText) where
         (λ place cell found. set_seen b h b.pending slot (Some (with_key b place.at cell).job) (pending_seen b h) (All-nil (SeenOf b)))
         (λ piece later e. take_pending b h slot piece later e) next is;
     claims = λ b slot p piece attempted known h works may.
-        set_seen b h b.pending slot (Some (live.Span piece (Some p))) (pending_seen b h) (one_seen b h piece (worked_seen b h slot piece attempted works));
+        set_seen b h b.pending slot (Some (live.Span piece (Some p))) (pending_seen b h) (one_seen b h piece (worked_seen b h slot piece attempted works.works));
     splits = λ b slot at piece attempted known h works inside behind within. split_seen b h slot at piece attempted known works behind;
     commits = λ b slot job receipt cells fired marks known h made. commit_seen b h slot job receipt known made.works made.given;
-    fails = λ b slot at job cause known h works.
+    fails = λ b slot at job cause known h works fresh unbroken.
         stop_seen (ends_run b job cause) (counted (given_back (with_slot b slot None) job at cause) cause) (note_of job at cause) (back_seen b h slot job at cause works);
+    breaks = λ b slot at piece attempted known h works fresh is. broken_seen b h slot piece attempted (note_of (live.Span piece attempted) at Call) known works;
     stops = λ b known h. h;
   }

@@ -10,6 +10,7 @@ use Rattle.beam_values.specs.Nodes.{is_group}
 use Rattle.beam_values.specs.declared.arrival.Arrival.{Arrival}
 use Rattle.beam_values.specs.declared.cell.Cell.{Cell}
 use Rattle.beam_values.specs.declared.cell.Pane.{Pane}
+use Rattle.beam_values.specs.declared.fault.FaultNote.{FaultNote}
 use Rattle.beam_values.specs.declared.file_text.FileText.{FileText}
 use Rattle.beam_values.specs.declared.marks.StageMarks.{StageMarks}
 use Rattle.beam_values.specs.declared.plan.Node.{Node}
@@ -21,8 +22,8 @@ use Rattle.group_cells.proofs.KeptSane.{quiet_kept}
 use Rattle.watermarks.proofs.CheckedNodes.{inputs_lower}
 use Rattle.watermarks.proofs.NodeMarks.{final_stage, marks_at-is, node_marks-alike}
 use Rattle.book_core.specs.Book.{SeenBook, last_marks}
-use Rattle.book_core.specs.Changes.{with_slot, committed, key_done_of, keys_after}
-use Rattle.book_core.specs.Committing.{job_holds, node_of, pane_holds, residual_holds, residual_in}
+use Rattle.book_core.specs.Changes.{with_slot, committed, key_done_of, keys_after, residual_of}
+use Rattle.book_core.specs.Committing.{job_holds, node_of, pane_holds, residual_holds, residual_in, residual_with}
 use Rattle.std.specs.Int.{int_min}
 use Rattle.stateful_core.specs.Cells.{key_holds}
 use Rattle.stateful_core.specs.KeyWork.{numbered_entry}
@@ -63,8 +64,13 @@ job_elsewhere plan (live.Key turn) m less = All-nil (λ (h : Hold). (h.node == m
 residual_elsewhere : (plan : Plan) (job : Live) (receipt : Receipt) (m : ℕ) → m < node_of job → All (λ (h : Hold). (h.node == m) ≡ false) (residual_holds plan (residual_in job receipt))
 residual_elsewhere plan (live.Batch batch) receipt m less = All-nil (λ (h : Hold). (h.node == m) ≡ false)
 residual_elsewhere plan (live.Key turn) receipt m less = All-nil (λ (h : Hold). (h.node == m) ≡ false)
-residual_elsewhere plan (live.Span piece attempted) receipt m less = by (nat_lt (worked_to piece attempted) piece.range.to)
+residual_elsewhere plan (live.Span piece attempted) receipt m less = by_spent piece.spent (by (nat_lt (worked_to piece attempted) piece.range.to))
   where
+    by_spent : (spent : Option FaultNote) → All (λ (h : Hold). (h.node == m) ≡ false) (residual_holds plan (residual_of piece attempted receipt))
+        → All (λ (h : Hold). (h.node == m) ≡ false) (residual_holds plan (residual_with spent piece attempted receipt))
+    by_spent None h = h
+    by_spent (Some note) h = All-nil (λ (h : Hold). (h.node == m) ≡ false)
+
     by : (t : Bool) → All (λ (h : Hold). (h.node == m) ≡ false) (residual_holds plan (cond t (Some (record piece { range = record { from = worked_to piece attempted; to = piece.range.to }; seen = receipt.seen; attempts = 0 })) None))
     by true = All-cons (λ (h : Hold). (h.node == m) ≡ false) _ [] (other_node piece.node m less) (All-nil (λ (h : Hold). (h.node == m) ≡ false))
     by false = All-nil (λ (h : Hold). (h.node == m) ≡ false)

@@ -10,7 +10,7 @@ use Rattle.beam_model.specs.Holds.{Hold, piece_hold}
 use Rattle.split_core.specs.Order.{with_piece}
 use Rattle.split_core.proofs.Ordered.{length-with_piece}
 use Rattle.watermarks.specs.Holds.{SeenHolds}
-use Rattle.book_core.specs.Book.{SeenBook, live_pieces, tracker_of}
+use Rattle.book_core.specs.Book.{SeenBook, places_kept, tracker_of}
 use Rattle.book_core.specs.Calls.{Makes}
 use Rattle.book_core.specs.Changes.{with_slot, split_off, cut_to, rest_of}
 use Rattle.book_core.specs.Indexes.{IsIndexed, AreHeldIn, marks_in, own_holds}
@@ -20,7 +20,7 @@ use Rattle.book_core.specs.declared.live.Live.{Live}
 use Rattle.book_core.specs.declared.live.Live.TheVariants as live
 use Rattle.book_core.proofs.HeldMarks.{held_within, held_as}
 use Rattle.book_core.proofs.Holding.{bag_held, free_holds, split_holds}
-use Rattle.book_core.proofs.Limits.{pieces_after, batches_after}
+use Rattle.book_core.proofs.Limits.{batches_after, kept_same}
 use Rattle.book_core.proofs.SaneAlways.{step_sane}
 
 -- ---- what is refused changes only the room
@@ -77,7 +77,7 @@ is_cut piece attempted num den at rest front after answer e of_after of_rest =
     }
 
 split_within : (b : SeenBook) (slot : ℕ) (piece : Piece) (attempted : Option ℕ) (at : ℕ) → slice_get b.slots slot ≡ Some (Some (live.Span piece attempted))
-    → length b.pending + length (live_pieces b) + 1 < 4294967295 → IsWithinLimits b → IsWithinLimits (split_off b slot piece attempted at)
+    → length b.pending + places_kept b + 1 < 4294967295 → IsWithinLimits b → IsWithinLimits (split_off b slot piece attempted at)
 split_within b slot piece attempted at works less h =
     let rest = rest_of piece (record { from = at; to = piece.range.to }) in
     let front = Some (live.Span (cut_to piece (record { from = piece.range.from; to = at })) attempted) in
@@ -93,15 +93,15 @@ split_within b slot piece attempted at works less h =
         arith,
         less,
         length-with_piece rest b.pending,
-        pieces_after b.slots slot (Some (live.Span piece attempted)) front works,
+        kept_same b.plan b.slots slot (Some (live.Span piece attempted)) front works refl,
       );
     }
 
-pub makes_split : (b : SeenBook) (slot num den at : ℕ) (piece : Piece) (attempted : Option ℕ) → slice_get b.slots slot ≡ Some (Some (live.Span piece attempted))
-    → at ≡ split_point_of (tracker_of piece attempted) num den → at < piece.range.to → length b.pending + length (live_pieces b) + 1 < 4294967295 → IsSane b
+pub makes_split : (b : SeenBook) (slot num den at : ℕ) (piece : Piece) (attempted : Option ℕ) → slice_get b.slots slot ≡ Some (Some (live.Span piece attempted)) → piece.spent ≡ None
+    → at ≡ split_point_of (tracker_of piece attempted) num den → at < piece.range.to → length b.pending + places_kept b + 1 < 4294967295 → IsSane b
     → Makes b slot (Split num den) (SplitAt (Some at)) (split_off b slot piece attempted at)
-makes_split b slot num den at piece attempted works point inside less sane = λ told.
-    (record { piece = piece; attempted = attempted; works = works; point = point; inside = inside; is = refl }, split_within b slot piece attempted at works less sane.formed.within)
+makes_split b slot num den at piece attempted works fresh point inside less sane = λ told.
+    (record { piece = piece; attempted = attempted; works = record { works = works; fresh = fresh }; point = point; inside = inside; is = refl }, split_within b slot piece attempted at works less sane.formed.within)
 
 -- the book after a split, as its parts are written
 parts_are : (b : SeenBook) (slot at : ℕ) (piece : Piece) (attempted : Option ℕ) (point : ℕ) (rest front : Offsets) (pending : List Piece) (slots : List (Option Live)) → IsCut piece point at rest front
@@ -115,14 +115,14 @@ parts_are b slot at piece attempted point rest front pending slots cut of_pendin
     ∙ ap (λ (s : List (Option Live)). record b { pending = with_piece (rest_of piece (record { from = at; to = piece.range.to })) b.pending; slots = s }) slots_are
 
 pub makes_cut : (b : SeenBook) (slot num den at : ℕ) (piece : Piece) (attempted : Option ℕ) (rest front : Offsets) (pending : List Piece) (slots : List (Option Live))
-    → slice_get b.slots slot ≡ Some (Some (live.Span piece attempted)) → IsCut piece (split_point_of (tracker_of piece attempted) num den) at rest front
+    → slice_get b.slots slot ≡ Some (Some (live.Span piece attempted)) → piece.spent ≡ None → IsCut piece (split_point_of (tracker_of piece attempted) num den) at rest front
     → pending ≡ with_piece (record piece { range = rest; attempts = 0 }) b.pending
     → slots ≡ slice_set b.slots slot (Some (live.Span (record piece { range = front }) attempted))
-    → length b.pending + length (live_pieces b) + 1 < 4294967295 → IsSane b
+    → length b.pending + places_kept b + 1 < 4294967295 → IsSane b
     → Makes b slot (Split num den) (SplitAt (Some at)) (record b { pending = pending; slots = slots })
-makes_cut b slot num den at piece attempted rest front pending slots works cut of_pending of_slots less sane =
+makes_cut b slot num den at piece attempted rest front pending slots works fresh cut of_pending of_slots less sane =
     subst (Makes b slot (Split num den) (SplitAt (Some at))) (sym (parts_are b slot at piece attempted _ rest front pending slots cut of_pending of_slots))
-    (makes_split b slot num den at piece attempted works cut.at_point cut.inside less sane)
+    (makes_split b slot num den at piece attempted works fresh cut.at_point cut.inside less sane)
 
 off_indexed : (b : SeenBook) (held kept new : List SeenHolds) (piece_room more batch_room slot num den at : ℕ) (piece : Piece) (attempted : Option ℕ)
     → slice_get b.slots slot ≡ Some (Some (live.Span piece attempted))
@@ -140,20 +140,20 @@ off_indexed b held kept new piece_room more batch_room slot num den at piece att
       sized = sized ∙ h.sized;
       holds_back = bag_held new (hold ∷ own_holds b) (own_holds (split_off b slot piece attempted at)) (split_holds b slot piece attempted at works)
           (add (own_holds b) (held_as held kept (own_holds b) same h.holds_back));
-      pieces = omega (arith, h.pieces, enough, pieces_after b.slots slot (Some (live.Span piece attempted)) (Some (live.Span (cut_to piece (record { from = piece.range.from; to = at })) attempted)) works);
+      pieces = omega (arith, h.pieces, enough, kept_same b.plan b.slots slot (Some (live.Span piece attempted)) (Some (live.Span (cut_to piece (record { from = piece.range.from; to = at })) attempted)) works refl);
       batches = omega (arith, h.batches, batches_after b.slots slot (Some (live.Span piece attempted)) (Some (live.Span (cut_to piece (record { from = piece.range.from; to = at })) attempted)) works);
     }
 
 pub cut_indexed : (b : SeenBook) (held kept new : List SeenHolds) (piece_room more batch_room slot num den at : ℕ) (piece : Piece) (attempted : Option ℕ) (rest front : Offsets)
     (pending : List Piece) (slots : List (Option Live))
-    → slice_get b.slots slot ≡ Some (Some (live.Span piece attempted)) → IsCut piece (split_point_of (tracker_of piece attempted) num den) at rest front
+    → slice_get b.slots slot ≡ Some (Some (live.Span piece attempted)) → piece.spent ≡ None → IsCut piece (split_point_of (tracker_of piece attempted) num den) at rest front
     → pending ≡ with_piece (record piece { range = rest; attempts = 0 }) b.pending
     → slots ≡ slice_set b.slots slot (Some (live.Span (record piece { range = front }) attempted))
-    → length b.pending + length (live_pieces b) + 1 < 4294967295
+    → length b.pending + places_kept b + 1 < 4294967295
     → ((n : ℕ) → marks_in kept n ≡ marks_in held n)
     → ((holds : List Hold) → AreHeldIn kept holds → AreHeldIn new (piece_hold b.plan piece ∷ holds)) → length new ≡ length held → piece_room ≤ more
     → IsIndexed b held piece_room batch_room → IsIndexed (record b { pending = pending; slots = slots }) new more batch_room
-cut_indexed b held kept new piece_room more batch_room slot num den at piece attempted rest front pending slots works cut of_pending of_slots less same add sized enough h =
+cut_indexed b held kept new piece_room more batch_room slot num den at piece attempted rest front pending slots works fresh cut of_pending of_slots less same add sized enough h =
     subst (λ (d : SeenBook). IsIndexed d new more batch_room) (sym (parts_are b slot at piece attempted _ rest front pending slots cut of_pending of_slots))
     (off_indexed b held kept new piece_room more batch_room slot num den at piece attempted works
-    (makes_split b slot num den at piece attempted works cut.at_point cut.inside less h.sane) same add sized enough h)
+    (makes_split b slot num den at piece attempted works fresh cut.at_point cut.inside less h.sane) same add sized enough h)

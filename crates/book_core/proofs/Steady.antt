@@ -9,7 +9,7 @@ use Rattle.beam_values.specs.declared.outcome.StopCause.{StopCause}
 use Rattle.beam_values.specs.declared.outcome.StopCause.TheVariants as stop
 use Rattle.beam_values.specs.declared.piece.Piece.{Piece}
 use Rattle.watermarks.specs.Holds.{SeenHolds}
-use Rattle.book_core.specs.Book.{SeenBook, tracker_of}
+use Rattle.book_core.specs.Book.{SeenBook, live_pieces, most_parts, places_kept, tracker_of}
 use Rattle.book_core.specs.Calls.{CanClaim, Makes}
 use Rattle.book_core.specs.Changes.{with_slot, or_stopped}
 use Rattle.book_core.specs.Facts.{IsAttemptedWithin}
@@ -19,7 +19,7 @@ use Rattle.book_core.specs.Steps.{Action, Answer, Enroll, Enrolled, Claim, Claim
 use Rattle.book_core.specs.declared.live.Live.{Live}
 use Rattle.book_core.specs.declared.live.Live.TheVariants as live
 use Rattle.book_core.proofs.Holding.{bag_held, enroll_holds, set_holds}
-use Rattle.book_core.proofs.Limits.{pieces_in, batches_in, live_count, batch_count, pieces_after, batches_after}
+use Rattle.book_core.proofs.Limits.{pieces_in, batches_in, live_count, batch_count, batches_after, kept_same}
 use Rattle.book_core.proofs.SaneAlways.{step_sane}
 use Rattle.book_core.proofs.Slots.{All-slice_get}
 
@@ -32,6 +32,11 @@ makes_seen b seen new slot action answer e h = subst (λ (d : SeenBook). Makes d
 abbrev enrolled : SeenBook → SeenBook
 enrolled b = record b { slots = b.slots ++ None ∷ [] }
 
+enrolled_places : (b : SeenBook) → places_kept (enrolled b) ≡ places_kept b
+enrolled_places b =
+    ap (most_parts b.plan)
+    (omega (arith, live_count (b.slots ++ None ∷ []), live_count b.slots, sum_by-append pieces_in b.slots (None ∷ []), sum_by-cons pieces_in None []))
+
 enrolled_within : (b : SeenBook) → length b.slots + 1 < 4294967295 → IsWithinLimits b → IsWithinLimits (enrolled b)
 enrolled_within b less h = record {
   commits = h.commits;
@@ -41,14 +46,7 @@ enrolled_within b less h = record {
   keys = h.keys;
   waiting = h.waiting;
   slots = omega (arith, length-append b.slots (None ∷ []), less);
-  pieces = omega (
-    arith,
-    h.pieces,
-    live_count (b.slots ++ None ∷ []),
-    live_count b.slots,
-    sum_by-append pieces_in b.slots (None ∷ []),
-    sum_by-cons pieces_in None [],
-  );
+  pieces = omega (arith, h.pieces, enrolled_places b);
 }
 
 makes_enrolled : (b : SeenBook) → length b.slots + 1 < 4294967295 → IsSane b → Makes b (length b.slots) Enroll (Enrolled (length b.slots)) (enrolled b)
@@ -66,7 +64,7 @@ enrolled_indexed b held piece_room batch_room less h = record {
   sane = step_sane None b (enrolled b) (length b.slots) Enroll (Enrolled (length b.slots)) (makes_enrolled b less h.sane None) h.sane;
   sized = h.sized;
   holds_back = bag_held held (own_holds b) (own_holds (enrolled b)) (enroll_holds b) h.holds_back;
-  pieces = omega (arith, h.pieces, live_count (b.slots ++ None ∷ []), live_count b.slots, sum_by-append pieces_in b.slots (None ∷ []), sum_by-cons pieces_in None []);
+  pieces = omega (arith, h.pieces, enrolled_places b);
   batches = omega (arith, h.batches, batch_count (b.slots ++ None ∷ []), batch_count b.slots, sum_by-append batches_in b.slots (None ∷ []), sum_by-cons batches_in None []);
 }
 
@@ -88,33 +86,33 @@ works_within b slot job works = slice_get_within b.slots slot (Some job) works
 pub may_claim : (b : SeenBook) (slot p : ℕ) (piece : Piece) (attempted : Option ℕ) → slice_get b.slots slot ≡ Some (Some (live.Span piece attempted)) → CanClaim b slot p
     → MayClaim (tracker_of piece attempted) p
 may_claim b slot p piece attempted works can =
-    let works_too = can.works in
+    let works_too = can.works.works in
     let piece_is : can.piece ≡ piece = cc in
     let attempted_is : can.attempted ≡ attempted = cc in
     subst (λ (q : Piece). MayClaim (tracker_of q attempted) p) piece_is
     (subst (λ (a : Option ℕ). MayClaim (tracker_of can.piece a) p) attempted_is can.may)
 
 claimed_indexed : (b : SeenBook) (held : List SeenHolds) (piece_room batch_room : ℕ) (slot p : ℕ) (piece : Piece) (attempted : Option ℕ)
-    → slice_get b.slots slot ≡ Some (Some (live.Span piece attempted)) → MayClaim (tracker_of piece attempted) p
+    → slice_get b.slots slot ≡ Some (Some (live.Span piece attempted)) → piece.spent ≡ None → MayClaim (tracker_of piece attempted) p
     → IsIndexed b held piece_room batch_room → IsIndexed (with_slot b slot (Some (live.Span piece (Some p)))) held piece_room batch_room
-claimed_indexed b held piece_room batch_room slot p piece attempted works may h =
+claimed_indexed b held piece_room batch_room slot p piece attempted works fresh may h =
     let old = Some (live.Span piece attempted) in
     let new = Some (live.Span piece (Some p)) in
     record {
       sane = step_sane None b (with_slot b slot new) slot (Claim p) (Claimed (is_granted (tracker_of piece attempted) p))
-          (record { piece = piece; attempted = attempted; works = works; may = may; answer = refl; is = refl }) h.sane;
+          (record { piece = piece; attempted = attempted; works = record { works = works; fresh = fresh }; may = may; answer = refl; is = refl }) h.sane;
       sized = h.sized;
       holds_back = bag_held held (own_holds b) (own_holds (with_slot b slot new)) (set_holds b slot old new works (λ w. refl)) h.holds_back;
-      pieces = omega (arith, h.pieces, pieces_after b.slots slot old new works);
+      pieces = omega (arith, h.pieces, kept_same b.plan b.slots slot old new works refl);
       batches = omega (arith, h.batches, batches_after b.slots slot old new works);
     }
 
 pub claim_indexed : (b : SeenBook) (held : List SeenHolds) (piece_room batch_room : ℕ) (slot p : ℕ) (piece : Piece) (attempted : Option ℕ) (slots : List (Option Live))
-    → slice_get b.slots slot ≡ Some (Some (live.Span piece attempted)) → CanClaim b slot p → slots ≡ slice_set b.slots slot (Some (live.Span piece (Some p)))
+    → slice_get b.slots slot ≡ Some (Some (live.Span piece attempted)) → piece.spent ≡ None → CanClaim b slot p → slots ≡ slice_set b.slots slot (Some (live.Span piece (Some p)))
     → IsIndexed b held piece_room batch_room → IsIndexed (record b { slots = slots }) held piece_room batch_room
-claim_indexed b held piece_room batch_room slot p piece attempted slots works can e h =
+claim_indexed b held piece_room batch_room slot p piece attempted slots works fresh can e h =
     subst (λ (s : List (Option Live)). IsIndexed (record b { slots = s }) held piece_room batch_room) (sym e)
-    (claimed_indexed b held piece_room batch_room slot p piece attempted works (may_claim b slot p piece attempted works can) h)
+    (claimed_indexed b held piece_room batch_room slot p piece attempted works fresh (may_claim b slot p piece attempted works can) h)
 
 -- ---- stop
 

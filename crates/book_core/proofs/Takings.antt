@@ -20,7 +20,7 @@ use Rattle.beam_values.specs.declared.plan.Plan.{Plan}
 use Rattle.bundle_commit.specs.declared.job.Job.{Job}
 use Rattle.bundle_commit.specs.declared.job.Job.TheVariants as job
 use Rattle.watermarks.specs.Holds.{SeenHolds}
-use Rattle.book_core.specs.Book.{SeenBook, HeldPane, held_in, piece_of, batch_of, live_batches, queue_at, pane_at}
+use Rattle.book_core.specs.Book.{SeenBook, HeldPane, held_in, piece_of, batch_of, live_batches, live_pieces, most_parts, places_kept, queue_at, pane_at}
 use Rattle.book_core.specs.Calls.{Makes, answer_of}
 use Rattle.book_core.specs.Changes.{with_slot}
 use Rattle.book_core.specs.DueAt.{IsBatchAt, IsDueAs}
@@ -39,7 +39,7 @@ use Rattle.book_core.specs.declared.live.WaitingPane.{WaitingPane}
 use Rattle.book_core.proofs.HeldMoves.{IsNonempty, without_one, held_weighs}
 use Rattle.book_core.proofs.HoldBags.{take_holds}
 use Rattle.book_core.proofs.Holding.{bag_held}
-use Rattle.book_core.proofs.Limits.{pieces_after, batches_after, take_within}
+use Rattle.book_core.proofs.Limits.{pieces_after, batches_after, kept_same, take_within}
 use Rattle.book_core.proofs.SaneAlways.{step_sane}
 use Rattle.book_core.proofs.Slotted.{All-append_left}
 use Rattle.std.specs.Option.{option_map}
@@ -139,16 +139,17 @@ removed_is b place batch once here =
 
 -- ---- the steps
 
-makes_take : (b : SeenBook) (slot : ℕ) (next : Next) → IsRunning b → IsFree b slot → next_job b ≡ Some next → IsSane b
+makes_take : (b : SeenBook) (slot : ℕ) (next : Next) → IsRunning b → IsFree b slot → next_job b ≡ Some next
+    → length next.rest.pending + places_kept (with_slot next.rest slot (Some next.job)) < 4294967295 → IsSane b
     → Makes b slot Take (TakenJob (job_of b.panes next.job)) (with_slot next.rest slot (Some next.job))
-makes_take b slot next running free is sane = λ told. record {
+makes_take b slot next running free is few sane = λ told. record {
   running = running;
   free = free;
   next = next;
   is_next = is;
   handed = refl;
   is = refl;
-  within = take_within b slot next free is sane.formed.within;
+  within = take_within b slot next free is few sane.formed.within;
 }
 
 next_given : (b : SeenBook) (place : ℕ) → (h : IsDueAs b (first_due b) (Some (at.GivenBack place))) → next_job b ≡ Some (without_due b (GivenBack h.0))
@@ -165,7 +166,8 @@ module _ (b : SeenBook) (slot place : ℕ) (running : IsRunning b) (free : IsFre
   makes_given : Makes b slot Take (TakenJob (job_of b.panes (live.Batch h.0))) after_given
   makes_given =
       subst (Makes b slot Take (TakenJob (job_of b.panes (live.Batch h.0)))) given_is
-      (makes_take b slot (without_due b (GivenBack h.0)) running free (next_given b place h) sane)
+      (makes_take b slot (without_due b (GivenBack h.0)) running free (next_given b place h)
+      (omega (arith, sane.formed.within.pieces, kept_same b.plan b.slots slot None (Some (live.Batch h.0)) free refl)) sane)
 
   pub makes_returned : (batch : Batch) (job : Job) (returned : List Batch) (slots : List (Option Live)) → slice_get b.returned place ≡ Some batch → job ≡ job_of b.panes (live.Batch batch)
       → returned ≡ remove b.returned place → slots ≡ slice_set b.slots slot (Some (live.Batch batch))
@@ -196,7 +198,7 @@ module _ (b : SeenBook) (slot place : ℕ) (running : IsRunning b) (free : IsFre
         holds_back = bag_held held_marks (own_holds b) (own_holds (record b { returned = returned; slots = slots }))
             (bag_sym (own_holds (record b { returned = returned; slots = slots })) (own_holds b)
             (subst (λ (d : SeenBook). IsSameBag (own_holds d) (own_holds b)) (given_is ∙ alike) bag)) k.holds_back;
-        pieces = omega (arith, k.pieces, pieces_after b.slots slot None (Some (live.Batch batch)) free, ap (λ (s : List (Option Live)). length (flat_map piece_of s)) g);
+        pieces = omega (arith, k.pieces, kept_same b.plan b.slots slot None (Some (live.Batch batch)) free refl, ap (λ (s : List (Option Live)). most_parts b.plan (length (flat_map piece_of s))) g);
         batches = omega (arith, k.batches, room, batches_after b.slots slot None (Some (live.Batch batch)) free, ap (λ (s : List (Option Live)). length (flat_map batch_of s)) g);
       }
 
@@ -222,7 +224,8 @@ module _ (b : SeenBook) (slot node : ℕ) (running : IsRunning b) (free : IsFree
       → Makes b slot Take (TakenJob job) (record b { queues = queues; slots = slots })
   makes_oldest job queues slots e f g =
       subst (Makes b slot Take (TakenJob job)) (sym (oldest_as queues slots f g))
-      (subst (λ (j : Job). Makes b slot Take (TakenJob j) after_oldest) (sym e) (makes_take b slot (without_due b (Oldest (oldest_batch b node))) running free next_oldest sane))
+      (subst (λ (j : Job). Makes b slot Take (TakenJob j) after_oldest) (sym e) (makes_take b slot (without_due b (Oldest (oldest_batch b node))) running free next_oldest
+      (omega (arith, sane.formed.within.pieces, kept_same b.plan b.slots slot None (Some (live.Batch (oldest_batch b node))) free refl)) sane))
 
   pub oldest_indexed : (held_marks : List SeenHolds) (piece_room batch_room more : ℕ) (queues : List (List WaitingPane)) (slots : List (Option Live))
       → queues ≡ slice_set b.queues node (drop b.options.bundle (queue_at b node)) → slots ≡ slice_set b.slots slot (Some (live.Batch (oldest_batch b node)))
@@ -236,7 +239,7 @@ module _ (b : SeenBook) (slot node : ℕ) (running : IsRunning b) (free : IsFree
         holds_back = bag_held held_marks (own_holds b) (own_holds (record b { queues = queues; slots = slots }))
             (bag_sym (own_holds (record b { queues = queues; slots = slots })) (own_holds b)
             (subst (λ (d : SeenBook). IsSameBag (own_holds d) (own_holds b)) (sym (oldest_as queues slots f g)) bag)) k.holds_back;
-        pieces = omega (arith, k.pieces, pieces_after b.slots slot None (Some (live.Batch (oldest_batch b node))) free, ap (λ (s : List (Option Live)). length (flat_map piece_of s)) g);
+        pieces = omega (arith, k.pieces, kept_same b.plan b.slots slot None (Some (live.Batch (oldest_batch b node))) free refl, ap (λ (s : List (Option Live)). most_parts b.plan (length (flat_map piece_of s))) g);
         batches = omega (arith, room, batches_after b.slots slot None (Some (live.Batch (oldest_batch b node))) free, ap (λ (s : List (Option Live)). length (flat_map batch_of s)) g);
       }
 
@@ -258,7 +261,8 @@ module _ (b : SeenBook) (slot : ℕ) (turn : KeyTurn) (keys : List KeyCell) (slo
   pub makes_key : (handed : Job) → handed ≡ job_of [] (live.Key turn) → Makes b slot Take (TakenJob handed) (record b { keys = keys; slots = slots })
   makes_key handed e =
       subst (λ (j : Job). Makes b slot Take (TakenJob j) (record b { keys = keys; slots = slots })) (sym (e ∙ ap (λ (t : KeyTurn). job_of [] (live.Key t)) found.handed))
-      (subst (λ (d : SeenBook). Makes b slot Take (TakenJob (job_of b.panes cell_next.job)) d) (sym taken_is) (makes_take b slot cell_next running free next_key sane))
+      (subst (λ (d : SeenBook). Makes b slot Take (TakenJob (job_of b.panes cell_next.job)) d) (sym taken_is) (makes_take b slot cell_next running free next_key
+      (omega (arith, sane.formed.within.pieces, kept_same b.plan b.slots slot None (Some cell_next.job) free refl)) sane))
 
   pub key_counted : waiting_in keys ≡ waiting_in b.keys
   key_counted = ap waiting_in found.is ∙ change_weighs (λ (c : KeyCell). length c.waiting) (with_job b.options.bundle) (λ c. refl) found.place.at b.keys
@@ -272,28 +276,33 @@ module _ (b : SeenBook) (slot : ℕ) (turn : KeyTurn) (keys : List KeyCell) (slo
         sized = k.sized;
         holds_back = bag_held held_marks (own_holds b) (own_holds (record b { keys = keys; slots = slots }))
             (bag_sym (own_holds (record b { keys = keys; slots = slots })) (own_holds b) (subst (λ (d : SeenBook). IsSameBag (own_holds d) (own_holds b)) (sym taken_is) bag)) k.holds_back;
-        pieces = omega (arith, k.pieces, pieces_after b.slots slot None (Some (live.Key turn)) free, ap (λ (s : List (Option Live)). length (flat_map piece_of s)) g);
+        pieces = omega (arith, k.pieces, kept_same b.plan b.slots slot None (Some (live.Key turn)) free refl, ap (λ (s : List (Option Live)). most_parts b.plan (length (flat_map piece_of s))) g);
         batches = omega (arith, k.batches, batches_after b.slots slot None (Some (live.Key turn)) free, ap (λ (s : List (Option Live)). length (flat_map batch_of s)) g);
       }
 
 -- the lowest piece is taken
 module _ (b : SeenBook) (slot : ℕ) (piece : Piece) (pending : List Piece) (slots : List (Option Live)) (running : IsRunning b) (free : IsFree b slot) (none : first_due b ≡ None)
-    (no_cell : next_cell b ≡ None) (parts : b.pending ≡ piece ∷ pending) (g : slots ≡ slice_set b.slots slot (Some (live.Span piece None))) (sane : IsSane b) where
+    (no_cell : next_cell b ≡ None) (parts : b.pending ≡ piece ∷ pending) (g : slots ≡ slice_set b.slots slot (Some (live.Span piece None)))
+    (few : length b.pending + most_parts b.plan (length (live_pieces b) + 1) < 4294967296) (sane : IsSane b) where
   abbrev rest_next : Next
   rest_next = record { job = live.Span piece None; rest = record b { pending = pending } }
 
   next_piece : next_job b ≡ Some rest_next
   next_piece = ap (due_or_other b) none ∙ ap (key_or_piece b) no_cell ∙ ap (without_first b) parts
 
+  -- one piece more is worked
+  one_more : places_kept (with_slot rest_next.rest slot (Some rest_next.job)) ≡ most_parts b.plan (length (live_pieces b) + 1)
+  one_more = ap (most_parts b.plan) (omega (arith, pieces_after b.slots slot None (Some (live.Span piece None)) free))
+
   pub makes_piece : Makes b slot Take (TakenJob (job.Span piece)) (record b { pending = pending; slots = slots })
   makes_piece =
       subst (λ (s : List (Option Live)). Makes b slot Take (TakenJob (job.Span piece)) (record b { pending = pending; slots = s })) (sym g)
-      (makes_take b slot rest_next running free next_piece sane)
+      (makes_take b slot rest_next running free next_piece (omega (arith, few, one_more, ap (length {A = Piece}) parts)) sane)
 
   pub takes_piece : (handed : Job) → handed ≡ job.Span piece → Makes b slot Take (TakenJob handed) (record b { pending = pending; slots = slots })
   takes_piece handed e = subst (λ (j : Job). Makes b slot Take (TakenJob j) (record b { pending = pending; slots = slots })) (sym e) makes_piece
 
-  pub piece_indexed : (held_marks : List SeenHolds) (piece_room batch_room more : ℕ) → piece_room + 1 ≤ more
+  pub piece_indexed : (held_marks : List SeenHolds) (piece_room batch_room more : ℕ) → most_parts b.plan (length (live_pieces b) + 1) ≤ more
       → IsIndexed b held_marks piece_room batch_room → IsIndexed (record b { pending = pending; slots = slots }) held_marks more batch_room
   piece_indexed held_marks piece_room batch_room more room k =
       let bag = take_holds b slot rest_next k.sane.held free next_piece in
@@ -303,7 +312,7 @@ module _ (b : SeenBook) (slot : ℕ) (piece : Piece) (pending : List Piece) (slo
         holds_back = bag_held held_marks (own_holds b) (own_holds (record b { pending = pending; slots = slots }))
             (bag_sym (own_holds (record b { pending = pending; slots = slots })) (own_holds b)
             (subst (λ (s : List (Option Live)). IsSameBag (own_holds (record b { pending = pending; slots = s })) (own_holds b)) (sym g) bag)) k.holds_back;
-        pieces = omega (arith, k.pieces, room, pieces_after b.slots slot None (Some (live.Span piece None)) free, ap (λ (s : List (Option Live)). length (flat_map piece_of s)) g);
+        pieces = omega (arith, room, one_more, ap (λ (s : List (Option Live)). most_parts b.plan (length (flat_map piece_of s))) g);
         batches = omega (arith, k.batches, batches_after b.slots slot None (Some (live.Span piece None)) free, ap (λ (s : List (Option Live)). length (flat_map batch_of s)) g);
       }
 

@@ -1,126 +1,139 @@
--- All pieces together have failed no more often than jobs failed at all: from the opening on.
-use Rattle.std.proofs.Common.{◌≡◌, ℕ, ◌+◌, ◌*◌, ◌<◌, ◌≤◌, Bool, true, false, cond, List, [], ◌∷◌, length, refl, ap, subst, sym, arith}
-use Rattle.std.specs.Prelude.{Option, Some, None, nat_lt}
+-- The limit for each dead position, and the attempts of all pieces, are together no more than the jobs that failed at all.
+use Rattle.std.proofs.Common.{◌≡◌, ℕ, zero, suc, ◌+◌, ◌*◌, ◌<◌, ◌≤◌, Bool, true, false, cond, ℤ, List, [], ◌∷◌, ◌++◌, length, refl, sym, ap, subst, arith}
+use Rattle.std.specs.Prelude.{nat_lt, Option, Some, None}
 use Rattle.std.specs.List.{All, sum_by}
-use Rattle.std.proofs.lemmas.List.Elements.{All-nil, All-head, All-tail, All-weaker}
-use Rattle.std.proofs.lemmas.List.Sums.{sum_by-cons}
-use Rattle.beam_ports.specs.Counts.{greatest_count, raised}
-use Rattle.beam_values.specs.declared.fault.Cause.{Cause}
-use Rattle.beam_values.specs.declared.fault.Cause.TheVariants.{Call, Read}
+use Rattle.std.proofs.Math.Nat.{mul-add}
+use Rattle.std.proofs.lemmas.List.Elements.{All-head, All-tail, All-weaker}
+use Rattle.std.proofs.lemmas.List.Sums.{sum_by-cons, sum_by-append}
+use Rattle.beam_ports.specs.Counts.{greatest_count}
 use Rattle.beam_values.specs.declared.fault.FaultNote.{FaultNote}
-use Rattle.beam_values.specs.declared.file_text.FileText.{FileText}
+use Rattle.beam_values.specs.declared.piece.Dead.{Dead}
 use Rattle.beam_values.specs.declared.piece.Piece.{Piece}
-use Rattle.bundle_commit.specs.declared.job.Receipt.{Receipt}
-use Rattle.book_core.specs.Book.{SeenBook, piece_of, live_pieces}
-use Rattle.book_core.specs.Changes.{with_slot, cut_to, rest_of, given_back, tried_piece, counted, stopped_where, ends_run, note_of, pending_after, residual_of, with_residual}
-use Rattle.book_core.specs.Facts.{IsWellFormed}
-use Rattle.book_core.specs.Jobs.{Next, next_job, with_key}
-use Rattle.book_core.specs.Runs.{pieces_of}
-use Rattle.book_core.specs.Steps.{IsWorking, IsFree}
+use Rattle.book_core.specs.Book.{SeenBook, live_pieces, sets_aside}
+use Rattle.book_core.specs.Changes.{blamed, broken_parts, cut_around, cut_to, part_of, rest_of, spent_piece, tried_piece}
+use Rattle.book_core.specs.Facts.{AreSpentWell, IsSpentAs, IsWellFormed}
+use Rattle.book_core.specs.Runs.{IsOpening, pieces_of}
+use Rattle.book_core.specs.Steps.{Action}
 use Rattle.book_core.specs.Work.{worked_to}
-use Rattle.book_core.specs.declared.live.Live.{Live}
-use Rattle.book_core.specs.declared.live.Live.TheVariants as live
-use Rattle.book_core.proofs.Attempts.{IsCounted}
-use Rattle.book_core.proofs.Cases.{Keeps, Both}
-use Rattle.book_core.proofs.HoldBags.{piece_set_weighs, with_piece_weight}
-use Rattle.book_core.proofs.OpenedPieces.{all_pieces, enrolled_of}
-use Rattle.book_core.proofs.Slotted.{one_weighs}
-use Rattle.book_core.proofs.Taking.{take_cases}
+use Rattle.book_core.proofs.PieceMoves.{all_pieces, out_all}
+use Rattle.book_core.proofs.SetAside.{IsAside, dead_more, first_all, was_spent}
+use Rattle.book_core.proofs.Slotted.{All-append_right, one_weighs}
+use Rattle.book_core.proofs.Sources.{AreLiveSound, IsAllowed, Kind, Stays, Splits, Does, Buries, Tries, Breaks, SourceStep, commits_by, fails_by, into_of, out_of, residual_piece, residual_pieces}
 
 abbrev tries : Piece → ℕ
 tries piece = piece.attempts
 
-pub record IsTried (b : SeenBook) : Type 0 where
-  pub tried : sum_by (λ piece. piece.attempts) b.pending + sum_by (λ piece. piece.attempts) (live_pieces b) ≤ b.calls + b.reads
+abbrev pub AreTogether : SeenBook → Type 0
+AreTogether b = b.options.attempts * length b.dead + sum_by (λ piece. piece.attempts) (b.pending ++ live_pieces b) ≤ b.calls + b.reads
+
+-- ---- every kind
+
+part_tries : (piece : Piece) (from to : ℕ) → sum_by tries (part_of piece from to) ≡ 0
+part_tries piece from to = by (nat_lt from to)
+  where
+    by : (t : Bool) → sum_by tries (cond t (rest_of piece (record { from = from; to = to }) ∷ []) []) ≡ 0
+    by true = one_weighs tries (rest_of piece (record { from = from; to = to }))
+    by false = refl
+
+-- of the parts only a spent piece has attempts, one more than before
+broken_tries : (piece : Piece) (attempted : Option ℕ) (note : FaultNote) → sum_by tries (broken_parts piece attempted note) ≤ piece.attempts + 1
+broken_tries piece attempted note = by (nat_lt (piece.range.from + 1) piece.range.to)
+  where
+    by_offset : (inside : Bool) → sum_by tries (cond inside (spent_piece piece note ∷ []) (rest_of piece piece.range ∷ [])) ≤ piece.attempts + 1
+    by_offset true = omega (arith, one_weighs tries (spent_piece piece note))
+    by_offset false = omega (arith, one_weighs tries (rest_of piece piece.range))
+
+    around : (q : ℕ) → sum_by tries (cut_around piece q) ≡ 0
+    around q = omega (
+      arith,
+      sum_by-append tries (part_of piece piece.range.from q) (part_of piece q (q + 1) ++ part_of piece (q + 1) piece.range.to),
+      sum_by-append tries (part_of piece q (q + 1)) (part_of piece (q + 1) piece.range.to),
+      part_tries piece piece.range.from q,
+      part_tries piece q (q + 1),
+      part_tries piece (q + 1) piece.range.to,
+    )
+
+    by : (long : Bool) → sum_by tries (cond long (cut_around piece (blamed piece attempted)) (cond (nat_lt piece.range.from piece.range.to) (spent_piece piece note ∷ []) (rest_of piece piece.range ∷ []))) ≤ piece.attempts + 1
+    by true = omega (arith, around (blamed piece attempted))
+    by false = by_offset (nat_lt piece.range.from piece.range.to)
+
+residual_tries : (piece : Piece) (attempted : Option ℕ) (seen : ℤ) → sum_by tries (residual_pieces piece attempted seen) ≡ 0
+residual_tries piece attempted seen = by (nat_lt (worked_to piece attempted) piece.range.to)
+  where
+    by : (t : Bool) → sum_by tries (cond t (residual_piece piece attempted seen ∷ []) []) ≡ 0
+    by true = one_weighs tries (residual_piece piece attempted seen)
+    by false = refl
+
+kind_tries : (b : SeenBook) (slot : ℕ) (action : Action) (kind : Kind) → IsAllowed b slot action kind → All (IsAside b.options.attempts) (out_of kind)
+    → b.options.attempts * commits_by kind + sum_by tries (into_of kind) ≤ sum_by tries (out_of kind) + fails_by kind
+kind_tries b slot action Stays allowed h = omega arith
+kind_tries b slot action (Splits piece at) allowed h =
+    let rest = rest_of piece (record { from = at; to = piece.range.to }) in
+    let front = cut_to piece (record { from = piece.range.from; to = at }) in
+    omega (arith, sum_by-cons tries rest (front ∷ []), one_weighs tries front, one_weighs tries piece)
+kind_tries b slot action (Does piece attempted seen) allowed h = omega (arith, residual_tries piece attempted seen)
+kind_tries b slot action (Buries piece note) allowed h =
+    omega (arith, one_weighs tries piece, (was_spent b.options.attempts piece piece.spent note allowed (All-head (IsAside b.options.attempts) piece [] h)).tried)
+kind_tries b slot action (Tries piece) allowed h = omega (arith, one_weighs tries piece, one_weighs tries (tried_piece piece))
+kind_tries b slot action (Breaks piece attempted note) allowed h = omega (arith, one_weighs tries piece, broken_tries piece attempted note)
 
 -- ---- the sum can't come near the greatest count
 
-few_tries : {X : Type 0} (w : X → ℕ) (xs : List X) → All (λ x. w x ≤ 1000) xs → sum_by w xs ≤ 1000 * length xs
-few_tries w [] all = omega arith
-few_tries w (x ∷ xs) all =
-    omega (arith, sum_by-cons w x xs, All-head (λ y. w y ≤ 1000) x xs all, few_tries w xs (All-tail (λ y. w y ≤ 1000) x xs all))
+few_tries : (xs : List Piece) → All (λ piece. piece.attempts ≤ 1000) xs → sum_by tries xs ≤ 1000 * length xs
+few_tries [] all = omega arith
+few_tries (x ∷ xs) all =
+    omega (arith, sum_by-cons tries x xs, All-head (λ (p : Piece). p.attempts ≤ 1000) x xs all, few_tries xs (All-tail (λ (p : Piece). p.attempts ≤ 1000) x xs all))
 
-few_in : (b : SeenBook) → IsWellFormed b → IsCounted b → sum_by tries b.pending + sum_by tries (live_pieces b) < greatest_count
-few_in b formed counted =
-    let most = formed.allowed.attempts.1 in
-    let pending = few_tries tries b.pending (All-weaker (λ (p : Piece). p.attempts ≤ b.options.attempts) (λ p. p.attempts ≤ 1000) (λ p low. omega (arith, low, most)) b.pending counted.counts.pending_most) in
-    let worked = few_tries tries (live_pieces b) (All-weaker (λ (p : Piece). p.attempts < b.options.attempts) (λ p. p.attempts ≤ 1000) (λ p low. omega (arith, low, most)) (live_pieces b) counted.counts.worked_pieces) in
-    omega (arith, pending, worked, formed.within.pieces)
+product_most : (limit n : ℕ) → limit ≤ 1000 → limit * n ≤ 1000 * n
+product_most limit zero h = omega arith
+product_most limit (suc n) h = omega (arith, product_most limit n h, h, mul-add limit 1 n)
 
--- ---- the steps
+kept_most : (t : Bool) (n : ℕ) → n ≤ cond t (3 * n) n
+kept_most true n = omega arith
+kept_most false n = omega arith
 
-take_tried : (b : SeenBook) (slot : ℕ) (next : Next) → IsTried b → IsFree b slot → next_job b ≡ Some next → IsTried (with_slot next.rest slot (Some next.job))
-take_tried b slot next h free is =
-    take_cases b (λ (n : Next). IsTried (with_slot n.rest slot (Some n.job)))
-    (λ batch among. record { tried = omega (arith, h.tried, piece_set_weighs tries b slot None (Some (live.Batch batch)) free) })
-    (λ batch oldest. record { tried = omega (arith, h.tried, piece_set_weighs tries b slot None (Some (live.Batch batch)) free) })
-    (λ place cell found. record { tried = omega (arith, h.tried, piece_set_weighs tries b slot None (Some (with_key b place.at cell).job) free) })
-    (λ piece later e. record {
-      tried = omega (
+-- a live range is below the limit, or spent
+live_most : (limit : ℕ) (piece : Piece) (spent : Option FaultNote) → (spent ≡ None → piece.attempts < limit) → IsSpentAs limit spent piece → piece.attempts ≤ limit
+live_most limit piece None below h = omega (arith, below refl)
+live_most limit piece (Some note) below h = omega (arith, h.tried)
+
+module _ (b : SeenBook) (formed : IsWellFormed b) (aside : AreSpentWell b) (sound : AreLiveSound b) (pending_most : All (λ piece. piece.attempts ≤ b.options.attempts) b.pending) where
+  live_few : All (λ piece. piece.attempts ≤ 1000) (live_pieces b)
+  live_few k d inside =
+      let most = formed.allowed.attempts.1 in
+      let spent = All-append_right (IsAside b.options.attempts) b.pending (live_pieces b) aside.pieces k d inside in
+      omega (arith, most, live_most b.options.attempts _ _ (sound.below k d inside) spent)
+
+  few_together : b.options.attempts * length b.dead + sum_by tries (all_pieces b) < greatest_count
+  few_together =
+      let most = formed.allowed.attempts.1 in
+      omega (
         arith,
-        h.tried,
-        piece_set_weighs tries b slot None (Some (live.Span piece None)) free,
-        one_weighs tries piece,
-        ap (sum_by tries) e,
-        sum_by-cons tries piece later,
-      );
-    })
-    next is
+        product_most b.options.attempts (length b.dead) most,
+        sum_by-append tries b.pending (live_pieces b),
+        few_tries b.pending (All-weaker (λ (p : Piece). p.attempts ≤ b.options.attempts) (λ p. p.attempts ≤ 1000) (λ p low. omega (arith, low, most)) b.pending pending_most),
+        few_tries (live_pieces b) live_few,
+        kept_most (sets_aside b.plan) (length (live_pieces b)),
+        formed.within.pieces,
+        formed.within.commits,
+        aside.fewer,
+      )
 
-residual_tries : (piece : Piece) (attempted : Option ℕ) (receipt : Receipt) (pending : List Piece) → sum_by tries (with_residual (residual_of piece attempted receipt) pending) ≡ sum_by tries pending
-residual_tries piece attempted receipt pending = by (nat_lt (worked_to piece attempted) piece.range.to)
-  where
-    by : (t : Bool) → sum_by tries (with_residual (cond t (Some (record piece { range = record { from = worked_to piece attempted; to = piece.range.to }; seen = receipt.seen; attempts = 0 })) None) pending) ≡ sum_by tries pending
-    by true = omega (arith, with_piece_weight tries (record piece { range = record { from = worked_to piece attempted; to = piece.range.to }; seen = receipt.seen; attempts = 0 }) pending)
-    by false = refl
+  pub together_kept : (slot : ℕ) (action : Action) (new : SeenBook) → SourceStep b slot action new → AreTogether b → AreTogether new
+  together_kept slot action new s h =
+      let limit : new.options.attempts ≡ b.options.attempts = ap (λ o. o.attempts) s.options in
+      let dead : length new.dead ≡ length b.dead + commits_by s.kind = omega (arith, ap (λ (l : List Dead). length l) s.dead, dead_more s.kind b.dead) in
+      let product : new.options.attempts * length new.dead ≡ b.options.attempts * (length b.dead + commits_by s.kind) = (λ i. limit i * dead i) in
+      omega (
+        arith,
+        s.fails (b.options.attempts * length b.dead + sum_by tries (all_pieces b)) h few_together,
+        product,
+        mul-add b.options.attempts (length b.dead) (commits_by s.kind),
+        s.moves.weighs tries,
+        kind_tries b slot action s.kind s.allowed (out_all (all_pieces b) (all_pieces new) (out_of s.kind) (into_of s.kind) s.moves (IsAside b.options.attempts) aside.pieces),
+      )
 
-commit_tries : (b : SeenBook) (slot : ℕ) (job : Live) (receipt : Receipt) → IsWorking b slot job
-    → sum_by tries (pending_after b.pending job receipt) + sum_by tries (live_pieces (with_slot b slot None)) ≤ sum_by tries b.pending + sum_by tries (live_pieces b)
-commit_tries b slot (live.Span piece attempted) receipt works =
-    omega (arith, residual_tries piece attempted receipt b.pending, piece_set_weighs tries b slot (Some (live.Span piece attempted)) None works)
-commit_tries b slot (live.Batch batch) receipt works = omega (arith, piece_set_weighs tries b slot (Some (live.Batch batch)) None works)
-commit_tries b slot (live.Key turn) receipt works = omega (arith, piece_set_weighs tries b slot (Some (live.Key turn)) None works)
-
--- a job that is given back has failed once more
-back_tries : (b : SeenBook) (slot : ℕ) (job : Live) (at : ℕ) (cause : Cause) → IsWorking b slot job
-    → sum_by tries (given_back (with_slot b slot None) job at cause).pending + sum_by tries (live_pieces (given_back (with_slot b slot None) job at cause))
-    ≤ sum_by tries b.pending + sum_by tries (live_pieces b) + 1
-back_tries b slot (live.Span piece attempted) at cause works =
-    omega (
-      arith,
-      piece_set_weighs tries b slot (Some (live.Span piece attempted)) None works,
-      with_piece_weight tries (tried_piece piece) b.pending,
-      one_weighs tries piece,
-    )
-back_tries b slot (live.Batch batch) at cause works = omega (arith, piece_set_weighs tries b slot (Some (live.Batch batch)) None works)
-back_tries b slot (live.Key turn) at cause works = omega (arith, piece_set_weighs tries b slot (Some (live.Key turn)) None works)
-
-one_more_call : (tried calls reads : ℕ) → tried ≤ calls + reads → tried < greatest_count → tried + 1 ≤ raised calls + reads
-one_more_call tried calls reads h few = omega (arith, h, few)
-
-one_more_read : (tried calls reads : ℕ) → tried ≤ calls + reads → tried < greatest_count → tried + 1 ≤ calls + raised reads
-one_more_read tried calls reads h few = omega (arith, h, few)
-
-back_calls : (b : SeenBook) (slot : ℕ) (job : Live) (at : ℕ) (cause : Cause)
-    → ((given_back (with_slot b slot None) job at cause).calls ≡ b.calls) × ((given_back (with_slot b slot None) job at cause).reads ≡ b.reads)
-back_calls b slot (live.Span piece attempted) at cause = (refl, refl)
-back_calls b slot (live.Batch batch) at cause = (refl, refl)
-back_calls b slot (live.Key turn) at cause = (refl, refl)
-
-fail_tried : (b : SeenBook) (slot at : ℕ) (job : Live) (cause : Cause) → IsWellFormed b → IsCounted b → IsTried b → IsWorking b slot job
-    → IsTried (counted (given_back (with_slot b slot None) job at cause) cause)
-fail_tried b slot at job Call formed counts h works =
-    let same = back_calls b slot job at Call in
-    let more = one_more_call (sum_by tries b.pending + sum_by tries (live_pieces b)) b.calls b.reads h.tried (few_in b formed counts) in
-    record { tried = omega (arith, back_tries b slot job at Call works, more, ap raised same.0, same.1) }
-fail_tried b slot at job Read formed counts h works =
-    let same = back_calls b slot job at Read in
-    let more = one_more_read (sum_by tries b.pending + sum_by tries (live_pieces b)) b.calls b.reads h.tried (few_in b formed counts) in
-    record { tried = omega (arith, back_tries b slot job at Read works, more, same.0, ap raised same.1) }
-
-stop_tried : (spent : Bool) (x : SeenBook) (note : FaultNote) → IsTried x → IsTried (stopped_where spent x note)
-stop_tried true x note h = record { tried = h.tried }
-stop_tried false x note h = h
+-- ---- the opening
 
 none_tried : (xs : List Piece) → All (λ piece. piece.attempts ≡ 0) xs → sum_by tries xs ≡ 0
 none_tried [] all = refl
@@ -132,33 +145,7 @@ none_tried (x ∷ xs) all =
       none_tried xs (All-tail (λ (p : Piece). p.attempts ≡ 0) x xs all),
     )
 
-pub keeps_tried : (told : Option (List FileText)) → Keeps told (Both IsWellFormed IsCounted) IsTried
-keeps_tried told = record {
-  opens = λ b first opening. subst IsTried (sym opening.is) (record {
-    tried =
-        let untried = all_pieces (λ (p : Piece). p.attempts ≡ 0) (λ node item chunk len i. refl) b.options.chunk b.files [] (All-nil (λ (p : Piece). p.attempts ≡ 0)) in
-        omega (arith, none_tried (pieces_of b.options.chunk b.files) untried);
-  });
-  enrolls = λ b known h within. record { tried = omega (arith, h.tried, ap (sum_by tries) (enrolled_of piece_of b.slots refl)) };
-  takes = λ b slot next known h running free is within. take_tried b slot next h free is;
-  claims = λ b slot p piece attempted known h works may. record {
-    tried = omega (arith, h.tried, piece_set_weighs tries b slot (Some (live.Span piece attempted)) (Some (live.Span piece (Some p))) works);
-  };
-  splits = λ b slot at piece attempted known h works inside behind within.
-      let front = cut_to piece (record { from = piece.range.from; to = at }) in
-      let rest = rest_of piece (record { from = at; to = piece.range.to }) in
-      record {
-        tried = omega (
-          arith,
-          h.tried,
-          piece_set_weighs tries b slot (Some (live.Span piece attempted)) (Some (live.Span front attempted)) works,
-          with_piece_weight tries rest b.pending,
-          one_weighs tries piece,
-          one_weighs tries front,
-        );
-      };
-  commits = λ b slot job receipt cells fired marks known h made. record { tried = omega (arith, h.tried, commit_tries b slot job receipt made.works) };
-  fails = λ b slot at job cause known h works.
-      stop_tried (ends_run b job cause) (counted (given_back (with_slot b slot None) job at cause) cause) (note_of job at cause) (fail_tried b slot at job cause known.0 known.1 h works);
-  stops = λ b known h. record { tried = h.tried };
-}
+pub opening_together : (b first : SeenBook) → IsOpening b.plan b.files b.options first → AreTogether first
+opening_together b first opening =
+    let untried = first_all (λ (p : Piece). p.attempts ≡ 0) (λ piece untried fresh. untried) b.options.chunk b.files in
+    subst AreTogether (sym opening.is) (omega (arith, none_tried (pieces_of b.options.chunk b.files ++ []) untried))

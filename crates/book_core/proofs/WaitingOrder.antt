@@ -198,8 +198,12 @@ keeps_order told = record {
     queues = queues_up (last_marks b) (length b.panes) 0 fired b.queues h.queues (waiting_low b once);
     batches = set_up b h b.returned slot None (returned_up b h) (All-nil IsInOrder);
   };
-  fails = λ b slot at job cause once h works.
+  fails = λ b slot at job cause once h works fresh unbroken.
       stop_order (ends_run b job cause) (counted (given_back (with_slot b slot None) job at cause) cause) (note_of job at cause)
       (counted_order (given_back (with_slot b slot None) job at cause) cause (back_order b slot job at cause h works));
+  breaks = λ b slot at piece attempted once h works fresh is. record {
+    queues = h.queues;
+    batches = set_up b h b.returned slot None (returned_up b h) (All-nil IsInOrder);
+  };
   stops = λ b once h. record { queues = h.queues; batches = h.batches };
 }

@@ -1,30 +1,21 @@
 -- What the pieces of a book weigh together, pending, live and done, by any weight that looks only at where their offsets are.
 use Rattle.std.proofs.Common.{◌≡◌, ℕ, ◌+◌, ◌≤◌, Bool, true, false, cond, List, [], ◌∷◌, refl, ◌∙◌, arith}
-use Rattle.std.specs.Prelude.{◌==◌, ◌&&◌, Option}
-use Rattle.std.specs.List.{sum_by, flat_map}
+use Rattle.std.specs.Prelude.{◌==◌, ◌&&◌}
+use Rattle.std.specs.List.{sum_by}
 use Rattle.std.specs.Ordering.{is_lt}
 use Rattle.std.proofs.lemmas.Bool.Decides.{nat_tests}
 use Rattle.std.proofs.lemmas.List.Sums.{sum_by-cons}
-use Rattle.beam_values.proofs.Bags.{sum_by-flat_map}
 use Rattle.beam_values.specs.Cover.{Place, times_at, times_done, times_pending}
 use Rattle.beam_values.specs.Intervals.{times_in}
 use Rattle.beam_values.specs.declared.piece.Done.{Done}
 use Rattle.beam_values.specs.declared.piece.Piece.{Piece}
 use Rattle.split_core.specs.Order.{with_piece, with_pieces}
 use Rattle.split_core.proofs.Ordered.{bag_with_piece}
-use Rattle.book_core.specs.Book.{piece_of}
 use Rattle.book_core.specs.Changes.{with_done, done_cmp}
-use Rattle.book_core.specs.declared.live.Live.{Live}
 
 -- a piece at a place
 abbrev pub piece_at : Place → Piece → ℕ
 piece_at place piece = times_at piece.node piece.item piece.range place
-
-abbrev pub slot_weight : Place → Option Live → ℕ
-slot_weight place slot = sum_by (piece_at place) (piece_of slot)
-
-pub live_weighs : (place : Place) (slots : List (Option Live)) → sum_by (piece_at place) (flat_map piece_of slots) ≡ sum_by (slot_weight place) slots
-live_weighs place slots = sum_by-flat_map (piece_at place) piece_of slots
 
 pub with_piece_weighs : (place : Place) (piece : Piece) (pending : List Piece) → times_pending (with_piece piece pending) place ≡ piece_at place piece + times_pending pending place
 with_piece_weighs place piece pending = (bag_with_piece piece pending).weighs (piece_at place) ∙ sum_by-cons (piece_at place) piece pending

@@ -8,6 +8,7 @@ use Rattle.beam_values.specs.Intervals.{Interval}
 use Rattle.beam_values.specs.Nodes.{strategy_of}
 use Rattle.beam_values.specs.Strategies.{greatest_length}
 use Rattle.beam_values.specs.Times.{greatest_time}
+use Rattle.beam_values.specs.declared.fault.FaultNote.{FaultNote}
 use Rattle.beam_values.specs.declared.arrival.Arrival.{Arrival}
 use Rattle.beam_values.specs.declared.cell.Pane.{Pane}
 use Rattle.beam_values.specs.declared.element.Element.{Element}
@@ -25,7 +26,7 @@ use Rattle.book_core.specs.Book.{SeenBook}
 use Rattle.book_core.specs.Changes.{with_slot}
 use Rattle.book_core.specs.Jobs.{Next, attempted_of, job_of, with_key}
 use Rattle.book_core.specs.Steps.{CanCommit, IsClaiming, IsCommitting, IsFree, IsTaking, IsWorking}
-use Rattle.book_core.specs.Work.{is_known, worked_to, IsGiven, IsPlausible, IsWorkOnRange}
+use Rattle.book_core.specs.Work.{is_known, worked_to, IsGiven, IsPlausible, IsWorkOnRange, IsOfSpent}
 use Rattle.book_core.specs.declared.live.Live.{Live}
 use Rattle.book_core.specs.declared.live.Live.TheVariants as live
 use Rattle.book_core.proofs.SaneResults.{take_stays}
@@ -119,6 +120,17 @@ batch_can b new slot node first attempts to panes receipt step onward is none =
           (ap (map Arrives) is ∙ each_arrives new.plan node to panes (λ e. ap (λ (p : Plan). chain p node e) same ∙ onward e), none);
     }
 
+-- what is claimed isn't spent
+fresh_range : (b new : SeenBook) (slot p : ℕ) (piece : Piece) (granted : Bool) → IsWorking b slot (live.Span piece None) → IsClaiming b slot p granted new → piece.spent ≡ None
+fresh_range b new slot p piece granted works claim =
+    let own = claim.works.works in
+    let same : claim.piece ≡ piece = cc in
+    sym (ap (λ (x : Piece). x.spent) same) ∙ claim.works.fresh
+
+of_fresh : (piece : Piece) (receipt : Receipt) (spent : Option FaultNote) → spent ≡ None → IsOfSpent spent piece receipt
+of_fresh piece receipt None e = tt
+of_fresh piece receipt (Some note) e = absurd (cc)
+
 -- what came of a range of a file that isn't told
 pub range_can : (b new claimed : SeenBook) (slot p : ℕ) (piece : Piece) (granted : Bool) (receipt : Receipt) → IsTaking b slot (job.Span piece) new → IsClaiming new slot p granted claimed
     → is_known None b.plan piece.node ≡ false → IsPlausible b.plan piece receipt → receipt.logged ≡ None → CanCommit None claimed slot receipt
@@ -132,6 +144,7 @@ range_can b new claimed slot p piece granted receipt step claim unknown plausibl
         subst (λ (plan : Plan). IsWorkOnRange (is_known None plan piece.node) None plan piece (worked_to piece (Some p)) receipt) (sym same)
             (subst (λ (t : Bool). IsWorkOnRange t None b.plan piece (worked_to piece (Some p)) receipt) (sym unknown) plausible),
         none,
+        of_fresh piece receipt piece.spent (fresh_range new claimed slot p piece granted (taken_range b new slot piece step) claim),
       );
     }
 

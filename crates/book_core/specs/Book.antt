@@ -1,6 +1,6 @@
 -- The book of a run, as plain data: what is pending, worked and committed (Splittable DoFn; The Dataflow Model). All workers of a run change this one book,
 -- step by step.
-use Rattle.std.specs.Prelude.{ℕ, ◌-◌, List, [], ◌∷◌, ◌++◌, length, map, slice_get, unwrap_or, Option, Some, None}
+use Rattle.std.specs.Prelude.{ℕ, ◌*◌, ◌-◌, ◌==◌, Bool, if◌then◌else◌, List, [], ◌∷◌, ◌++◌, length, map, slice_get, unwrap_or, Option, Some, None}
 use Rattle.std.specs.List.{flat_map, enumerate_from, sum_by}
 use Rattle.std.specs.Option.{option_map}
 use Rattle.beam_values.specs.Tracking.{Tracked}
@@ -12,6 +12,7 @@ use Rattle.beam_values.specs.declared.marks.CommitMarks.{CommitMarks}
 use Rattle.beam_values.specs.declared.marks.StageMarks.{StageMarks}
 use Rattle.beam_values.specs.declared.options.Options.{Options}
 use Rattle.beam_values.specs.declared.outcome.StopCause.{StopCause}
+use Rattle.beam_values.specs.declared.piece.Dead.{Dead}
 use Rattle.beam_values.specs.declared.piece.Done.{Done}
 use Rattle.beam_values.specs.declared.piece.FileLen.{FileLen}
 use Rattle.beam_values.specs.declared.piece.Piece.{Piece}
@@ -44,6 +45,8 @@ pub record SeenBook : Type 0 where
   pub panes : List Pane
   -- by node, item and range
   pub done : List Done
+  -- the positions that were set aside, by node, item and position
+  pub dead : List Dead
   -- what reached the Writes, in the order in which it came
   pub written : List Arrival
   -- the marks after the opening, and then after each commit
@@ -74,9 +77,17 @@ live_pieces b = flat_map piece_of b.slots
 abbrev pub live_batches : SeenBook → List Batch
 live_batches b = flat_map batch_of b.slots
 
--- so many places are kept among the pending pieces: one for each piece that is worked, since it may come back
+-- plans of version 2 go on without a position whose work failed as often as it may, the last time in a call: it is set aside
+abbrev pub sets_aside : Plan → Bool
+sets_aside plan = plan.version == 2
+
+-- so many pieces that are worked may come back as so many: a range of a plan that sets positions aside may be broken into three
+abbrev pub most_parts : Plan → ℕ → ℕ
+most_parts plan pieces = if sets_aside plan then 3 * pieces else pieces
+
+-- so many places are kept among the pending pieces, for the pieces that are worked
 abbrev pub places_kept : SeenBook → ℕ
-places_kept b = length (live_pieces b)
+places_kept b = most_parts b.plan (length (live_pieces b))
 
 abbrev pub slot_at : SeenBook → ℕ → Option (Option Live)
 slot_at b slot = slice_get b.slots slot

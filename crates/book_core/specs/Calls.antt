@@ -1,5 +1,5 @@
 -- What the calls of a book ask and answer, in the words of its steps.
-use Rattle.std.specs.Prelude.{◌≡◌, ℕ, List, [], Option, Some, None}
+use Rattle.std.specs.Prelude.{◌≡◌, ℕ, List, Option, Some, None}
 use Rattle.std.specs.List.Sorted.{IsPermutation, IsSorted}
 use Rattle.beam_values.specs.Cells.{cell_cmp}
 use Rattle.beam_values.specs.Tracking.{MayClaim}
@@ -55,7 +55,7 @@ pub record IsOutcomeOf (b : SeenBook) (o : Outcome) : Type 0 where
   pub plan : o.plan ≡ b.plan
   pub files : o.files ≡ b.files
   pub done : o.done ≡ b.done
-  pub dead : o.dead ≡ []
+  pub dead : o.dead ≡ b.dead
   pub cells : IsPermutation b.cells o.cells
   pub cells_in_order : IsSorted cell_cmp o.cells
   pub panes : o.panes ≡ b.panes

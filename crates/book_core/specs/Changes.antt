@@ -1,5 +1,5 @@
 -- What each step changes in the book. What a definition doesn't name stays.
-use Rattle.std.specs.Prelude.{◌≡◌, ℕ, ◌+◌, ◌==◌, Bool, true, false, nat_le, nat_lt, if◌then◌else◌, List, [], ◌∷◌, ◌++◌, length, map, slice_set, Option, Some, None}
+use Rattle.std.specs.Prelude.{◌≡◌, ℕ, ◌+◌, ◌-◌, ◌==◌, Bool, true, false, not, ◌&&◌, nat_le, nat_lt, if◌then◌else◌, List, [], ◌∷◌, ◌++◌, length, map, min, slice_set, Option, Some, None}
 use Rattle.std.specs.List.{filter, enumerate_from}
 use Rattle.std.specs.declared.cmp.Ordering.{Ordering}
 use Rattle.std.specs.Ordering.{on, then_cmp, nat_cmp, is_lt}
@@ -14,19 +14,21 @@ use Rattle.beam_values.specs.declared.fault.FaultNote.{FaultNote}
 use Rattle.beam_values.specs.declared.marks.StageMarks.{StageMarks}
 use Rattle.beam_values.specs.declared.outcome.StopCause.{StopCause}
 use Rattle.beam_values.specs.declared.outcome.StopCause.TheVariants as stop
+use Rattle.beam_values.specs.declared.piece.Dead.{Dead}
 use Rattle.beam_values.specs.declared.piece.Done.{Done}
 use Rattle.beam_values.specs.declared.piece.Piece.{Piece}
+use Rattle.beam_values.specs.declared.plan.Plan.{Plan}
 use Rattle.beam_model.specs.Holds.{pane_hold}
 use Rattle.beam_ports.specs.Counts.{raised}
 use Rattle.bundle_commit.specs.declared.job.Logged.{Logged}
 use Rattle.bundle_commit.specs.declared.job.Receipt.{Receipt}
 use Rattle.group_cells.specs.Commits.{AreRounds, as_commit, dropped_arrival, is_dropped}
-use Rattle.split_core.specs.Order.{with_piece}
+use Rattle.split_core.specs.Order.{with_piece, with_pieces}
 use Rattle.stateful_core.specs.Cells.{KeyCell}
 use Rattle.stateful_core.specs.KeyWork.{numbered_entry}
 use Rattle.stateful_core.specs.Placing.{Done as KeyDone, place}
 use Rattle.stateful_core.specs.Taking.{change, tried}
-use Rattle.book_core.specs.Book.{SeenBook, last_marks, AreMarksOfBook}
+use Rattle.book_core.specs.Book.{SeenBook, last_marks, sets_aside, AreMarksOfBook}
 use Rattle.book_core.specs.Jobs.{first_pane}
 use Rattle.book_core.specs.Work.{worked_to}
 use Rattle.book_core.specs.declared.live.Batch.{Batch}
@@ -44,7 +46,7 @@ with_slot b slot job = record b { slots = slice_set b.slots slot job }
 abbrev pub cut_to : Piece → Offsets → Piece
 cut_to piece range = record piece { range = range }
 
--- what is left behind a split: never tried, with what was seen when its piece was taken
+-- a part of a range, as what is left behind a split: never tried, with what was seen when its piece was taken
 abbrev pub rest_of : Piece → Offsets → Piece
 rest_of piece range = record piece { range = range; attempts = 0 }
 
@@ -101,12 +103,60 @@ abbrev pub stopped_where : Bool → SeenBook → FaultNote → SeenBook
 stopped_where true b note = record b { stopped = or_stopped b.stopped (stop.Spent note) }
 stopped_where false b note = b
 
+-- a call failed on a range of a plan that sets positions aside
+abbrev pub may_break : Plan → Live → Cause → Bool
+may_break plan (live.Span piece attempted) Call = sets_aside plan
+may_break plan _ _ = false
+
+-- a fail breaks the range: it is at its limit, and a call failed where positions are set aside
+abbrev pub is_broken : SeenBook → Live → Cause → Bool
+is_broken b job cause = is_at_limit b job && may_break b.plan job cause
+
 -- a fail ends the run: the job is given up
 abbrev pub ends_run : SeenBook → Live → Cause → Bool
-ends_run b job cause = is_at_limit b job
+ends_run b job cause = is_at_limit b job && not (may_break b.plan job cause)
+
+-- the job is given back, and the book stopped where that ends the run
+abbrev pub tried_again : SeenBook → ℕ → Live → ℕ → Cause → SeenBook
+tried_again b slot job at cause =
+    stopped_where (ends_run b job cause) (counted (given_back (with_slot b slot None) job at cause) cause) (note_of job at cause)
+
+-- The position of a range that is tried alone: the last attempted one, the first where none was attempted, and the last of the range where the last attempted
+-- one lies past it.
+abbrev pub blamed : Piece → Option ℕ → ℕ
+blamed piece None = piece.range.from
+blamed piece (Some p) = min p (piece.range.to - 1)
+
+-- a part that has offsets, never tried
+abbrev pub part_of : Piece → ℕ → ℕ → List Piece
+part_of piece from to = if nat_lt from to then rest_of piece (record { from = from; to = to }) ∷ [] else []
+
+-- what lies before a position, the position alone, and what lies behind it
+abbrev pub cut_around : Piece → ℕ → List Piece
+cut_around piece at = part_of piece piece.range.from at ++ (part_of piece at (at + 1) ++ part_of piece (at + 1) piece.range.to)
+
+-- one position whose range failed as often as it may, and how it failed last
+abbrev pub spent_piece : Piece → FaultNote → Piece
+spent_piece piece note = record piece { attempts = piece.attempts + 1; spent = Some note }
+
+-- What becomes of a range that is broken: of one position a spent piece, of several the parts around the one that failed, and of none a range that was never
+-- tried. `[0, 19)` with 9 attempted last is broken into `[0, 9)`, `[9, 10)` and `[10, 19)`, each with 0 attempts; `[9, 10)` with 2 attempts of 3 is spent, with 3.
+abbrev pub broken_parts : Piece → Option ℕ → FaultNote → List Piece
+broken_parts piece attempted note =
+    if nat_lt (piece.range.from + 1) piece.range.to then cut_around piece (blamed piece attempted)
+    else (if nat_lt piece.range.from piece.range.to then spent_piece piece note ∷ [] else rest_of piece piece.range ∷ [])
+
+-- a call failed on a range, which is broken
+abbrev pub broken : SeenBook → ℕ → Piece → Option ℕ → FaultNote → SeenBook
+broken b slot piece attempted note =
+    record (with_slot b slot None) { pending = with_pieces (broken_parts piece attempted note) b.pending; calls = raised b.calls }
+
+abbrev pub failed_where : Bool → SeenBook → ℕ → Live → ℕ → Cause → SeenBook
+failed_where true b slot (live.Span piece attempted) at cause = broken b slot piece attempted (note_of (live.Span piece attempted) at cause)
+failed_where _ b slot job at cause = tried_again b slot job at cause
 
 abbrev pub failed : SeenBook → ℕ → Live → ℕ → Cause → SeenBook
-failed b slot job at cause = stopped_where (ends_run b job cause) (counted (given_back (with_slot b slot None) job at cause) cause) (note_of job at cause)
+failed b slot job at cause = failed_where (is_broken b job cause) b slot job at cause
 
 -- ---- commits
 
@@ -138,14 +188,44 @@ abbrev pub with_residual : Option Piece → List Piece → List Piece
 with_residual None pending = pending
 with_residual (Some piece) pending = with_piece piece pending
 
--- the source side of a commit
+-- the order of dead positions
+abbrev pub dead_cmp : Dead → Dead → Ordering
+dead_cmp = then_cmp (on (λ d. d.node) nat_cmp) (then_cmp (on (λ d. d.item) nat_cmp) (on (λ d. d.at) nat_cmp))
+
+-- a dead position is put behind those that are lower
+abbrev pub with_dead : Dead → List Dead → List Dead
+with_dead new [] = new ∷ []
+with_dead new (d ∷ dead) = if is_lt (dead_cmp d new) then d ∷ with_dead new dead else new ∷ d ∷ dead
+
+-- the position of a spent piece, and how it failed
+abbrev pub dead_of : Piece → FaultNote → Dead
+dead_of piece note = record { node = piece.node; item = piece.item; at = piece.range.from; note = note }
+
+-- the source side of a commit: the position of a spent piece is set aside, and of any other piece a range is done
+abbrev pub done_with : Option FaultNote → Piece → Option ℕ → List Done → List Done
+done_with None piece attempted done = with_done (done_of piece attempted) done
+done_with (Some note) piece attempted done = done
+
+abbrev pub dead_with : Option FaultNote → Piece → List Dead → List Dead
+dead_with None piece dead = dead
+dead_with (Some note) piece dead = with_dead (dead_of piece note) dead
+
+abbrev pub pending_with : Option FaultNote → Piece → Option ℕ → Receipt → List Piece → List Piece
+pending_with None piece attempted receipt pending = with_residual (residual_of piece attempted receipt) pending
+pending_with (Some note) piece attempted receipt pending = pending
+
 abbrev pub done_after : List Done → Live → List Done
-done_after done (live.Span piece attempted) = with_done (done_of piece attempted) done
+done_after done (live.Span piece attempted) = done_with piece.spent piece attempted done
 done_after done (live.Batch batch) = done
 done_after done (live.Key turn) = done
 
+abbrev pub dead_after : List Dead → Live → List Dead
+dead_after dead (live.Span piece attempted) = dead_with piece.spent piece dead
+dead_after dead (live.Batch batch) = dead
+dead_after dead (live.Key turn) = dead
+
 abbrev pub pending_after : List Piece → Live → Receipt → List Piece
-pending_after pending (live.Span piece attempted) receipt = with_residual (residual_of piece attempted receipt) pending
+pending_after pending (live.Span piece attempted) receipt = pending_with piece.spent piece attempted receipt pending
 pending_after pending (live.Batch batch) receipt = pending
 pending_after pending (live.Key turn) receipt = pending
 
@@ -197,6 +277,7 @@ committed b slot job receipt cells fired marks = record (with_slot b slot None) 
   keys = keys_after b job receipt;
   panes = b.panes ++ fired;
   done = done_after b.done job;
+  dead = dead_after b.dead job;
   written = b.written ++ written_by b receipt;
   commits = b.commits ++ as_commit marks ∷ [];
 }

@@ -52,7 +52,7 @@ least_with held others node = int_min (least_in held node) (least_hold others no
 abbrev pub AreLeastWith : Plan → List SeenHolds → List Hold → List ℤ → Type 0
 AreLeastWith plan held others least = (n : ℕ) → n < length plan.nodes → hold_at least n ≡ least_with held others n
 
--- a sane book, with the marks at which its pieces and panes hold nodes back, and a place kept for each piece and each batch that is worked
+-- a sane book, with the marks at which its pieces and panes hold nodes back, and the places kept for each piece and each batch that is worked
 pub record IsIndexed (b : SeenBook) (held : List SeenHolds) (piece_room batch_room : ℕ) : Type 0 where
   pub sane : IsSane b
   pub sized : length held ≡ length b.plan.nodes
@@ -64,7 +64,7 @@ pub record IsIndexed (b : SeenBook) (held : List SeenHolds) (piece_room batch_ro
 abbrev pub room_in : List SeenHolds → ℕ → ℕ
 room_in held node = unwrap_or (option_map (λ h. h.room) (slice_get held node)) 0
 
--- the pending pieces, the batches, the key cells and the cause of a stop after a fail
+-- the pending pieces, the batches, the key cells and the cause of a stop after a fail that breaks no range
 abbrev pub pieces_back : List Piece → Live → ℕ → Cause → List Piece
 pieces_back pending (live.Span piece attempted) at cause = with_piece (tried_piece piece) pending
 pieces_back pending (live.Batch batch) at cause = pending

@@ -19,6 +19,7 @@ data_of b = record {
   keys = cells_in b.keys;
   panes = b.results.panes.items;
   done = b.results.done.items;
+  dead = b.results.dead.items;
   written = b.results.written.items;
   commits = b.results.commits.items;
   calls = b.faults.calls;

@@ -7,11 +7,12 @@ use Rattle.book_core.specs.Steps.{left_behind, IsBefore}
 use Rattle.book_core.specs.declared.live.Live.{Live}
 use Rattle.book_core.specs.declared.live.Live.TheVariants as live
 
--- the range that a slot works would split at a half, and so much of it is left, its last attempted position not counted
+-- the range that a slot works isn't spent and would split at a half, and so much of it is left, its last attempted position not counted
 pub record IsLeftOf (slots : List (Option Live)) (slot left : ℕ) : Type 0 where
   pub piece : Piece
   pub attempted : Option ℕ
   pub works : slice_get slots slot ≡ Some (Some (live.Span piece attempted))
+  pub fresh : piece.spent ≡ None
   pub splits : split_point_of (tracker_of piece attempted) 1 2 < piece.range.to
   pub is : left + 1 ≡ left_behind piece attempted
 

@@ -39,6 +39,7 @@ opened plan files options marks = record {
   keys = [];
   panes = [];
   done = [];
+  dead = [];
   written = [];
   commits = as_commit marks ∷ [];
   calls = 0;

@@ -12,7 +12,7 @@ use Rattle.group_cells.specs.Sane.{ArePanesCounted, AreSaneCells}
 use Rattle.split_core.specs.Partition.{IsListed}
 use Rattle.stateful_core.specs.Facts.{AreKeysKept}
 use Rattle.book_core.specs.Book.{SeenBook, last_marks, live_batches, live_pieces}
-use Rattle.book_core.specs.Facts.{AreAtWrites, AreAttemptsCounted, AreHeldOnce, AreKept, AreMarksKept, ArePartitioned, AreTurnsKept, IsAttemptedWithin, IsEarlyBook, IsStopNoted, IsWellFormed}
+use Rattle.book_core.specs.Facts.{AreAtWrites, AreAttemptsCounted, AreHeldOnce, AreKept, AreMarksKept, ArePartitioned, AreSpentWell, AreTurnsKept, IsAttemptedWithin, IsEarlyBook, IsStopNoted, IsWellFormed}
 use Rattle.book_core.specs.declared.live.WaitingPane.{WaitingPane}
 
 -- Each piece and each done range is of a listed item. A piece that isn't empty lies in its item, since no other offset is pending; an empty one may lie anywhere.
@@ -49,6 +49,7 @@ pub record IsSane (b : SeenBook) : Type 0 where
   pub partitioned : ArePartitioned b
   pub attempted : All IsAttemptedWithin b.slots
   pub attempts : AreAttemptsCounted b
+  pub spent : AreSpentWell b
   pub stop : IsStopNoted b b.stopped
   pub held : AreHeldOnce b
   pub order : AreWaitingInOrder b

@@ -47,9 +47,16 @@ IsFree b slot = slot_at b slot ≡ Some None
 abbrev pub IsWorking : SeenBook → ℕ → Live → Type 0
 IsWorking b slot job = slot_at b slot ≡ Some (Some job)
 
+-- a job isn't a spent piece, which is committed as it was taken
+abbrev pub IsFresh : Live → Type 0
+IsFresh (live.Span piece attempted) = piece.spent ≡ None
+IsFresh (live.Batch batch) = Unit {0}
+IsFresh (live.Key turn) = Unit {0}
+
 -- the slot works this job, and may claim in it, split it or fail it
-abbrev pub MayWorkOn : SeenBook → ℕ → Live → Type 0
-MayWorkOn b slot job = IsWorking b slot job
+pub record MayWorkOn (b : SeenBook) (slot : ℕ) (job : Live) : Type 0 where
+  pub works : IsWorking b slot job
+  pub fresh : IsFresh job
 
 -- no slot works
 abbrev pub IsIdle : SeenBook → Type 0
@@ -154,7 +161,7 @@ Step told b slot _ _ new = ⊥
 
 -- ---- whose range an idle slot splits
 
--- a slot works a range that would split at a half
+-- a slot works a range that isn't spent and would split at a half
 pub record WouldSplit (b : SeenBook) (slot : ℕ) (piece : Piece) (attempted : Option ℕ) : Type 0 where
   pub works : MayWorkOn b slot (live.Span piece attempted)
   pub splits : split_point_of (tracker_of piece attempted) 1 2 < piece.range.to

@@ -10,6 +10,7 @@ use Rattle.beam_values.specs.Times.{greatest_time}
 use Rattle.beam_values.specs.Tracking.{first_unattempted}
 use Rattle.beam_values.specs.declared.fault.Cause.{Cause}
 use Rattle.beam_values.specs.declared.fault.Cause.TheVariants.{Call, Read}
+use Rattle.beam_values.specs.declared.fault.FaultNote.{FaultNote}
 use Rattle.beam_values.specs.declared.file_text.FileText.{FileText}
 use Rattle.beam_values.specs.declared.piece.Piece.{Piece}
 use Rattle.beam_values.specs.declared.plan.Estimator.{Estimator}
@@ -98,12 +99,18 @@ IsWorkOnRange false told plan piece upto receipt = IsPlausible plan piece receip
 abbrev pub folded_by : Logged → Folded
 folded_by logged = record { kept = record { cells = logged.state; timers = logged.timers }; entries = logged.entries }
 
+-- nothing was worked of a spent piece: its receipt brings nothing, and has seen nothing more
+abbrev pub IsOfSpent : Option FaultNote → Piece → Receipt → Type 0
+IsOfSpent None piece receipt = Unit {0}
+IsOfSpent (Some note) piece receipt = (receipt.arrivals ≡ []) × (receipt.seen ≡ piece.seen)
+
 -- A receipt is what the plan gives for a job, of a range up to its last attempted position. Only of a key job it has a log: the fold of the node's function over
 -- the inputs, with entries under commit 0, since no worker knows which commit it will be. Of a node that takes each value once, a job on "x", "x" and "y" of
 -- key "a" from the fresh state brings the chains of ("a", "x") and ("a", "y"), leaves the bag "x", "y", and logs three entries, the second without outputs.
 abbrev pub IsGiven : Option (List FileText) → Plan → Job → Option ℕ → Receipt → Type 0
 IsGiven told plan (job.Span piece) attempted receipt =
     IsWorkOnRange (is_known told plan piece.node) told plan piece (worked_to piece attempted) receipt × (receipt.logged ≡ None)
+    × IsOfSpent piece.spent piece receipt
 IsGiven told plan (job.Batch node first panes attempts) attempted receipt =
     (map Arrives receipt.arrivals ≡ batch_outputs plan node panes) × (receipt.logged ≡ None)
 IsGiven told plan (job.Key node cell key span inputs state timers attempts) attempted receipt =

@@ -15,8 +15,9 @@ ghost use Rattle.book_core.specs.Steps.{Enroll, Take, Claim, Split, Fail, Stop, 
 ghost use Rattle.book_core.specs.Steps.{SplitAt, Noted, IsFree, IsRunning, IsNextFor, CanCommit};
 ghost use Rattle.book_core.specs.Steps.{IsCommitting, IsWithinLimits};
 
+use crate::breaking::{break_range, broken_range, keep_parts, most_parts};
 use crate::committing::{
-    Fired, GREATEST_COUNT, done_of, fire, free_job, free_residual, has_numbers, hold_job,
+    Fired, GREATEST_COUNT, dead_of, done_of, fire, free_job, free_residual, has_numbers, hold_job,
     hold_residual, keep_room, own_in, put_back, residual_of, wait_all,
 };
 use crate::due::{DueAt, batch_job, first_due, piece_job, started};
@@ -34,7 +35,7 @@ use crate::working::{
     count_batches, count_pieces, idle_answer, most_left, piece_at, span_at, tracker_of,
 };
 use beam_values::{
-    Cause, Done, FileLen, List, NoMemory, Options, Outcome, Piece, RoomyList, StopCause,
+    Cause, Dead, Done, FileLen, List, NoMemory, Options, Outcome, Piece, RoomyList, StopCause,
 };
 use bundle_commit::{Job, Receipt};
 use group_cells::Groups;
@@ -147,6 +148,13 @@ impl Book {
         ensures { result.now ≡ self.now.done }
     {
         self.results.done.as_slice()
+    }
+
+    /// The positions that were set aside, by node, item and position.
+    pub fn dead(&self) -> &[Dead]
+        ensures { result.now ≡ self.now.dead }
+    {
+        self.results.dead.as_slice()
     }
 
     /// The pieces that no slot works, the first to be taken last.
@@ -271,7 +279,7 @@ impl Book {
         let bundle = self.options.bundle;
         let marks = self.results.last_marks();
         let Some(turn) = self.keys.next_job(marks, bundle)? else {
-            return Ok(self.take_piece(slot));
+            return self.take_piece(slot);
         };
         let worked = turn.share(self.alloc)?;
         self.keys.start_job(turn.cell, bundle);
@@ -279,20 +287,24 @@ impl Book {
         Ok(Taken::Job(key_job(turn)))
     }
 
-    fn take_piece(&mut self, slot: u32) -> Taken
+    fn take_piece(&mut self, slot: u32) -> Result<Taken, NoMemory>
         requires running { IsRunning self.old }
         requires free { IsFree self.old slot }
         requires none { first_due self.old ≡ None }
         requires no_cell { next_cell self.old ≡ None }
-        ensures { Makes self.old slot Take (answer_of result) self.new }
+        ensures ok { IfOk result (λ taken. Makes self.old slot Take (answer_of taken) self.new) }
+        ensures err { OnErr result (self.new ≡ self.old) }
     {
-        match self.pieces.take() {
-            Some(piece) => {
-                self.slots[slot as usize] = Some(started(&piece));
-                Taken::Job(piece_job(&piece))
-            }
-            None => idle_answer(self.slots.as_slice()),
+        if self.pieces.is_empty() {
+            return Ok(idle_answer(self.slots.as_slice()));
         }
+        let worked = count_pieces(self.slots.as_slice());
+        keep_parts(&mut self.pieces, self.graph.plan(), worked)?;
+        let Some(piece) = self.pieces.take() else {
+            unreachable!()
+        };
+        self.slots[slot as usize] = Some(started(&piece));
+        Ok(Taken::Job(piece_job(&piece)))
     }
 
     /// The slot's live range attempts a position. Takes no memory.
@@ -312,7 +324,8 @@ impl Book {
         granted
     }
 
-    /// Splits the slot's live range, if it has one that can be split there. What is answered is where.
+    /// Splits the slot's live range, if it has one that isn't spent and can be split there. What is answered is
+    /// where.
     pub fn split(&mut self, slot: u32, num: u64, den: u64) -> Result<Option<u64>, NoMemory>
         requires proper { num ≤ den }
         requires positive { 1 ≤ den }
@@ -327,7 +340,8 @@ impl Book {
         let Some(rest) = tracker.try_split(num, den) else {
             return Ok(None);
         };
-        if self.pieces.len() >= GREATEST_COUNT - 1 - count_pieces(self.slots.as_slice()) {
+        let worked = count_pieces(self.slots.as_slice());
+        if self.pieces.len() + most_parts(self.graph.plan(), worked) >= GREATEST_COUNT - 1 {
             return Err(NoMemory);
         }
         self.held.keep_room(piece.node, 1)?;
@@ -349,8 +363,8 @@ impl Book {
     }
 
     /// Places the receipt of the slot's job: arrivals become entries, wait at key cells or are written, the
-    /// range that was worked is done and its rest pending again, a key job's calls are logged, panes fire and
-    /// wait, and the slot is free. Where there is no memory nothing is changed, and the receipt is handed back.
+    /// range that was worked is done and its rest pending again, the position of a spent piece is set aside, a
+    /// key job's calls are logged, panes fire and wait, and the slot is free. Where there is no memory nothing is changed, and the receipt is handed back.
     pub fn commit(&mut self, slot: u32, receipt: Receipt) -> Result<(), Unplaced>
         requires { CanCommit None self.old slot receipt }
         ensures ok { OnOk result
@@ -434,7 +448,7 @@ impl Book {
         self.waiting += waiting;
         self.waiting -= elements_of(&job);
         self.results
-            .add(plan, done_of(&job), panes, arrivals, marks);
+            .add(plan, done_of(&job), dead_of(&job), panes, arrivals, marks);
         Ok(())
     }
 
@@ -446,7 +460,8 @@ impl Book {
         most_left(self.slots.as_slice(), slot)
     }
 
-    /// The slot's job failed: it is given back, or at the limit the book is stopped. Takes no memory.
+    /// The slot's job failed: it is given back. At the limit the book is stopped, or, where a call failed on a
+    /// range of a plan that sets positions aside, the range is broken. Takes no memory.
     pub fn fail(&mut self, slot: u32, at: u32, cause: Cause) -> Failure
         requires { CanFail self.old slot }
         ensures { Makes self.old slot (Fail at cause) (failure_of result) self.new }
@@ -456,6 +471,19 @@ impl Book {
         };
         let note = note_of(&job, at, cause);
         let next = next_attempt(attempts_of(&job), self.options.attempts);
+        self.faults.rise(cause, 1);
+        let plan = self.graph.plan();
+        if let Some((piece, attempted)) = broken_range(plan, &job, cause, next) {
+            break_range(
+                &mut self.pieces,
+                &mut self.held,
+                plan,
+                piece,
+                attempted,
+                note,
+            );
+            return Failure::Retry;
+        }
         give_back(
             &mut self.pieces,
             &mut self.returned,
@@ -464,7 +492,6 @@ impl Book {
             at,
             cause,
         );
-        self.faults.rise(cause, 1);
         self.stopped = stopped_after(self.stopped, next, note);
         failure_of(next, note)
     }
@@ -487,12 +514,12 @@ impl Book {
             keys,
             results,
             stopped,
-            alloc,
             ..
         } = self;
         let Results {
             panes,
             done,
+            dead,
             written,
             commits,
         } = results;
@@ -501,7 +528,7 @@ impl Book {
             plan: graph.into_plan(),
             files,
             done: done.into_list(),
-            dead: List::new(alloc),
+            dead: dead.into_list(),
             cells: in_order(cells)?,
             panes: panes.into_list(),
             dropped,

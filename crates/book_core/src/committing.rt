@@ -15,7 +15,8 @@ ghost use Rattle.group_cells.specs.Commits.{AreRounds, HasGap, IsCommitted, Rise
 ghost use Rattle.book_core.specs.Changes.{as_waiting, done_of as range_done, residual_of, with_fired};
 ghost use Rattle.book_core.specs.Changes.{with_residual};
 ghost use Rattle.book_core.specs.Committing.{node_of, count_of, pane_holds, job_holds, residual_in};
-ghost use Rattle.book_core.specs.Committing.{residual_holds, done_in, list_at, HasRoom, HasRoomFor};
+ghost use Rattle.book_core.specs.Committing.{residual_holds, dead_in, done_in, list_at, position_dead};
+ghost use Rattle.book_core.specs.Committing.{HasRoom, HasRoomFor};
 ghost use Rattle.book_core.specs.Facts.{IsAttemptedWithin};
 ghost use Rattle.book_core.specs.Indexes.{room_in, marks_in, least_in, least_with, AreHeldIn};
 ghost use Rattle.book_core.specs.declared.live.Live.{Live};
@@ -28,7 +29,9 @@ use crate::live::{Live, WaitingPane};
 use crate::queue::Queue;
 use crate::results::Results;
 use crate::working::tracker_of;
-use beam_values::{Arrival, Done, List, Mark, NoMemory, Node, Pane, Piece, Plan, StageMarks, Time};
+use beam_values::{
+    Arrival, Dead, Done, List, Mark, NoMemory, Node, Pane, Piece, Plan, StageMarks, Time,
+};
 use bundle_commit::Receipt;
 use group_cells::Groups;
 use split_core::Pieces;
@@ -123,6 +126,7 @@ pub fn keep_room(
     ensures sized { length held.new ≡ length held.old }
     ensures panes { results.new.panes.items ≡ results.old.panes.items }
     ensures done { results.new.done.items ≡ results.old.done.items }
+    ensures dead { results.new.dead.items ≡ results.old.dead.items }
     ensures written { results.new.written.items ≡ results.old.written.items }
     ensures commits { results.new.commits.items ≡ results.old.commits.items }
 {
@@ -135,13 +139,17 @@ pub fn keep_room(
     Ok(())
 }
 
-/// What is left of the job's range behind its last attempted position, with what its bundle has seen.
+/// What is left of the job's range behind its last attempted position, with what its bundle has seen. Of a
+/// spent piece nothing is left.
 pub fn residual_of(job: &Live, receipt: &Receipt) -> Option<Piece>
     requires { IsAttemptedWithin (Some job.now) }
     ensures { result ≡ residual_in job.now receipt.now }
 {
     match job {
-        Live::Span { piece, attempted } => residual_piece(piece, *attempted, receipt),
+        Live::Span { piece, attempted } if piece.spent.is_none() => {
+            residual_piece(piece, *attempted, receipt)
+        }
+        Live::Span { .. } => None,
         Live::Batch(_) => None,
         Live::Key(_) => None,
     }
@@ -161,15 +169,43 @@ fn residual_piece(piece: &Piece, attempted: Option<u64>, receipt: &Receipt) -> O
     })
 }
 
-/// The range that the job did.
+/// The range that the job did. A spent piece did none.
 pub fn done_of(job: &Live) -> Option<Done>
     requires { IsAttemptedWithin (Some job.now) }
     ensures { result ≡ done_in job.now }
 {
     match job {
-        Live::Span { piece, attempted } => Some(done_range(piece, *attempted)),
+        Live::Span { piece, attempted } if piece.spent.is_none() => {
+            Some(done_range(piece, *attempted))
+        }
+        Live::Span { .. } => None,
         Live::Batch(_) => None,
         Live::Key(_) => None,
+    }
+}
+
+/// The position that the job sets aside: that of a spent piece.
+pub fn dead_of(job: &Live) -> Option<Dead>
+    ensures { result ≡ dead_in job.now }
+{
+    match job {
+        Live::Span { piece, .. } => dead_position(piece),
+        Live::Batch(_) => None,
+        Live::Key(_) => None,
+    }
+}
+
+fn dead_position(piece: &Piece) -> Option<Dead>
+    ensures { result ≡ position_dead piece.now.spent piece.now }
+{
+    match piece.spent {
+        Some(note) => Some(Dead {
+            node: piece.node,
+            item: piece.item,
+            at: piece.range.from(),
+            note,
+        }),
+        None => None,
     }
 }
 

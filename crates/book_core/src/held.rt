@@ -1,5 +1,5 @@
-ghost use Rattle.std.specs.Prelude.{◌≡◌, ℕ, true, ◌+◌, ◌<◌, ◌≤◌, ◌∷◌, List, length, map, []};
-ghost use Rattle.std.specs.Prelude.{Contains, OnOk, IfOk};
+ghost use Rattle.std.specs.Prelude.{◌≡◌, ℕ, true, ◌+◌, ◌<◌, ◌≤◌, ◌∷◌, ◌++◌, List, length, map, []};
+ghost use Rattle.std.specs.Prelude.{replicate, Contains, OnOk, IfOk};
 ghost use Rattle.beam_model.specs.Holds.{Hold, piece_hold, estimator_in};
 ghost use Rattle.beam_values.specs.Checked.{IsChecked, is_estimator_allowed};
 ghost use Rattle.beam_values.specs.Marks.{mark_of, least_mark};
@@ -106,6 +106,19 @@ impl NodeHolds {
         add_kept(self.nodes.as_mut_slice(), node, mark);
     }
 
+    /// Holds a node back so many times more at a mark that it is held at. Takes no memory, and uses no room.
+    pub fn hold_again(&mut self, node: u32, mark: Mark, times: usize)
+        requires within { node < length self.old }
+        requires among { Contains (marks_in self.old node) mark }
+        requires few { length (marks_in self.old node) + times < 18446744073709551616 }
+        ensures held { (holds : List Hold) → AreHeldIn self.old holds
+            → AreHeldIn self.new (replicate times (record { node = node; mark = mark }) ++ holds) }
+        ensures kept { (n : ℕ) → room_in self.old n ≤ room_in self.new n }
+        ensures sized { length self.new ≡ length self.old }
+    {
+        hold_again(self.nodes.as_mut_slice(), node, mark, times);
+    }
+
     /// Takes out a mark that holds a node back.
     pub fn remove(&mut self, node: u32, mark: Mark)
         requires within { node < length self.old }
@@ -168,6 +181,33 @@ fn add_kept(held: &mut [Holds], node: u32, mark: Mark)
     let Ok(()) = holds.add(mark) else {
         unreachable!()
     };
+}
+
+fn hold_again(held: &mut [Holds], node: u32, mark: Mark, times: usize)
+    requires within { node < length held.old }
+    requires among { Contains (marks_in held.old node) mark }
+    requires few { length (marks_in held.old node) + times < 18446744073709551616 }
+    ensures held { (holds : List Hold) → AreHeldIn held.old holds
+        → AreHeldIn held.new (replicate times (record { node = node; mark = mark }) ++ holds) }
+    ensures kept { (n : ℕ) → room_in held.old n ≤ room_in held.new n }
+{
+    for _time in 0..times {
+        add_again(held, node, mark);
+    }
+}
+
+fn add_again(held: &mut [Holds], node: u32, mark: Mark)
+    requires within { node < length held.old }
+    requires among { Contains (marks_in held.old node) mark }
+    requires few { length (marks_in held.old node) < 18446744073709551615 }
+    ensures added { (holds : List Hold) → AreHeldIn held.old holds
+        → AreHeldIn held.new (record { node = node; mark = mark } ∷ holds) }
+    ensures among { Contains (marks_in held.new node) mark }
+    ensures longer { length (marks_in held.new node) ≡ length (marks_in held.old node) + 1 }
+    ensures kept { (n : ℕ) → room_in held.old n ≤ room_in held.new n }
+{
+    let holds = &mut held[node as usize];
+    holds.add_again(mark);
 }
 
 fn remove(held: &mut [Holds], node: u32, mark: Mark)

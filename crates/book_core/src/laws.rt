@@ -12,9 +12,10 @@ ghost use Rattle.bundle_commit.specs.declared.job.Job.{Job};
 ghost use Rattle.book_core.specs.Book.{SeenBook};
 ghost use Rattle.book_core.specs.Facts.{AreAtWrites, AreAttemptsCounted, AreCellsKept, AreHeldOnce};
 ghost use Rattle.book_core.specs.Facts.{AreKept, AreKeptOf, AreMarksKept, ArePartitioned};
+ghost use Rattle.book_core.specs.Facts.{AreSetAside};
 ghost use Rattle.book_core.specs.Facts.{IsStopNoted, IsWellFormed};
 ghost use Rattle.book_core.specs.Jobs.{next_job};
-ghost use Rattle.book_core.specs.Left.{GoesOnAt, IsBelow, left, rounds_left};
+ghost use Rattle.book_core.specs.Left.{BreaksNoEmpty, GoesOnAt, IsBelow, left, rounds_left};
 ghost use Rattle.book_core.specs.Runs.{HonestlyReached, IsOpening, IsThrough, Reached};
 ghost use Rattle.book_core.specs.Sane.{AreKeptWith, IsSane};
 ghost use Rattle.book_core.specs.Steps.{Action, Answer, Commit, Committed, IsClaiming, IsFailing};
@@ -77,7 +78,8 @@ pub fn told_books_are_kept()
     windows_hold_their_time();
 }
 
-/// Each offset of each item lies in exactly one pending, live or done range, whatever is split or fails.
+/// Each offset of each item lies in exactly one pending, live or done range, or is one dead position and lies in
+/// none, whatever is split, fails or is broken.
 pub fn reached_books_are_partitioned()
     ensures { (told : Option (List FileText)) (b : SeenBook) → Reached told b → ArePartitioned b }
 {}
@@ -94,11 +96,14 @@ pub fn panes_are_held_once()
     ensures { (told : Option (List FileText)) (b : SeenBook) → Reached told b → AreHeldOnce b }
 {}
 
-/// No job has failed more often than it may, nor more often than jobs failed at all; and what stopped a
-/// book by a fault failed as often as it may.
+/// No job has failed more often than it may, nor more often than jobs failed at all, the limit for each dead
+/// position counted in; what stopped a book by a fault failed as often as it may; and what is spent or dead is
+/// one position whose work failed as often as it may, the last time in a call.
 pub fn attempts_are_counted()
     ensures counted { (told : Option (List FileText)) (b : SeenBook)
         → Reached told b → AreAttemptsCounted b }
+    ensures aside { (told : Option (List FileText)) (b : SeenBook)
+        → Reached told b → AreSetAside b }
     ensures noted { (told : Option (List FileText)) (b : SeenBook)
         → Reached told b → IsStopNoted b b.stopped }
 {}
@@ -139,17 +144,20 @@ pub fn books_with_no_job_left_are_through()
     windows_hold_their_time();
 }
 
-/// Each fail of a sane book lowers what is left of a run, and no take raises it.
+/// Each fail of a sane book lowers what is left of a run, but for one that breaks an empty range; and no take
+/// raises it.
 pub fn fails_lower_what_is_left()
     ensures fail { (b new : SeenBook) (slot at : ℕ) (cause : Cause) (answer : Answer)
-        → IsSane b → IsFailing b slot at cause answer new → IsBelow (left new) (left b) }
+        → IsSane b → BreaksNoEmpty b slot cause → IsFailing b slot at cause answer new
+        → IsBelow (left new) (left b) }
     ensures take { (b new : SeenBook) (slot : ℕ) (job : Job)
         → IsSane b → IsTaking b slot job new
         → IsBelow (left new) (left b) ⊎ (left new ≡ left b) }
 {}
 
 /// Each commit of a sane book lowers what is left of a run, where a position of its range was attempted,
-/// the range is empty, its panes went on, or it is of a key job; and no claim raises it.
+/// the range is empty, its position is set aside, its panes went on, or it is of a key job; and no claim raises
+/// it.
 pub fn commits_lower_what_is_left()
     ensures commit { (told : Option (List FileText)) (b new : SeenBook) (slot : ℕ)
         → IsSane b → Step told b slot Commit Committed new
@@ -159,7 +167,7 @@ pub fn commits_lower_what_is_left()
 {}
 
 /// Rounds are bounded where no range is split: a sane book tells how many are left at most, each a take,
-/// claims, and then a commit of a job that goes on or a fail.
+/// claims, and then a commit of a job that goes on or a fail that breaks no empty range.
 pub fn rounds_are_bounded()
     ensures take { (b new : SeenBook) (slot : ℕ) (job : Job)
         → IsSane b → IsTaking b slot job new → rounds_left new ≤ rounds_left b }
@@ -169,7 +177,8 @@ pub fn rounds_are_bounded()
         → IsSane b → Step told b slot Commit Committed new
         → GoesOnAt b slot → rounds_left new < rounds_left b }
     ensures fail { (b new : SeenBook) (slot at : ℕ) (cause : Cause) (answer : Answer)
-        → IsSane b → IsFailing b slot at cause answer new → rounds_left new < rounds_left b }
+        → IsSane b → BreaksNoEmpty b slot cause → IsFailing b slot at cause answer new
+        → rounds_left new < rounds_left b }
 {}
 
 /// A book that is reached by honest fails is reached, so all that holds of reached books holds of it.

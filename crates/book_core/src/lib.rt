@@ -9,6 +9,7 @@
 #![tactic(auto)]
 
 mod book;
+mod breaking;
 mod committing;
 mod due;
 mod failing;

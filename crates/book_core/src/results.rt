@@ -5,10 +5,12 @@ ghost use Rattle.std.specs.List.Sorted.{IsSorted};
 ghost use Rattle.std.specs.Option.{option_map};
 ghost use Rattle.beam_values.specs.Nodes.{is_write};
 ghost use Rattle.group_cells.specs.Commits.{as_commit};
-ghost use Rattle.book_core.specs.Changes.{done_cmp, with_done};
-ghost use Rattle.book_core.specs.Committing.{with_done_in, HasRoomFor};
+ghost use Rattle.book_core.specs.Changes.{dead_cmp, done_cmp, with_dead, with_done};
+ghost use Rattle.book_core.specs.Committing.{with_dead_in, with_done_in, HasRoomFor};
 
-use beam_values::{Arrival, CommitMarks, Done, List, NoMemory, Pane, Plan, RoomyList, StageMarks};
+use beam_values::{
+    Arrival, CommitMarks, Dead, Done, List, NoMemory, Pane, Plan, RoomyList, StageMarks,
+};
 use std::alloc::Global;
 use std::cmp::Ordering;
 
@@ -18,6 +20,7 @@ use std::cmp::Ordering;
 pub struct Results {
     pub panes: RoomyList<Pane>,
     pub done: RoomyList<Done>,
+    pub dead: RoomyList<Dead>,
     pub written: RoomyList<Arrival>,
     pub commits: RoomyList<CommitMarks>,
 }
@@ -27,6 +30,7 @@ impl Results {
     pub fn new(alloc: Global, marks: List<StageMarks>) -> Result<Results, NoMemory>
         ensures panes { IfOk result (λ r. r.panes.items ≡ []) }
         ensures done { IfOk result (λ r. r.done.items ≡ []) }
+        ensures dead { IfOk result (λ r. r.dead.items ≡ []) }
         ensures written { IfOk result (λ r. r.written.items ≡ []) }
         ensures commits { IfOk result (λ r. r.commits.items ≡ as_commit marks ∷ []) }
     {
@@ -35,6 +39,7 @@ impl Results {
         Ok(Results {
             panes: RoomyList::new(alloc),
             done: RoomyList::new(alloc),
+            dead: RoomyList::new(alloc),
             written: RoomyList::new(alloc),
             commits,
         })
@@ -54,12 +59,14 @@ impl Results {
     pub fn keep_room(&mut self, fired: usize, arrivals: usize) -> Result<(), NoMemory>
         ensures panes { self.new.panes.items ≡ self.old.panes.items }
         ensures done { self.new.done.items ≡ self.old.done.items }
+        ensures dead { self.new.dead.items ≡ self.old.dead.items }
         ensures written { self.new.written.items ≡ self.old.written.items }
         ensures commits { self.new.commits.items ≡ self.old.commits.items }
         ensures ok { OnOk result (HasRoomFor self.new fired arrivals) }
     {
         self.panes.reserve(fired)?;
         self.done.reserve(1)?;
+        self.dead.reserve(1)?;
         self.written.reserve(arrivals)?;
         self.commits.reserve(1)
     }
@@ -69,19 +76,23 @@ impl Results {
         &mut self,
         plan: &Plan,
         done: Option<Done>,
+        dead: Option<Dead>,
         fired: List<Pane>,
         left: List<Arrival>,
         marks: List<StageMarks>,
     )
-        requires sorted { IsSorted done_cmp self.old.done.items }
+        requires done_sorted { IsSorted done_cmp self.old.done.items }
+        requires dead_sorted { IsSorted dead_cmp self.old.dead.items }
         requires room { HasRoomFor self.old (length fired) (length left) }
         ensures panes { self.new.panes.items ≡ self.old.panes.items ++ fired }
         ensures done { self.new.done.items ≡ with_done_in done self.old.done.items }
+        ensures dead { self.new.dead.items ≡ with_dead_in dead self.old.dead.items }
         ensures written { self.new.written.items
             ≡ self.old.written.items ++ filter (λ arrival. is_write plan.now arrival.node) left }
         ensures commits { self.new.commits.items ≡ self.old.commits.items ++ as_commit marks ∷ [] }
     {
         put_done(&mut self.done, done);
+        put_dead(&mut self.dead, dead);
         put_panes(&mut self.panes, fired);
         put_written(plan, &mut self.written, left);
         put_last(&mut self.commits, CommitMarks { marks });
@@ -176,4 +187,37 @@ fn cmp_done(a: &Done, b: &Done) -> Ordering
     let by_from = a.range.from().cmp(&b.range.from());
     let by_to = a.range.to().cmp(&b.range.to());
     by_node.then(by_item.then(by_from.then(by_to)))
+}
+
+// A position that comes late goes behind most others.
+fn put_dead(dead: &mut RoomyList<Dead>, position: Option<Dead>)
+    requires sorted { IsSorted dead_cmp dead.old.items }
+    requires room { 0 < dead.old.room }
+    ensures { dead.new.items ≡ with_dead_in position dead.old.items }
+{
+    if let Some(position) = position {
+        let at = place_of_dead(dead.as_slice(), &position);
+        let Ok(()) = dead.insert(at, position) else {
+            unreachable!()
+        };
+    }
+}
+
+// Behind the positions that are lower. No position is there twice.
+fn place_of_dead(dead: &[Dead], position: &Dead) -> usize
+    requires { IsSorted dead_cmp dead.now }
+    ensures within { result ≤ length dead.now }
+    ensures place { insert dead.now result position.now ≡ with_dead position.now dead.now }
+{
+    dead.partition_point(|other| cmp_dead(other, position).is_lt())
+}
+
+/// The order of the dead positions of an outcome.
+fn cmp_dead(a: &Dead, b: &Dead) -> Ordering
+    ensures { result ≡ dead_cmp a.now b.now }
+{
+    let by_node = a.node.cmp(&b.node);
+    let by_item = a.item.cmp(&b.item);
+    let by_position = a.at.cmp(&b.at);
+    by_node.then(by_item.then(by_position))
 }

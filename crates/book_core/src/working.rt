@@ -13,14 +13,17 @@ use crate::live::{Live, Taken};
 use beam_values::Piece;
 use offset_tracker::Tracker;
 
-/// The range that a slot works, and the last position that was attempted in it.
+/// The range that a slot works, where it isn't spent, and the last position that was attempted in it.
 pub fn span_at(slots: &[Option<Live>], slot: u32) -> Option<(Piece, Option<u64>)>
     ensures { MatchOption result ((piece : Piece) (attempted : Option ℕ)
-        → slice_get slots.now slot ≢ Some (Some (live.Span piece attempted)))
-        (λ span. slice_get slots.now slot ≡ Some (Some (live.Span span.0 span.1))) }
+        → slice_get slots.now slot ≡ Some (Some (live.Span piece attempted)) → piece.spent ≢ None)
+        (λ span. (slice_get slots.now slot ≡ Some (Some (live.Span span.0 span.1)))
+        × (span.0.spent ≡ None)) }
 {
     match slots.get(slot as usize) {
-        Some(Some(Live::Span { piece, attempted })) => Some((*piece, *attempted)),
+        Some(Some(Live::Span { piece, attempted })) if piece.spent.is_none() => {
+            Some((*piece, *attempted))
+        }
         _ => None,
     }
 }
@@ -116,12 +119,13 @@ fn are_free(slots: &[Option<Live>]) -> bool
     slots.iter().all(|slot| slot.is_none())
 }
 
-/// How much of a slot's range lies behind its last attempted position, where it would split at a half.
+/// How much of a slot's range lies behind its last attempted position, where it isn't spent and would split at
+/// a half.
 fn left_if_split(slots: &[Option<Live>], slot: u32) -> Option<u64>
     requires { All IsAttemptedWithin slots.now }
     ensures { MatchOption result
         ((piece : Piece) (attempted : Option ℕ)
-        → slice_get slots.now slot ≡ Some (Some (live.Span piece attempted))
+        → slice_get slots.now slot ≡ Some (Some (live.Span piece attempted)) → piece.spent ≡ None
         → piece.range.to ≤ split_point_of (tracker_of piece attempted) 1 2)
         (IsLeftOf slots.now slot) }
 {

@@ -1,11 +1,12 @@
 -- A pass claims positions of its piece, which others may shorten meanwhile, and works them, one after another.
-use Rattle.std.proofs.Common.{◌≡◌, ℕ, ◌<◌, ◌≤◌, Bool, true, List, length, refl, sym, ap, subst, ◌∙◌, arith}
+use Rattle.std.proofs.Common.{◌≡◌, ℕ, ◌<◌, ◌≤◌, Bool, true, false, List, length, refl, sym, ap, subst, ◌∙◌, arith}
 use Rattle.std.specs.Prelude.{Option, Some, None, IsSome, Result, Err, nat_lt, slice_get}
-use Rattle.std.specs.Option.{option_and_then}
+use Rattle.std.specs.Option.{is_some, option_and_then}
 use Rattle.std.proofs.lemmas.Option.{slice_get_within}
 use Rattle.beam_values.specs.Nodes.{is_source_kind}
 use Rattle.beam_values.specs.Tracking.{IsLater, first_unattempted}
 use Rattle.beam_values.specs.declared.fault.Cause.TheVariants.{Call, Read}
+use Rattle.beam_values.specs.declared.fault.FaultNote.{FaultNote}
 use Rattle.beam_values.specs.declared.file_text.FileText.{FileText}
 use Rattle.beam_values.specs.declared.piece.Piece.{Piece}
 use Rattle.beam_values.specs.declared.plan.Node.{Node}
@@ -85,10 +86,21 @@ goes_on piece now last known claimed = subst HasAttempted (sym claimed.is) tt
 
 -- ---- positions that may be claimed
 
+pub unspent : (piece : Piece) (is_spent : Bool) → is_spent ≡ is_some piece.spent → is_spent ≡ false → piece.spent ≡ None
+unspent piece is_spent is none = by piece.spent (sym is ∙ none)
+  where
+    by : (spent : Option FaultNote) → is_some spent ≡ false → spent ≡ None
+    by None is = refl
+    by (Some note) is = cc
+
+-- a piece that isn't spent isn't once it is cut
+pub fresh_now : (piece now : Piece) (attempted : Option ℕ) (known : Option KnownJob) → HasClaimed piece now attempted known → piece.spent ≡ None → now.spent ≡ None
+fresh_now piece now attempted known claimed fresh = ap (λ (x : Piece). x.spent) claimed.same ∙ fresh
+
 -- later ones too
 pub can_later : (piece : Piece) (known : Option KnownJob) (p later : ℕ) → CanClaimFrom piece known p → p ≤ later → CanClaimFrom piece known later
 can_later piece known p later can up =
-    record { now = can.now; claimed = can.claimed; start = omega (arith, can.start, up); next = omega (arith, can.next, up); within = can.within }
+    record { fresh = can.fresh; now = can.now; claimed = can.claimed; start = omega (arith, can.start, up); next = omega (arith, can.next, up); within = can.within }
 
 is_later : (from : ℕ) (attempted : Option ℕ) (p : ℕ) → first_unattempted from attempted ≤ p → IsLater attempted p
 is_later from None p behind = tt
@@ -97,16 +109,20 @@ is_later from (Some last) p behind = omega (arith, behind)
 pub can_claim : (piece : Piece) (known : Option KnownJob) (p : ℕ) → CanClaimFrom piece known p → CanClaimAs known p
 can_claim piece known p can =
     let from : can.now.range.from ≡ piece.range.from = ap (λ (x : Piece). x.range.from) can.claimed.same in
-    subst (λ (k : Option KnownJob). CanClaimAs k p) (sym can.claimed.is)
-    (record { from_start = omega (arith, from, can.start); ascending = is_later piece.range.from (attempted_of known) p can.next })
+    subst (λ (k : Option KnownJob). CanClaimAs k p) (sym can.claimed.is) (
+      fresh_now piece can.now (attempted_of known) known can.claimed can.fresh,
+      record { from_start = omega (arith, from, can.start); ascending = is_later piece.range.from (attempted_of known) p can.next },
+    )
 
 -- ---- the first position of a piece
 
-pub can_first : (piece : Piece) (known : Option KnownJob) → known ≡ Some (record { job = job.Span piece; attempted = None }) → piece.range.from ≤ piece.range.to → CanClaimFrom piece known piece.range.from
-can_first piece known is ordered =
+pub can_first : (piece : Piece) (known : Option KnownJob) → piece.spent ≡ None → known ≡ Some (record { job = job.Span piece; attempted = None }) → piece.range.from ≤ piece.range.to
+    → CanClaimFrom piece known piece.range.from
+can_first piece known unspent is ordered =
     let none : None ≡ attempted_of known = sym (ap attempted_of is) in
     let fresh : piece.range.from ≡ first_open piece known = ap (first_unattempted piece.range.from) none in
     record {
+      fresh = unspent;
       now = piece;
       claimed = subst (λ (a : Option ℕ). HasClaimed piece piece a known) none (record { is = is; same = refl; below = omega arith });
       start = omega arith;
@@ -114,13 +130,13 @@ can_first piece known is ordered =
       within = omega (arith, fresh, ordered);
     }
 
-pub first_claimed : (piece : Piece) (known : Option KnownJob) (p end : ℕ) (after : Option KnownJob) → p ≡ piece.range.from → known ≡ Some (record { job = job.Span piece; attempted = None })
+pub first_claimed : (piece : Piece) (known : Option KnownJob) (p end : ℕ) (after : Option KnownJob) → piece.spent ≡ None → p ≡ piece.range.from → known ≡ Some (record { job = job.Span piece; attempted = None })
     → piece.range.from ≤ piece.range.to → AfterClaim known p (nat_lt p end) after → EndsAt after end → HasClaimedTo piece end after × (piece.range.from ≤ end)
-first_claimed piece known p end after at is ordered made ends =
+first_claimed piece known p end after unspent at is ordered made ends =
     let fresh : piece.range.from ≡ first_open piece known = ap (first_unattempted piece.range.from) (sym (ap attempted_of is)) in
     let told : AfterClaim known piece.range.from (nat_lt piece.range.from end) after = subst (λ (q : ℕ). AfterClaim known q (nat_lt q end) after) at made in
-    let claim = claim_made piece known piece.range.from (nat_lt piece.range.from end) end after (can_first piece known is ordered) told ends in
-    (record { now = claim.now; claimed = claim.claimed; ends = claim.ends }, omega (arith, fresh, claim.behind))
+    let claim = claim_made piece known piece.range.from (nat_lt piece.range.from end) end after (can_first piece known unspent is ordered) told ends in
+    (record { fresh = unspent; now = claim.now; claimed = claim.claimed; ends = claim.ends }, omega (arith, fresh, claim.behind))
 
 -- ---- a refusal, seen from the start of the work
 

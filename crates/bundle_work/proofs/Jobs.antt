@@ -21,7 +21,7 @@ use Rattle.chain_exec.specs.Causes.{IsCallRefused, ObservedShelf}
 use Rattle.chain_exec.specs.KeyCalls.{folded_of, folded_of_job, outputs_of_job, state_work_at, state_work_in, state_work_of}
 use Rattle.chain_exec.specs.declared.refusal.ExecRefusal.{ExecRefusal}
 use Rattle.chain_exec.specs.declared.refusal.ExecRefusal.TheVariants.{Faulted, NoMemory}
-use Rattle.known_jobs.specs.Calls.{CanCommitAs, CanFailAs}
+use Rattle.known_jobs.specs.Calls.{CanCommitAs, CanFailAs, FailsInside, IsAttemptedInside, IsFreshJob}
 use Rattle.known_jobs.specs.Jobs.{KnownJob, Setting}
 use Rattle.bundle_work.specs.Bundles.{IsJobRefused, IsWorkRefused}
 
@@ -32,12 +32,13 @@ module _ (setting : Setting) (plan : Plan) (same : plan ≡ setting.plan) (work 
       subst (λ (k : Option KnownJob). CanCommitAs setting k receipt) (sym is)
       (subst (λ (p : Plan). IsGiven None p work attempted receipt × IsGiven setting.known.told p work attempted receipt) same (untold, told))
 
-  pub job_refused : (shelf : ObservedShelf) (store : ObservedStore) (refusal : ExecRefusal) → IsWorkRefused setting.known shelf store plan work attempted refusal
-      → IsJobRefused setting shelf store known refusal
-  job_refused shelf store NoMemory refused = tt
-  job_refused shelf store (Faulted at cause) refused = (
+  pub job_refused : IsFreshJob work → IsAttemptedInside work attempted → (shelf : ObservedShelf) (store : ObservedStore) (refusal : ExecRefusal)
+      → IsWorkRefused setting.known shelf store plan work attempted refusal → IsJobRefused setting shelf store known refusal
+  job_refused fresh inside shelf store NoMemory refused = tt
+  job_refused fresh inside shelf store (Faulted at cause) refused = (
     refused.0,
-    subst (λ (k : Option KnownJob). CanFailAs setting k at cause) (sym is) (subst (λ (p : Plan). IsHonest setting.known p work attempted at cause) same refused.1),
+    subst (λ (k : Option KnownJob). CanFailAs setting k at cause) (sym is) (fresh, subst (λ (p : Plan). IsHonest setting.known p work attempted at cause) same refused.1),
+    subst FailsInside (sym is) inside,
   )
 
 -- ---- a batch

@@ -1,5 +1,5 @@
 -- The reader of a piece's item: its positions can be worked, and what comes of that is given for the piece, or is honest to tell.
-use Rattle.std.proofs.Common.{◌≡◌, ◌⊎◌, inl, inr, ℕ, zero, suc, ◌+◌, ◌≤◌, Bool, true, false, cond, ◌||◌, ◌&&◌, ◌==◌, List, [], ◌∷◌, get_or, length, map, refl, sym, ap, subst, ◌∙◌, arith}
+use Rattle.std.proofs.Common.{◌≡◌, ◌⊎◌, inl, inr, ℕ, zero, suc, ◌+◌, ◌<◌, ◌≤◌, Bool, true, false, cond, ◌||◌, ◌&&◌, ◌==◌, List, [], ◌∷◌, get_or, length, map, refl, sym, ap, subst, ◌∙◌, arith}
 use Rattle.std.specs.Prelude.{◌≤ℤ◌, Option, Some, None, IsSome, IsSomeAnd, Ok, Err, not, nat_le, slice_get, unwrap_or}
 use Rattle.std.specs.List.{list_any}
 use Rattle.std.specs.Option.{option_and_then, option_map}
@@ -9,6 +9,7 @@ use Rattle.std.proofs.lemmas.Bool.Decides.{nat_tests}
 use Rattle.beam_values.specs.Checked.{reads_file}
 use Rattle.beam_values.specs.Times.{greatest_time}
 use Rattle.beam_values.specs.declared.fault.Cause.TheVariants.{Call, Read}
+use Rattle.beam_values.specs.declared.fault.FaultNote.{FaultNote}
 use Rattle.beam_values.specs.declared.file_text.FileText.{FileText}
 use Rattle.beam_values.specs.declared.piece.Piece.{Piece}
 use Rattle.beam_values.specs.declared.plan.Args.{Args}
@@ -28,7 +29,7 @@ use Rattle.beam_model.proofs.Coverings.{plan_distinct}
 use Rattle.beam_ports.specs.Files.{KeepsOpenings, Opening}
 use Rattle.beam_ports.specs.Observed.{ObservedStore}
 use Rattle.book_core.specs.Changes.{cut_to}
-use Rattle.book_core.specs.Work.{IsGiven, IsHonestCall, IsPoisonAttempt, IsWorkOn, IsWorkOnItem, IsWorkOnRange, is_file_source, is_known, is_told, items_told, reads_file_in, worked_to}
+use Rattle.book_core.specs.Work.{IsGiven, IsHonestCall, IsOfSpent, IsPoisonAttempt, IsWorkOn, IsWorkOnItem, IsWorkOnRange, is_file_source, is_known, is_told, items_told, reads_file_in, worked_to}
 use Rattle.bundle_commit.specs.declared.job.Job.TheVariants as job
 use Rattle.bundle_commit.specs.declared.job.Receipt.{Receipt}
 use Rattle.chain_exec.specs.Causes.{ObservedShelf}
@@ -44,6 +45,7 @@ use Rattle.bundle_work.specs.Bundles.{CanRead, HasClaimed, HasClaimedTo, IsJobRe
 use Rattle.bundle_work.specs.Reading.{HasTurned, IsPagerFor, IsReading, IsReleased, StaysReading, fresh_pager, AreReaders, AreReadersOf, AreToldReaders, IsReaderOf, is_reader_for, length_in}
 use Rattle.bundle_work.specs.declared.reading.Reader.{Reader}
 use Rattle.bundle_work.specs.declared.bundles.Worker.{Worker}
+use Rattle.bundle_work.proofs.Claiming.{fresh_now}
 use Rattle.bundle_work.proofs.Jobs.{job_given, job_refused}
 use Rattle.bundle_work.proofs.PieceWork.{fit_none, fit_plausible, seen_over_quiet}
 
@@ -184,9 +186,10 @@ module _ (told : Option (List FileText)) (opened : ℕ → Option Opening) (plan
 
   -- ---- what is given for the piece
 
-  pub piece_given : (attempted : Option ℕ) (receipt : Receipt) → receipt.seen ≤ℤ greatest_time → IsPieceWorked plan (opened reader.file) reader.len piece attempted receipt
+  pub piece_given : piece.spent ≡ None → (attempted : Option ℕ) (receipt : Receipt) → receipt.seen ≤ℤ greatest_time → IsPieceWorked plan (opened reader.file) reader.len piece attempted receipt
       → IsGiven told plan (job.Span piece) attempted receipt
-  piece_given attempted receipt time worked = (by (is_known told plan piece.node) refl, worked.logged)
+  piece_given fresh attempted receipt time worked =
+      (by (is_known told plan piece.node) refl, worked.logged, subst (λ (spent : Option FaultNote). IsOfSpent spent piece receipt) (sym fresh) tt)
     where
       by : (known : Bool) → is_known told plan piece.node ≡ known → IsWorkOnRange known told plan piece (worked_to piece attempted) receipt
       by false known = worked.plausible time
@@ -324,8 +327,8 @@ released_reading worker later is = record {
 -- ---- what is given for a piece whose positions were worked with its reader, or why that was refused
 
 module _ (setting : Setting) (opened : ℕ → Option Opening) (plan : Plan) (same : plan ≡ setting.plan) (readers : List Reader) (all : AreReaders setting.known.told opened plan readers)
-    (k : ℕ) (reader : Reader) (at : slice_get readers k ≡ Some reader) (piece : Piece) (is_for : is_reader_for piece reader ≡ true) (pager : Paged) (is : IsPagerFor opened plan reader pager)
-    (known : Option KnownJob) (staged : Receipt) where
+    (k : ℕ) (reader : Reader) (at : slice_get readers k ≡ Some reader) (piece : Piece) (is_for : is_reader_for piece reader ≡ true) (fresh : piece.spent ≡ None) (pager : Paged)
+    (is : IsPagerFor opened plan reader pager) (known : Option KnownJob) (staged : Receipt) where
   now_for : (now : Piece) (last : ℕ) → HasClaimed piece now (Some last) known → IsPieceReader now reader
   now_for now last claimed = reader_cut piece now reader claimed.same claimed.below (reader_for piece reader is_for)
 
@@ -337,9 +340,10 @@ module _ (setting : Setting) (opened : ℕ → Option Opening) (plan : Plan) (sa
       (subst (λ (n : ℕ). IsPieceWorked plan (opened reader.file) n done.now (Some done.last) staged) is.len
       (subst (λ (f : ℕ). IsPieceWorked plan (opened f) pager.len done.now (Some done.last) staged) is.file done.worked)) in
       let here = now_for done.now done.last done.claimed in
+      let unspent = fresh_now piece done.now (Some done.last) known done.claimed fresh in
       job_given setting plan same (job.Span done.now) (Some done.last) known done.claimed.is receipt
-      (piece_given None opened plan readers all.untold k reader at done.now here (Some done.last) receipt time there)
-      (piece_given setting.known.told opened plan readers all.told k reader at done.now here (Some done.last) receipt time there)
+      (piece_given None opened plan readers all.untold k reader at done.now here unspent (Some done.last) receipt time there)
+      (piece_given setting.known.told opened plan readers all.told k reader at done.now here unspent (Some done.last) receipt time there)
 
   pub end_honest : (U : Type 0) (shelf : ObservedShelf) (store : ObservedStore) → (setting.known.strict ≡ true → shelf.strict ≡ true) → (refusal : ExecRefusal)
       → IsPieceEnd {U = U} shelf (record { before = store.before; after = store.after }) plan (opened pager.file) pager.len piece known staged (Err refusal) → IsJobRefused setting shelf store known refusal
@@ -348,7 +352,9 @@ module _ (setting : Setting) (opened : ℕ → Option Opening) (plan : Plan) (sa
       let there : IsPieceRefused shelf counts plan (opened reader.file) reader.len done.now (Some done.last) refusal =
       subst (λ (n : ℕ). IsPieceRefused shelf counts plan (opened reader.file) n done.now (Some done.last) refusal) is.len
       (subst (λ (f : ℕ). IsPieceRefused shelf counts plan (opened f) pager.len done.now (Some done.last) refusal) is.file done.refused) in
-      job_refused setting plan same (job.Span done.now) (Some done.last) known done.claimed.is shelf store refusal
+      let last : there.p ≡ done.last = ap (λ (a : Option ℕ). unwrap_or a there.p) (sym there.last) in
+      let inside : (done.now.range.from ≤ done.last) × (done.last < done.now.range.to) = (omega (arith, last, there.from_start), omega (arith, last, there.inside)) in
+      job_refused setting plan same (job.Span done.now) (Some done.last) known done.claimed.is (fresh_now piece done.now (Some done.last) known done.claimed fresh) inside shelf store refusal
       (piece_honest setting.known.told opened plan readers all.told k reader at done.now (now_for done.now done.last done.claimed) setting.known.strict shelf store stricter (Some done.last) refusal there)
 
 -- nothing is read yet
@@ -362,8 +368,12 @@ reading_none files opened plan readers place pager are past =
 module _ (told : Option (List FileText)) (plan : Plan) (now : Piece) (attempted : Option ℕ) (receipt : Receipt) (at : worked_to now attempted ≡ now.range.from)
     (empty : receipt ≡ record { arrivals = []; seen = now.seen; logged = None }) where
   pub nothing_given : receipt.seen ≤ℤ greatest_time → IsGiven told plan (job.Span now) attempted receipt
-  nothing_given time = (by (is_known told plan now.node), ap (λ (r : Receipt). r.logged) empty)
+  nothing_given time = (by (is_known told plan now.node), ap (λ (r : Receipt). r.logged) empty, of_spent now.spent)
     where
+      of_spent : (spent : Option FaultNote) → IsOfSpent spent now receipt
+      of_spent None = tt
+      of_spent (Some note) = (ap (λ (r : Receipt). r.arrivals) empty, ap (λ (r : Receipt). r.seen) empty)
+
       of_item : (found : Option SourceItem) → IsWorkOnItem plan now (worked_to now attempted) found receipt
       of_item None = (ap (λ (r : Receipt). r.arrivals) empty, ap (λ (r : Receipt). r.seen) empty)
       of_item (Some item) = record {

@@ -283,6 +283,7 @@ module _ (plan : Plan) (piece : Piece) where
 
     -- all that is claimed is worked, and the range ends at `end` at most
     pub record IsUnderWay (known : Option KnownJob) (p end : ℕ) (start receipt : Receipt) : Type 0 where
+      pub fresh : piece.spent ≡ None
       pub now : Piece
       pub last : ℕ
       pub claimed : HasClaimed piece now (Some last) known
@@ -296,6 +297,7 @@ module _ (plan : Plan) (piece : Piece) where
         → HasWorked plan piece.node opening len p old new step → p < step.next → ((emitted : Emission) → IsTimely emitted → All (IsFit plan piece.node) (emission_outputs plan piece.node emitted))
         → IsUnderWay known step.next end old new
     under_first known p end old new step claim at inside has rises fits = record {
+      fresh = claim.fresh;
       now = claim.now;
       last = piece.range.from;
       claimed = claim.claimed;
@@ -309,21 +311,23 @@ module _ (plan : Plan) (piece : Piece) where
       pub last_is : Some under.last ≡ attempted_of known
       last_is = sym (ap attempted_of under.claimed.is)
 
-      pub fresh : under.last + 1 ≡ first_open piece known
-      fresh = ap (first_unattempted piece.range.from) last_is
+      pub next_is : under.last + 1 ≡ first_open piece known
+      next_is = ap (first_unattempted piece.range.from) last_is
 
       abbrev pub under_can : CanClaimFrom piece known p
       under_can = record {
+        fresh = under.fresh;
         now = under.now;
         claimed = subst (λ (a : Option ℕ). HasClaimed piece under.now a known) last_is under.claimed;
         start = omega (arith, under.worked.first, under.worked.ordered);
-        next = omega (arith, fresh, under.worked.ordered);
-        within = omega (arith, fresh, under.behind);
+        next = omega (arith, next_is, under.worked.ordered);
+        within = omega (arith, next_is, under.behind);
       }
 
       -- and the next stretch
       pub under_more : (after : Option KnownJob) (onward : Progress) (new : Receipt) → IsAllClaimed plan opening len piece p after onward receipt new → IsUnderWay after onward.next onward.end start new
       under_more after onward new done = record {
+        fresh = under.fresh;
         now = done.now;
         last = done.last;
         claimed = done.claimed;
@@ -342,7 +346,7 @@ module _ (plan : Plan) (piece : Piece) where
         -- the range is worked, of which one claim tells
         pub under_past : (end_now : ℕ) (after : Option KnownJob) (made : IsClaimOf piece under.now known p end_now after) → end ≤ p → IsPieceWorked plan opening len made.now (Some p) receipt
         under_past end_now after made past =
-            over_all (under.last + 1) p start receipt empty under.worked made.now (Some p) made.claimed.same (omega (arith, fresh, made.ends, made.behind, under.worked.ordered))
+            over_all (under.last + 1) p start receipt empty under.worked made.now (Some p) made.claimed.same (omega (arith, next_is, made.ends, made.behind, under.worked.ordered))
             (omega (arith, made.ends, made.below, under.ends, past))
 
         -- others have taken the rest
@@ -355,7 +359,7 @@ module _ (plan : Plan) (piece : Piece) where
           | inr past ↦
               over_all (under.last + 1) p start new empty
               (subst (λ (r : Receipt). IsWorkedOver plan opening len piece piece.range.from (under.last + 1) p start r) (sym (cut.none past)) under.worked) cut.now (Some cut.last) cut.claimed.same
-              (omega (arith, fresh, cut.past, cut.behind)) (omega (arith, past))
+              (omega (arith, next_is, cut.past, cut.behind)) (omega (arith, past))
         ]
 
   -- ---- what was worked later, seen from the start of the work

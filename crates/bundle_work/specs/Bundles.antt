@@ -27,7 +27,7 @@ use Rattle.chain_exec.specs.declared.refusal.ExecRefusal.{ExecRefusal}
 use Rattle.chain_exec.specs.declared.refusal.ExecRefusal.TheVariants.{Faulted, NoMemory}
 use Rattle.group_cells.specs.Commits.{HasGap}
 use Rattle.sdf_library.specs.Paging.{Paged}
-use Rattle.known_jobs.specs.Calls.{CanFailAs}
+use Rattle.known_jobs.specs.Calls.{CanFailAs, FailsInside}
 use Rattle.known_jobs.specs.Jobs.{KnownJob, Setting}
 use Rattle.bundle_work.specs.Outside.{IsKitKept}
 use Rattle.bundle_work.specs.declared.kit.Kit.{Kit}
@@ -82,8 +82,9 @@ pub record HasClaimed (piece now : Piece) (attempted : Option ℕ) (known : Opti
   pub same : now ≡ cut_to piece (record { from = piece.range.from; to = now.range.to })
   pub below : now.range.to ≤ piece.range.to
 
--- the start of the piece was claimed, and the range ends here now
+-- the start of the piece, which isn't spent, was claimed, and the range ends here now
 pub record HasClaimedTo (piece : Piece) (end : ℕ) (known : Option KnownJob) : Type 0 where
+  pub fresh : piece.spent ≡ None
   pub now : Piece
   pub claimed : HasClaimed piece now (Some piece.range.from) known
   pub ends : now.range.to ≡ end
@@ -125,7 +126,7 @@ abbrev pub IsWorkRefused : Surroundings → ObservedShelf → ObservedStore → 
 IsWorkRefused known shelf store plan job attempted (Faulted at cause) = IsCountedAs shelf store cause × IsHonest known plan job attempted at cause
 IsWorkRefused known shelf store plan job attempted NoMemory = Unit {0}
 
--- the same of the job as the pass knows it
+-- the same of the job as the pass knows it, of a range at a position that lies in it
 abbrev pub IsJobRefused : Setting → ObservedShelf → ObservedStore → Option KnownJob → ExecRefusal → Type 0
-IsJobRefused setting shelf store known (Faulted at cause) = IsCountedAs shelf store cause × CanFailAs setting known at cause
+IsJobRefused setting shelf store known (Faulted at cause) = IsCountedAs shelf store cause × CanFailAs setting known at cause × FailsInside known
 IsJobRefused setting shelf store known NoMemory = Unit {0}

@@ -68,8 +68,9 @@ attempted_of (Some known) = known.attempted
 abbrev pub first_open : Piece → Option KnownJob → ℕ
 first_open piece known = first_unattempted piece.range.from (attempted_of known)
 
--- the pass has attempted nothing of the piece from this position on, which it may claim
+-- the piece isn't spent, and the pass has attempted nothing of it from this position on, which it may claim
 pub record CanClaimFrom (piece : Piece) (known : Option KnownJob) (p : ℕ) : Type 0 where
+  pub fresh : piece.spent ≡ None
   pub now : Piece
   pub claimed : HasClaimed piece now (attempted_of known) known
   pub start : piece.range.from ≤ p

@@ -187,8 +187,9 @@ impl Worker {
         }
     }
 
-    // Works positions of a piece with the reader of its item. The first one is claimed before it is worked, and alone: a
-    // range of which nothing is attempted can be split before its start, so others could take it again and again.
+    // Works positions of a piece with the reader of its item, and none of a spent one. The first one is claimed before it is
+    // worked, and alone: a range of which nothing is attempted can be split before its start, so others could take it again
+    // and again.
     fn work_span<C: Claims, F: Shelf, S: Store>(
         &mut self,
         graph: &Graph,
@@ -225,6 +226,10 @@ impl Worker {
         let count = most_outputs(piece, self.bundle);
         self.bench.staging = Staging::expecting(self.bench.alloc, piece.seen, count);
         let from = piece.range.from();
+        // Nothing is claimed of a spent piece: its commit sets the position aside.
+        if piece.spent.is_some() {
+            return Ok(self.bench.take_receipt());
+        }
         let end = claims.claim_end(pass, from);
         if end <= from {
             return Ok(self.bench.take_receipt());

@@ -4,6 +4,7 @@ pub mod Seats
 pub mod Crossing
 pub mod Covering
 pub mod LastWork
+pub mod Owned
 pub mod Bundles
 pub mod Folded
 pub mod Lifted

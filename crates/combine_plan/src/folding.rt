@@ -167,8 +167,12 @@ fn fold_bundle<C: Combiner, F: Shelf, S: Store>(
         kit.old.shelf kit.new.shelf kit.old.store kit.new.store }
     ensures files { kit.new.files ≡ kit.old.files }
 {
+    // Nothing is set aside here: of each position its outputs are combined, or the plan isn't.
     let mut own = OwnPiece {
-        piece: *rest,
+        piece: Piece {
+            spent: None,
+            ..*rest
+        },
         attempted: None,
     };
     match work_bundle(graph, kit, worker, &mut own) {
@@ -196,6 +200,7 @@ fn work_bundle<F: Shelf, S: Store>(
     requires reading { IsReading setting.known.told (S.opened kit.old.store) graph.now
         worker.old.readers.items worker.old.place worker.old.bench.pager }
     requires lengths { map length_in worker.old.readers.items ≡ setting.files }
+    requires unspent { own.old.piece.spent ≡ None }
     ensures same { own.new.piece ≡ own.old.piece }
     ensures onward { OnOk result
         (own.old.piece.range.from < worked_to own.new.piece own.new.attempted) }

@@ -206,14 +206,14 @@ reached_at_first =
 reached_claimed_first : Reached (Some (told file)) (at_first (Some 0))
 reached_claimed_first =
     reached_more (Some (told file)) (at_first None) (at_first (Some 0)) 0 (Claim 0) (Claimed true)
-    (record { piece = whole 18; attempted = None; works = refl; may = record { from_start = omega arith; ascending = tt }; answer = refl; is = refl }) reached_at_first
+    (record { piece = whole 18; attempted = None; works = record { works = refl; fresh = refl }; may = record { from_start = omega arith; ascending = tt }; answer = refl; is = refl }) reached_at_first
 
 abbrev first_receipt : Receipt
 first_receipt = record { arrivals = at 3 first ∷ []; seen = least_time; logged = None }
 
 first_given : IsGiven (Some (told file)) plan (job.Span (whole 18)) (Some 0) first_receipt
 unfolding offsets
-first_given = (record { arrivals = sym spread_first; seen = refl }, refl)
+first_given = (record { arrivals = sym spread_first; seen = refl }, refl, tt)
 
 -- one line is enough for an early pane
 first_round : (k : Value) (own : Bool) → bytes_eq (spelling key) (spelling k) ≡ own
@@ -307,20 +307,20 @@ reached_at_second =
 reached_claimed_second : Reached (Some (told file)) (at_second (Some 9))
 reached_claimed_second =
     reached_more (Some (told file)) (at_second None) (at_second (Some 9)) 0 (Claim 9) (Claimed true)
-    (record { piece = rest_piece; attempted = None; works = refl; may = record { from_start = omega arith; ascending = tt }; answer = refl; is = refl }) reached_at_second
+    (record { piece = rest_piece; attempted = None; works = record { works = refl; fresh = refl }; may = record { from_start = omega arith; ascending = tt }; answer = refl; is = refl }) reached_at_second
 
 -- there is no further line
 reached_claimed_end : Reached (Some (told file)) (at_second (Some 18))
 reached_claimed_end =
     reached_more (Some (told file)) (at_second (Some 9)) (at_second (Some 18)) 0 (Claim 18) (Claimed false)
-    (record { piece = rest_piece; attempted = Some 9; works = refl; may = record { from_start = omega arith; ascending = omega arith }; answer = refl; is = refl })
+    (record { piece = rest_piece; attempted = Some 9; works = record { works = refl; fresh = refl }; may = record { from_start = omega arith; ascending = omega arith }; answer = refl; is = refl })
     reached_claimed_second
 
 abbrev second_receipt : Receipt
 second_receipt = record { arrivals = at 3 second ∷ []; seen = seen_over estimator.None lines 1 18 least_time; logged = None }
 
 second_given : IsGiven (Some (told file)) plan (job.Span rest_piece) (Some 18) second_receipt
-second_given = (record { arrivals = sym spread_second; seen = refl }, refl)
+second_given = (record { arrivals = sym spread_second; seen = refl }, refl, tt)
 
 -- nothing is left, and the window fires on time with what no pane has shown
 second_round : (k : Value) (own : Bool) → bytes_eq (spelling key) (spelling k) ≡ own

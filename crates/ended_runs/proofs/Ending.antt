@@ -1,5 +1,5 @@
 -- The outcome of a book that is through is covered and accounted for.
-use Rattle.std.proofs.Common.{◌≡◌, min, true, List, [], ◌∷◌, ◌++◌, get_or, append-nil, refl, sym, ap, subst, ◌∙◌, arith}
+use Rattle.std.proofs.Common.{◌≡◌, ◌+◌, min, true, List, [], ◌∷◌, ◌++◌, get_or, append-nil, refl, sym, ap, ap₂, subst, ◌∙◌, arith}
 use Rattle.std.specs.Prelude.{map}
 use Rattle.std.specs.List.{All, flat_map}
 use Rattle.std.proofs.lemmas.List.Elements.{All-head, All-tail, All-map}
@@ -28,8 +28,8 @@ use Rattle.beam_model.specs.Dead.{items_without}
 use Rattle.beam_model.specs.Flow.{flow, log_chains, pane_chains}
 use Rattle.beam_model.specs.Positions.{SourceItem, items}
 use Rattle.beam_model.specs.Spread.{spread_all}
-use Rattle.beam_model.proofs.Coverings.{covering_items, plan_distinct}
-use Rattle.beam_model.proofs.DeadPositions.{without_none}
+use Rattle.beam_model.proofs.Coverings.{plan_distinct}
+use Rattle.beam_model.proofs.DeadPositions.{covering_without}
 use Rattle.stateful_core.specs.Cells.{KeyCell, key_arrivals, logs_of, waiting_arrival}
 use Rattle.stateful_core.specs.Facts.{IsCellThrough}
 use Rattle.stateful_core.specs.declared.waiting.Waiting.{Waiting}
@@ -42,14 +42,9 @@ use Rattle.ended_runs.proofs.Listed.{done_covers}
 
 pub outcome_covered : (b : SeenBook) (o : Outcome) → ArePartitioned b → IsWellFormed b → IsThrough b → IsOutcomeOf b o → IsCovered o
 outcome_covered b o partitioned formed through of place =
-    let dead : times_dead o.dead place ≡ 0 = ap (λ (d : List Dead). times_dead d place) of.dead in
-    let done : times_done o.done place ≡ min 1 (times_listed o.files place) =
-    ap (λ (d : List Done). times_done d place) of.done ∙ done_covers b partitioned formed through place ∙ ap (λ (f : List FileLen). min 1 (times_listed f place)) (sym of.files) in
-    omega (arith, dead, done)
-
--- nothing is left out of the items of an outcome
-pub nothing_left_out : (b : SeenBook) (o : Outcome) → IsOutcomeOf b o → (items : List SourceItem) → items_without o.dead items ≡ items
-nothing_left_out b o of items = ap (λ (d : List Dead). items_without d items) of.dead ∙ without_none items
+    ap₂ (λ (d : List Done) (x : List Dead). times_done d place + times_dead x place) of.done of.dead
+    ∙ done_covers b partitioned formed through place
+    ∙ ap (λ (f : List FileLen). min 1 (times_listed f place)) (sym of.files)
 
 -- ---- logs
 
@@ -85,15 +80,15 @@ module _ (told : List FileText) (b : SeenBook) (lengths : AreTold told b) (parti
   none_held : held_chains b ≡ []
   none_held = ap (λ (hs : List HeldPane). flat_map (λ h. pane_chains b.plan (panes_of b.panes (h.waiting ∷ []))) hs) through.held
 
-  all_done : IsSameBag (spread_dones b.plan (items told b.plan) b.done) (spread_all b.plan (items told b.plan))
+  all_done : IsSameBag (spread_dones b.plan (items told b.plan) b.done) (spread_all b.plan (items_without b.dead (items told b.plan)))
   all_done =
-      covering_items b.plan (items told b.plan) b.done (plan_distinct told b.plan)
+      covering_without b.plan (items told b.plan) b.done b.dead (plan_distinct told b.plan)
       (λ place. done_covers b partitioned formed through place ∙ ap (λ (f : List FileLen). min 1 (times_listed f place)) lengths)
 
   -- all that came to key cells is in their logs
-  pub book_flow : IsSameBag (flow b.plan (items told b.plan) b.panes (logs_of b.keys)) (map Arrives (arrivals_of b.cells b.dropped (logs_of b.keys) b.written))
+  pub book_flow : IsSameBag (flow b.plan (items_without b.dead (items told b.plan)) b.panes (logs_of b.keys)) (map Arrives (arrivals_of b.cells b.dropped (logs_of b.keys) b.written))
   book_flow =
-      let all = spread_all b.plan (items told b.plan) in
+      let all = spread_all b.plan (items_without b.dead (items told b.plan)) in
       let done = spread_dones b.plan (items told b.plan) b.done in
       let flows = pane_chains b.plan b.panes ++ log_chains b.plan (logs_of b.keys) in
       let others = arrivals_of b.cells b.dropped [] b.written in
@@ -147,14 +142,14 @@ outcome_accounted told b o lengths partitioned formed kept writes keys balanced 
       (All-permutation (λ log. is_stateful b.plan log.node ≡ true) (logs_of b.keys) o.logs of.logs (logs_at_nodes b keys));
   written = subst (λ (p : Plan). All (λ arrival. is_write p arrival.node ≡ true) o.written) (sym of.plan)
       (subst (All (λ arrival. is_write b.plan arrival.node ≡ true)) (sym of.written) writes.written);
-  flow = subst (λ (l : List SourceItem). IsSameBag (flow o.plan l o.panes o.logs) (map Arrives (arrivals_of o.cells o.dropped o.logs o.written))) (sym (nothing_left_out b o of (items told b.plan)))
-      (subst (λ (p : Plan). IsSameBag (flow p (items told b.plan) o.panes o.logs) (map Arrives (arrivals_of o.cells o.dropped o.logs o.written))) (sym of.plan)
-      (subst (λ (l : List Pane). IsSameBag (flow b.plan (items told b.plan) l o.logs) (map Arrives (arrivals_of o.cells o.dropped o.logs o.written))) (sym of.panes)
-      (subst (λ (l : List Dropped). IsSameBag (flow b.plan (items told b.plan) b.panes o.logs) (map Arrives (arrivals_of o.cells l o.logs o.written))) (sym of.dropped)
-      (subst (λ (l : List Arrival). IsSameBag (flow b.plan (items told b.plan) b.panes o.logs) (map Arrives (arrivals_of o.cells b.dropped o.logs l))) (sym of.written)
-      (bag_trans (flow b.plan (items told b.plan) b.panes o.logs) (flow b.plan (items told b.plan) b.panes (logs_of b.keys)) (map Arrives (arrivals_of o.cells b.dropped o.logs b.written))
-      (flow_alike b.plan (items told b.plan) b.panes o.logs (logs_of b.keys) (bag_sym (logs_of b.keys) o.logs (bag_from_permutation (logs_of b.keys) o.logs of.logs)))
-      (bag_trans (flow b.plan (items told b.plan) b.panes (logs_of b.keys)) (map Arrives (arrivals_of b.cells b.dropped (logs_of b.keys) b.written))
+  flow = subst (λ (d : List Dead). IsSameBag (flow o.plan (items_without d (items told b.plan)) o.panes o.logs) (map Arrives (arrivals_of o.cells o.dropped o.logs o.written))) (sym of.dead)
+      (subst (λ (p : Plan). IsSameBag (flow p (items_without b.dead (items told b.plan)) o.panes o.logs) (map Arrives (arrivals_of o.cells o.dropped o.logs o.written))) (sym of.plan)
+      (subst (λ (l : List Pane). IsSameBag (flow b.plan (items_without b.dead (items told b.plan)) l o.logs) (map Arrives (arrivals_of o.cells o.dropped o.logs o.written))) (sym of.panes)
+      (subst (λ (l : List Dropped). IsSameBag (flow b.plan (items_without b.dead (items told b.plan)) b.panes o.logs) (map Arrives (arrivals_of o.cells l o.logs o.written))) (sym of.dropped)
+      (subst (λ (l : List Arrival). IsSameBag (flow b.plan (items_without b.dead (items told b.plan)) b.panes o.logs) (map Arrives (arrivals_of o.cells b.dropped o.logs l))) (sym of.written)
+      (bag_trans (flow b.plan (items_without b.dead (items told b.plan)) b.panes o.logs) (flow b.plan (items_without b.dead (items told b.plan)) b.panes (logs_of b.keys)) (map Arrives (arrivals_of o.cells b.dropped o.logs b.written))
+      (flow_alike b.plan (items_without b.dead (items told b.plan)) b.panes o.logs (logs_of b.keys) (bag_sym (logs_of b.keys) o.logs (bag_from_permutation (logs_of b.keys) o.logs of.logs)))
+      (bag_trans (flow b.plan (items_without b.dead (items told b.plan)) b.panes (logs_of b.keys)) (map Arrives (arrivals_of b.cells b.dropped (logs_of b.keys) b.written))
       (map Arrives (arrivals_of o.cells b.dropped o.logs b.written)) (book_flow told b lengths partitioned formed through balanced)
       (arrived_alike b.cells o.cells b.dropped (logs_of b.keys) o.logs b.written (bag_from_permutation b.cells o.cells of.cells)
       (bag_from_permutation (logs_of b.keys) o.logs of.logs))))))));

@@ -195,14 +195,14 @@ reached_at_first =
 reached_claimed_first : Reached (Some (told file)) (at_first (Some 0))
 reached_claimed_first =
     reached_more (Some (told file)) (at_first None) (at_first (Some 0)) 0 (Claim 0) (Claimed true)
-    (record { piece = whole 20; attempted = None; works = refl; may = record { from_start = omega arith; ascending = tt }; answer = refl; is = refl }) reached_at_first
+    (record { piece = whole 20; attempted = None; works = record { works = refl; fresh = refl }; may = record { from_start = omega arith; ascending = tt }; answer = refl; is = refl }) reached_at_first
 
 abbrev first_receipt : Receipt
 first_receipt = record { arrivals = at 3 first ∷ []; seen = pos 65000; logged = None }
 
 first_given : IsGiven (Some (told file)) plan (job.Span (whole 20)) (Some 0) first_receipt
 unfolding offsets
-first_given = (record { arrivals = sym (spread_first (pos 5000)); seen = refl }, refl)
+first_given = (record { arrivals = sym (spread_first (pos 5000)); seen = refl }, refl, tt)
 
 -- the cell is opened, and nothing fires before 120000
 first_round : (k : Value) (own : Bool) → bytes_eq (spelling key) (spelling k) ≡ own
@@ -254,20 +254,20 @@ reached_at_second =
 reached_claimed_second : Reached (Some (told file)) (at_second (Some 10))
 reached_claimed_second =
     reached_more (Some (told file)) (at_second None) (at_second (Some 10)) 0 (Claim 10) (Claimed true)
-    (record { piece = rest 20 (pos 65000); attempted = None; works = refl; may = record { from_start = omega arith; ascending = tt }; answer = refl; is = refl }) reached_at_second
+    (record { piece = rest 20 (pos 65000); attempted = None; works = record { works = refl; fresh = refl }; may = record { from_start = omega arith; ascending = tt }; answer = refl; is = refl }) reached_at_second
 
 -- there is no further line
 reached_claimed_end : Reached (Some (told file)) (at_second (Some 20))
 reached_claimed_end =
     reached_more (Some (told file)) (at_second (Some 10)) (at_second (Some 20)) 0 (Claim 20) (Claimed false)
-    (record { piece = rest 20 (pos 65000); attempted = Some 10; works = refl; may = record { from_start = omega arith; ascending = omega arith }; answer = refl; is = refl })
+    (record { piece = rest 20 (pos 65000); attempted = Some 10; works = record { works = refl; fresh = refl }; may = record { from_start = omega arith; ascending = omega arith }; answer = refl; is = refl })
     reached_claimed_second
 
 abbrev second_receipt : Receipt
 second_receipt = record { arrivals = at 3 second ∷ []; seen = seen_over (estimator.Lag (pos 5000)) lines 1 20 (pos 65000); logged = None }
 
 second_given : IsGiven (Some (told file)) plan (job.Span (rest 20 (pos 65000))) (Some 20) second_receipt
-second_given = (record { arrivals = sym (spread_second (pos 5000)); seen = refl }, refl)
+second_given = (record { arrivals = sym (spread_second (pos 5000)); seen = refl }, refl, tt)
 
 -- at 60000 the second line is dropped; then nothing is left, and the first one's window fires
 second_round : (k : Value) (own : Bool) → bytes_eq (spelling key) (spelling k) ≡ own

@@ -4,7 +4,11 @@ pub mod Stopped
 pub mod Poisons
 pub mod Unpoisoned
 mod TakesUnpoisoned
+mod NoPoisonPositions
+mod StoppedByReads
+mod DeadPoison
 mod Ending
+mod DeadLetters
 mod LegalLogs
 mod Passing
 mod Bounds

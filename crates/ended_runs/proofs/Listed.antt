@@ -4,7 +4,7 @@ use Rattle.std.specs.Prelude.{Option, Some, None, nat_le, nat_lt}
 use Rattle.std.proofs.lemmas.Bool.{eqb-true, and_parts}
 use Rattle.std.proofs.lemmas.Bool.Decides.{nat_tests}
 use Rattle.std.proofs.lemmas.List.Sums.{sum_by-cons}
-use Rattle.beam_values.specs.Cover.{Place, times_at, times_done, times_listed, times_pending, whole}
+use Rattle.beam_values.specs.Cover.{Place, times_at, times_dead, times_done, times_listed, times_pending, whole}
 use Rattle.beam_values.specs.Intervals.{Offsets, times_in}
 use Rattle.beam_values.specs.declared.piece.FileLen.{FileLen}
 use Rattle.beam_values.specs.declared.piece.Piece.{Piece}
@@ -69,9 +69,10 @@ module _ (place : Place) where
 least_one : (n : ℕ) → n ≤ 1 → n ≡ min 1 n
 least_one n low = grind (arith, nat_tests)
 
--- what a book that is through has done covers its items
-pub done_covers : (b : SeenBook) → ArePartitioned b → IsWellFormed b → IsThrough b → (place : Place) → times_done b.done place ≡ min 1 (times_listed b.files place)
+-- what a book that is through has done or set aside covers its items
+pub done_covers : (b : SeenBook) → ArePartitioned b → IsWellFormed b → IsThrough b → (place : Place)
+    → times_done b.done place + times_dead b.dead place ≡ min 1 (times_listed b.files place)
 done_covers b partitioned formed through place =
     let none : times_pending (b.pending ++ live_pieces b) place ≡ 0 = ap₂ (λ (ps qs : List Piece). times_pending (ps ++ qs) place) through.pending (idle_pieces b through.idle) in
-    let all : times_done b.done place ≡ times_listed b.files place = omega (arith, partitioned.times place, none) in
+    let all : times_done b.done place + times_dead b.dead place ≡ times_listed b.files place = omega (arith, partitioned.times place, none) in
     all ∙ least_one (times_listed b.files place) (listed_once place (items [] b.plan) b.files formed.lengths (plan_distinct [] b.plan))

@@ -93,6 +93,7 @@ book_of plan len so_far pending slots waiting = record {
   keys = [];
   panes = so_far.panes;
   done = so_far.done;
+  dead = [];
   written = so_far.written;
   commits = so_far.commits;
   calls = 0;

@@ -20,16 +20,17 @@ use Rattle.beam_model.specs.Estimators.{declared_marks, emission_at, later_time,
 use Rattle.beam_model.specs.Holds.{estimator_of}
 use Rattle.beam_model.specs.Positions.{Emission, Emits, Poison, SourceItem, TimedValue, items}
 use Rattle.bundle_commit.specs.declared.job.Receipt.{Receipt}
-use Rattle.split_core.specs.Order.{with_piece}
+use Rattle.split_core.specs.Order.{with_piece, with_pieces}
 use Rattle.split_core.proofs.Ordered.{All-with_piece}
 use Rattle.book_core.specs.Book.{SeenBook, piece_of, live_pieces}
-use Rattle.book_core.specs.Changes.{with_slot, cut_to, rest_of, given_back, tried_piece, counted, stopped_where, ends_run, note_of, pending_after, residual_of, with_residual}
+use Rattle.book_core.specs.Changes.{with_slot, broken_parts, cut_to, rest_of, given_back, tried_piece, counted, stopped_where, ends_run, note_of, pending_after, pending_with, residual_of, with_residual}
 use Rattle.book_core.specs.Jobs.{Next, attempted_of, job_of, with_key}
 use Rattle.book_core.specs.Runs.{Reached, IsOpening, pieces_of}
 use Rattle.book_core.specs.Steps.{IsWorking}
 use Rattle.book_core.specs.Work.{IsGiven, IsWorkOnItem, worked_to}
 use Rattle.book_core.specs.declared.live.Live.{Live}
 use Rattle.book_core.specs.declared.live.Live.TheVariants as live
+use Rattle.book_core.proofs.Broken.{All-with_pieces, broken_all}
 use Rattle.book_core.proofs.Cases.{Keeps, AreAlways, Both, kept_with, always_reached}
 use Rattle.book_core.proofs.CellsKept.{found_has}
 use Rattle.book_core.proofs.EarlyEnds.{items_set}
@@ -167,10 +168,14 @@ module _ (laws : KnownLaws) (told : List FileText) where
 
   commit_times : (b : SeenBook) (slot : ℕ) (job : Live) (receipt : Receipt) → Reached (Some told) b → AreSeenTimes b → IsWorking b slot job
       → IsGiven (Some told) b.plan (job_of b.panes job) (attempted_of job) receipt → All IsSeenTime (pending_after b.pending job receipt ++ flat_map piece_of (slice_set b.slots slot None))
-  commit_times b slot (live.Span piece attempted) receipt reached h works given =
-      set_times b h (with_residual (residual_of piece attempted receipt) b.pending) slot None
-      (residual_times b h piece attempted receipt
-      (receipt_time b reached piece (worked_to piece attempted) receipt (worked_time b h slot piece attempted works) (item_at (items told b.plan) piece.node piece.item) refl given.0)) (All-nil IsSeenTime)
+  commit_times b slot (live.Span piece attempted) receipt reached h works given = by piece.spent
+    where
+      by : (spent : Option FaultNote) → All IsSeenTime (pending_with spent piece attempted receipt b.pending ++ flat_map piece_of (slice_set b.slots slot None))
+      by (Some note) = set_times b h b.pending slot None (pending_times b h) (All-nil IsSeenTime)
+      by None =
+          set_times b h (with_residual (residual_of piece attempted receipt) b.pending) slot None
+          (residual_times b h piece attempted receipt
+          (receipt_time b reached piece (worked_to piece attempted) receipt (worked_time b h slot piece attempted works) (item_at (items told b.plan) piece.node piece.item) refl given.0)) (All-nil IsSeenTime)
   commit_times b slot (live.Batch batch) receipt reached h works given = set_times b h b.pending slot None (pending_times b h) (All-nil IsSeenTime)
   commit_times b slot (live.Key turn) receipt reached h works given = set_times b h b.pending slot None (pending_times b h) (All-nil IsSeenTime)
 
@@ -185,15 +190,21 @@ module _ (laws : KnownLaws) (told : List FileText) where
         (λ place cell found. set_times b h b.pending slot (Some (with_key b place.at cell).job) (pending_times b h) (All-nil IsSeenTime))
         (λ piece later e. take_times b h slot piece later e) next is;
     claims = λ b slot p piece attempted known h works may.
-        set_times b h b.pending slot (Some (live.Span piece (Some p))) (pending_times b h) (one_time b h piece (worked_time b h slot piece attempted works));
+        set_times b h b.pending slot (Some (live.Span piece (Some p))) (pending_times b h) (one_time b h piece (worked_time b h slot piece attempted works.works));
     splits = λ b slot at piece attempted known h works inside behind within.
         let front = cut_to piece (record { from = piece.range.from; to = at }) in
         let rest = rest_of piece (record { from = at; to = piece.range.to }) in
         let is = worked_time b h slot piece attempted works in
         set_times b h (with_piece rest b.pending) slot (Some (live.Span front attempted)) (All-with_piece IsSeenTime rest b.pending is (pending_times b h)) (one_time b h front is);
     commits = λ b slot job receipt cells fired marks known h made. commit_times b slot job receipt known h made.works made.given;
-    fails = λ b slot at job cause known h works.
+    fails = λ b slot at job cause known h works fresh unbroken.
         stop_times (ends_run b job cause) (counted (given_back (with_slot b slot None) job at cause) cause) (note_of job at cause) (back_times b h slot job at cause works);
+    breaks = λ b slot at piece attempted known h works fresh is.
+        let note = note_of (live.Span piece attempted) at Call in
+        let parts = broken_parts piece attempted note in
+        let was = worked_time b h slot piece attempted works in
+        set_times b h (with_pieces parts b.pending) slot None
+        (All-with_pieces IsSeenTime parts b.pending (broken_all IsSeenTime piece attempted note (λ from to low high. was) (λ one. was)) (pending_times b h)) (All-nil IsSeenTime);
     stops = λ b known h. h;
   }
 

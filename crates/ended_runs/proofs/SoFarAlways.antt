@@ -38,7 +38,7 @@ use Rattle.group_cells.specs.Commits.{as_commit, dropped_arrival, is_at_group, i
 use Rattle.watermarks.proofs.Rising.{below_hold}
 use Rattle.stateful_core.specs.Facts.{IsCellKept}
 use Rattle.book_core.specs.Book.{SeenBook, HeldPane, AreMarksOfBook, batch_of, held, held_in, hold_of, holds, last_marks, live_pieces}
-use Rattle.book_core.specs.Changes.{with_slot, cut_to, split_off, committed, failed, given_back, counted, stopped_where, ends_run, note_of, written_by}
+use Rattle.book_core.specs.Changes.{with_slot, broken, cut_to, split_off, committed, tried_again, given_back, counted, stopped_where, ends_run, note_of, written_by}
 use Rattle.book_core.specs.Facts.{AreHeldOnce, IsEarlyPane, IsWellFormed}
 use Rattle.book_core.specs.Runs.{Reached, IsOpening}
 use Rattle.book_core.specs.Steps.{Commit, Committed, IsWorking}
@@ -73,11 +73,11 @@ counted_same : (x : SeenBook) (cause : Cause) → held (counted x cause) ≡ hel
 counted_same x Call = refl
 counted_same x Read = refl
 
-fail_moves : (b : SeenBook) (slot at : ℕ) (job : Live) (cause : Cause) → IsWorking b slot job → IsSameBag (held (failed b slot job at cause)) (held b)
+fail_moves : (b : SeenBook) (slot at : ℕ) (job : Live) (cause : Cause) → IsWorking b slot job → IsSameBag (held (tried_again b slot job at cause)) (held b)
 fail_moves b slot at job cause works =
     let back = given_back (with_slot b slot None) job at cause in
-    bag_trans (held (failed b slot job at cause)) (held back) (held b)
-    (bag_from_same (held (failed b slot job at cause)) (held back) (stop_same (ends_run b job cause) (counted back cause) (note_of job at cause) ∙ counted_same back cause))
+    bag_trans (held (tried_again b slot job at cause)) (held back) (held b)
+    (bag_from_same (held (tried_again b slot job at cause)) (held back) (stop_same (ends_run b job cause) (counted back cause) (note_of job at cause) ∙ counted_same back cause))
     (back_moves b slot job at cause works)
 
 -- a commit that was made leads to a reached book
@@ -325,12 +325,15 @@ module _ (laws : KnownLaws) (told : List FileText) (to : ℕ) where
         so_far_onward b (with_slot next.rest slot (Some next.job)) (take_stays b slot next is) (take_moves b slot free (reached_sane (Some told) b known).held next is) h;
     claims = λ b slot p piece attempted known h works may.
         so_far_onward b (with_slot b slot (Some (live.Span piece (Some p)))) (record { plan = refl; commits = refl; cells = refl; dropped = refl; panes = refl; written = refl })
-        (set_moves b slot (Some (live.Span piece attempted)) (Some (live.Span piece (Some p))) works refl refl) h;
+        (set_moves b slot (Some (live.Span piece attempted)) (Some (live.Span piece (Some p))) works.works refl refl) h;
     splits = λ b slot at piece attempted known h works inside behind within.
         so_far_onward b (split_off b slot piece attempted at) (record { plan = refl; commits = refl; cells = refl; dropped = refl; panes = refl; written = refl })
         (set_moves b slot (Some (live.Span piece attempted)) (Some (live.Span (cut_to piece (record { from = piece.range.from; to = at })) attempted)) works refl refl) h;
     commits = λ b slot job receipt cells fired marks known h made sound. committed_so_far b slot job receipt cells fired marks known sound (h sound) made;
-    fails = λ b slot at job cause known h works. so_far_onward b (failed b slot job at cause) (fail_stays b slot at job cause) (fail_moves b slot at job cause works) h;
+    fails = λ b slot at job cause known h works fresh unbroken. so_far_onward b (tried_again b slot job at cause) (fail_stays b slot at job cause) (fail_moves b slot at job cause works) h;
+    breaks = λ b slot at piece attempted known h works fresh is.
+        so_far_onward b (broken b slot piece attempted (note_of (live.Span piece attempted) at Call)) (record { plan = refl; commits = refl; cells = refl; dropped = refl; panes = refl; written = refl })
+        (set_moves b slot (Some (live.Span piece attempted)) None works refl refl) h;
     stops = λ b known h. h;
   }
 

@@ -7,7 +7,7 @@ use Rattle.beam_values.specs.declared.fault.FaultNote.{FaultNote}
 use Rattle.beam_values.specs.declared.outcome.StopCause.{StopCause}
 use Rattle.beam_values.specs.declared.outcome.StopCause.TheVariants as stop
 use Rattle.book_core.specs.Book.{SeenBook}
-use Rattle.book_core.specs.Changes.{counted, ends_run, given_back, note_of, or_stopped, stopped_where, with_slot}
+use Rattle.book_core.specs.Changes.{counted, ends_run, failed_where, given_back, is_broken, note_of, or_stopped, stopped_where, tried_again, with_slot}
 use Rattle.book_core.specs.Facts.{IsStopNoted}
 use Rattle.book_core.specs.Jobs.{Next, attempted_of, job_of, next_job}
 use Rattle.book_core.specs.Runs.{HonestRun, HonestlyReached, IsHonestAction, IsOpening, MadeStep}
@@ -124,6 +124,23 @@ module _ (known : Surroundings) (b : SeenBook) (slot at : ℕ) (cause : Cause) (
       let own : own_note ≡ note = cc in
       inr (subst (GivesNote known b slot) own own_gives)
 
+-- a range that is broken stops nothing
+fail_stops_where : (known : Surroundings) (b : SeenBook) (slot at : ℕ) (cause : Cause) (job : Live) (works : IsWorking b slot job)
+    → IsHonest known b.plan (job_of b.panes job) (attempted_of job) at cause → (broken : Bool) → StopsBy known b slot (failed_where broken b slot job at cause)
+fail_stops_where known b slot at cause job works honest = by job again
+  where
+    again : StopsBy known b slot (tried_again b slot job at cause)
+    again =
+        fail_stops known b slot at cause job works honest (ends_run b job cause) (counted (given_back (with_slot b slot None) job at cause) cause) b.stopped (back_stopped b slot job at cause) refl
+
+    by : (j : Live) → StopsBy known b slot (tried_again b slot j at cause) → (broken : Bool) → StopsBy known b slot (failed_where broken b slot j at cause)
+    by (live.Span piece attempted) h true = λ note is. inl is
+    by (live.Span piece attempted) h false = h
+    by (live.Batch batch) h true = h
+    by (live.Batch batch) h false = h
+    by (live.Key turn) h true = h
+    by (live.Key turn) h false = h
+
 step_stops : (known : Surroundings) (b new : SeenBook) (slot : ℕ) (action : Action) (answer : Answer) → Step known.told b slot action answer new → IsHonestAction known b slot action
     → StopsBy known b slot new
 step_stops known b new slot Enroll (Enrolled number) step honest = stops_same known b slot new (ap (λ (x : SeenBook). x.stopped) step.2)
@@ -141,8 +158,7 @@ step_stops known b new slot (Split num den) NoMemory step honest = stops_same kn
 step_stops known b new slot Commit Committed step honest = stops_same known b slot new (ap (λ (x : SeenBook). x.stopped) step.1.commit.is)
 step_stops known b new slot Commit NoMemory step honest = stops_same known b slot new (ap (λ (x : SeenBook). x.stopped) step.1)
 step_stops known b new slot (Fail at cause) answer step honest = λ note is.
-    fail_stops known b slot at cause step.job step.works (honest step.job step.works) (ends_run b step.job cause) (counted (given_back (with_slot b slot None) step.job at cause) cause) b.stopped
-    (back_stopped b slot step.job at cause) refl note (sym (ap (λ (x : SeenBook). x.stopped) step.is) ∙ is)
+    fail_stops_where known b slot at cause step.job step.works.works (honest step.job step.works.works) (is_broken b step.job cause) note (sym (ap (λ (x : SeenBook). x.stopped) step.is) ∙ is)
 step_stops known b new slot Stop Noted step honest = λ note is. inl (none_by_memory b.stopped note (sym (ap (λ (x : SeenBook). x.stopped) step) ∙ is))
 step_stops known b new slot _ _ step honest = absurd step
 
@@ -212,8 +228,11 @@ honest_stop known b note noted reached is =
       works = found.works;
       tells = found.tells;
       honest = found.honest;
-      spent = subst (IsStopNoted b) is noted;
+      spent = noted_limit (subst (IsStopNoted b) is noted);
     }
   where
     never : (other : FaultNote) → None ≡ Some (stop.Spent other) → ⊥
     never other e = absurd (cc)
+
+    noted_limit : IsStopNoted b (Some (stop.Spent note)) → note.attempt ≡ b.options.attempts
+    noted_limit h = h.0

@@ -1,4 +1,4 @@
--- A run that takes no poison works none: splits only shorten what was taken, and panes stay what they are.
+-- A run that takes no job of a kind works none, as none that is poison: splits only shorten what was taken, and panes stay what they are.
 use Rattle.std.proofs.Common.{◌≡◌, inl, inr, ℕ, ◌<◌, Bool, true, false, List, [], ◌∷◌, ◌++◌, map, refl, sym, subst, ap, ◌∙◌, arith}
 use Rattle.std.specs.Prelude.{Option, Some, None, slice_set}
 use Rattle.std.specs.List.{All, flat_map, list_any}
@@ -15,12 +15,13 @@ use Rattle.beam_values.specs.declared.plan.Plan.{Plan}
 use Rattle.beam_model.specs.Coverings.{item_at, spread_of}
 use Rattle.beam_model.specs.Positions.{SourceItem, item_len, items}
 use Rattle.beam_model.specs.Spread.{is_poison, outputs_at}
-use Rattle.beam_model.specs.Flow.{batch_outputs}
+use Rattle.beam_ports.specs.Observed.{WhereTold}
 use Rattle.bundle_commit.specs.declared.job.Job.{Job}
+use Rattle.bundle_commit.specs.declared.job.Job.TheVariants as job
 use Rattle.book_core.specs.Book.{SeenBook, batch_of, held_at, held_in, live_batches, pane_at, panes_of, queued}
-use Rattle.book_core.specs.Changes.{counted, cut_to, ends_run, given_back, note_of, stopped_where, with_slot}
+use Rattle.book_core.specs.Changes.{counted, cut_to, ends_run, failed_where, given_back, is_broken, note_of, stopped_where, with_slot}
 use Rattle.book_core.specs.Facts.{AreKept, IsHeldPane}
-use Rattle.book_core.specs.Jobs.{Due, GivenBack, Oldest, job_of, without_due}
+use Rattle.book_core.specs.Jobs.{Due, GivenBack, Oldest, first_pane, job_of, without_due}
 use Rattle.book_core.specs.Runs.{AreTold, HonestRun, HonestlyReached, MadeStep}
 use Rattle.book_core.specs.Steps.{Action, Enroll, Take, Claim, Split, Commit, Fail, Stop, Answer, Enrolled, TakenJob, Nothing, Finished, Stopped, Claimed, SplitAt, Committed, Noted, NoMemory, IsTaking, IsWorking, Step}
 use Rattle.book_core.specs.Work.{IsPoisonJob, Surroundings, items_told}
@@ -32,7 +33,7 @@ use Rattle.book_core.proofs.HeldOnce.{get_front}
 use Rattle.book_core.proofs.Reaching.{HasSamePlan, step_same}
 use Rattle.book_core.proofs.Slots.{All-slice_get}
 use Rattle.book_core.proofs.Slotted.{All-append_right, All-of_flat_map}
-use Rattle.ended_runs.specs.Unpoisoned.{TakesNoPoison}
+use Rattle.ended_runs.specs.Unpoisoned.{IsPoisonBeside, TakesNo, TakesNoPoison, TakesNoPoisonBeside}
 use Rattle.ended_runs.proofs.Poisons.{any_in_front}
 use Rattle.ended_runs.proofs.Stopped.{honest_more, opening_reached}
 use Rattle.ended_runs.proofs.Unpoisoned.{WorksNoPoison, take_keeps}
@@ -65,10 +66,28 @@ stopped_shape : (spent : Bool) (b : SeenBook) (note : FaultNote) → shape_of (s
 stopped_shape true b note = refl
 stopped_shape false b note = refl
 
-module _ (known : Surroundings) (told : List FileText) (tells : known.told ≡ Some told) (strict : known.strict ≡ true) where
-  -- what a slot works is no poison
+failed_shape : (broken : Bool) (b : SeenBook) (slot at : ℕ) (job : Live) (cause : Cause) → shape_of (failed_where broken b slot job at cause) ≡ (b.plan, (b.panes, slice_set b.slots slot None))
+failed_shape true b slot at (live.Span piece attempted) cause = refl
+failed_shape _ b slot at job cause =
+    stopped_shape (ends_run b job cause) (counted (given_back (with_slot b slot None) job at cause) cause) (note_of job at cause) ∙ counted_shape b slot job at cause
+
+-- ---- a range that is cut
+
+cut_poison : (plan : Plan) (from at to : ℕ) (item : Option SourceItem) → at < to → list_any is_poison (spread_of plan (record { from = from; to = at }) item) ≡ true
+    → list_any is_poison (spread_of plan (record { from = from; to = to }) item) ≡ true
+cut_poison plan from at to None inside any = any
+cut_poison plan from at to (Some item) inside any = elim (cases_lt at from) [
+  | inl before ↦ absurd (false≢true (sym (ap (list_any is_poison) (spread-empty (outputs_at plan item) from at (omega (arith, before)))) ∙ any))
+  | inr behind ↦ any_in_front (outputs_at plan item) from at to behind (omega (arith, inside)) any
+]
+
+-- ---- a kind of jobs that has a range if it has a front of it
+
+module _ (known : Surroundings) (IsBad : Plan → Job → Type 0)
+    (cut_bad : (plan : Plan) (piece : Piece) (at : ℕ) → at < piece.range.to → IsBad plan (job.Span (cut_to piece (record { from = piece.range.from; to = at }))) → IsBad plan (job.Span piece)) where
+  -- what a slot works isn't of the kind
   abbrev IsCleanJob : Plan → List Pane → Live → Type 0
-  IsCleanJob plan panes job = IsPoisonJob known.told plan (job_of panes job) → ⊥
+  IsCleanJob plan panes job = IsBad plan (job_of panes job) → ⊥
 
   abbrev IsClean : Plan → List Pane → Option Live → Type 0
   IsClean plan panes None = Unit {0}
@@ -77,20 +96,9 @@ module _ (known : Surroundings) (told : List FileText) (tells : known.told ≡ S
   abbrev AreClean : Shape → Type 0
   AreClean (plan, (panes, slots)) = All (IsClean plan panes) slots
 
-  -- ---- a range that is cut
-
-  cut_poison : (plan : Plan) (from at to : ℕ) (item : Option SourceItem) → at < to → list_any is_poison (spread_of plan (record { from = from; to = at }) item) ≡ true
-      → list_any is_poison (spread_of plan (record { from = from; to = to }) item) ≡ true
-  cut_poison plan from at to None inside any = any
-  cut_poison plan from at to (Some item) inside any = elim (cases_lt at from) [
-    | inl before ↦ absurd (false≢true (sym (ap (list_any is_poison) (spread-empty (outputs_at plan item) from at (omega (arith, before)))) ∙ any))
-    | inr behind ↦ any_in_front (outputs_at plan item) from at to behind (omega (arith, inside)) any
-  ]
-
   cut_clean : (plan : Plan) (panes : List Pane) (piece : Piece) (attempted : Option ℕ) (at : ℕ) → at < piece.range.to → IsCleanJob plan panes (live.Span piece attempted)
       → IsCleanJob plan panes (live.Span (cut_to piece (record { from = piece.range.from; to = at })) attempted)
-  cut_clean plan panes piece attempted at inside clean = λ poison.
-      clean (cut_poison plan piece.range.from at piece.range.to (item_at (items_told known.told plan) piece.node piece.item) inside poison)
+  cut_clean plan panes piece attempted at inside clean = λ bad. clean (cut_bad plan piece at inside bad)
 
   -- ---- panes that fire later
 
@@ -108,9 +116,9 @@ module _ (known : Surroundings) (told : List FileText) (tells : known.told ≡ S
     slot_stays None held clean = tt
     slot_stays (Some (live.Span piece attempted)) held clean = clean
     slot_stays (Some (live.Key turn)) held clean = clean
-    slot_stays (Some (live.Batch batch)) held clean = λ poison.
+    slot_stays (Some (live.Batch batch)) held clean = λ bad.
         let same = panes_stay batch.panes batch.node (All-head (λ (x : Batch). All (IsHeldPane b) (held_in x)) batch [] held) in
-        clean (subst (λ (panes : List Pane). list_any is_poison (batch_outputs b.plan batch.node panes) ≡ true) same poison)
+        clean (subst (λ (panes : List Pane). IsBad b.plan (job.Batch batch.node (first_pane batch) panes batch.attempts)) same bad)
 
     fired_clean : AreKept b → AreClean (shape_of b) → AreClean (b.plan, (b.panes ++ fired, b.slots))
     fired_clean kept clean =
@@ -131,13 +139,13 @@ module _ (known : Surroundings) (told : List FileText) (tells : known.told ≡ S
   working b slot job clean works = All-slice_get (IsClean b.plan b.panes) b.slots slot (Some job) works clean
 
   step_clean : (b new : SeenBook) (slot : ℕ) (action : Action) (answer : Answer) → Step known.told b slot action answer new → AreKept b
-      → ((new : SeenBook) (slot : ℕ) (job : Job) → IsTaking b slot job new → IsPoisonJob known.told b.plan job → ⊥) → AreClean (shape_of b) → AreClean (shape_of new)
+      → ((new : SeenBook) (slot : ℕ) (job : Job) → IsTaking b slot job new → IsBad b.plan job → ⊥) → AreClean (shape_of b) → AreClean (shape_of new)
   step_clean b new slot Enroll (Enrolled number) step kept takes clean =
       shaped new (b.plan, (b.panes, b.slots ++ None ∷ [])) (ap shape_of step.2) (All-push (IsClean b.plan b.panes) b.slots None clean tt)
   step_clean b new slot Enroll NoMemory step kept takes clean = shaped new (shape_of b) (ap shape_of step) clean
   step_clean b new slot Take (TakenJob job) step kept takes clean =
       let rest = take_keeps shape_of b (λ ps. refl) (due_shape b) (λ cells. refl) step.next step.is_next in
-      let one : IsCleanJob b.plan b.panes step.next.job = λ poison. takes new slot job step (subst (IsPoisonJob known.told b.plan) (sym step.handed) poison) in
+      let one : IsCleanJob b.plan b.panes step.next.job = λ bad. takes new slot job step (subst (IsBad b.plan) (sym step.handed) bad) in
       shaped new (b.plan, (b.panes, slice_set b.slots slot (Some step.next.job)))
       (ap shape_of step.is ∙ ap (λ (shape : Shape). (shape.0, (shape.1.0, slice_set shape.1.1 slot (Some step.next.job)))) rest)
       (set_clean b.plan b.panes b.slots slot (Some step.next.job) one clean)
@@ -147,13 +155,13 @@ module _ (known : Surroundings) (told : List FileText) (tells : known.told ≡ S
   step_clean b new slot Take NoMemory step kept takes clean = shaped new (shape_of b) (ap shape_of step.1) clean
   step_clean b new slot (Claim p) (Claimed granted) step kept takes clean =
       shaped new (b.plan, (b.panes, slice_set b.slots slot (Some (live.Span step.piece (Some p))))) (ap shape_of step.is)
-      (set_clean b.plan b.panes b.slots slot (Some (live.Span step.piece (Some p))) (working b slot (live.Span step.piece step.attempted) clean step.works) clean)
+      (set_clean b.plan b.panes b.slots slot (Some (live.Span step.piece (Some p))) (working b slot (live.Span step.piece step.attempted) clean step.works.works) clean)
   step_clean b new slot (Split num den) (SplitAt (Some at)) step kept takes clean =
       let split = step.0 in
       let front = live.Span (cut_to split.piece (record { from = split.piece.range.from; to = at })) split.attempted in
       shaped new (b.plan, (b.panes, slice_set b.slots slot (Some front))) (ap shape_of split.is)
       (set_clean b.plan b.panes b.slots slot (Some front)
-      (cut_clean b.plan b.panes split.piece split.attempted at split.inside (working b slot (live.Span split.piece split.attempted) clean split.works)) clean)
+      (cut_clean b.plan b.panes split.piece split.attempted at split.inside (working b slot (live.Span split.piece split.attempted) clean split.works.works)) clean)
   step_clean b new slot (Split num den) (SplitAt None) step kept takes clean = shaped new (shape_of b) (ap shape_of step.1) clean
   step_clean b new slot (Split num den) NoMemory step kept takes clean = shaped new (shape_of b) (ap shape_of step) clean
   step_clean b new slot Commit Committed step kept takes clean =
@@ -162,9 +170,7 @@ module _ (known : Surroundings) (told : List FileText) (tells : known.told ≡ S
       (set_clean b.plan (b.panes ++ commit.fired) b.slots slot None tt (fired_clean b commit.fired kept clean))
   step_clean b new slot Commit NoMemory step kept takes clean = shaped new (shape_of b) (ap shape_of step.1) clean
   step_clean b new slot (Fail at cause) answer step kept takes clean =
-      let given = counted (given_back (with_slot b slot None) step.job at cause) cause in
-      shaped new (b.plan, (b.panes, slice_set b.slots slot None))
-      (ap shape_of step.is ∙ stopped_shape (ends_run b step.job cause) given (note_of step.job at cause) ∙ counted_shape b slot step.job at cause)
+      shaped new (b.plan, (b.panes, slice_set b.slots slot None)) (ap shape_of step.is ∙ failed_shape (is_broken b step.job cause) b slot at step.job cause)
       (set_clean b.plan b.panes b.slots slot None tt clean)
   step_clean b new slot Stop Noted step kept takes clean = shaped new (shape_of b) (ap shape_of step) clean
   step_clean b new slot _ _ step kept takes clean = absurd step
@@ -172,7 +178,7 @@ module _ (known : Surroundings) (told : List FileText) (tells : known.told ≡ S
   -- ---- all steps
 
   module _ (kept : (b : SeenBook) → HonestlyReached known b → AreKept b) (end : SeenBook)
-      (takes : (b new : SeenBook) (slot : ℕ) (job : Job) → HonestlyReached known b → HasSamePlan end b → IsTaking b slot job new → IsPoisonJob known.told b.plan job → ⊥) where
+      (takes : (b new : SeenBook) (slot : ℕ) (job : Job) → HonestlyReached known b → HasSamePlan end b → IsTaking b slot job new → IsBad b.plan job → ⊥) where
     run_clean : (steps : List MadeStep) (b last : SeenBook) → HonestRun known b steps last → HonestlyReached known b → HasSamePlan end b → AreClean (shape_of b) → AreClean (shape_of last)
     run_clean [] b last run reached same clean = shaped last (shape_of b) (ap shape_of run) clean
     run_clean (made ∷ later) b last run reached same clean =
@@ -181,8 +187,8 @@ module _ (known : Surroundings) (told : List FileText) (tells : known.told ≡ S
         (record { plan = onward.plan ∙ same.plan; files = onward.files ∙ same.files; options = onward.options ∙ same.options })
         (step_clean b run.0 made.slot made.action made.answer run.1 (kept b reached) (λ new slot job. takes b new slot job reached same) clean)
 
-    pub works_no_poison : (b : SeenBook) → HonestlyReached known b → HasSamePlan end b → WorksNoPoison known told tells strict b
-    works_no_poison b reached same slot job works =
+    works_none : (b : SeenBook) → HonestlyReached known b → HasSamePlan end b → (slot : ℕ) (job : Live) → IsWorking b slot job → IsBad b.plan (job_of b.panes job) → ⊥
+    works_none b reached same slot job works =
         let first = reached.opening.is in
         let own = subst (HasSamePlan end) (sym first) (record { plan = same.plan; files = same.files; options = same.options }) in
         let none : AreClean (shape_of reached.first) = shaped reached.first _ (ap shape_of first) (All-nil _) in
@@ -190,13 +196,30 @@ module _ (known : Surroundings) (told : List FileText) (tells : known.told ≡ S
 
 -- ---- from what is taken
 
-module _ (known : Surroundings) (told : List FileText) (tells : known.told ≡ Some told) (end : SeenBook) (lengths : AreTold told end) (none : TakesNoPoison known end.plan end.options) where
+module _ (known : Surroundings) (IsBad : Plan → Job → Type 0) (end : SeenBook) (lengths : WhereTold known.told (λ told. AreTold told end)) (none : TakesNo IsBad known end.plan end.options) where
   -- each book of a run to this one is of its plan, its options and its files
-  pub takes_none : (b new : SeenBook) (slot : ℕ) (job : Job) → HonestlyReached known b → HasSamePlan end b → IsTaking b slot job new → IsPoisonJob known.told b.plan job → ⊥
-  takes_none b new slot job reached same step poison =
-      none b new slot job reached same.plan same.options (λ files is. of files (cc (tells, is))) step (subst (λ (p : Plan). IsPoisonJob known.told p job) same.plan poison)
-    where
-      of : (files : List FileText) → told ≡ files → AreTold files b
-      of files is =
-          subst (λ (t : List FileText). AreTold t b) is
-          (same.files ∙ lengths ∙ ap (λ (p : Plan). map item_len (items told p)) (sym same.plan))
+  takes_none : (b new : SeenBook) (slot : ℕ) (job : Job) → HonestlyReached known b → HasSamePlan end b → IsTaking b slot job new → IsBad b.plan job → ⊥
+  takes_none b new slot job reached same step bad =
+      none b new slot job reached same.plan same.options
+      (λ told is. same.files ∙ lengths told is ∙ ap (λ (p : Plan). map item_len (items told p)) (sym same.plan)) step (subst (λ (p : Plan). IsBad p job) same.plan bad)
+
+pub where_told : (known : Surroundings) (told : List FileText) (b : SeenBook) → known.told ≡ Some told → AreTold told b → WhereTold known.told (λ files. AreTold files b)
+where_told known told b tells lengths = λ files is. of files (cc (tells, is))
+  where
+    of : (files : List FileText) → told ≡ files → AreTold files b
+    of files is = subst (λ (t : List FileText). AreTold t b) is lengths
+
+-- no slot works a batch or a key job that is poison
+abbrev pub WorksNoPoisonBeside : SeenBook → Type 0
+WorksNoPoisonBeside b = (slot : ℕ) (job : Live) → IsWorking b slot job → IsPoisonBeside b.plan (job_of b.panes job) → ⊥
+
+module _ (known : Surroundings) (kept : (b : SeenBook) → HonestlyReached known b → AreKept b) (end : SeenBook) (lengths : WhereTold known.told (λ told. AreTold told end)) where
+  pub works_no_poison : (told : List FileText) (tells : known.told ≡ Some told) (strict : known.strict ≡ true) → TakesNoPoison known end.plan end.options
+      → (b : SeenBook) → HonestlyReached known b → HasSamePlan end b → WorksNoPoison known told tells strict b
+  works_no_poison told tells strict none =
+      works_none known (IsPoisonJob known.told)
+      (λ plan piece at inside bad. cut_poison plan piece.range.from at piece.range.to (item_at (items_told known.told plan) piece.node piece.item) inside bad)
+      kept end (takes_none known (IsPoisonJob known.told) end lengths none)
+
+  pub works_no_poison_beside : TakesNoPoisonBeside known end.plan end.options → (b : SeenBook) → HonestlyReached known b → HasSamePlan end b → WorksNoPoisonBeside b
+  works_no_poison_beside none = works_none known IsPoisonBeside (λ plan piece at inside bad. bad) kept end (takes_none known IsPoisonBeside end lengths none)

@@ -1,6 +1,6 @@
 -- A run that works no poison has no failed call, if calls fail on poison alone: what stops it are reads.
 use Rattle.std.proofs.Common.{◌≡◌, inl, inr, ℕ, ◌+◌, ◌<◌, ◌≤◌, Bool, true, false, List, [], ◌∷◌, refl, sym, subst, ap, ◌∙◌, arith}
-use Rattle.std.specs.Prelude.{Option, Some, None}
+use Rattle.std.specs.Prelude.{Option, Some, None, ◌&&◌, nat_le}
 use Rattle.std.specs.List.{flat_map, list_any}
 use Rattle.std.proofs.lemmas.Bool.{false≢true}
 use Rattle.std.proofs.lemmas.List.Elements.{All-head}
@@ -22,11 +22,11 @@ use Rattle.stateful_core.specs.Cells.{KeyCell}
 use Rattle.stateful_core.specs.KeyWork.{key_outputs}
 use Rattle.stateful_core.specs.Taking.{change, with_job}
 use Rattle.book_core.specs.Book.{SeenBook, panes_of, piece_of}
-use Rattle.book_core.specs.Changes.{attempts_of, counted, ends_run, given_back, note_of, or_stopped, stopped_where, with_slot}
+use Rattle.book_core.specs.Changes.{attempts_of, counted, ends_run, failed_where, given_back, is_broken, note_of, or_stopped, stopped_where, with_slot}
 use Rattle.book_core.specs.Facts.{AreAttemptsCounted, AreKept, IsBelowLimit, IsStopNoted}
 use Rattle.book_core.specs.Jobs.{Due, GivenBack, Oldest, Next, attempted_of, job_of, next_job, without_due}
 use Rattle.book_core.specs.Runs.{HonestRun, HonestlyReached, IsHonestAction, MadeStep}
-use Rattle.book_core.specs.Steps.{Action, Enroll, Take, Claim, Split, Commit, Fail, Stop, Answer, Enrolled, TakenJob, Nothing, Finished, Stopped, Claimed, SplitAt, Committed, Noted, NoMemory, IsWorking, Step}
+use Rattle.book_core.specs.Steps.{Action, Enroll, Take, Claim, Split, Commit, Fail, Stop, Answer, Enrolled, TakenJob, Nothing, Finished, Stopped, Claimed, SplitAt, Committed, Noted, NoMemory, IsFresh, IsWorking, MayWorkOn, Step}
 use Rattle.book_core.specs.Work.{IsHonestCall, IsHonestRead, IsPoisonAttempt, IsPoisonJob, Surroundings, is_known, items_told}
 use Rattle.book_core.specs.declared.live.Live.{Live}
 use Rattle.book_core.specs.declared.live.Live.TheVariants as live
@@ -95,28 +95,42 @@ same_counts b new same reads = subst AreReads (sym same) reads
 
 -- ---- a fail by a read
 
+-- what was read is no range that is broken
+pub read_tries : (b : SeenBook) (job : Live) → is_broken b job Read ≡ false
+read_tries b job = by job
+  where
+    never : (t : Bool) → (t && false) ≡ false
+    never true = refl
+    never false = refl
+
+    by : (j : Live) → is_broken b j Read ≡ false
+    by (live.Span piece attempted) = never (nat_le b.options.attempts (piece.attempts + 1))
+    by (live.Batch batch) = never (nat_le b.options.attempts (batch.attempts + 1))
+    by (live.Key turn) = never (nat_le b.options.attempts (turn.attempts + 1))
+
 once_more : (attempts reads : ℕ) → attempts ≤ reads → attempts < 1000 → attempts + 1 ≤ raised reads
 once_more attempts reads most few = omega arith
 
 kept_under : (attempt reads : ℕ) → attempt ≤ reads → attempt ≤ 1000 → attempt ≤ raised reads
 kept_under attempt reads most few = omega arith
 
-module _ (b : SeenBook) (slot at : ℕ) (job : Live) (works : IsWorking b slot job) (honest : IsHonestRead b.plan (job_of b.panes job) at) (kept : AreKept b) (h : AreReads (counts_of b)) where
+module _ (b : SeenBook) (slot at : ℕ) (job : Live) (may : MayWorkOn b slot job) (honest : IsHonestRead b.plan (job_of b.panes job) at) (kept : AreKept b) (h : AreReads (counts_of b)) where
   job_tried : (attempts_of job < b.options.attempts) × (attempts_of job ≤ b.calls + b.reads)
-  job_tried = by job works honest
+  job_tried = by job may.works may.fresh honest
     where
       counts : AreAttemptsCounted b
       counts = kept.attempts
 
-      by : (j : Live) → IsWorking b slot j → IsHonestRead b.plan (job_of b.panes j) at → (attempts_of j < b.options.attempts) × (attempts_of j ≤ b.calls + b.reads)
-      by (live.Span piece attempted) is reads = (
-        All-head (λ (x : Piece). IsBelowLimit b x.attempts) piece [] (All-flat_at piece_of b.slots slot (λ (x : Piece). IsBelowLimit b x.attempts) (Some (live.Span piece attempted)) is counts.worked_pieces),
+      by : (j : Live) → IsWorking b slot j → IsFresh j → IsHonestRead b.plan (job_of b.panes j) at → (attempts_of j < b.options.attempts) × (attempts_of j ≤ b.calls + b.reads)
+      by (live.Span piece attempted) is fresh reads = (
+        All-head (λ (x : Piece). x.spent ≡ None → IsBelowLimit b x.attempts) piece []
+            (All-flat_at piece_of b.slots slot (λ (x : Piece). x.spent ≡ None → IsBelowLimit b x.attempts) (Some (live.Span piece attempted)) is counts.worked_pieces) fresh,
         All-head (λ (x : Piece). x.attempts ≤ b.calls + b.reads) piece []
             (All-flat_at piece_of b.slots slot (λ (x : Piece). x.attempts ≤ b.calls + b.reads) (Some (live.Span piece attempted)) is
             (All-append_right (λ (x : Piece). x.attempts ≤ b.calls + b.reads) b.pending (flat_map piece_of b.slots) (each_tried b counts))),
       )
-      by (live.Batch batch) is reads = absurd reads
-      by (live.Key turn) is reads = absurd reads
+      by (live.Batch batch) is fresh reads = absurd reads
+      by (live.Key turn) is fresh reads = absurd reads
 
   own_attempt : (note_of job at Read).attempt ≡ attempts_of job + 1
   own_attempt = by job
@@ -172,13 +186,13 @@ module _ (known : Surroundings) (told : List FileText) (tells : known.told ≡ S
   step_reads b new slot (Split num den) NoMemory step honest kept never h = same_counts b new (ap counts_of step) h
   step_reads b new slot Commit Committed step honest kept never h = same_counts b new (ap counts_of step.1.commit.is) h
   step_reads b new slot Commit NoMemory step honest kept never h = same_counts b new (ap counts_of step.1) h
-  step_reads b new slot (Fail at Call) answer step honest kept never h = absurd (elim (honest step.job step.works) [
+  step_reads b new slot (Fail at Call) answer step honest kept never h = absurd (elim (honest step.job step.works.works) [
     | inl loose ↦ absurd (false≢true (sym loose ∙ strict))
-    | inr called ↦ never slot step.job step.works (call_is_poison known told tells b.plan b.panes step.job at called)
+    | inr called ↦ never slot step.job step.works.works (call_is_poison known told tells b.plan b.panes step.job at called)
   ])
   step_reads b new slot (Fail at Read) answer step honest kept never h =
-      subst (λ (x : SeenBook). AreReads (counts_of x)) (sym step.is)
-      (read_fails b slot at step.job step.works (honest step.job step.works) kept h (ends_run b step.job Read) (counted (given_back (with_slot b slot None) step.job at Read) Read) (read_counts b slot step.job at))
+      subst (λ (x : SeenBook). AreReads (counts_of x)) (sym (step.is ∙ ap (λ (t : Bool). failed_where t b slot step.job at Read) (read_tries b step.job)))
+      (read_fails b slot at step.job step.works (honest step.job step.works.works) kept h (ends_run b step.job Read) (counted (given_back (with_slot b slot None) step.job at Read) Read) (read_counts b slot step.job at))
   step_reads b new slot Stop Noted step honest kept never h =
       subst (λ (x : SeenBook). AreReads (counts_of x)) (sym step) (h.0, λ note is. h.1 note (none_by_memory b.stopped note is))
   step_reads b new slot _ _ step honest kept never h = absurd step
@@ -206,5 +220,5 @@ module _ (known : Surroundings) (told : List FileText) (tells : known.told ≡ S
 
     pub fails_by_reads : (note : FaultNote) → HonestlyReached known end → end.stopped ≡ Some (stop.Spent note) → end.options.attempts ≤ end.reads
     fails_by_reads note reached is =
-        let tried = subst (IsStopNoted end) is (kept end reached).stop in
-        subst (λ (n : ℕ). n ≤ end.reads) tried ((counts_kept reached).1 note is).0
+        let noted : IsStopNoted end (Some (stop.Spent note)) = subst (IsStopNoted end) is (kept end reached).stop in
+        subst (λ (n : ℕ). n ≤ end.reads) noted.0 ((counts_kept reached).1 note is).0

@@ -23,6 +23,7 @@ use Rattle.beam_values.specs.declared.element.Element.{Element}
 use Rattle.beam_values.specs.declared.file_text.FileText.{FileText}
 use Rattle.beam_values.specs.declared.marks.StageMarks.{StageMarks}
 use Rattle.beam_values.specs.declared.outcome.Outcome.{Outcome}
+use Rattle.beam_values.specs.declared.piece.Dead.{Dead}
 use Rattle.beam_values.specs.declared.plan.Node.{Node}
 use Rattle.beam_values.specs.declared.plan.NodeKind.{NodeKind}
 use Rattle.beam_values.specs.declared.plan.NodeKind.TheVariants.{Source, ParDo, Flatten, WindowInto, Group, Stateful, Write}
@@ -33,12 +34,13 @@ use Rattle.beam_values.specs.declared.value.Value.{Value}
 use Rattle.beam_values.proofs.Bags.{bag_from_same, sum_by-filter, sum_by-flat_map, sum_by-map}
 use Rattle.beam_model.specs.Account.{arrivals_of, cell_arrivals, dropped_arrival, input_arrival, log_arrivals}
 use Rattle.beam_model.specs.Chains.{Output, Arrives, chain}
+use Rattle.beam_model.specs.Dead.{items_without}
 use Rattle.beam_model.specs.Estimators.{AreSoundAbove}
 use Rattle.beam_model.specs.Flow.{elements_at, is_at, log_chains, pane_chains}
 use Rattle.beam_model.specs.Panes.{IsLegalHistory, Taken, is_sessions, mark_after, panes_at, taken_at, taken_by, taken_drop, taken_entry}
 use Rattle.beam_model.specs.Plain.{ArePlainlyWrittenWhere, HasDefaultTriggersAbove, IsGroupAbove, IsGroupedBy, IsPlainAt, IsPlainRun, NothingIsDroppedAbove, is_met, node_of, plain_flow}
 use Rattle.beam_model.specs.Plans.{default_trigger}
-use Rattle.beam_model.specs.Positions.{SourceItem, items}
+use Rattle.beam_model.specs.Positions.{items}
 use Rattle.beam_model.specs.Sessions.{in_session}
 use Rattle.beam_model.specs.Spread.{spread_all}
 use Rattle.beam_model.proofs.Above.{above_above, checked_inputs_lower}
@@ -59,7 +61,7 @@ use Rattle.book_core.proofs.Slots.{All-slice_get}
 use Rattle.book_core.proofs.Slotted.{All-flat_map}
 use Rattle.ended_runs.specs.Storable.{ArePanesStorable}
 use Rattle.ended_runs.proofs.Above.{KnownLaws, StartsAbove}
-use Rattle.ended_runs.proofs.Ending.{book_flow, logs_at_nodes, nothing_left_out}
+use Rattle.ended_runs.proofs.Ending.{book_flow, logs_at_nodes}
 use Rattle.ended_runs.proofs.Grouped.{pane_elements, plainly_grouped, sum_alike, taken_elements}
 use Rattle.ended_runs.proofs.PanesWell.{default_history, marks_rise}
 use Rattle.ended_runs.proofs.SessionsGrouped.{merged_of, merging, placed, sessions_grouped}
@@ -340,9 +342,9 @@ module _ (laws : KnownLaws) (told : List FileText) (b : SeenBook) (reached : Rea
         let four = ap (sum_by arrival_weight) (cells_taken b.cells) in
         omega (arith, one, two, last, three, four, dropped_weigh, keyed_weigh)
 
-    met_weighs : sum_by w (filter (is_met b.plan to) (plain_flow b.plan (items told b.plan) fired)) ≡ sum_by w (map Arrives met)
+    met_weighs : sum_by w (filter (is_met b.plan to) (plain_flow b.plan (items_without b.dead (items told b.plan)) fired)) ≡ sum_by w (map Arrives met)
     met_weighs =
-        let spread = spread_all b.plan (items told b.plan) in
+        let spread = spread_all b.plan (items_without b.dead (items told b.plan)) in
         let chains = flat_map (λ (pane : Arrival). chain b.plan pane.node pane.element) fired in
         let first = sum_by-filter w (is_met b.plan to) (spread ++ chains) in
         let second = sum_by-append met_weight spread chains in
@@ -465,7 +467,7 @@ module _ (laws : KnownLaws) (told : List FileText) (b : SeenBook) (reached : Rea
       not_here : (n : ℕ) → is_group b.plan n ≡ true → (n == to || is_above b.plan n to) ≡ true → is_above b.plan n to ≡ true
       not_here n group is = subst (λ (t : Bool). (t || is_above b.plan n to) ≡ true) (not_write n group) is
 
-  plain_run : IsPlainRun b.plan (items told b.plan) to met fired
+  plain_run : IsPlainRun b.plan (items_without b.dead (items told b.plan)) to met fired
   unfolding pane_as_arrival
   plain_run = record {
     ends_here = write_ends b.plan to write;
@@ -484,7 +486,7 @@ module _ (laws : KnownLaws) (told : List FileText) (b : SeenBook) (reached : Rea
     held = met_some;
   }
 
-  pub book_plain : IsPlainAt b.plan (items told b.plan) to (elements_at to b.written) × NothingIsDroppedAbove b.plan to b.dropped
+  pub book_plain : IsPlainAt b.plan (items_without b.dead (items told b.plan)) to (elements_at to b.written) × NothingIsDroppedAbove b.plan to b.dropped
   book_plain = ((met, fired, plain_run, bag_from_same (elements_at to b.written) (elements_at to met) (sym met_here)), so_far.none_dropped)
 
 -- what an outcome has written
@@ -500,9 +502,9 @@ outcome_plain laws told b o reached lengths through of storable to write statele
       stateless = subst (λ (p : Plan). HasNoStatefulAbove p to) same stateless;
     }) in
     record {
-      plain = subst (λ (l : List SourceItem). IsPlainAt o.plan l to (elements_at to o.written)) (sym (nothing_left_out b o of (items told b.plan)))
-          (subst (λ (p : Plan). IsPlainAt p (items told b.plan) to (elements_at to o.written)) (sym same)
-          (subst (λ (l : List Arrival). IsPlainAt b.plan (items told b.plan) to (elements_at to l)) (sym of.written) found.0));
+      plain = subst (λ (d : List Dead). IsPlainAt o.plan (items_without d (items told b.plan)) to (elements_at to o.written)) (sym of.dead)
+          (subst (λ (p : Plan). IsPlainAt p (items_without b.dead (items told b.plan)) to (elements_at to o.written)) (sym same)
+          (subst (λ (l : List Arrival). IsPlainAt b.plan (items_without b.dead (items told b.plan)) to (elements_at to l)) (sym of.written) found.0));
       undropped = subst (λ (p : Plan). NothingIsDroppedAbove p to o.dropped) (sym same) (subst (NothingIsDroppedAbove b.plan to) (sym of.dropped) found.1);
     }
 

@@ -1,4 +1,5 @@
 pub mod Stops
 pub mod Storable
 pub mod Unpoisoned
+pub mod DeadLetters
 pub mod EndedRuns

@@ -1,7 +1,8 @@
 //! What holds of the outcome of a run. Each function does nothing, but for calling the laws that its own
 //! rests on: its contract is the law.
 
-ghost use Rattle.std.specs.Prelude.{◌≡◌, ◌≤◌, ℕ, true, List, [], Option, Some};
+ghost use Rattle.std.specs.Prelude.{◌≡◌, ◌≤◌, ℕ, true, false, List, [], Option, Some};
+ghost use Rattle.std.specs.List.{All};
 ghost use Rattle.std.specs.List.Sorted.{IsSorted};
 ghost use Rattle.beam_values.specs.Cells.{cell_cmp, pane_cmp};
 ghost use Rattle.beam_values.specs.Nodes.{HasNoStatefulAbove};
@@ -19,15 +20,18 @@ ghost use Rattle.beam_model.specs.Plain.{ArePlainlyWrittenWhere, HasDefaultTrigg
 ghost use Rattle.beam_model.specs.Plain.{IsPlainAt, NothingIsDroppedAbove};
 ghost use Rattle.beam_model.specs.Positions.{items};
 ghost use Rattle.beam_model.specs.Rendering.{log_cmp};
-ghost use Rattle.book_core.specs.Book.{SeenBook};
+ghost use Rattle.beam_ports.specs.Observed.{WhereTold};
+ghost use Rattle.book_core.specs.Book.{SeenBook, sets_aside};
 ghost use Rattle.book_core.specs.Calls.{IsOutcomeOf};
-ghost use Rattle.book_core.specs.Changes.{done_cmp};
+ghost use Rattle.book_core.specs.Changes.{dead_cmp, done_cmp};
 ghost use Rattle.book_core.specs.Runs.{AreTold, HonestlyReached, IsThrough, Reached};
 ghost use Rattle.book_core.specs.Work.{Surroundings};
+ghost use Rattle.ended_runs.specs.DeadLetters.{AreDeadNoted, AreDeadPoison, ArePoisonDead};
+ghost use Rattle.ended_runs.specs.DeadLetters.{HasNoPoisonPosition, IsPoisonDead, IsStoppedByRead};
 ghost use Rattle.ended_runs.specs.EndedRuns.{IsEndedRun};
 ghost use Rattle.ended_runs.specs.Stops.{IsHonestStop};
 ghost use Rattle.ended_runs.specs.Storable.{ArePanesStorable};
-ghost use Rattle.ended_runs.specs.Unpoisoned.{TakesNoPoison};
+ghost use Rattle.ended_runs.specs.Unpoisoned.{TakesNoPoison, TakesNoPoisonBeside};
 
 use book_core::laws::{
     attempts_are_counted, cells_are_kept, reached_books_are_kept, reached_books_are_partitioned,
@@ -40,8 +44,8 @@ use pipeline_graph::laws::{
 };
 use windowing::laws::windows_hold_their_time;
 
-/// Each offset of each source item lies in exactly one committed range, and no committed range has
-/// another offset: nothing is left out, and nothing is read twice.
+/// Each offset of each source item lies in exactly one committed range or is dead once, and no committed
+/// range and no dead position has another offset: nothing is left out untold, and nothing is read twice.
 pub fn outcomes_are_covered()
     ensures { (told : Option (List FileText)) (b : SeenBook) (o : Outcome)
         → Reached told b → IsThrough b → IsOutcomeOf b o → IsCovered o }
@@ -50,14 +54,17 @@ pub fn outcomes_are_covered()
     reached_books_are_well_formed();
 }
 
-/// No outcome has a position that was set aside, so nothing is left out of its cover, its account and its
-/// plain writing.
+/// A plan that sets no position aside has no dead one, so nothing is left out of the cover, the account and
+/// the plain writing of its outcomes.
 pub fn nothing_is_set_aside()
-    ensures { (b : SeenBook) (o : Outcome) → IsOutcomeOf b o → o.dead ≡ [] }
-{}
+    ensures { (told : Option (List FileText)) (b : SeenBook) (o : Outcome)
+        → Reached told b → sets_aside b.plan ≡ false → IsOutcomeOf b o → o.dead ≡ [] }
+{
+    attempts_are_counted();
+}
 
-/// Where the files are told, every position's outputs, every pane and every logged output came to each
-/// barrier that they reach exactly once, and nothing else did.
+/// Where the files are told, the outputs of every position that isn't dead, every pane and every logged
+/// output came to each barrier that they reach exactly once, and nothing else did.
 pub fn outcomes_are_accounted()
     ensures { (told : List FileText) (b : SeenBook) (o : Outcome)
         → Reached (Some told) b → AreTold told b → IsThrough b → IsOutcomeOf b o
@@ -90,11 +97,13 @@ pub fn outcomes_have_legal_logs()
         → AreLogsLegal o.plan o.commits o.logs }
 {}
 
-/// The lists of an outcome are in order: done ranges by node, item and range, cells and logs by node, key and
-/// window, and panes by commit, node, key and window.
+/// The lists of an outcome are in order: done ranges by node, item and range, dead positions by node, item and
+/// position, cells and logs by node, key and window, and panes by commit, node, key and window.
 pub fn outcomes_are_in_order()
     ensures done { (told : Option (List FileText)) (b : SeenBook) (o : Outcome)
         → Reached told b → IsOutcomeOf b o → IsSorted done_cmp o.done }
+    ensures dead { (told : Option (List FileText)) (b : SeenBook) (o : Outcome)
+        → Reached told b → IsOutcomeOf b o → IsSorted dead_cmp o.dead }
     ensures cells { (told : Option (List FileText)) (b : SeenBook) (o : Outcome)
         → Reached told b → IsOutcomeOf b o → IsSorted cell_cmp o.cells }
     ensures logs { (told : Option (List FileText)) (b : SeenBook) (o : Outcome)
@@ -125,10 +134,10 @@ pub fn sound_groups_drop_nothing()
 
 /// Where the files are told: at each Write with no Stateful node above it, where every Group above has the
 /// default trigger and every estimator above is sound, what was written is plain grouping of the whole
-/// input, and no Group above it dropped an element, whatever was split, bundled or tried again. Windows may
-/// be sessions, and Groups may stand one above another. The values of panes are ones that a program can
-/// hold. Of a Write below a Stateful node nothing is said here, since the order of a key's elements decides
-/// what comes to it.
+/// input without its dead positions, and no Group above it dropped an element, whatever was split, bundled
+/// or tried again. Windows may be sessions, and Groups may stand one above another. The values of panes are
+/// ones that a program can hold. Of a Write below a Stateful node nothing is said here, since the order of a
+/// key's elements decides what comes to it.
 pub fn outcomes_are_plainly_written()
     ensures { (told : List FileText) (b : SeenBook) (o : Outcome)
         → Reached (Some told) b → AreTold told b → IsThrough b → IsOutcomeOf b o
@@ -182,6 +191,58 @@ pub fn runs_without_poison_fail_by_reads()
         → known.told ≡ Some told → known.strict ≡ true → AreTold told b
         → TakesNoPoison known b.plan b.options → HonestlyReached known b
         → b.stopped ≡ Some (stop.Spent note) → b.options.attempts ≤ b.reads }
+{
+    reached_books_are_kept();
+}
+
+/// Work on each dead position failed as often as it may, the last time by a call, and each fail was counted,
+/// also in a run that was given up. Where the files are told and nothing is left to do, each position that is
+/// poison alone is dead.
+pub fn outcomes_have_their_dead_letters()
+    ensures noted { (told : Option (List FileText)) (b : SeenBook) (o : Outcome)
+        → Reached told b → IsOutcomeOf b o → AreDeadNoted b o }
+    ensures poison { (told : List FileText) (b : SeenBook) (o : Outcome)
+        → Reached (Some told) b → AreTold told b → IsThrough b → IsOutcomeOf b o
+        → ArePoisonDead told o }
+{
+    attempts_are_counted();
+    reached_books_are_partitioned();
+    reached_books_are_well_formed();
+    told_books_are_kept();
+}
+
+/// And where besides calls fail on poison alone, no other position is dead or spent, also in a run that was
+/// given up.
+pub fn dead_positions_are_poison()
+    ensures book { (known : Surroundings) (told : List FileText) (b : SeenBook)
+        → known.told ≡ Some told → known.strict ≡ true → HonestlyReached known b
+        → AreDeadPoison told b }
+    ensures outcome { (known : Surroundings) (told : List FileText) (b : SeenBook) (o : Outcome)
+        → known.told ≡ Some told → known.strict ≡ true → HonestlyReached known b
+        → IsOutcomeOf b o → All (IsPoisonDead told o.plan) o.dead }
+{}
+
+/// Where positions are set aside, calls fail on poison alone, and no batch and no key job that is taken is
+/// poison, whatever the ranges are: what stops a run by a fault is a read, and one was counted.
+pub fn runs_that_set_aside_are_stopped_by_reads()
+    ensures { (known : Surroundings) (b : SeenBook)
+        → known.strict ≡ true → sets_aside b.plan ≡ true
+        → WhereTold known.told (λ told. AreTold told b)
+        → TakesNoPoisonBeside known b.plan b.options → HonestlyReached known b
+        → IsStoppedByRead b }
+{
+    reached_books_are_kept();
+}
+
+/// Where the files are told, calls fail on poison alone, and neither a position nor a batch or a key job that
+/// is taken is poison, a run is given up only by reads, of which at least as many failed as a job has
+/// attempts.
+pub fn runs_without_poison_positions_fail_by_reads()
+    ensures { (known : Surroundings) (told : List FileText) (b : SeenBook) (note : FaultNote)
+        → known.told ≡ Some told → known.strict ≡ true → AreTold told b
+        → HasNoPoisonPosition told b.plan → TakesNoPoisonBeside known b.plan b.options
+        → HonestlyReached known b → b.stopped ≡ Some (stop.Spent note)
+        → b.options.attempts ≤ b.reads }
 {
     reached_books_are_kept();
 }

@@ -18,7 +18,7 @@ use Rattle.known_jobs.specs.Jobs.{IsJobOf, KnownJob, known_at, known_in}
 claimed_at : (b new : SeenBook) (slot p : ℕ) (granted : Bool) (step : IsClaiming b slot p granted new) → slot_at new slot ≡ Some (Some (live.Span step.piece (Some p)))
 claimed_at b new slot p granted step =
     ap (λ (x : SeenBook). slot_at x slot) step.is
-    ∙ slice_get-set_same b.slots slot (Some (live.Span step.piece (Some p))) (slice_get_within b.slots slot (Some (live.Span step.piece step.attempted)) step.works)
+    ∙ slice_get-set_same b.slots slot (Some (live.Span step.piece (Some p))) (slice_get_within b.slots slot (Some (live.Span step.piece step.attempted)) step.works.works)
 
 claim_stays : (b new : SeenBook) (slot p : ℕ) (granted : Bool) (step : IsClaiming b slot p granted new) → live_piece new slot ≡ Some step.piece
 claim_stays b new slot p granted step = ap piece_in (claimed_at b new slot p granted step)
@@ -48,7 +48,7 @@ claimed_step b new slot p granted piece end makes found ends = λ told.
 pub claim_told : (b new : SeenBook) (slot p : ℕ) (granted : Bool) (known : Option KnownJob) → IsJobOf b.panes known (slot_at b slot) → IsClaiming b slot p granted new
     → AfterClaim known p granted (known_at new slot)
 claim_told b new slot p granted known fit step =
-    by known (subst (IsJobOf b.panes known) step.works fit) (ap (known_in new.panes) (claimed_at b new slot p granted step))
+    by known (subst (IsJobOf b.panes known) step.works.works fit) (ap (known_in new.panes) (claimed_at b new slot p granted step))
   where
     by : (known : Option KnownJob) → IsJobOf b.panes known (Some (Some (live.Span step.piece step.attempted)))
         → known_at new slot ≡ Some (record { job = job.Span step.piece; attempted = Some p }) → AfterClaim known p granted (known_at new slot)

@@ -30,11 +30,17 @@ IsJobIn setting (job.Key node cell key span inputs state timers attempts) = is_s
 
 -- ---- what may be done with it
 
+-- it isn't a spent piece, which is committed as it was taken
+abbrev pub IsFreshJob : Job → Type 0
+IsFreshJob (job.Span piece) = piece.spent ≡ None
+IsFreshJob (job.Batch node first panes attempts) = Unit {0}
+IsFreshJob (job.Key node cell key span inputs state timers attempts) = Unit {0}
+
 abbrev pub MayClaimIn : Job → Option ℕ → ℕ → Type 0
-MayClaimIn (job.Span piece) attempted p = MayClaim (tracker_of piece attempted) p
+MayClaimIn (job.Span piece) attempted p = (piece.spent ≡ None) × MayClaim (tracker_of piece attempted) p
 MayClaimIn _ attempted p = ⊥
 
--- a range whose tracker may claim the position
+-- a range that isn't spent and whose tracker may claim the position
 abbrev pub CanClaimAs : Option KnownJob → ℕ → Type 0
 CanClaimAs None p = ⊥
 CanClaimAs (Some known) p = MayClaimIn known.job known.attempted p
@@ -45,10 +51,22 @@ CanCommitAs setting None receipt = ⊥
 CanCommitAs setting (Some known) receipt =
     IsGiven None setting.plan known.job known.attempted receipt × IsGiven setting.known.told setting.plan known.job known.attempted receipt
 
--- the fail is honest of the job
+-- the fail is honest of the job, which isn't a spent piece
 abbrev pub CanFailAs : Setting → Option KnownJob → ℕ → Cause → Type 0
 CanFailAs setting None at cause = ⊥
-CanFailAs setting (Some known) at cause = IsHonest setting.known setting.plan known.job known.attempted at cause
+CanFailAs setting (Some known) at cause = IsFreshJob known.job × IsHonest setting.known setting.plan known.job known.attempted at cause
+
+-- the last attempted position of a range lies in it, so it has an offset
+abbrev pub IsAttemptedInside : Job → Option ℕ → Type 0
+IsAttemptedInside (job.Span piece) None = ⊥
+IsAttemptedInside (job.Span piece) (Some p) = (piece.range.from ≤ p) × (p < piece.range.to)
+IsAttemptedInside (job.Batch node first panes attempts) attempted = Unit {0}
+IsAttemptedInside (job.Key node cell key span inputs state timers attempts) attempted = Unit {0}
+
+-- a job that fails where it is, as a range fails behind a claim that was granted
+abbrev pub FailsInside : Option KnownJob → Type 0
+FailsInside None = ⊥
+FailsInside (Some known) = IsAttemptedInside known.job known.attempted
 
 -- ---- what is known after a claim
 
@@ -73,9 +91,9 @@ EndsAt (Some known) end = IsRangeTo known.job end
 
 -- ---- a job that goes on where it is committed
 
--- a position of a range was attempted, or the range is empty; a batch and a key job go on always
+-- a position of a range was attempted, or the range is empty; a spent piece, a batch and a key job go on always
 abbrev pub HasAttemptedIn : Job → Option ℕ → Type 0
-HasAttemptedIn (job.Span piece) None = piece.range.to ≤ piece.range.from
+HasAttemptedIn (job.Span piece) None = piece.spent ≡ None → piece.range.to ≤ piece.range.from
 HasAttemptedIn (job.Span piece) (Some p) = Unit {0}
 HasAttemptedIn (job.Batch node first panes attempts) attempted = Unit {0}
 HasAttemptedIn (job.Key node cell key span inputs state timers attempts) attempted = Unit {0}

@@ -6,6 +6,7 @@ use Rattle.beam_values.specs.Tracking.{MayClaim, first_unattempted}
 use Rattle.beam_values.specs.declared.cell.Pane.{Pane}
 use Rattle.beam_values.specs.declared.fault.Cause.{Cause}
 use Rattle.beam_values.specs.declared.fault.Cause.TheVariants.{Call, Read}
+use Rattle.beam_values.specs.declared.fault.FaultNote.{FaultNote}
 use Rattle.beam_values.specs.declared.file_text.FileText.{FileText}
 use Rattle.beam_values.specs.declared.piece.Piece.{Piece}
 use Rattle.beam_values.specs.declared.plan.Plan.{Plan}
@@ -18,11 +19,11 @@ use Rattle.book_core.specs.Calls.{CanClaim, CanFail}
 use Rattle.book_core.specs.Changes.{cut_to}
 use Rattle.book_core.specs.Jobs.{attempted_of, job_of}
 use Rattle.book_core.specs.Runs.{IsHonestAction}
-use Rattle.book_core.specs.Steps.{CanCommit, Fail, IsFree, IsWorking}
-use Rattle.book_core.specs.Work.{Surroundings, IsGiven, IsHonest, IsWorkOn, IsWorkOnItem, IsWorkOnRange, is_known, items_told, worked_to}
+use Rattle.book_core.specs.Steps.{CanCommit, Fail, IsFree, IsFresh, IsWorking}
+use Rattle.book_core.specs.Work.{Surroundings, IsGiven, IsHonest, IsOfSpent, IsWorkOn, IsWorkOnItem, IsWorkOnRange, is_known, items_told, worked_to}
 use Rattle.book_core.specs.declared.live.Live.{Live}
 use Rattle.book_core.specs.declared.live.Live.TheVariants as live
-use Rattle.known_jobs.specs.Calls.{CanClaimAs, CanCommitAs, CanFailAs}
+use Rattle.known_jobs.specs.Calls.{CanClaimAs, CanCommitAs, CanFailAs, IsFreshJob}
 use Rattle.known_jobs.specs.Jobs.{IsJobOf, IsKnownAs, IsShortened, KnownJob, Setting}
 
 -- ---- a shortened range
@@ -51,6 +52,10 @@ worked_same noted now attempted short =
     least : (next to end : ℕ) → end ≤ to → (next ≤ to → next ≤ end) → (to < next → end ≡ to) → min next end ≡ min next to
     least next to end below above past = grind arith
 
+spent_cut : (noted : Piece) (range : Offsets) (receipt : Receipt) (spent : Option FaultNote) → IsOfSpent spent noted receipt → IsOfSpent spent (cut_to noted range) receipt
+spent_cut noted range receipt None given = given
+spent_cut noted range receipt (Some note) given = given
+
 given_span : (told : Option (List FileText)) (plan : Plan) (noted now : Piece) (attempted : Option ℕ) (receipt : Receipt) → IsShortened noted attempted now
     → IsGiven told plan (job.Span noted) attempted receipt → IsGiven told plan (job.Span now) attempted receipt
 given_span told plan noted now attempted receipt short given =
@@ -58,8 +63,11 @@ given_span told plan noted now attempted receipt short given =
     let cut : Piece = cut_to noted range in
     let worked : worked_to now attempted ≡ worked_to noted attempted = worked_same noted now attempted short in
     let here = range_cut plan noted range refl (is_known told plan noted.node) told (worked_to noted attempted) receipt given.0 in
-    let there = subst (λ (upto : ℕ). IsWorkOnRange (is_known told plan cut.node) told plan cut upto receipt) (sym worked) here in
-    (subst (λ (p : Piece). IsWorkOnRange (is_known told plan p.node) told plan p (worked_to now attempted) receipt) (sym short.same) there, given.1)
+    let there = subst (λ (upto : ℕ). IsWorkOnRange (is_known told plan cut.node) told plan cut upto receipt) (sym worked) here in (
+      subst (λ (p : Piece). IsWorkOnRange (is_known told plan p.node) told plan p (worked_to now attempted) receipt) (sym short.same) there,
+      given.1,
+      subst (λ (p : Piece). IsOfSpent p.spent p receipt) (sym short.same) (spent_cut noted range receipt noted.spent given.2),
+    )
 
 honest_span : (known : Surroundings) (plan : Plan) (noted now : Piece) (attempted : Option ℕ) (at : ℕ) (cause : Cause) → IsShortened noted attempted now
     → IsHonest known plan (job.Span noted) attempted at cause → IsHonest known plan (job.Span now) attempted at cause
@@ -116,11 +124,12 @@ module _ (setting : Setting) (b : SeenBook) (i : ℕ) (known : Option KnownJob) 
     where
       by : (job : KnownJob) (now : Live) → CanClaimAs (Some job) p → IsWorking b i now → IsKnownAs b.panes job now → CanClaim b i p
       by job (live.Span now attempted) may works is =
-          let may_noted : MayClaim (tracker_of is.0 attempted) p = subst (λ (k : KnownJob). CanClaimAs (Some k) p) is.1 may in
+          let noted : (is.0.spent ≡ None) × MayClaim (tracker_of is.0 attempted) p = subst (λ (k : KnownJob). CanClaimAs (Some k) p) is.1 may in
+          let may_noted : MayClaim (tracker_of is.0 attempted) p = noted.1 in
           record {
             piece = now;
             attempted = attempted;
-            works = works;
+            works = record { works = works; fresh = ap (λ (q : Piece). q.spent) is.2.same ∙ noted.0 };
             may = subst (λ (q : Piece). MayClaim (tracker_of q attempted) p) (sym is.2.same) (record { from_start = may_noted.from_start; ascending = may_noted.ascending });
           }
       by job (live.Batch batch) may works is = absurd (subst (λ (k : KnownJob). CanClaimAs (Some k) p) is.0 may)
@@ -145,11 +154,18 @@ module _ (setting : Setting) (b : SeenBook) (i : ℕ) (known : Option KnownJob) 
       of (Some job) fit given = (by None job fit given.0, by setting.known.told job fit given.1)
       of None fit given = absurd given
 
+  fresh_now : (job : KnownJob) (now : Live) → IsKnownAs b.panes job now → IsFreshJob job.job → IsFresh now
+  fresh_now job (live.Span now attempted) is fresh =
+      let noted : is.0.spent ≡ None = subst (λ (k : KnownJob). IsFreshJob k.job) is.1 fresh in
+      ap (λ (q : Piece). q.spent) is.2.same ∙ noted
+  fresh_now job (live.Batch batch) is fresh = tt
+  fresh_now job (live.Key turn) is fresh = tt
+
   pub can_fail : (at : ℕ) (cause : Cause) → CanFailAs setting known at cause → CanFail b i
   can_fail at cause may = of known fit may
     where
       of : (job : Option KnownJob) → IsJobOf b.panes job (slot_at b i) → CanFailAs setting job at cause → CanFail b i
-      of (Some job) fit may = let w = works_known b i job fit in (w.0, w.1)
+      of (Some job) fit may = let w = works_known b i job fit in (w.0, record { works = w.1; fresh = fresh_now job w.0 w.2 may.0 })
       of None fit may = absurd may
 
   pub fails_honestly : (at : ℕ) (cause : Cause) → CanFailAs setting known at cause → IsHonestAction setting.known b i (Fail at cause)
@@ -158,5 +174,5 @@ module _ (setting : Setting) (b : SeenBook) (i : ℕ) (known : Option KnownJob) 
       of : (job : Option KnownJob) → IsJobOf b.panes job (slot_at b i) → CanFailAs setting job at cause → IsHonestAction setting.known b i (Fail at cause)
       of (Some job) fit may = λ now works.
           let here : IsKnownAs b.panes job now = subst (IsJobOf b.panes (Some job)) works fit in
-          honest_carries setting.known b.plan b.panes job now at cause here (subst (λ (p : Plan). IsHonest setting.known p job.job job.attempted at cause) (sym plan) may)
+          honest_carries setting.known b.plan b.panes job now at cause here (subst (λ (p : Plan). IsHonest setting.known p job.job job.attempted at cause) (sym plan) may.1)
       of None fit may = absurd may

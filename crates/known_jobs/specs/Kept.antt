@@ -1,17 +1,19 @@
 -- What takes and fails leave of the lists by which jobs are known, and what fails count.
-use Rattle.std.proofs.Common.{◌≡◌, ℕ, ◌≤◌, [], true, false, Bool, refl, sym, ap, ◌∙◌, arith}
+use Rattle.std.proofs.Common.{◌≡◌, ℕ, ◌≤◌, true, false, Bool, not, ◌&&◌, refl, sym, ap, subst, ◌∙◌, arith}
 use Rattle.std.specs.Prelude.{Option, Some, None, slice_set}
 use Rattle.beam_values.specs.declared.fault.Cause.{Cause}
 use Rattle.beam_values.specs.declared.fault.Cause.TheVariants.{Call, Read}
 use Rattle.beam_values.specs.declared.fault.FaultNote.{FaultNote}
 use Rattle.beam_values.specs.declared.outcome.StopCause.{StopCause}
 use Rattle.beam_values.specs.declared.outcome.StopCause.TheVariants as stop
+use Rattle.beam_values.specs.declared.piece.Piece.{Piece}
 use Rattle.book_core.specs.Book.{SeenBook}
-use Rattle.book_core.specs.Changes.{with_slot, counted, ends_run, failed, given_back, note_of, or_stopped, stopped_where}
+use Rattle.book_core.specs.Changes.{with_slot, broken, counted, ends_run, failed, failed_where, given_back, is_at_limit, is_broken, may_break, note_of, or_stopped, stopped_where, tried_again}
 use Rattle.book_core.specs.Jobs.{Next, next_job}
 use Rattle.book_core.specs.Steps.{Fail, IsRunning}
 use Rattle.book_core.specs.declared.live.Live.{Live}
 use Rattle.book_core.specs.declared.live.Live.TheVariants as live
+use Rattle.book_core.proofs.Broken.{never_read}
 use Rattle.book_core.proofs.Taking.{take_cases}
 use Rattle.known_jobs.specs.Calls.{calls_after, reads_after}
 
@@ -100,5 +102,38 @@ cause_leaves b back slot at Read false note keeps = record {
   reads = let k = keeps.reads in omega (arith, k);
 }
 
+tried_leaves : (b : SeenBook) (slot at : ℕ) (job : Live) (cause : Cause) → LeavesAtFail b slot at cause (ends_run b job cause) (note_of job at cause) (tried_again b slot job at cause)
+tried_leaves b slot at job cause = cause_leaves b (given_back (with_slot b slot None) job at cause) slot at cause (ends_run b job cause) (note_of job at cause) (back_keeps (with_slot b slot None) job at cause)
+
+-- a range that is broken goes on in its parts
+broken_leaves : (b : SeenBook) (slot at : ℕ) (piece : Piece) (attempted : Option ℕ) (note : FaultNote) → LeavesAtFail b slot at Call false note (broken b slot piece attempted note)
+broken_leaves b slot at piece attempted note = record {
+  slots = refl;
+  commits = refl;
+  panes = refl;
+  stopped = λ h running. h running;
+  spent_stops = λ e running. cc;
+  noted = λ e running. absurd (cc);
+  calls = omega arith;
+  reads = omega arith;
+}
+
+-- what is broken doesn't end the run
+broken_goes_on : (at_limit breaks : Bool) → (at_limit && breaks) ≡ true → (at_limit && not breaks) ≡ false
+broken_goes_on true true e = refl
+broken_goes_on true false e = absurd (cc)
+broken_goes_on false breaks e = refl
+
+fail_by : (b : SeenBook) (slot at : ℕ) (job : Live) (cause : Cause) (t : Bool) → is_broken b job cause ≡ t
+    → LeavesAtFail b slot at cause (ends_run b job cause) (note_of job at cause) (failed_where t b slot job at cause)
+fail_by b slot at job cause false e = tried_leaves b slot at job cause
+fail_by b slot at (live.Span piece attempted) Call true e =
+    let job = live.Span piece attempted in
+    subst (λ (t : Bool). LeavesAtFail b slot at Call t (note_of job at Call) (broken b slot piece attempted (note_of job at Call)))
+    (sym (broken_goes_on (is_at_limit b job) (may_break b.plan job Call) e)) (broken_leaves b slot at piece attempted (note_of job at Call))
+fail_by b slot at (live.Span piece attempted) Read true e = absurd (never_read b piece attempted e)
+fail_by b slot at (live.Batch batch) cause true e = tried_leaves b slot at (live.Batch batch) cause
+fail_by b slot at (live.Key turn) cause true e = tried_leaves b slot at (live.Key turn) cause
+
 pub fail_leaves : (b : SeenBook) (slot at : ℕ) (job : Live) (cause : Cause) → LeavesAtFail b slot at cause (ends_run b job cause) (note_of job at cause) (failed b slot job at cause)
-fail_leaves b slot at job cause = cause_leaves b (given_back (with_slot b slot None) job at cause) slot at cause (ends_run b job cause) (note_of job at cause) (back_keeps (with_slot b slot None) job at cause)
+fail_leaves b slot at job cause = fail_by b slot at job cause (is_broken b job cause) refl

@@ -1,7 +1,6 @@
 -- A slot claims the next position of its range.
-use Rattle.std.proofs.Common.{◌≡◌, ◌⊎◌, inl, inr, ℕ, ◌+◌, ◌≤◌, true, false, refl, sym, ap, arith}
-use Rattle.std.specs.Prelude.{IsSomeAnd, Some, None, nat_lt}
-use Rattle.beam_values.specs.Tracking.{first_unattempted}
+use Rattle.std.proofs.Common.{◌≡◌, ◌⊎◌, ℕ, true, false, refl}
+use Rattle.std.specs.Prelude.{IsSomeAnd, None, nat_lt}
 use Rattle.beam_values.specs.declared.piece.Piece.{Piece}
 use Rattle.bundle_commit.specs.declared.job.Job.TheVariants as job
 use Rattle.book_core.specs.Book.{SeenBook}
@@ -13,7 +12,7 @@ use Rattle.known_jobs.specs.Carried as carried
 use Rattle.known_jobs.specs.Jobs.{known_at, setting_for}
 use Rattle.known_jobs.specs.Known.{known_where}
 use Rattle.known_jobs.proofs.Claims.{claim_ends, claim_told}
-use Rattle.bundle_work.specs.Stretches.{CanClaimFrom, attempted_of, first_open}
+use Rattle.bundle_work.specs.Stretches.{CanClaimFrom}
 use Rattle.bundle_work.proofs.Claiming.{IsClaimOf, can_claim, claim_made}
 use Rattle.lone_worker.specs.Work.{Base, IsFresh, IsGoing, IsWorkAt, may_claim_in}
 use Rattle.lone_worker.specs.declared.work.Work.{Work}
@@ -35,19 +34,6 @@ module _ (base : Base) (b : SeenBook) (slot : ℕ) (piece : Piece) (held : AreHe
   pub allowed : CanClaim b slot work.next
   allowed =
       carried.can_claim (setting_for (record { told = None; strict = false }) b) b slot (known_at b slot) refl (known_where (λ known. CanClaimAs known work.next) (λ h. h) b slot held may_claim) work.next may_claim
-
-  pub first_at : piece.range.from ≤ first_open piece (known_at b slot)
-  first_at = by going
-    where
-      by : IsFresh piece (known_at b slot) work.next work.staged ⊎ IsGoing base piece (known_at b slot) work.next work.staged → piece.range.from ≤ first_open piece (known_at b slot)
-      by (inl fresh) =
-          let tries : None ≡ attempted_of (known_at b slot) = sym (ap attempted_of fresh.range.claimed.is) in
-          let begun : piece.range.from ≡ first_open piece (known_at b slot) = ap (first_unattempted piece.range.from) tries in
-          omega (arith, begun)
-      by (inr gone) =
-          let tries : Some gone.last ≡ attempted_of (known_at b slot) = sym (ap attempted_of gone.range.claimed.is) in
-          let begun : gone.last + 1 ≡ first_open piece (known_at b slot) = ap (first_unattempted piece.range.from) tries in
-          omega (arith, begun, gone.worked.first)
 
   -- what is known after it
   pub made : (new : SeenBook) (end : ℕ) → Makes b slot (Claim work.next) (Claimed (nat_lt work.next end)) new → IsSomeAnd (live_piece new slot) (λ piece. piece.range.to ≡ end)

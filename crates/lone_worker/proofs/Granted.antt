@@ -110,5 +110,5 @@ module _ (base : Base) (opened : ℕ → Option Opening) (readers : List Reader)
     pub failed_at : (can : CanClaimFrom piece known p) → (now : Plan) → now ≡ plan → (staged : Receipt) (shelf : ObservedShelf) (store : ObservedStore) → (base.setting.known.strict ≡ true → shelf.strict ≡ true)
         → (refusal : ExecRefusal) → IsRefusedAt shelf (record { before = store.before; after = store.after }) now piece.node (opened new.file) new.len p refusal → IsJobRefused base.setting shelf store after refusal
     failed_at can now same staged shelf store stricter refusal refused =
-        fails base.setting opened plan refl readers on.now.all later reader turned.at piece turned.is_for new for_reader was known p end after made can.start inside staged shelf store stricter refusal
+        fails base.setting opened plan refl readers on.now.all later reader turned.at piece turned.is_for can.fresh new for_reader was known p end after made can.start inside staged shelf store stricter refusal
         (subst (λ (q : Plan). IsRefusedAt shelf (record { before = store.before; after = store.after }) q piece.node (opened new.file) new.len p refusal) same refused)

@@ -11,6 +11,7 @@ use Rattle.beam_ports.specs.Observed.{ObservedStore}
 use Rattle.beam_values.specs.Times.{greatest_time}
 use Rattle.beam_values.specs.Tracking.{first_unattempted}
 use Rattle.beam_values.specs.declared.arrival.Arrival.{Arrival}
+use Rattle.beam_values.specs.declared.fault.FaultNote.{FaultNote}
 use Rattle.beam_values.specs.declared.file_text.FileText.{FileText}
 use Rattle.beam_values.specs.declared.piece.Piece.{Piece}
 use Rattle.beam_values.specs.declared.plan.Plan.{Plan}
@@ -36,12 +37,12 @@ use Rattle.bundle_work.specs.Bundles.{HasClaimed, HasWorked, IsFit, IsJobRefused
 use Rattle.bundle_work.specs.Reading.{AreReaders, AreReadersOf, IsPagerFor, IsReaderOf, is_reader_for, length_in}
 use Rattle.bundle_work.specs.Stretches.{CanClaimFrom, IsWorkedOver, attempted_of, first_open}
 use Rattle.bundle_work.specs.declared.reading.Reader.{Reader}
-use Rattle.bundle_work.proofs.Claiming.{IsClaimOf}
+use Rattle.bundle_work.proofs.Claiming.{IsClaimOf, fresh_now}
 use Rattle.bundle_work.proofs.Jobs.{job_given}
 use Rattle.bundle_work.proofs.PieceReads.{IsPieceReader, end_honest, file_source, item_found, item_read, item_same, nothing_given, piece_given, piece_item, piece_source, read, reader_cut, reader_for, readers_hold}
 use Rattle.bundle_work.proofs.PieceWork.{fit_more, staged_one, staged_then}
 use Rattle.bundle_work.proofs.Stretching.{over_all}
-use Rattle.lone_worker.specs.Work.{Base, IsEmittedWhere, IsFresh, IsGoing, IsNextAfter, IsNextIn, IsNextWhere, IsRangeTried, IsSound, emits_value, has_value, nothing_staged, outputs_at}
+use Rattle.lone_worker.specs.Work.{Base, IsEmittedWhere, IsFresh, IsGoing, IsNextAfter, IsNextIn, IsNextWhere, IsRangeFailed, IsRangeOf, IsRangeOver, IsRangeTried, IsSound, emits_value, has_value, nothing_staged, outputs_at}
 
 -- ---- readers of one item
 
@@ -163,6 +164,7 @@ module _ (base : Base) (piece : Piece) where
       let begun : piece.range.from ≡ first_open piece known = ap (first_unattempted piece.range.from) tried in
       let from : now.range.from ≡ piece.range.from = ap (λ (x : Piece). x.range.from) claimed.same in
       record {
+        fresh = fresh.fresh;
         now = now;
         claimed = subst (λ (a : Option ℕ). HasClaimed piece now a known) tried claimed;
         start = omega (arith, fresh.first);
@@ -177,6 +179,7 @@ module _ (base : Base) (piece : Piece) where
       let tried : Some going.last ≡ attempted_of known = sym (ap attempted_of claimed.is) in
       let begun : going.last + 1 ≡ first_open piece known = ap (first_unattempted piece.range.from) tried in
       record {
+        fresh = going.fresh;
         now = now;
         claimed = subst (λ (a : Option ℕ). HasClaimed piece now a known) tried claimed;
         start = omega (arith, going.worked.first, going.worked.ordered);
@@ -196,10 +199,19 @@ module _ (base : Base) (piece : Piece) where
       let from : made.now.range.from ≡ piece.range.from = ap (λ (x : Piece). x.range.from) made.claimed.same in
       record { last = p; range = record { now = made.now; claimed = made.claimed; ordered = omega (arith, from, made.ends, low) } }
 
-  -- of a range that lies behind its start
-  pub behind : (was : Piece) (known : Option KnownJob) (next : ℕ) (can : CanClaimFrom piece known next) (p end : ℕ) (after : Option KnownJob) → IsClaimOf piece was known p end after
-      → piece.range.from ≤ first_open piece known → piece.range.from ≤ end
-  behind was known next can p end after made low = omega (arith, made.behind, low)
+  over_tried : (after : Option KnownJob) (staged : Receipt) → piece.spent ≡ None → IsRangeTried piece after → CanCommitAs base.setting after staged → IsRangeOver base piece.spent piece after staged
+  over_tried after staged fresh is given = subst (λ (spent : Option FaultNote). IsRangeOver base spent piece after staged) (sym fresh) (is, given)
+
+  -- it was granted, and lies in the range
+  pub failed_inside : (was : Piece) (known : Option KnownJob) (p end : ℕ) (after : Option KnownJob) → IsClaimOf piece was known p end after → piece.range.from ≤ p → p < end → IsRangeFailed piece after
+  failed_inside was known p end after made low inside =
+      let from : made.now.range.from ≡ piece.range.from = ap (λ (x : Piece). x.range.from) made.claimed.same in
+      record {
+        last = p;
+        range = record { now = made.now; claimed = made.claimed; ordered = omega (arith, from, made.ends, low, inside) };
+        from_start = low;
+        inside = omega (arith, made.ends, inside);
+      }
 
   module _ (first : AreReaders told base.opened plan base.readers) where
     -- what is staged of the range as it is now, with this attempted, is what it brings
@@ -208,11 +220,12 @@ module _ (base : Base) (piece : Piece) where
     given_going known next staged going now attempted after claimed low high time =
         let reader = going.reader in
         let here : IsPieceReader now reader = reader_cut piece now reader claimed.same claimed.below (reader_for piece reader going.is_for) in
+        let unspent = fresh_now piece now attempted after claimed going.fresh in
         let worked : IsPieceWorked plan (opening reader) reader.len now attempted staged =
         over_all plan piece (opening reader) reader.len (going.last + 1) next (nothing_staged piece) staged refl going.worked now attempted claimed.same low high in
         job_given base.setting plan refl (job.Span now) attempted after claimed.is staged
-        (piece_given None base.opened plan base.readers first.untold going.place reader going.at now here attempted staged time worked)
-        (piece_given told base.opened plan base.readers first.told going.place reader going.at now here attempted staged time worked)
+        (piece_given None base.opened plan base.readers first.untold going.place reader going.at now here unspent attempted staged time worked)
+        (piece_given told base.opened plan base.readers first.told going.place reader going.at now here unspent attempted staged time worked)
 
     given_fresh : (staged : Receipt) → staged ≡ nothing_staged piece → (now : Piece) (attempted : Option ℕ) (after : Option KnownJob) → HasClaimed piece now attempted after
         → worked_to now attempted ≡ now.range.from → staged.seen ≤ℤ greatest_time → CanCommitAs base.setting after staged
@@ -223,30 +236,32 @@ module _ (base : Base) (piece : Piece) where
 
     -- a claim is refused
     pub refused_given : (was : Piece) (known : Option KnownJob) (p : ℕ) (staged : Receipt) → IsFresh piece known p staged ⊎ IsGoing base piece known p staged → (end : ℕ) (after : Option KnownJob)
-        → IsClaimOf piece was known p end after → end ≤ p → staged.seen ≤ℤ greatest_time → IsRangeTried piece after × CanCommitAs base.setting after staged
+        → IsClaimOf piece was known p end after → end ≤ p → staged.seen ≤ℤ greatest_time → IsRangeOver base piece.spent piece after staged
     refused_given was known p staged (inl fresh) end after made past time =
         let can = can_fresh known p staged fresh in
         let tries : None ≡ attempted_of known = sym (ap attempted_of fresh.range.claimed.is) in
         let begun : piece.range.from ≡ first_open piece known = ap (first_unattempted piece.range.from) tries in
         let from : made.now.range.from ≡ piece.range.from = ap (λ (x : Piece). x.range.from) made.claimed.same in
         let none : worked_to made.now (Some p) ≡ made.now.range.from = omega (arith, made.ends, made.behind, begun, past, fresh.first, from) in
-        (tried was known p end after made (omega (arith, begun, made.behind)), given_fresh staged fresh.empty made.now (Some p) after made.claimed none time)
+        over_tried after staged fresh.fresh (tried was known p end after made (omega (arith, begun, made.behind))) (given_fresh staged fresh.empty made.now (Some p) after made.claimed none time)
     refused_given was known p staged (inr going) end after made past time =
         let tries : Some going.last ≡ attempted_of known = sym (ap attempted_of going.range.claimed.is) in
         let begun : going.last + 1 ≡ first_open piece known = ap (first_unattempted piece.range.from) tries in
         let low : going.last + 1 ≤ worked_to made.now (Some p) = omega (arith, begun, made.ends, made.behind, going.worked.ordered) in
-        let high : worked_to made.now (Some p) ≤ p = omega (arith, made.ends, past) in (
-          tried was known p end after made (omega (arith, begun, made.behind, going.worked.first)),
-          given_going known p staged going made.now (Some p) after made.claimed low high time,
-        )
+        let high : worked_to made.now (Some p) ≤ p = omega (arith, made.ends, past) in
+        over_tried after staged going.fresh (tried was known p end after made (omega (arith, begun, made.behind, going.worked.first)))
+        (given_going known p staged going made.now (Some p) after made.claimed low high time)
 
-    -- or none is made
+    -- nothing was claimed
+    pub taken_given : (known : Option KnownJob) (staged : Receipt) → IsRangeOf piece None known → staged ≡ nothing_staged piece → staged.seen ≤ℤ greatest_time → CanCommitAs base.setting known staged
+    taken_given known staged range empty time =
+        let none : worked_to range.now None ≡ range.now.range.from = omega (arith, range.ordered) in
+        given_fresh staged empty range.now None known range.claimed none time
+
+    -- or no other claim is made
     pub open_given : (known : Option KnownJob) (next : ℕ) (staged : Receipt) → IsFresh piece known next staged ⊎ IsGoing base piece known next staged → staged.seen ≤ℤ greatest_time
         → CanCommitAs base.setting known staged
-    open_given known next staged (inl fresh) time =
-        let now = fresh.range.now in
-        let none : worked_to now None ≡ now.range.from = omega (arith, fresh.range.ordered) in
-        given_fresh staged fresh.empty now None known fresh.range.claimed none time
+    open_given known next staged (inl fresh) time = taken_given known staged fresh.range fresh.empty time
     open_given known next staged (inr going) time =
         let now = going.range.now in
         let low : going.last + 1 ≤ worked_to now (Some going.last) = omega (arith, going.inside) in
@@ -265,6 +280,7 @@ module _ (base : Base) (piece : Piece) where
           let from : made.now.range.from ≡ piece.range.from = ap (λ (x : Piece). x.range.from) made.claimed.same in
           let one = one_over reader.len (opening reader) p staged new step has rises fits in
           record {
+            fresh = fresh.fresh;
             last = p;
             range = record { now = made.now; claimed = made.claimed; ordered = omega (arith, from, fresh.first, made.ends, inside) };
             inside = omega (arith, made.ends, inside);
@@ -282,6 +298,7 @@ module _ (base : Base) (piece : Piece) where
           let before : IsWorkedOver plan (opening reader) reader.len piece piece.range.from (going.last + 1) p (nothing_staged piece) staged =
           subst (λ (r : Reader). IsWorkedOver plan (opening r) r.len piece piece.range.from (going.last + 1) p (nothing_staged piece) staged) same going.worked in
           record {
+            fresh = going.fresh;
             last = p;
             range = record { now = made.now; claimed = made.claimed; ordered = omega (arith, from, made.ends, inside, going.worked.first, going.worked.ordered) };
             inside = omega (arith, made.ends, inside);
@@ -359,7 +376,8 @@ module _ (base : Base) (piece : Piece) where
 -- ---- a position is granted, and its work fails
 
 module _ (setting : Setting) (opened : ℕ → Option Opening) (plan : Plan) (same : plan ≡ setting.plan) (readers : List Reader) (all : AreReaders setting.known.told opened plan readers)
-    (k : ℕ) (reader : Reader) (at : slice_get readers k ≡ Some reader) (piece : Piece) (is_for : is_reader_for piece reader ≡ true) (pager : Paged) (is : IsPagerFor opened plan reader pager) where
+    (k : ℕ) (reader : Reader) (at : slice_get readers k ≡ Some reader) (piece : Piece) (is_for : is_reader_for piece reader ≡ true) (fresh : piece.spent ≡ None) (pager : Paged)
+    (is : IsPagerFor opened plan reader pager) where
   pub fails : (was : Piece) (known : Option KnownJob) (p end : ℕ) (after : Option KnownJob) → IsClaimOf piece was known p end after → piece.range.from ≤ p → p < end → (staged : Receipt)
       → (shelf : ObservedShelf) (store : ObservedStore) → (setting.known.strict ≡ true → shelf.strict ≡ true) → (refusal : ExecRefusal)
       → IsRefusedAt shelf (record { before = store.before; after = store.after }) plan piece.node (opened pager.file) pager.len p refusal → IsJobRefused setting shelf store after refusal
@@ -374,5 +392,5 @@ module _ (setting : Setting) (opened : ℕ → Option Opening) (plan : Plan) (sa
         inside = omega (arith, made.ends, inside);
         refused = subst (λ (n : ℕ). IsRefusedAt shelf counts plan n (opened pager.file) pager.len p refusal) (sym node) refused;
       } in
-      end_honest setting opened plan same readers all k reader at piece is_for pager is after staged (Unit {0}) shelf store stricter refusal
+      end_honest setting opened plan same readers all k reader at piece is_for fresh pager is after staged (Unit {0}) shelf store stricter refusal
       (record { now = made.now; last = p; claimed = made.claimed; worked = tt; refused = why })

@@ -1,5 +1,5 @@
 -- A round of one worker at a book: a job is taken, and committed or given back.
-use Rattle.std.proofs.Common.{◌≡◌, ◌⊎◌, inl, inr, ℕ, ◌<◌, ◌≤◌, Bool, false, List, refl, sym, ap, subst, ◌∙◌, arith}
+use Rattle.std.proofs.Common.{◌≡◌, ◌⊎◌, inl, inr, ℕ, ◌<◌, ◌≤◌, Bool, true, false, List, refl, sym, ap, subst, ◌∙◌, arith}
 use Rattle.std.specs.Prelude.{Option, Some, None, slice_set}
 use Rattle.beam_values.specs.declared.fault.Cause.{Cause}
 use Rattle.beam_values.specs.declared.fault.Cause.TheVariants.{Call, Read}
@@ -9,13 +9,13 @@ use Rattle.beam_values.specs.declared.outcome.StopCause.TheVariants as stop
 use Rattle.bundle_commit.specs.declared.job.Job.{Job}
 use Rattle.bundle_commit.specs.declared.job.Receipt.{Receipt}
 use Rattle.book_core.specs.Book.{SeenBook}
-use Rattle.book_core.specs.Left.{rounds_left}
-use Rattle.book_core.specs.Changes.{counted, ends_run, failed, given_back, note_of, stopped_where, with_slot}
+use Rattle.book_core.specs.Left.{BreaksNoEmpty, HasOffsets, rounds_left}
+use Rattle.book_core.specs.Changes.{counted, ends_run, failed_where, given_back, is_broken, note_of, stopped_where, tried_again, with_slot}
 use Rattle.book_core.specs.Steps.{Answer, Fail, IsCommitting, IsFailing, IsFailure, IsIdle, IsRunning, IsTaking, Retried, Spent}
 use Rattle.book_core.specs.declared.live.Live.{Live}
 use Rattle.book_core.specs.declared.live.Live.TheVariants as live
-use Rattle.known_jobs.specs.Calls.{IsJobIn, calls_after, reads_after}
-use Rattle.known_jobs.specs.Jobs.{Setting, setting_for}
+use Rattle.known_jobs.specs.Calls.{FailsInside, IsJobIn, calls_after, reads_after}
+use Rattle.known_jobs.specs.Jobs.{Setting, known_at, known_in, setting_for}
 use Rattle.known_jobs.specs.Kept.{fail_leaves, next_keep}
 use Rattle.lone_worker.specs.Alone.{GoesOnOrEnds, IsAloneEnd, IsBookIn, IsIdleBut, IsNextRound}
 use Rattle.lone_worker.specs.declared.alone.AloneEnd.{AloneEnd}
@@ -67,18 +67,35 @@ back_stopped b (live.Key turn) at Call = refl
 back_stopped b (live.Key turn) at Read = refl
 
 -- a job that may be tried again leaves the book running
-retried_runs : (b : SeenBook) (slot : ℕ) (job : Live) (at : ℕ) (cause : Cause) → ends_run b job cause ≡ false → IsRunning b → IsRunning (failed b slot job at cause)
-retried_runs b slot job at cause more running =
+tried_runs : (b : SeenBook) (slot : ℕ) (job : Live) (at : ℕ) (cause : Cause) → ends_run b job cause ≡ false → IsRunning b → IsRunning (tried_again b slot job at cause)
+tried_runs b slot job at cause more running =
     ap (λ (spent : Bool). (stopped_where spent (counted (given_back (with_slot b slot None) job at cause) cause) (note_of job at cause)).stopped) more
     ∙ back_stopped (with_slot b slot None) job at cause ∙ running
+
+-- and so does a range that is broken
+retried_runs : (breaks : Bool) (b : SeenBook) (slot : ℕ) (job : Live) (at : ℕ) (cause : Cause) → ends_run b job cause ≡ false → IsRunning b → IsRunning (failed_where breaks b slot job at cause)
+retried_runs true b slot (live.Span piece attempted) at cause more running = running
+retried_runs true b slot (live.Batch batch) at cause more running = tried_runs b slot (live.Batch batch) at cause more running
+retried_runs true b slot (live.Key turn) at cause more running = tried_runs b slot (live.Key turn) at cause more running
+retried_runs false b slot job at cause more running = tried_runs b slot job at cause more running
+
+-- a range that fails inside isn't empty
+pub breaks_none : (b : SeenBook) (slot : ℕ) (cause : Cause) → FailsInside (known_at b slot) → BreaksNoEmpty b slot cause
+breaks_none b slot cause inside = λ now works broken. by now (subst (λ (s : Option (Option Live)). FailsInside (known_in b.panes s)) works inside)
+  where
+    by : (now : Live) → FailsInside (known_in b.panes (Some (Some now))) → HasOffsets now
+    by (live.Span piece None) inside = absurd inside
+    by (live.Span piece (Some p)) inside = omega (arith, inside.0, inside.1)
+    by (live.Batch batch) inside = tt
+    by (live.Key turn) inside = tt
 
 module _ (b new : SeenBook) (slot at : ℕ) (cause : Cause) (answer : Answer) (step : IsFailing b slot at cause answer new) where
   pub failed_round : answer ≡ Retried → IsRunning b → IsIdleBut b slot → rounds_left new < rounds_left b → IsNextRound slot b new
   failed_round again running others fewer =
       let leaves = fail_leaves b slot at step.job cause in
-      let free = freed b new slot step.job step.works (ap (λ (x : SeenBook). x.slots) step.is ∙ leaves.slots) others in
+      let free = freed b new slot step.job step.works.works (ap (λ (x : SeenBook). x.slots) step.is ∙ leaves.slots) others in
       let more = subst (λ (a : Answer). IsFailure b step.job at cause a) again step.answers in
-      let runs = subst IsRunning (sym step.is) (retried_runs b slot step.job at cause more running) in
+      let runs = subst IsRunning (sym step.is) (retried_runs (is_broken b step.job cause) b slot step.job at cause more running) in
       record { free = free.0; idle = free.1; running = runs; fewer = fewer }
 
   pub failed_calls : new.calls ≤ calls_after (Fail at cause) b.calls

@@ -42,7 +42,7 @@ no_claims b new slot whole stage may is (claim ∷ later) lead =
     let step = lead.1 in
     let range : KnownJob = record { job = job.Span step.piece; attempted = step.attempted } in
     let all : KnownJob = record { job = whole; attempted = None } in
-    let known : known_at b slot ≡ Some range = ap (known_in b.panes) step.works in
+    let known : known_at b slot ≡ Some range = ap (known_in b.panes) step.works.works in
     let one : Some range ≡ Some all = sym known ∙ is in
     let same : job.Span step.piece ≡ whole = ap (job_or whole) one in
     let never : false ≡ true = subst (λ (j : Job). may_run_in j stage ≡ true) (sym same) may in

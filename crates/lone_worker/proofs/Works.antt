@@ -3,6 +3,7 @@ use Rattle.std.proofs.Common.{◌≡◌, ◌⊎◌, ℕ, true, refl, sym, subst}
 use Rattle.std.specs.Prelude.{◌≤ℤ◌, Option, Some, None}
 use Rattle.beam_values.specs.Times.{greatest_time}
 use Rattle.beam_values.specs.declared.fault.Cause.{Cause}
+use Rattle.beam_values.specs.declared.fault.FaultNote.{FaultNote}
 use Rattle.beam_values.specs.declared.piece.Piece.{Piece}
 use Rattle.bundle_commit.specs.declared.job.Job.{Job}
 use Rattle.bundle_commit.specs.declared.job.Job.TheVariants as job
@@ -10,11 +11,11 @@ use Rattle.bundle_commit.specs.declared.job.Receipt.{Receipt}
 use Rattle.known_jobs.specs.Calls.{CanCommitAs}
 use Rattle.known_jobs.specs.Jobs.{KnownJob}
 use Rattle.bundle_work.specs.Reading.{AreReaders}
-use Rattle.lone_worker.specs.Work.{Base, IsFresh, IsGoing, IsJobAt, IsRangeAt, IsRangeTried, IsWholeAt, IsWorkAt, may_claim_in, receipt_of, receipt_or}
+use Rattle.lone_worker.specs.Work.{Base, IsFresh, IsGoing, IsJobAt, IsRangeAt, IsRangeFailed, IsRangeOver, IsWholeAt, IsWorkAt, may_claim_in, receipt_of, receipt_or}
 use Rattle.lone_worker.specs.declared.work.Stage.{Stage}
 use Rattle.lone_worker.specs.declared.work.Stage.TheVariants as stage
 use Rattle.lone_worker.specs.declared.work.Work.{Work}
-use Rattle.lone_worker.proofs.Ranges.{open_given}
+use Rattle.lone_worker.proofs.Ranges.{open_given, taken_given}
 
 -- ---- a range
 
@@ -41,13 +42,13 @@ module _ (base : Base) (known : Option KnownJob) (work : Work) (piece : Piece) (
   work_goes open_now none at =
       subst (λ (j : Job). IsJobAt base known j work) (sym is) (subst (λ (s : Stage). IsRangeAt base known piece work.next s work.staged) (sym open_now) at, none)
 
-  pub work_over : work.stage ≡ stage.Over → work.receipt ≡ None → IsRangeTried piece known × CanCommitAs base.setting known work.staged → IsWorkAt base known work
+  pub work_over : work.stage ≡ stage.Over → work.receipt ≡ None → IsRangeOver base piece.spent piece known work.staged → IsWorkAt base known work
   work_over over none at =
       subst (λ (j : Job). IsJobAt base known j work) (sym is) (subst (λ (s : Stage). IsRangeAt base known piece work.next s work.staged) (sym over) at, none)
 
-  pub work_failed : (at : ℕ) (cause : Cause) → work.stage ≡ stage.Faulted at cause → work.receipt ≡ None → IsRangeTried piece known → IsWorkAt base known work
-  work_failed at cause failed none tried =
-      subst (λ (j : Job). IsJobAt base known j work) (sym is) (subst (λ (s : Stage). IsRangeAt base known piece work.next s work.staged) (sym failed) tried, none)
+  pub work_failed : (at : ℕ) (cause : Cause) → work.stage ≡ stage.Faulted at cause → work.receipt ≡ None → IsRangeFailed piece known → IsWorkAt base known work
+  work_failed at cause failed none inside =
+      subst (λ (j : Job). IsJobAt base known j work) (sym is) (subst (λ (s : Stage). IsRangeAt base known piece work.next s work.staged) (sym failed) inside, none)
 
 -- ---- what may be committed
 
@@ -59,11 +60,15 @@ IsCommittable _ stage.Over = Unit {0}
 IsCommittable _ _ = ⊥
 
 module _ (base : Base) (first : AreReaders base.setting.known.told base.opened base.setting.plan base.readers) (known : Option KnownJob) (work : Work) where
+  over_given : (piece : Piece) (spent : Option FaultNote) → IsRangeOver base spent piece known work.staged → work.staged.seen ≤ℤ greatest_time → CanCommitAs base.setting known work.staged
+  over_given piece None at time = at.1
+  over_given piece (Some note) at time = taken_given base piece first known work.staged at.0 at.1 time
+
   range_given : (piece : Piece) (s : Stage) (receipt : Option Receipt) → IsCommittable (job.Span piece) s → IsRangeAt base known piece work.next s work.staged → receipt ≡ None
       → (receipt_or receipt work.staged).seen ≤ℤ greatest_time → CanCommitAs base.setting known (receipt_or receipt work.staged)
   range_given piece s (Some receipt) may at none time = absurd (cc)
   range_given piece stage.Open None may at none time = open_given base piece first known work.next work.staged at time
-  range_given piece stage.Over None may at none time = at.1
+  range_given piece stage.Over None may at none time = over_given piece piece.spent at time
   range_given piece (stage.Faulted at cause) None may is none time = absurd may
 
   whole_given : (s : Stage) (receipt : Option Receipt) → s ≡ stage.Over → IsWholeAt base known s receipt → CanCommitAs base.setting known (receipt_or receipt work.staged)

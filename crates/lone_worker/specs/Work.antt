@@ -4,6 +4,7 @@ use Rattle.std.specs.List.{list_any}
 use Rattle.beam_ports.specs.Files.{KeepsOpenings, Opening}
 use Rattle.beam_ports.specs.Observed.{ObservedStore}
 use Rattle.beam_values.specs.Times.{least_time}
+use Rattle.beam_values.specs.declared.fault.FaultNote.{FaultNote}
 use Rattle.beam_values.specs.declared.file_text.FileText.{FileText}
 use Rattle.beam_values.specs.declared.piece.FileLen.{FileLen}
 use Rattle.beam_values.specs.declared.piece.Piece.{Piece}
@@ -43,6 +44,15 @@ abbrev pub seen_of : Job → ℤ
 seen_of (job.Span piece) = piece.seen
 seen_of _ = least_time
 
+-- a spent piece is committed as it was taken
+abbrev pub stage_by : Option FaultNote → Stage
+stage_by None = stage.Open
+stage_by (Some note) = stage.Over
+
+abbrev pub first_stage : Job → Stage
+first_stage (job.Span piece) = stage_by piece.spent
+first_stage _ = stage.Open
+
 -- ---- what may be done
 
 abbrev pub may_claim_in : Job → Stage → Bool
@@ -81,14 +91,16 @@ pub record IsRangeOf (piece : Piece) (attempted : Option ℕ) (known : Option Kn
 abbrev pub nothing_staged : Piece → Receipt
 nothing_staged piece = record { arrivals = []; seen = piece.seen; logged = None }
 
--- nothing was claimed yet
+-- the piece isn't spent, and nothing of it was claimed yet
 pub record IsFresh (piece : Piece) (known : Option KnownJob) (next : ℕ) (staged : Receipt) : Type 0 where
+  pub fresh : piece.spent ≡ None
   pub range : IsRangeOf piece None known
   pub first : next ≡ piece.range.from
   pub empty : staged ≡ nothing_staged piece
 
--- the positions up to the last claimed one are worked, and this is the next one
+-- the piece isn't spent, the positions up to the last claimed one are worked, and this is the next one
 pub record IsGoing (base : Base) (piece : Piece) (known : Option KnownJob) (next : ℕ) (staged : Receipt) : Type 0 where
+  pub fresh : piece.spent ≡ None
   pub last : ℕ
   pub range : IsRangeOf piece (Some last) known
   pub inside : last < range.now.range.to
@@ -98,15 +110,27 @@ pub record IsGoing (base : Base) (piece : Piece) (known : Option KnownJob) (next
   pub is_for : is_reader_for piece reader ≡ true
   pub worked : IsWorkedOver base.setting.plan (base.opened reader.file) reader.len piece piece.range.from (last + 1) next (nothing_staged piece) staged
 
--- a claim was refused, or the work failed: some position was attempted
+-- a claim was refused: some position was attempted
 pub record IsRangeTried (piece : Piece) (known : Option KnownJob) : Type 0 where
   pub last : ℕ
   pub range : IsRangeOf piece (Some last) known
 
+-- a range that is over has what it brings; a spent piece is over as it was taken, and brings nothing
+abbrev pub IsRangeOver : Base → Option FaultNote → Piece → Option KnownJob → Receipt → Type 0
+IsRangeOver base None piece known staged = IsRangeTried piece known × CanCommitAs base.setting known staged
+IsRangeOver base (Some note) piece known staged = IsRangeOf piece None known × (staged ≡ nothing_staged piece)
+
+-- the work failed at a position of the range
+pub record IsRangeFailed (piece : Piece) (known : Option KnownJob) : Type 0 where
+  pub last : ℕ
+  pub range : IsRangeOf piece (Some last) known
+  pub from_start : piece.range.from ≤ last
+  pub inside : last < range.now.range.to
+
 abbrev pub IsRangeAt : Base → Option KnownJob → Piece → ℕ → Stage → Receipt → Type 0
 IsRangeAt base known piece next stage.Open staged = IsFresh piece known next staged ⊎ IsGoing base piece known next staged
-IsRangeAt base known piece next stage.Over staged = IsRangeTried piece known × CanCommitAs base.setting known staged
-IsRangeAt base known piece next (stage.Faulted at cause) staged = IsRangeTried piece known
+IsRangeAt base known piece next stage.Over staged = IsRangeOver base piece.spent piece known staged
+IsRangeAt base known piece next (stage.Faulted at cause) staged = IsRangeFailed piece known
 
 -- a batch or a key job that was run has what it brings
 abbrev pub IsWholeAt : Base → Option KnownJob → Stage → Option Receipt → Type 0

@@ -4,7 +4,7 @@ ghost use Rattle.beam_ports.specs.Observed.{observed_store};
 ghost use Rattle.book_core.specs.Steps.{Fail, IsFree, IsIdle, IsRunning};
 ghost use Rattle.book_core.specs.Work.{Surroundings};
 ghost use Rattle.chain_exec.specs.Causes.{observed_shelf};
-ghost use Rattle.known_jobs.specs.Calls.{CanCommitAs, CanFailAs, HasAttempted, IsJobIn};
+ghost use Rattle.known_jobs.specs.Calls.{CanCommitAs, CanFailAs, FailsInside, HasAttempted, IsJobIn};
 ghost use Rattle.known_jobs.specs.Calls.{calls_after, reads_after};
 ghost use Rattle.known_jobs.specs.Jobs.{Setting, known_at, setting_for};
 ghost use Rattle.bundle_work.specs.Kits.{IsKitFor};
@@ -183,6 +183,7 @@ impl AtSlot {
         ghost setting: { Setting }
         requires setting { IsBookIn setting book.old }
         requires honest { CanFailAs setting (known_at book.old self.now.slot) at cause }
+        requires inside { FailsInside (known_at book.old self.now.slot) }
         requires running { IsRunning book.old }
         requires others { IsIdleBut book.old self.now.slot }
         ensures run { IsRunOn setting.known book.old book.new }

@@ -18,8 +18,8 @@ ghost use Rattle.bundle_work.specs.Bundles.{counts_of};
 ghost use Rattle.bundle_work.specs.Outside.{IsKitKept};
 ghost use Rattle.bundle_work.specs.Reading.{HasTurned, is_reader_for};
 ghost use Rattle.lone_worker.specs.Work.{Base, IsClaimDone, IsReadingOn, IsRunDone, IsWorkAt};
-ghost use Rattle.lone_worker.specs.Work.{first_of, is_granted, may_claim_in, may_run_in, receipt_of};
-ghost use Rattle.lone_worker.specs.Work.{seen_of};
+ghost use Rattle.lone_worker.specs.Work.{first_of, first_stage, is_granted, may_claim_in, may_run_in};
+ghost use Rattle.lone_worker.specs.Work.{receipt_of, seen_of};
 
 use crate::at_slot::AtSlot;
 use beam_ports::Store;
@@ -44,7 +44,7 @@ use windowing::laws::windows_hold_their_time;
 pub enum Stage {
     /// It goes on.
     Open,
-    /// A claim of the range was refused, or the batch or the key job was run.
+    /// A claim of the range was refused, the batch or the key job was run, or the piece was spent when it was taken.
     Over,
     /// It failed, at this node.
     Faulted { at: u32, cause: Cause },
@@ -80,7 +80,7 @@ impl Work {
         ensures { result ≡ record {
           job = job;
           next = first_of job;
-          stage = Stage.Open;
+          stage = first_stage job;
           staged = record { arrivals = []; seen = seen_of job; logged = None };
           receipt = None;
         } }
@@ -89,10 +89,11 @@ impl Work {
             Job::Span { piece } => (piece.range.from(), piece.seen),
             _ => (0, Time::LEAST),
         };
+        let stage = first_stage(&job);
         Work {
             job,
             next,
-            stage: Stage::Open,
+            stage,
             staged: Staging::new(alloc, seen),
             receipt: None,
         }
@@ -114,6 +115,16 @@ impl Work {
         };
         let _ms = receipt.seen.ms();
         receipt
+    }
+}
+
+// A spent piece is committed as it was taken.
+fn first_stage(job: &Job) -> Stage
+    ensures { result ≡ first_stage job.now }
+{
+    match job {
+        Job::Span { piece } if piece.spent.is_some() => Stage::Over,
+        _ => Stage::Open,
     }
 }
 

@@ -1,19 +1,21 @@
 -- When a document is refused for its bytes, and what is read of it.
-use Rattle.std.proofs.Common.{◌≡◌, ℕ, ◌<◌, ◌≤◌, ◌↔◌, ◌&&◌, List, length, Bool, true, false, Option, Some, None, Ok, Err, is_some, ok_or, nat_le, nat_lt, refl, subst, cond, arith}
-use Rattle.std.specs.Option.{option_map_or}
+use Rattle.std.proofs.Common.{◌≡◌, ◌⊎◌, inl, inr, ℕ, ◌<◌, ◌≤◌, ◌↔◌, ◌&&◌, List, length, Bool, true, false, Option, Some, None, Ok, Err, is_some, ok_or, nat_le, nat_lt, refl, subst, cond, arith}
+use Rattle.std.specs.Option.{option_and_then, option_map_or}
+use Rattle.std.proofs.Math.Nat.{eq-or-lt_of_le}
 use Rattle.std.proofs.lemmas.Bool.{and_parts, leb-true, ltb-false, le-ltb, ltb-true, lt-ltb}
 use Rattle.serde_json.specs.Data.{Data, Num}
-use Rattle.serde_json.specs.Find.{as_object, as_u64}
+use Rattle.serde_json.specs.Find.{as_number, as_object, as_u64}
 use Rattle.beam_values.specs.Checked.{IsChecked, graph_refusal}
 use Rattle.beam_values.specs.declared.graph_refusal.GraphRefusal.{GraphRefusal}
 use Rattle.beam_values.specs.declared.plan.Plan.{Plan}
-use Rattle.plan_reader.specs.Documents.{array_of, document_of, json_of, latest_version, longest_document, plan_of, version_in, version_of}
+use Rattle.plan_reader.specs.Documents.{array_of, beam_in, beam_of, document_of, json_of, latest_version, longest_document, plan_of, version_in, version_of}
 use Rattle.plan_reader.specs.Nodes.{names_of, nodes_of}
-use Rattle.plan_reader.specs.Forms.{◌>>=◌, any_number_in, needed}
+use Rattle.plan_reader.specs.Forms.{◌>>=◌, any_number_in, needed, value_of}
 use Rattle.plan_reader.specs.Places.{at_top}
 use Rattle.plan_reader.specs.Placing.{plan_nodes}
 use Rattle.plan_reader.specs.declared.refusal.PlanKey.TheVariants as key
 use Rattle.plan_reader.specs.Refusals.{Meaning}
+use Rattle.plan_reader.specs.declared.refusal.PlanRefusal.{PlanRefusal}
 use Rattle.plan_reader.specs.declared.refusal.PlanRefusal.TheVariants.{Syntax, Field, Graph, Version, Length}
 use Rattle.plan_reader.proofs.Causes.{plan_judges}
 
@@ -63,40 +65,66 @@ pub read_then : {A B : Type 0} (P : B → Type 0) (m : Meaning A) (f : A → Mea
 read_then P (Ok x) f h = h x
 read_then P (Err r) f h = tt
 
-abbrev IsPipeline : Plan → Type 0
-IsPipeline plan = IsChecked plan × (plan.version ≡ 1)
+read_of : {A B : Type 0} (P : B → Type 0) (o : Option A) (r : PlanRefusal) (f : A → Meaning B) → ((x : A) → o ≡ Some x → Read P (f x)) → Read P (ok_or o r >>= f)
+read_of P (Some x) r f h = h x refl
+read_of P None r f h = tt
 
-checked_at : (plan : Plan) (o : Option GraphRefusal) → graph_refusal plan ≡ o → plan.version ≡ 1 → Read IsPipeline (option_map_or (λ refusal. Err (Graph refusal)) o (Ok plan))
-checked_at plan None e v = (record { unrefused = e }, v)
-checked_at plan (Some r) e v = tt
+-- this number is there and is the version, which is one of those that are read
+record IsVersionOf (number : Option ℕ) (version : ℕ) : Type 0 where
+  own : number ≡ Some version
+  known : (version ≡ 1) ⊎ (version ≡ 2)
 
--- the version of a document that is read is 1
-accepted : (b : Bool) (n : ℕ) → (nat_le 1 n && nat_le n latest_version) ≡ b → Read (λ version. version ≡ 1) (cond b (Ok n) (Err Version))
-accepted true n test = let parts = and_parts (nat_le 1 n) (nat_le n latest_version) test in omega (arith, leb-true 1 n parts.0, leb-true n latest_version parts.1)
-accepted false n test = tt
+record IsPipelineOf (number : Option ℕ) (plan : Plan) : Type 0 where
+  pipeline : IsChecked plan
+  version : IsVersionOf number plan.version
 
-version_one : (d : Data) → Read (λ version. version ≡ 1) (version_of d)
-version_one d = by (is_some (as_object d))
+checked_at : (number : Option ℕ) (plan : Plan) (o : Option GraphRefusal) → graph_refusal plan ≡ o → IsVersionOf number plan.version → Read (IsPipelineOf number) (option_map_or (λ refusal. Err (Graph refusal)) o (Ok plan))
+checked_at number plan None e v = record { pipeline = record { unrefused = e }; version = v }
+checked_at number plan (Some r) e v = tt
+
+one_or_two : (n : ℕ) → 1 ≤ n → n ≤ 2 → (n ≡ 1) ⊎ (n ≡ 2)
+one_or_two n least most = by (eq-or-lt_of_le most)
   where
-    number : (n : Num) → Read (λ version. version ≡ 1) (version_in n)
-    number n = read_then (λ version. version ≡ 1) (ok_or (as_u64 n) Version) _ (λ version. accepted _ version refl)
+    by : (n ≡ 2) ⊎ (n < 2) → (n ≡ 1) ⊎ (n ≡ 2)
+    by (inl two) = inr two
+    by (inr below) = inl (omega (arith, least, below))
 
-    by : (b : Bool) → Read (λ version. version ≡ 1) (cond b (needed (at_top key.Beam) d >>= λ value. any_number_in (at_top key.Beam) value >>= version_in) (Err (Field (at_top key.Other))))
-    by true =
-        read_then (λ version. version ≡ 1) (needed (at_top key.Beam) d) _
-        (λ value. read_then (λ version. version ≡ 1) (any_number_in (at_top key.Beam) value) _ number)
+accepted : (b : Bool) (number : Option ℕ) (n : ℕ) → number ≡ Some n → (nat_le 1 n && nat_le n latest_version) ≡ b → Read (IsVersionOf number) (cond b (Ok n) (Err Version))
+accepted true number n own test = let parts = and_parts (nat_le 1 n) (nat_le n latest_version) test in record { own = own; known = one_or_two n (leb-true 1 n parts.0) (leb-true n latest_version parts.1) }
+accepted false number n own test = tt
+
+version_read : (d : Data) → Read (IsVersionOf (beam_in d)) (version_of d)
+version_read d = by (is_some (as_object d))
+  where
+    P : ℕ → Type 0
+    P = IsVersionOf (beam_in d)
+
+    by_number : (value : Data) → value_of key.Beam d ≡ Some value → (number : Num) → as_number value ≡ Some number → Read P (version_in number)
+    by_number value at number is = read_of P (as_u64 number) Version _ (λ n whole. accepted _ (beam_in d) n (rw (at, is) whole) refl)
+
+    by_value : (value : Data) → value_of key.Beam d ≡ Some value → Read P (any_number_in (at_top key.Beam) value >>= version_in)
+    by_value value at = read_of P (as_number value) (Field (at_top key.Beam)) version_in (by_number value at)
+
+    by : (b : Bool) → Read P (cond b (needed (at_top key.Beam) d >>= λ value. any_number_in (at_top key.Beam) value >>= version_in) (Err (Field (at_top key.Other))))
+    by true = read_of P (value_of key.Beam d) (Field (at_top key.Beam)) _ by_value
     by false = tt
 
-plan_read : (d : Data) → Read IsPipeline (plan_of d)
+plan_read : (d : Data) → Read (IsPipelineOf (beam_in d)) (plan_of d)
 plan_read d =
-    read_with (λ version. version ≡ 1) IsPipeline (version_of d) _ (version_one d)
-    (λ version one. read_then IsPipeline (array_of d) _ (λ array. read_then IsPipeline (names_of array) _
-    (λ names. read_then IsPipeline (nodes_of names array) _ (λ nodes. checked_at (record { version = version; nodes = plan_nodes nodes }) _ refl one))))
+    read_with (IsVersionOf (beam_in d)) (IsPipelineOf (beam_in d)) (version_of d) _ (version_read d)
+    (λ version known. read_then (IsPipelineOf (beam_in d)) (array_of d) _ (λ array. read_then (IsPipelineOf (beam_in d)) (names_of array) _
+    (λ names. read_then (IsPipelineOf (beam_in d)) (nodes_of names array) _ (λ nodes. checked_at (beam_in d) (record { version = version; nodes = plan_nodes nodes }) _ refl known))))
 
-document_read : (len : ℕ) (long : Bool) (o : Option Data) → Read IsPipeline (document_at len long o)
+document_read : (len : ℕ) (long : Bool) (o : Option Data) → Read (IsPipelineOf (option_and_then beam_in o)) (document_at len long o)
 document_read len true o = tt
 document_read len false None = tt
 document_read len false (Some d) = plan_read d
 
-pub plans_are_pipelines : (bytes : List ℕ) (plan : Plan) → document_of bytes ≡ Ok plan → IsChecked plan × (plan.version ≡ 1)
-plans_are_pipelines bytes plan e = subst (Read IsPipeline) e (document_read (length bytes) (nat_lt longest_document (length bytes)) (json_of bytes))
+pipeline_of : (bytes : List ℕ) (plan : Plan) → document_of bytes ≡ Ok plan → IsPipelineOf (beam_of bytes) plan
+pipeline_of bytes plan e = subst (Read (IsPipelineOf (beam_of bytes))) e (document_read (length bytes) (nat_lt longest_document (length bytes)) (json_of bytes))
+
+pub are_pipelines : (bytes : List ℕ) (plan : Plan) → document_of bytes ≡ Ok plan → IsChecked plan
+are_pipelines bytes plan e = (pipeline_of bytes plan e).pipeline
+
+pub have_their_version : (bytes : List ℕ) (plan : Plan) → document_of bytes ≡ Ok plan → (beam_of bytes ≡ Some plan.version) × ((plan.version ≡ 1) ⊎ (plan.version ≡ 2))
+have_their_version bytes plan e = let v = (pipeline_of bytes plan e).version in (v.own, v.known)

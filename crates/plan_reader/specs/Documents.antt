@@ -1,17 +1,17 @@
 -- What a plan document means: the plan, or the first rule that the document breaks. It is a function of the value that its JSON text
 -- reads as.
 use Rattle.std.specs.Prelude.{ℕ, ◌≤◌, IfOk, ◌&&◌, List, length, nat_le, nat_lt, if◌then◌else◌, Option, Some, None, is_some, ok_or, Ok, Err}
-use Rattle.std.specs.Option.{option_map_or}
+use Rattle.std.specs.Option.{option_and_then, option_map_or}
 use Rattle.std.specs.Str.{is_utf8}
 use Rattle.serde_json.specs.Data.{Data, Num}
-use Rattle.serde_json.specs.Find.{as_array, as_object, as_u64}
+use Rattle.serde_json.specs.Find.{as_array, as_number, as_object, as_u64}
 use Rattle.serde_json.specs.Read.{read}
 use Rattle.beam_values.specs.Checked.{graph_refusal}
 use Rattle.beam_values.specs.declared.plan.Plan.{Plan}
 use Rattle.plan_reader.specs.declared.refusal.PlanKey.TheVariants as key
 use Rattle.plan_reader.specs.declared.refusal.PlanRefusal.{PlanRefusal}
 use Rattle.plan_reader.specs.declared.refusal.PlanRefusal.TheVariants.{Syntax, Field, Graph, Version, Length}
-use Rattle.plan_reader.specs.Forms.{◌>>=◌, needed, has_only, any_number_in, items_list}
+use Rattle.plan_reader.specs.Forms.{◌>>=◌, value_of, needed, has_only, any_number_in, items_list}
 use Rattle.plan_reader.specs.Keys.{document_keys}
 use Rattle.plan_reader.specs.Nodes.{names_of, nodes_of}
 use Rattle.plan_reader.specs.Places.{at_top}
@@ -21,13 +21,17 @@ use Rattle.plan_reader.specs.Refusals.{Meaning}
 -- ---- the top object
 
 abbrev pub latest_version : ℕ
-latest_version = 1
+latest_version = 2
 
 -- a whole number from 1 to the latest version
 abbrev pub version_in : Num → Meaning ℕ
 version_in number = do
   version ← ok_or (as_u64 number) Version
   if nat_le 1 version && nat_le version latest_version then Ok version else Err Version
+
+-- the whole number that the key `beam` has, where it has one
+abbrev pub beam_in : Data → Option ℕ
+beam_in d = option_and_then as_u64 (option_and_then as_number (value_of key.Beam d))
 
 -- the version of an object
 abbrev pub version_of : Data → Meaning ℕ
@@ -81,6 +85,9 @@ length_refusal len = if nat_lt longest_document len then Some (Length len) else 
 -- the value of the JSON text, where the bytes are one
 abbrev pub json_of : List ℕ → Option Data
 json_of bytes = if is_utf8 bytes then read bytes else None
+
+abbrev pub beam_of : List ℕ → Option ℕ
+beam_of bytes = option_and_then beam_in (json_of bytes)
 
 abbrev pub text_of : List ℕ → Meaning Plan
 text_of bytes = ok_or (json_of bytes) Syntax >>= plan_of

@@ -28,9 +28,13 @@ whole n = number (unsigned n)
 abbrev names : List (List ℕ) → Data
 names words = array (items (map string words))
 
+-- {"beam":VERSION,"nodes":[..]}
+abbrev document_at : ℕ → List Data → Data
+document_at version nodes = object (members ((codes "beam", whole version) ∷ (codes "nodes", array (items nodes)) ∷ []))
+
 -- {"beam":1,"nodes":[..]}
 abbrev document : List Data → Data
-document nodes = object (members ((codes "beam", whole 1) ∷ (codes "nodes", array (items nodes)) ∷ []))
+document nodes = document_at 1 nodes
 
 -- a node of this name and kind, and its further members
 abbrev node : List ℕ → List ℕ → List (List ℕ × Data) → Data
@@ -71,15 +75,15 @@ without_nodes : refused (object (members ((codes "beam", whole 1) ∷ []))) ≡ 
 unfolding digits
 without_nodes = refl
 
-of_version_0 : refused (object (members ((codes "beam", whole 0) ∷ (codes "nodes", array no_items) ∷ []))) ≡ codes "6 version"
+of_version_0 : refused (document_at 0 []) ≡ codes "6 version"
 unfolding digits
 of_version_0 = refl
 
-of_version_2 : refused (object (members ((codes "beam", whole 2) ∷ (codes "nodes", array no_items) ∷ []))) ≡ codes "6 version"
+of_version_2 : refused (document_at 2 []) ≡ codes "5 graph 1 empty"
 unfolding digits
 of_version_2 = refl
 
-of_version_3 : refused (object (members ((codes "beam", whole 3) ∷ (codes "nodes", array no_items) ∷ []))) ≡ codes "6 version"
+of_version_3 : refused (document_at 3 []) ≡ codes "6 version"
 unfolding digits
 of_version_3 = refl
 
@@ -167,3 +171,6 @@ read_write = record { kind = Write (codes "w"); inputs = 0 ∷ [] }
 
 read : plan_of (document (source ∷ write ∷ [])) ≡ Ok (record { version = 1; nodes = read_source ∷ read_write ∷ [] })
 read = refl
+
+read_at_2 : plan_of (document_at 2 (source ∷ write ∷ [])) ≡ Ok (record { version = 2; nodes = read_source ∷ read_write ∷ [] })
+read_at_2 = refl

@@ -31,7 +31,7 @@ pub fn length_refusal(len: u64) -> Option<PlanRefusal>
 }
 
 /// The latest version of a document that is read.
-const LATEST_VERSION: u64 = 1;
+const LATEST_VERSION: u64 = 2;
 
 /// A checked pipeline, and the names that its document gives its nodes, each by the number of the node.
 #[derive(Debug, Drop)]

@@ -97,7 +97,7 @@ pub enum PlanRefusal {
     Number(Place),
     /// The plan is read, and is no pipeline.
     Graph(GraphRefusal),
-    /// The document isn't of version 1.
+    /// The document is of another version than 1 and 2.
     Version,
     /// The document has this many bytes, which are too many. They aren't read.
     Length(u64),

@@ -2,3 +2,4 @@ pub mod Opens
 pub mod Stopped
 pub mod SameLengths
 pub mod PlanRuns
+pub mod PlanEnds

@@ -37,7 +37,7 @@ use Rattle.worker_loop.specs.declared.workers.WorkerEnd.TheVariants as end
 use Rattle.bundle_work.proofs.Told.{told_by_each}
 use Rattle.run_engine.specs.Kits.{ObservedKits}
 use Rattle.run_engine.specs.Openings.{AreOpenedByAll}
-use Rattle.run_engine.specs.PlanRun.{AreFirstLengths, lengths_of_first, IsEndOfBook, IsOutcomeWhere, IsPlanEnd, IsSpent, IsStatusAfter, IsStoppedBy, surroundings_of}
+use Rattle.run_engine.specs.PlanRun.{AreFirstLengths, lengths_of_first, IsEndedBy, IsEndOfBook, IsOutcomeWhere, IsPlanEnd, IsSpent, IsStatusAfter, IsStoppedBy, surroundings_of}
 use Rattle.bundle_work.specs.Reading.{opened_lengths}
 use Rattle.run_engine.specs.declared.run_end.RunEnd.{RunEnd}
 use Rattle.command_ends.specs.declared.status.Status.{Status}
@@ -181,17 +181,27 @@ module _ (seen : ObservedKits) (none_before : seen.shelf.before ≡ 0) (none_bef
     low : (b.calls ≤ greatest_count) × (b.reads ≤ greatest_count)
     low = counts_low seen.store.files b is_reached
 
+    less_calls : b.calls ≤ rise seen.shelf.before seen.shelf.after
+    less_calls = rose_by seen.shelf.before seen.shelf.after b.calls none_before low.0 calls
+
+    less_reads : b.reads ≤ rise seen.store.before seen.store.after
+    less_reads = rose_by seen.store.before seen.store.after b.reads none_before' low.1 reads
+
+    stop_noted : (note : FaultNote) → b.stopped ≡ Some (stop.Spent note) → IsStopNoted b (Some (stop.Spent note))
+    stop_noted note is = subst (IsStopNoted b) is (noted seen.store.files b is_reached)
+
+    stopped_by : (note : FaultNote) → b.stopped ≡ Some (stop.Spent note) → IsStoppedBy seen note b
+    stopped_by note is = record { noted = is; beside = (stop_noted note is).1; calls = less_calls; reads = less_reads }
+
     spent : (note : FaultNote) → b.stopped ≡ Some (stop.Spent note) → IsSpent seen options.attempts note
     spent note is =
-        let attempt : note.attempt ≡ options.attempts = subst (IsStopNoted b) is (noted seen.store.files b is_reached) ∙ ap (λ (o : Options). o.attempts) (book.options ∙ with_options) in
+        let attempt : note.attempt ≡ options.attempts = (stop_noted note is).0 ∙ ap (λ (o : Options). o.attempts) (book.options ∙ with_options) in
         let counts = stop_counted seen.store.files b is_reached note is in
-        let more = rose_by seen.shelf.before seen.shelf.after b.calls none_before low.0 calls in
-        let more' = rose_by seen.store.before seen.store.after b.reads none_before' low.1 reads in
-        record { attempt = attempt; counted = omega (arith, sym attempt, counts.0, more, more'); cause = by note.cause counts.1 more more' }
+        record { attempt = attempt; counted = omega (arith, sym attempt, counts.0, less_calls, less_reads); cause = by note.cause counts.1 }
       where
-        by : (cause : Cause) → 0 < count_by cause b.calls b.reads → b.calls ≤ rise seen.shelf.before seen.shelf.after → b.reads ≤ rise seen.store.before seen.store.after → IsCountedAs seen.shelf seen.store cause
-        by Call some more more' = omega (arith, some, more)
-        by Read some more more' = omega (arith, some, more')
+        by : (cause : Cause) → 0 < count_by cause b.calls b.reads → IsCountedAs seen.shelf seen.store cause
+        by Call some = omega (arith, some, less_calls)
+        by Read some = omega (arith, some, less_reads)
 
     pub plan_ends : (ends : List WorkerEnd) (entries : List Entry) → 0 < length ends → EachEndsAs setting ends entries → AllByRecursion (λ entry. IsPassEnded b entry.ending) entries
         → (e : RunEnd) → IsEndOfBook b e → IsPlanEnd seen plan options e.status e.outcome
@@ -200,10 +210,10 @@ module _ (seen : ObservedKits) (none_before : seen.shelf.before ≡ 0) (none_bef
         by : (was : Option StopCause) → b.stopped ≡ was → IsStatusAfter was e.status → IsPlanEnd seen plan options e.status e.outcome
         by None running tells =
             subst (λ (s : Status). IsPlanEnd seen plan options s e.outcome) (sym tells)
-            (is.outcome, is.some, outcome_where IsEnded (finished setting b running ends entries some ended books) is.outcome e is refl)
+            (is.outcome, is.some, outcome_where (IsEndedBy seen) (record { ended = finished setting b running ends entries some ended books; calls = less_calls; reads = less_reads }) is.outcome e is refl)
         by (Some (stop.Spent note)) stopped tells =
             subst (λ (s : Status). IsPlanEnd seen plan options s e.outcome) (sym tells) (
-              (is.outcome, is.some, outcome_where (IsStoppedBy seen note) (record { noted = stopped; calls = rose_by seen.shelf.before seen.shelf.after b.calls none_before low.0 calls; reads = rose_by seen.store.before seen.store.after b.reads none_before' low.1 reads }) is.outcome e is refl),
+              (is.outcome, is.some, outcome_where (IsStoppedBy seen note) (stopped_by note stopped) is.outcome e is refl),
               spent note stopped,
             )
         by (Some stop.NoMemory) stopped tells = absurd tells

@@ -107,9 +107,11 @@ keeps_stops told = record {
   claims = λ b slot p piece attempted known h works may. record { stop = h.stop };
   splits = λ b slot at piece attempted known h works inside behind within. record { stop = h.stop };
   commits = λ b slot job receipt cells fired marks known h made. record { stop = h.stop };
-  fails = λ b slot at job cause known h works.
+  fails = λ b slot at job cause known h works fresh whole.
       failed_to b slot at job cause (ends_run b job cause) known.attempts.calls known.attempts.reads (tried_at_most b slot job known works)
-      (omega (arith, below_limit b slot job known works, known.formed.allowed.attempts.1)) h.stop;
+      (omega (arith, below_limit b slot job known works fresh, known.formed.allowed.attempts.1)) h.stop;
+  breaks = λ b slot at piece attempted known h works fresh is.
+      record { stop = λ note stopped. still_counted note b.calls b.reads (raised b.calls) b.reads (omega (arith, known.attempts.calls)) (omega arith) (h.stop note stopped) };
   stops = λ b known h. record { stop = stopped_counted b b.stopped refl h.stop };
 }
 

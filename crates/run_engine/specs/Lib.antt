@@ -1,3 +1,4 @@
 pub mod Kits
 pub mod Openings
 pub mod PlanRun
+pub mod SetAside

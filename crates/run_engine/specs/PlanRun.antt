@@ -1,7 +1,9 @@
 -- How a run of a plan ends: the outcome is the data of the run's own final book.
-use Rattle.std.specs.Prelude.{◌≡◌, ℕ, ◌+◌, ◌≤◌, List, [], ◌∷◌, map, Option, Some, None}
+use Rattle.std.specs.Prelude.{◌≡◌, ◌⊎◌, ℕ, ◌+◌, ◌≤◌, true, false, List, [], ◌∷◌, map, Option, Some, None}
 use Rattle.std.specs.List.{All}
+use Rattle.beam_values.specs.Nodes.{has_kind, is_source_kind}
 use Rattle.beam_values.specs.Storable.{IsStorable}
+use Rattle.beam_values.specs.declared.fault.Cause.TheVariants.{Read}
 use Rattle.beam_values.specs.declared.fault.FaultNote.{FaultNote}
 use Rattle.beam_values.specs.declared.options.Options.{Options}
 use Rattle.beam_values.specs.declared.outcome.Outcome.{Outcome}
@@ -13,7 +15,7 @@ use Rattle.beam_values.specs.declared.plan.Plan.{Plan}
 use Rattle.beam_ports.specs.Counts.{rise}
 use Rattle.beam_model.specs.Positions.{item_len, items}
 use Rattle.beam_ports.specs.Observed.{WhereTold}
-use Rattle.book_core.specs.Book.{SeenBook}
+use Rattle.book_core.specs.Book.{SeenBook, sets_aside}
 use Rattle.book_core.specs.Calls.{IsOutcomeOf}
 use Rattle.book_core.specs.Runs.{AreLengthsOf, AreTold, HonestlyReached, IsEnded}
 use Rattle.book_core.specs.Work.{Surroundings}
@@ -41,9 +43,17 @@ pub record IsOutcomeWhere (known : Surroundings) (plan : Plan) (options : Option
   -- the numbers in panes have 64 bits
   pub storable : All (λ pane. IsStorable pane.element.value) o.panes
 
--- the book was stopped by a fail with this note, and each call and each read that failed was counted
+-- the book is ended, and each call and each read that failed was counted
+pub record IsEndedBy (kits : ObservedKits) (b : SeenBook) : Type 0 where
+  pub ended : IsEnded b
+  pub calls : b.calls ≤ rise kits.shelf.before kits.shelf.after
+  pub reads : b.reads ≤ rise kits.store.before kits.store.after
+
+-- The book was stopped by a fail with this note, and each call and each read that failed was counted. Where positions are set aside it was a read, or of a node
+-- that is no source.
 pub record IsStoppedBy (kits : ObservedKits) (note : FaultNote) (b : SeenBook) : Type 0 where
   pub noted : b.stopped ≡ Some (stop.Spent note)
+  pub beside : sets_aside b.plan ≡ true → (note.cause ≡ Read) ⊎ (has_kind is_source_kind b.plan note.node ≡ false)
   pub calls : b.calls ≤ rise kits.shelf.before kits.shelf.after
   pub reads : b.reads ≤ rise kits.store.before kits.store.after
 
@@ -53,10 +63,10 @@ pub record IsSpent (kits : ObservedKits) (attempts : ℕ) (note : FaultNote) : T
   pub counted : attempts ≤ rise kits.shelf.before kits.shelf.after + rise kits.store.before kits.store.after
   pub cause : IsCountedAs kits.shelf kits.store note.cause
 
--- Ok: the book is ended. A work fault: a fail stopped it, and its data is handed out. Else there was no memory, and nothing is.
+-- Ok: the book is ended, and what failed was counted. A work fault: a fail stopped it, and its data is handed out. Else there was no memory, and nothing is.
 abbrev pub IsPlanEnd : ObservedKits → Plan → Options → Status → Option Outcome → Type 0
 IsPlanEnd kits plan options status.Ok outcome =
-    (o : Outcome) × (outcome ≡ Some o) × IsOutcomeWhere (surroundings_of kits) plan options IsEnded o
+    (o : Outcome) × (outcome ≡ Some o) × IsOutcomeWhere (surroundings_of kits) plan options (IsEndedBy kits) o
 IsPlanEnd kits plan options (status.WorkFault note) outcome =
     ((o : Outcome) × (outcome ≡ Some o) × IsOutcomeWhere (surroundings_of kits) plan options (IsStoppedBy kits note) o)
     × IsSpent kits options.attempts note

@@ -15,6 +15,7 @@ ghost use Rattle.run_engine.specs.Openings.{AreOpenedByAll};
 ghost use Rattle.run_engine.specs.PlanRun.{AreFirstLengths, IsEndOfBook};
 ghost use Rattle.bundle_work.specs.Reading.{opened_lengths};
 ghost use Rattle.run_engine.specs.PlanRun.{lengths_of_first, IsPlanEnd, IsStatusAfter};
+ghost use Rattle.run_engine.specs.SetAside.{AtOk, ComesToItsEnd, HasDeadLetters};
 
 use crate::run_end::RunEnd;
 use beam_ports::{Gate, Opened, Store};
@@ -24,6 +25,11 @@ use book_core::{Book, look_at_panes};
 use bundle_work::{Kit, lengths_of, readers_of};
 use command_ends::Status;
 use dofn_traits::Shelf;
+use ended_runs::laws::{
+    dead_positions_are_poison, outcomes_have_their_dead_letters,
+    runs_that_set_aside_are_stopped_by_reads, runs_without_poison_fail_by_reads,
+    runs_without_poison_positions_fail_by_reads,
+};
 use pipeline_graph::Graph;
 use pipeline_graph::laws::{
     nodes_have_inputs_and_settings_of_their_kind, plans_are_small_and_write_something,
@@ -36,7 +42,8 @@ use worker_table::{Table, WorkerPass};
 
 /// Runs a checked plan with one worker for each kit, in threads of their own. The kits' files are those of
 /// the plan: jobs are taken, worked and committed or given back, until none is left, one has failed as
-/// often as the options allow, or there is no memory. The outcome is the data of the run's own book.
+/// often as the options allow, or there is no memory. A plan of version 2 goes on without a position whose calls
+/// fail so often. The outcome is the data of the run's own book.
 pub fn run_plan<R: Threads + Wait + Sync, F: Shelf, S: Store, G: Gate>(
     rt: &R,
     alloc: Global,
@@ -51,9 +58,22 @@ pub fn run_plan<R: Threads + Wait + Sync, F: Shelf, S: Store, G: Gate>(
     requires opened { AreOpenedByAll S.files S.opened graph kits.old }
     ensures ended { IsPlanEnd (observed_kits F.Shelf S.Store kits.old kits.new)
         graph options.now result.status result.outcome }
+
+    // Which positions are dead at Ok: none of a plan of version 1, and (told) just those that are poison where
+    // functions fail on poison alone.
+    ensures dead_letters { AtOk result.status result.outcome (HasDeadLetters
+        (observed_kits F.Shelf S.Store kits.old kits.new) options.now.attempts) }
+    ensures complete { ComesToItsEnd (observed_kits F.Shelf S.Store kits.old kits.new)
+        graph options.now result.status }
     ensures lengths { IfSome result.outcome (λ o. o.files ≡ lengths_of_first graph kits.old) }
     ensures kept { EachBecomes kits.old kits.new (RunsKit F.Shelf S.Store) }
 {
+    honest_runs_are_runs();
+    outcomes_have_their_dead_letters();
+    dead_positions_are_poison();
+    runs_without_poison_fail_by_reads();
+    runs_that_set_aside_are_stopped_by_reads();
+    runs_without_poison_positions_fail_by_reads();
     match run_book(rt, alloc, graph, options, kits, gate) {
         Ok(end) => end,
         Err(NoMemory) => RunEnd {

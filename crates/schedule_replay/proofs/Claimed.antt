@@ -15,7 +15,7 @@ use Rattle.book_core.specs.declared.live.Live.{Live}
 use Rattle.book_core.specs.declared.live.Live.TheVariants as live
 use Rattle.book_core.proofs.Reaching.{step_same}
 use Rattle.chain_exec.specs.Causes.{ObservedShelf}
-use Rattle.known_jobs.specs.Calls.{CanFailAs, HasAttempted, IsJobIn}
+use Rattle.known_jobs.specs.Calls.{CanFailAs, HasAttempted, IsFreshJob, IsJobIn}
 use Rattle.known_jobs.specs.Jobs.{KnownJob, known_at, known_in}
 use Rattle.lone_worker.specs.Alone.{IsBookIn}
 use Rattle.lone_worker.specs.Work.{Base, IsEmittedBy, IsFaultOf, IsNextOfJob, IsSound, IsWorkAt, IsClaimDone as IsPositionDone, is_granted}
@@ -27,11 +27,12 @@ use Rattle.lone_worker.specs.declared.work.Work.{Work}
 use Rattle.schedule_replay.specs.Drains.{AreEmittedOver}
 use Rattle.schedule_replay.specs.Lines.{IsClaimed}
 use Rattle.schedule_replay.specs.Shown.{shown, shown_slot, working_of}
-use Rattle.schedule_replay.specs.Standing.{AreHonest, HasClaimed, IsSlotAt, IsStanding, claimed_of, emitted_after}
+use Rattle.schedule_replay.specs.Standing.{AreHonest, HasClaimed, IsFailable, IsSlotAt, IsStanding, claimed_of, emitted_after}
 use Rattle.schedule_replay.specs.Stands.{Working}
 use Rattle.schedule_replay.specs.Works.{Fault, Worked}
 use Rattle.schedule_replay.specs.declared.stand.Stand.{Stand as Stood}
 use Rattle.lone_worker.proofs.Leading.{in_same}
+use Rattle.schedule_replay.proofs.Fails.{failable_by, job_known, may_by}
 use Rattle.schedule_replay.proofs.Noted.{inside, seen_work, slot_works}
 use Rattle.schedule_replay.proofs.Slotted.{shown_set}
 use Rattle.schedule_replay.proofs.Steps.{Sets, claiming_sets, set_at, stands_then}
@@ -74,10 +75,18 @@ module _ (base : Base) (old : Stood) (standing : IsStanding base old) (slot : �
     pub claim_attempts : HasAttempted (known_at new slot)
     claim_attempts = subst HasAttempted (sym known_is) tt
 
+    -- no spent piece is claimed from
+    claim_failable : IsWorkAt base (known_at new slot) later → IsFailable later.job later.stage
+    claim_failable at =
+        let now = job_known base (known_at new slot) later.job later at in
+        let is : Some known ≡ Some now.now = sym known_is ∙ now.is in
+        let same : known ≡ now.now = cc in
+        failable_by later.job later.stage (may_by later.job (now.fresh_then (subst (λ (k : KnownJob). IsFreshJob k.job) same step.works.fresh)))
+
     pub claim_stands : (fin : Stood) → fin.book ≡ new → fin.works.items ≡ slice_set old.works.items slot (Some later) → AreHeldOnce b
         → IsPositionDone base.setting shelf store (known_at new slot) work later end → IsWorkAt base (known_at new slot) later → IsStanding base fin
     claim_stands fin book after held done at =
-        let own : IsSlotAt base (known_at new slot) (Some (Some later)) = (at, subst (IsJobIn base.setting) (sym (job_same end done)) (slot_works base old standing slot work has).1) in
+        let own : IsSlotAt base (known_at new slot) (Some (Some later)) = (at, subst (IsJobIn base.setting) (sym (job_same end done)) (slot_works base old standing slot work has).1, claim_failable at) in
         stands_then base old new fin slot (Some later) standing (slice_get_within old.works.items slot (Some work) has) (Some live_now) told_files (Claim work.next) (Claimed (is_granted end)) held step sets own book after
 
     in_now : IsBookIn base.setting new

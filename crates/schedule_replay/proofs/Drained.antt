@@ -135,10 +135,10 @@ module _ (base : Base) (emitted : ℕ) (s : Stand) (ends : ends_job (drain_line 
   fails_stage whole stage.Over failed = absurd (cc)
   fails_stage whole (stage.Faulted at cause) failed = refl
 
-  fails_at : (work : Option (Option Working)) → has_failed work ≡ true → (drain_line bundle emitted work ≡ line.Fail 0) × (may_fail work ≡ true)
+  fails_at : (work : Option (Option Working)) → has_failed work ≡ true → drain_line bundle emitted work ≡ line.Fail 0
   fails_at None failed = absurd (cc)
   fails_at (Some None) failed = absurd (cc)
-  fails_at (Some (Some work)) failed = (fails_stage work.job work.stage failed, refl)
+  fails_at (Some (Some work)) failed = fails_stage work.job work.stage failed
 
   commits_stage : (whole : Job) (at : Stage) → is_faulted at ≡ false → ends_job (line_of_stage bundle emitted whole at) ≡ true → (line_of_stage bundle emitted whole at ≡ line.Commit 0) × (may_commit_in whole at ≡ true)
   commits_stage (job.Span piece) stage.Open failed ends = (by (nat_lt emitted bundle) ends, refl)
@@ -159,11 +159,10 @@ module _ (base : Base) (emitted : ℕ) (s : Stand) (ends : ends_job (drain_line 
   pub may_commit_now : has_failed (work_at s 0) ≡ false → may_commit (work_at s 0) ≡ true
   may_commit_now failed = (commits_at (work_at s 0) failed ends).1
 
-  pub fail_line : (new : Stand) (spent : Bool) → has_failed (work_at s 0) ≡ true → HasFailed base.setting.known.told s new 0 spent → IsLastOfJob base emitted s new
-  fail_line new spent failed has =
-      let at = fails_at (work_at s 0) failed in
+  pub fail_line : (new : Stand) (spent : Bool) → has_failed (work_at s 0) ≡ true → may_fail (work_at s 0) ≡ true → HasFailed base.setting.known.told s new 0 spent → IsLastOfJob base emitted s new
+  fail_line new spent failed may has =
       let one : Drained = record { steps = has.steps; works = []; text = told_text (answered.Failed 0 spent); stand = new; emitted = emitted } in
-      record { one = one; is = drained_by base emitted s one (line.Fail 0) at.0 at.1 has.done tt refl; stand = refl; none = refl; same = refl }
+      record { one = one; is = drained_by base emitted s one (line.Fail 0) (fails_at (work_at s 0) failed) may has.done tt refl; stand = refl; none = refl; same = refl }
 
   pub commit_line : (new : Stand) (panes drops : ℕ) → has_failed (work_at s 0) ≡ false → HasCommitted base.setting.known.told s new 0 panes drops → IsLastOfJob base emitted s new
   commit_line new panes drops failed has =

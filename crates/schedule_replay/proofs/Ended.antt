@@ -1,24 +1,24 @@
 -- A slot's job was committed or failed, and the slot is free.
-use Rattle.std.proofs.Common.{◌≡◌, inl, inr, ℕ, ◌-◌, ◌≤◌, Bool, true, List, [], ◌∷◌, ◌++◌, length, length-append, map, refl, sym, ap, ◌∙◌, subst, arith}
+use Rattle.std.proofs.Common.{◌≡◌, ℕ, ◌-◌, ◌≤◌, Bool, true, List, [], ◌∷◌, ◌++◌, length, length-append, map, refl, sym, ap, ◌∙◌, subst, arith}
 use Rattle.std.specs.Prelude.{◌≤ℤ◌, Option, Some, None, slice_get, slice_set}
 use Rattle.std.proofs.lemmas.Option.{slice_get_within}
 use Rattle.beam_values.specs.Times.{greatest_time}
 use Rattle.beam_values.specs.declared.fault.Cause.{Cause}
-use Rattle.beam_values.specs.declared.piece.Piece.{Piece}
 use Rattle.bundle_commit.specs.declared.job.Job.{Job}
 use Rattle.bundle_commit.specs.declared.job.Job.TheVariants as job
 use Rattle.bundle_commit.specs.declared.job.Receipt.{Receipt}
 use Rattle.book_core.specs.Book.{SeenBook, slot_at}
 use Rattle.book_core.specs.Calls.{CanFail}
 use Rattle.book_core.specs.Facts.{AreHeldOnce}
+use Rattle.book_core.specs.Jobs.{attempted_of, job_of}
 use Rattle.book_core.specs.Steps.{Answer, CanCommit, Commit, Committed, Fail, IsFailing, Step}
 use Rattle.book_core.specs.declared.live.Live.{Live}
-use Rattle.known_jobs.specs.Calls.{CanCommitAs}
+use Rattle.known_jobs.specs.Calls.{CanCommitAs, IsFreshJob}
 use Rattle.known_jobs.specs.Carried.{can_commit}
 use Rattle.known_jobs.specs.Jobs.{KnownJob, known_at, known_in}
 use Rattle.known_jobs.specs.Known.{known_where}
 use Rattle.bundle_work.specs.Reading.{AreReaders}
-use Rattle.lone_worker.specs.Work.{Base, IsJobAt, IsRangeAt, IsWorkAt, receipt_of}
+use Rattle.lone_worker.specs.Work.{Base, IsWorkAt, receipt_of}
 use Rattle.lone_worker.specs.declared.work.Stage.{Stage}
 use Rattle.lone_worker.specs.declared.work.Stage.TheVariants as stage
 use Rattle.lone_worker.specs.declared.work.Work.{Work}
@@ -28,25 +28,14 @@ use Rattle.schedule_words.specs.declared.told.Told.TheVariants as answered
 use Rattle.schedule_replay.specs.Lines.{fault_of, spent_by}
 use Rattle.schedule_replay.specs.Shown.{shown, shown_slot, working_of}
 use Rattle.schedule_replay.specs.Standing.{HasCommitted, HasFailed, IsSlotAt, IsStanding}
-use Rattle.schedule_replay.specs.Stands.{Working, may_commit_in}
+use Rattle.schedule_replay.specs.Stands.{Working, may_commit_in, may_fail_in}
 use Rattle.schedule_replay.specs.declared.stand.Stand.{Stand as Stood}
+use Rattle.schedule_replay.proofs.Fails.{fresh_job, fresh_live, job_known}
 use Rattle.schedule_replay.proofs.Noted.{inside, seen_work, slot_works}
 use Rattle.schedule_replay.proofs.Slotted.{shown_set}
 use Rattle.schedule_replay.proofs.Steps.{committing_sets, failing_sets, set_none, stands_then}
 
 -- ---- what is known of a work
-
-module _ (base : Base) (known : Option KnownJob) where
-  range_known : (piece : Piece) (next : ℕ) (s : Stage) (staged : Receipt) → IsRangeAt base known piece next s staged → (k : KnownJob) × (known ≡ Some k)
-  range_known piece next stage.Open staged (inl fresh) = (_, fresh.range.claimed.is)
-  range_known piece next stage.Open staged (inr going) = (_, going.range.claimed.is)
-  range_known piece next stage.Over staged at = (_, at.0.range.claimed.is)
-  range_known piece next (stage.Faulted node cause) staged at = (_, at.range.claimed.is)
-
-  job_known : (whole : Job) (work : Work) → IsJobAt base known whole work → (k : KnownJob) × (known ≡ Some k)
-  job_known (job.Span piece) work at = range_known piece work.next work.stage work.staged at.0
-  job_known (job.Batch node first panes attempts) work at = (_, at.0)
-  job_known (job.Key node cell key span inputs state timers attempts) work at = (_, at.0)
 
 committable : (whole : Job) (s : Stage) → may_commit_in whole s ≡ true → IsCommittable whole s
 committable (job.Span piece) stage.Open may = tt
@@ -80,10 +69,17 @@ module _ (base : Base) (old : Stood) (standing : IsStanding base old) (slot : �
 
   -- the slot works it in the book
   pub works_at : (live : Live) × (slot_at b slot ≡ Some (Some live))
-  works_at = let known = job_known base (known_at b slot) work.job work at_work in works_where b slot known.0 known.1
+  works_at = let known = job_known base (known_at b slot) work.job work at_work in works_where b slot known.now known.is
 
-  pub can_fail_now : CanFail b slot
-  can_fail_now = works_at
+  -- and may fail it there
+  pub can_fail_now : may_fail_in work.job ≡ true → CanFail b slot
+  can_fail_now may =
+      let known = job_known base (known_at b slot) work.job work at_work in
+      let works = works_at in
+      let is : Some (record { job = job_of b.panes works.0; attempted = attempted_of works.0 }) ≡ Some known.now = sym (ap (known_in b.panes) works.1) ∙ known.is in
+      let same : record { job = job_of b.panes works.0; attempted = attempted_of works.0 } ≡ known.now = cc in
+      let fresh : IsFreshJob (job_of b.panes works.0) = subst (λ (k : KnownJob). IsFreshJob k.job) (sym same) (known.fresh_now (fresh_job work.job may)) in
+      (works.0, record { works = works.1; fresh = fresh_live b.panes works.0 fresh })
 
   -- ---- a commit
 

@@ -6,7 +6,7 @@ use Rattle.std.proofs.lemmas.List.{append-nil}
 use Rattle.beam_text.specs.Parts.{AppendsText}
 use Rattle.book_core.specs.Book.{SeenBook}
 use Rattle.schedule_replay.specs.Printing.{AreRangesPrinted}
-use Rattle.schedule_replay.specs.Replays.{IsEnding, IsFinished, IsRendered, break, done_line, live_line, pending_line}
+use Rattle.schedule_replay.specs.Replays.{IsEnding, IsFinished, IsRendered, break, done_line, live_line, pending_line, position_of}
 use Rattle.schedule_replay.proofs.Printing.{printed_behind}
 
 module _ (b : SeenBook) (old mid : List ℕ) (ranges : AreRangesPrinted b old mid) where
@@ -19,21 +19,24 @@ module _ (b : SeenBook) (old mid : List ℕ) (ranges : AreRangesPrinted b old mi
   abbrev pendings : List ℕ
   pendings = flat_map pending_line b.pending
 
+  abbrev positions : List ℕ
+  positions = flat_map position_of b.dead
+
   -- nothing more
   pub ends_there : (IsFinished b → ⊥) → AppendsText (IsEnding b) old mid
   ends_there unfinished = (
-    break ++ (dones ++ (lives ++ (pendings ++ []))),
+    break ++ (dones ++ (lives ++ (pendings ++ (positions ++ [])))),
     record { live = ranges.live; all = ranges.all; ascending = ranges.ascending; rest = []; finished = λ is. absurd (unfinished is); unfinished = λ _. refl; printed = refl },
-    ranges.printed ∙ ap (λ (l : List ℕ). old ++ (break ++ (dones ++ (lives ++ l)))) (sym (append-nil pendings)),
+    ranges.printed ∙ ap (λ (l : List ℕ). old ++ (break ++ (dones ++ (lives ++ (pendings ++ l))))) (sym (append-nil positions)),
   )
 
   -- the rendering
   pub ends_rendered : (new : List ℕ) → IsFinished b → ((text : List ℕ) × IsRendered b text × (new ≡ mid ++ (break ++ text))) → AppendsText (IsEnding b) old new
   ends_rendered new finished outcome =
       let more = break ++ outcome.0 in (
-        break ++ (dones ++ (lives ++ (pendings ++ more))),
+        break ++ (dones ++ (lives ++ (pendings ++ (positions ++ more)))),
         record { live = ranges.live; all = ranges.all; ascending = ranges.ascending; rest = more; finished = λ _. (outcome.0, outcome.1, refl); unfinished = λ un. absurd (un finished); printed = refl },
-        outcome.2 ∙ ap (λ (l : List ℕ). l ++ more) ranges.printed ∙ printed_behind old break dones lives pendings more,
+        outcome.2 ∙ ap (λ (l : List ℕ). l ++ more) ranges.printed ∙ printed_behind old break dones lives pendings positions more,
       )
 
 -- the rendering is that of the book as a take left it, which is the same

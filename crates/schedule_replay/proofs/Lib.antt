@@ -1,5 +1,6 @@
 pub mod Slotted
 pub mod Noted
+pub mod Fails
 pub mod Steps
 pub mod Traces
 pub mod Drained

@@ -7,6 +7,7 @@ use Rattle.std.specs.List.{list_any}
 use Rattle.std.proofs.lemmas.Bool.{and_parts}
 use Rattle.std.proofs.lemmas.Bool.Decides.{nat_tests}
 use Rattle.std.proofs.lemmas.Option.{slice_get_within}
+use Rattle.beam_values.specs.declared.fault.FaultNote.{FaultNote}
 use Rattle.beam_values.specs.declared.file_text.FileText.{FileText}
 use Rattle.beam_values.specs.declared.piece.FileLen.{FileLen}
 use Rattle.beam_values.specs.declared.piece.Piece.{Piece}
@@ -20,7 +21,7 @@ use Rattle.book_core.specs.Steps.{Answer, Finished, IsIdle, Nothing, Step, Stopp
 use Rattle.book_core.proofs.HeldMarks.{slice_get-set_other, slice_get-set_same}
 use Rattle.chain_exec.specs.Causes.{ObservedShelf}
 use Rattle.known_jobs.specs.Calls.{holds_end}
-use Rattle.lone_worker.specs.Work.{Base, IsNextOfJob, first_of, may_claim_in}
+use Rattle.lone_worker.specs.Work.{Base, IsNextOfJob, first_of, first_stage, may_claim_in, stage_by}
 use Rattle.lone_worker.specs.declared.work.ClaimEnd.{ClaimEnd}
 use Rattle.lone_worker.specs.declared.work.ClaimEnd.TheVariants as claim
 use Rattle.lone_worker.specs.declared.work.Stage.{Stage}
@@ -29,7 +30,7 @@ use Rattle.schedule_words.specs.declared.line.Line.TheVariants as line
 use Rattle.schedule_words.specs.declared.told.Claimed.{Claimed as ClaimTold}
 use Rattle.schedule_words.specs.declared.told.Claimed.TheVariants as claimed
 use Rattle.schedule_words.specs.declared.told.Took.{Took}
-use Rattle.schedule_replay.specs.Draining.{OthersRest, ends_job, may_work}
+use Rattle.schedule_replay.specs.Draining.{OthersRest, ends_job, has_ended, is_over, may_work}
 use Rattle.schedule_replay.specs.Drains.{drain_line, line_of_stage, stopped_by}
 use Rattle.schedule_replay.specs.Lines.{IsClaimed, IsWorkedOn, stage_of, took_of, work_of}
 use Rattle.schedule_replay.specs.Standing.{HasClaimed, HasRun, HasTaken, claimed_of, emitted_after}
@@ -173,8 +174,12 @@ module _ (told : Option (List FileText)) (s new : Stand) (what : Took) (has : Ha
       by (Some None) at free = first_then s new (work_of has.answer) has.done.later None at
       by (Some (Some work)) at free = absurd (cc)
 
-  begins : (whole : Job) → may_work (Some (Some (record { job = whole; next = first_of whole; stage = stage.Open }))) ≡ true
-  begins (job.Span piece) = refl
+  range_begins : (piece : Piece) (spent : Option FaultNote) → may_work (Some (Some (record { job = job.Span piece; next = piece.range.from; stage = stage_by spent }))) ≡ true
+  range_begins piece None = refl
+  range_begins piece (Some note) = refl
+
+  begins : (whole : Job) → may_work (Some (Some (record { job = whole; next = first_of whole; stage = first_stage whole }))) ≡ true
+  begins (job.Span piece) = range_begins piece piece.spent
   begins (job.Batch node first panes attempts) = refl
   begins (job.Key node cell key span inputs state timers attempts) = refl
 
@@ -233,8 +238,22 @@ works_job None may = absurd (cc)
 works_job (Some None) may = absurd (cc)
 works_job (Some (Some work)) may = refl
 
-pub runs_where : (work : Option (Option Working)) → may_work work ≡ true → may_claim work ≡ false → may_run work ≡ true
-runs_where work may none = subst (λ (b : Bool). (b || may_run work) ≡ true) none may
+-- a job that is neither claimed from nor run is over
+pub over_where : (work : Option (Option Working)) → may_work work ≡ true → may_claim work ≡ false → may_run work ≡ false → has_ended work ≡ true
+over_where work may no_claim no_run =
+    let rest : (may_run work || has_ended work) ≡ true = subst (λ (b : Bool). (b || (may_run work || has_ended work)) ≡ true) no_claim may in
+    subst (λ (b : Bool). (b || has_ended work) ≡ true) no_run rest
+
+over_stage : (bundle emitted : ℕ) (whole : Job) (at : Stage) → is_over at ≡ true → ends_job (line_of_stage bundle emitted whole at) ≡ true
+over_stage bundle emitted whole stage.Open over = absurd (cc)
+over_stage bundle emitted whole stage.Over over = refl
+over_stage bundle emitted whole (stage.Faulted at cause) over = absurd (cc)
+
+-- and is committed next
+pub over_ends : (bundle emitted : ℕ) (work : Option (Option Working)) → has_ended work ≡ true → ends_job (drain_line bundle emitted work) ≡ true
+over_ends bundle emitted None over = absurd (cc)
+over_ends bundle emitted (Some None) over = absurd (cc)
+over_ends bundle emitted (Some (Some work)) over = over_stage bundle emitted work.job work.stage over
 
 -- one more position emitted a value, or none did
 pub counts_on : (before left : ℕ) (emitted : Bool) → 0 < left → emitted_after before (claim.Worked emitted) + (left - from_bool emitted) ≡ before + left

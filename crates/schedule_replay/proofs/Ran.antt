@@ -3,6 +3,8 @@ use Rattle.std.proofs.Common.{◌≡◌, ℕ, ◌≤◌, Bool, true, false, List
 use Rattle.std.specs.Prelude.{Option, Some, None, is_some, not, slice_get, slice_set}
 use Rattle.std.proofs.lemmas.Option.{slice_get_within}
 use Rattle.beam_ports.specs.Observed.{ObservedStore}
+use Rattle.bundle_commit.specs.declared.job.Job.{Job}
+use Rattle.bundle_commit.specs.declared.job.Job.TheVariants as job
 use Rattle.book_core.specs.Book.{SeenBook}
 use Rattle.chain_exec.specs.Causes.{ObservedShelf}
 use Rattle.known_jobs.specs.Calls.{CanFailAs, IsJobIn}
@@ -17,13 +19,20 @@ use Rattle.schedule_words.specs.declared.told.Told.TheVariants as answered
 use Rattle.schedule_replay.specs.Lines.{IsWorkOf, stage_of}
 use Rattle.schedule_replay.specs.Shown.{shown, shown_slot, working_of}
 use Rattle.schedule_replay.specs.Standing.{AreHonest, HasRun, IsSlotAt, IsStanding}
-use Rattle.schedule_replay.specs.Stands.{Working}
+use Rattle.schedule_replay.specs.Stands.{Working, may_fail_in}
 use Rattle.schedule_replay.specs.Works.{Fault, Worked}
 use Rattle.schedule_replay.specs.declared.stand.Stand.{Stand as Stood}
+use Rattle.schedule_replay.proofs.Fails.{failable_by}
 use Rattle.schedule_replay.proofs.Noted.{seen_work, slot_works}
 use Rattle.schedule_replay.proofs.Slotted.{shown_set}
 use Rattle.schedule_replay.proofs.Steps.{stands_same}
 use Rattle.schedule_replay.proofs.Traces.{honest_fault, honest_sound}
+
+-- what is run is no piece
+runs_fresh : (whole : Job) (s : Stage) → may_run_in whole s ≡ true → may_fail_in whole ≡ true
+runs_fresh (job.Span piece) s may = absurd (cc)
+runs_fresh (job.Batch node first panes attempts) s may = refl
+runs_fresh (job.Key node cell key span inputs state timers attempts) s may = refl
 
 module _ (base : Base) (old : Stood) (standing : IsStanding base old) (slot : ℕ) (work later : Work) (has : slice_get old.works.items slot ≡ Some (Some work)) (may : may_run_in work.job work.stage ≡ true)
     (new : SeenBook) (same : new ≡ old.book) (shelf : ObservedShelf) (store : ObservedStore) where
@@ -46,8 +55,11 @@ module _ (base : Base) (old : Stood) (standing : IsStanding base old) (slot : �
   pub run_stands : (fin : Stood) → fin.book ≡ new → fin.works.items ≡ slice_set old.works.items slot (Some later) → (worked : Bool)
       → IsJobRun base.setting shelf store (known_at new slot) work later worked → IsWorkAt base (known_at new slot) later → IsStanding base fin
   run_stands fin book after worked done at =
-      let own : IsSlotAt base (known_at b slot) (Some (Some later)) =
-      (subst (λ (x : SeenBook). IsWorkAt base (known_at x slot) later) same at, subst (IsJobIn base.setting) (sym (job_same worked done)) (slot_works base old standing slot work has).1) in
+      let own : IsSlotAt base (known_at b slot) (Some (Some later)) = (
+        subst (λ (x : SeenBook). IsWorkAt base (known_at x slot) later) same at,
+        subst (IsJobIn base.setting) (sym (job_same worked done)) (slot_works base old standing slot work has).1,
+        failable_by later.job later.stage (ap may_fail_in (job_same worked done) ∙ runs_fresh work.job work.stage may),
+      ) in
       stands_same base old new fin slot (Some later) standing (slice_get_within old.works.items slot (Some work) has) same own book after
 
   module _ (works_then : List (Option Working)) (after : works_then ≡ map shown_slot (slice_set old.works.items slot (Some later))) where

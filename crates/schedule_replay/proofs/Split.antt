@@ -7,6 +7,7 @@ use Rattle.std.proofs.lemmas.List.{append-nil, length-set}
 use Rattle.std.proofs.lemmas.Option.{slice_get_within}
 use Rattle.beam_values.specs.Tracking.{first_unattempted}
 use Rattle.beam_values.specs.declared.cell.Pane.{Pane}
+use Rattle.beam_values.specs.declared.fault.FaultNote.{FaultNote}
 use Rattle.beam_values.specs.declared.file_text.FileText.{FileText}
 use Rattle.beam_values.specs.declared.piece.Piece.{Piece}
 use Rattle.beam_values.specs.declared.plan.Plan.{Plan}
@@ -28,7 +29,7 @@ use Rattle.known_jobs.specs.Carried.{can_commit}
 use Rattle.known_jobs.specs.Jobs.{IsJobOf, KnownJob, known_at, known_in}
 use Rattle.known_jobs.specs.Known.{known_fit, known_split, split_behind}
 use Rattle.bundle_work.specs.Stretches.{attempted_of as attempted_in}
-use Rattle.lone_worker.specs.Work.{Base, IsJobAt, IsRangeAt, IsRangeOf}
+use Rattle.lone_worker.specs.Work.{Base, IsJobAt, IsRangeAt, IsRangeOf, IsRangeOver}
 use Rattle.lone_worker.specs.declared.work.Stage.{Stage}
 use Rattle.lone_worker.specs.declared.work.Stage.TheVariants as stage
 use Rattle.lone_worker.specs.declared.work.Work.{Work}
@@ -85,21 +86,31 @@ module _ (base : Base) (known after : Option KnownJob) (was : Piece) (attempted 
       let tried : first_unattempted was.range.from (Some last) ≡ first_unattempted was.range.from attempted = ap (first_unattempted was.range.from) (ap attempted_in one) in
       omega (arith, tried, behind)
 
+  over_then : (spent : Option FaultNote) (piece : Piece) (staged : Receipt) → IsRangeOver base spent piece known staged → IsRangeOver base spent piece after staged
+  over_then None piece staged over = (record { last = over.0.last; range = range_then piece (Some over.0.last) over.0.range }, given staged over.1)
+  over_then (Some note) piece staged over = (range_then piece None over.0, over.1)
+
   range_at : (piece : Piece) (next : ℕ) (s : Stage) (staged : Receipt) → IsRangeAt base known piece next s staged → IsRangeAt base after piece next s staged
   unfolding range_then
-  range_at piece next stage.Open staged (inl fresh) = inl (record { range = range_then piece None fresh.range; first = fresh.first; empty = fresh.empty })
+  range_at piece next stage.Open staged (inl fresh) = inl (record { range = range_then piece None fresh.range; fresh = fresh.fresh; first = fresh.first; empty = fresh.empty })
   range_at piece next stage.Open staged (inr going) = inr (record {
     last = going.last;
     range = range_then piece (Some going.last) going.range;
     inside = last_below going.last piece going.range;
+    fresh = going.fresh;
     place = going.place;
     reader = going.reader;
     at = going.at;
     is_for = going.is_for;
     worked = going.worked;
   })
-  range_at piece next stage.Over staged at = (record { last = at.0.last; range = range_then piece (Some at.0.last) at.0.range }, given staged at.1)
-  range_at piece next (stage.Faulted node cause) staged at = record { last = at.last; range = range_then piece (Some at.last) at.range }
+  range_at piece next stage.Over staged at = over_then piece.spent piece staged at
+  range_at piece next (stage.Faulted node cause) staged at = record {
+    last = at.last;
+    range = range_then piece (Some at.last) at.range;
+    from_start = at.from_start;
+    inside = last_below at.last piece at.range;
+  }
 
   other_job : (whole : Job) → ((piece : Piece) → whole ≡ job.Span piece → ⊥) → known ≡ Some (record { job = whole; attempted = None }) → ⊥
   other_job whole other at =
@@ -133,13 +144,13 @@ module _ (base : Base) (old : Stood) (standing : IsStanding base old) (slot num 
     behind = split_behind piece step.attempted num den at step.point
 
     known_is : known_at b slot ≡ Some (known_span piece step.attempted)
-    known_is = ap (known_in b.panes) step.works
+    known_is = ap (known_in b.panes) step.works.works
 
     slots : new.slots ≡ slice_set b.slots slot (Some live_then)
     slots = ap (λ (x : SeenBook). x.slots) step.is
 
     at_then : slot_at new slot ≡ Some (Some live_then)
-    at_then = set_at b new slot (Some live_then) (record { slots = slots; more = []; panes = ap (λ (x : SeenBook). x.panes) step.is ∙ sym (append-nil b.panes) }) (slice_get_within b.slots slot (Some (live.Span piece step.attempted)) step.works)
+    at_then = set_at b new slot (Some live_then) (record { slots = slots; more = []; panes = ap (λ (x : SeenBook). x.panes) step.is ∙ sym (append-nil b.panes) }) (slice_get_within b.slots slot (Some (live.Span piece step.attempted)) step.works.works)
 
     ordered : piece.range.from ≤ at
     ordered = live_ordered (cut_at piece at) (ap live_in at_then)
@@ -149,7 +160,7 @@ module _ (base : Base) (old : Stood) (standing : IsStanding base old) (slot num 
 
     fit_then : IsJobOf new.panes (known_at b slot) (slot_at new slot)
     fit_then =
-        let fit = subst (IsJobOf b.panes (known_at b slot)) step.works (known_fit b slot (known_span piece step.attempted) held known_is) in
+        let fit = subst (IsJobOf b.panes (known_at b slot)) step.works.works (known_fit b slot (known_span piece step.attempted) held known_is) in
         let cut = known_split b.panes (known_at b slot) piece step.attempted at behind step.inside fit in
         subst (IsJobOf new.panes (known_at b slot)) (sym at_then) (subst (λ (p : List Pane). IsJobOf p (known_at b slot) (Some (Some live_then))) (sym (ap (λ (x : SeenBook). x.panes) step.is)) cut)
 
@@ -171,7 +182,7 @@ module _ (base : Base) (old : Stood) (standing : IsStanding base old) (slot num 
     own : (noted : Option (Option Work)) → IsSlotAt base (known_at b slot) noted → IsSlotAt base (known_at new slot) noted
     own None is = tt
     own (Some None) is = let never : None ≡ Some (known_span piece step.attempted) = sym is ∙ known_is in absurd (cc)
-    own (Some (Some work)) is = (work_then base (known_at b slot) (known_at new slot) piece step.attempted at known_is known_then behind step.inside ordered given_then work.job work is.0, is.1)
+    own (Some (Some work)) is = (work_then base (known_at b slot) (known_at new slot) piece step.attempted at known_is known_then behind step.inside ordered given_then work.job work is.0, is.1, is.2)
 
     others : (other : ℕ) → (other ≡ slot → ⊥) → known_at new other ≡ known_at b other
     others other apart = known_other b new slot other (Some live_then) slots (ap (λ (x : SeenBook). x.panes) step.is) apart

@@ -61,7 +61,7 @@ module _ (base : Base) (shelf : ObservedShelf) (store : ObservedStore) (calls : 
       let work : Worked = record { job = known.job; attempted = known.attempted; fault = Some (record { at = at; cause = cause }) } in
       let one = IsHonestWork base.setting.known base.setting.plan in
       record {
-        each = All-cons one work [] honest (All-nil one);
+        each = All-cons one work [] honest.1 (All-nil one);
         traced = (counts_before shelf store, counts_after shelf store, before_same (counts_before shelf store), rises, counted_by cause counted, before_same (counts_after shelf store));
       }
 

@@ -22,9 +22,18 @@ use Rattle.schedule_replay.specs.Works.{Worked}
 abbrev pub OthersRest : Stand → Type 0
 OthersRest s = (other : ℕ) → (other ≡ 0 → ⊥) → has_job (work_at s other) ≡ false
 
--- a job goes on: it may be claimed from or run
+abbrev pub is_over : Stage → Bool
+is_over stage.Over = true
+is_over _ = false
+
+-- nothing more is worked of the job, as of a spent piece
+abbrev pub has_ended : Option (Option Working) → Bool
+has_ended (Some (Some work)) = is_over work.stage
+has_ended _ = false
+
+-- a job goes on: it may be claimed from, run or committed
 abbrev pub may_work : Option (Option Working) → Bool
-may_work work = may_claim work || may_run work
+may_work work = may_claim work || (may_run work || has_ended work)
 
 -- a job is committed or failed
 abbrev pub ends_job : Line → Bool

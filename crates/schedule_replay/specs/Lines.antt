@@ -8,7 +8,7 @@ use Rattle.book_core.specs.Book.{SeenBook}
 use Rattle.book_core.specs.Runs.{MadeStep}
 use Rattle.book_core.specs.Steps.{Action, Answer, Claim, Claimed, Commit, Committed, Fail, Finished, Nothing, Retried, Spent, Split, SplitAt, Step, Stopped, Take, TakenJob}
 use Rattle.known_jobs.specs.Jobs.{known_at}
-use Rattle.lone_worker.specs.Work.{IsNextOfJob, first_of}
+use Rattle.lone_worker.specs.Work.{IsNextOfJob, first_of, first_stage}
 use Rattle.lone_worker.specs.declared.work.Stage.{Stage}
 use Rattle.lone_worker.specs.declared.work.Stage.TheVariants as stage
 use Rattle.schedule_words.specs.Told.{told_text}
@@ -44,9 +44,9 @@ took_of Finished = Some took.Finished
 took_of Stopped = Some took.Stopped
 took_of _ = None
 
--- what the slot works then
+-- what the slot works then: a spent piece is committed next
 abbrev pub work_of : Answer → Option Working
-work_of (TakenJob job) = Some (record { job = job; next = first_of job; stage = stage.Open })
+work_of (TakenJob job) = Some (record { job = job; next = first_of job; stage = first_stage job })
 work_of _ = None
 
 pub record IsTakeDone (told : Option (List FileText)) (s : Stand) (slot : ℕ) (answer : Answer) (what : Took) (steps : List MadeStep) (works : List Worked) (text : List ℕ) (new : Stand) : Type 0 where

@@ -8,6 +8,7 @@ use Rattle.beam_values.specs.Storable.{IsStorable}
 use Rattle.beam_values.specs.declared.file_text.FileText.{FileText}
 use Rattle.beam_values.specs.declared.options.Options.{Options}
 use Rattle.beam_values.specs.declared.outcome.Outcome.{Outcome}
+use Rattle.beam_values.specs.declared.piece.Dead.{Dead}
 use Rattle.beam_values.specs.declared.piece.Done.{Done}
 use Rattle.beam_values.specs.declared.piece.FileLen.{FileLen}
 use Rattle.beam_values.specs.declared.piece.Piece.{Piece}
@@ -25,12 +26,12 @@ use Rattle.book_core.specs.Work.{Surroundings}
 use Rattle.known_jobs.specs.Jobs.{Setting}
 use Rattle.bundle_work.specs.declared.kit.Kit.{Kit}
 use Rattle.schedule_words.specs.Schedules.{line_of, lines_of}
-use Rattle.schedule_words.specs.Told.{range_line}
+use Rattle.schedule_words.specs.Told.{position_line, range_line}
 use Rattle.schedule_words.specs.declared.line.Line.{Line}
 use Rattle.schedule_words.specs.declared.line.Line.TheVariants as line
 use Rattle.schedule_replay.specs.Drains.{IsDrainDone}
 use Rattle.schedule_replay.specs.Lines.{IsOneDone}
-use Rattle.schedule_replay.specs.Stands.{Stand, Working, is_allowed}
+use Rattle.schedule_replay.specs.Stands.{Stand, is_allowed}
 use Rattle.schedule_replay.specs.Works.{AreHonestWorks, Counts, Worked}
 use Rattle.schedule_replay.specs.declared.schedule.ReplayRefusal.{ReplayRefusal}
 use Rattle.schedule_replay.specs.declared.schedule.ReplayRefusal.TheVariants.{Bad, NoMemory}
@@ -87,6 +88,9 @@ live_line done = range_line (codes "live") done.node done.item done.range
 abbrev pub pending_line : Piece → List ℕ
 pending_line piece = range_line (codes "pending") piece.node piece.item piece.range
 
+abbrev pub position_of : Dead → List ℕ
+position_of dead = position_line (codes "dead") dead.node dead.item dead.at
+
 -- a piece as a range of its item
 abbrev pub as_done : Piece → Done
 as_done piece = record { node = piece.node; item = piece.item; range = piece.range }
@@ -101,7 +105,7 @@ pub record IsRendered (b : SeenBook) (text : List ℕ) : Type 0 where
   pub is : IsOutcomeOf b outcome
   pub rendered : IsRendering outcome text
 
--- The ranges that are done, live and pending, each group ascending; and of a run that is finished, and of no other one, the rendering of its outcome.
+-- The ranges that are done, live and pending and the dead positions, each group ascending; and of a run that is finished, and of no other one, the rendering of its outcome.
 pub record IsEnding (b : SeenBook) (text : List ℕ) : Type 0 where
   pub live : List Done
   pub all : IsSameBag live (map as_done (live_pieces b))
@@ -109,7 +113,7 @@ pub record IsEnding (b : SeenBook) (text : List ℕ) : Type 0 where
   pub rest : List ℕ
   pub finished : IsFinished b → (rendering : List ℕ) × IsRendered b rendering × (rest ≡ break ++ rendering)
   pub unfinished : (IsFinished b → ⊥) → rest ≡ []
-  pub printed : text ≡ break ++ (flat_map done_line b.done ++ (flat_map live_line live ++ (flat_map pending_line b.pending ++ rest)))
+  pub printed : text ≡ break ++ (flat_map done_line b.done ++ (flat_map live_line live ++ (flat_map pending_line b.pending ++ (flat_map position_of b.dead ++ rest))))
 
 -- ---- the whole
 

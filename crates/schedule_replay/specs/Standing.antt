@@ -1,5 +1,5 @@
 -- What holds where a replay stands, and what a line that was worked leaves.
-use Rattle.std.specs.Prelude.{◌≡◌, ℕ, ◌<◌, ◌≤◌, Bool, not, List, [], length, slice_get, Option, Some, None}
+use Rattle.std.specs.Prelude.{◌≡◌, ℕ, ◌<◌, ◌≤◌, Bool, true, not, List, [], length, slice_get, Option, Some, None}
 use Rattle.bundle_commit.specs.declared.job.Job.{Job}
 use Rattle.bundle_commit.specs.declared.job.Job.TheVariants as job
 use Rattle.beam_values.specs.declared.file_text.FileText.{FileText}
@@ -11,6 +11,8 @@ use Rattle.known_jobs.specs.Calls.{IsJobIn}
 use Rattle.known_jobs.specs.Jobs.{KnownJob, known_at}
 use Rattle.lone_worker.specs.Alone.{IsBookIn}
 use Rattle.lone_worker.specs.Work.{Base, IsWorkAt}
+use Rattle.lone_worker.specs.declared.work.Stage.{Stage}
+use Rattle.lone_worker.specs.declared.work.Stage.TheVariants as stage
 use Rattle.lone_worker.specs.declared.work.Work.{Work}
 use Rattle.lone_worker.specs.declared.work.ClaimEnd.{ClaimEnd}
 use Rattle.lone_worker.specs.declared.work.ClaimEnd.TheVariants as claim
@@ -23,15 +25,20 @@ use Rattle.schedule_words.specs.declared.told.Took.{Took}
 use Rattle.schedule_replay.specs.Drains.{AreEmittedOver, and_one}
 use Rattle.schedule_replay.specs.Lines.{IsClaimDone, IsCommitDone, IsFailDone, IsRunDone, IsSplitDone, IsTakeDone}
 use Rattle.schedule_replay.specs.Replays.{IsLineDone}
-use Rattle.schedule_replay.specs.Stands.{Stand, work_at}
+use Rattle.schedule_replay.specs.Stands.{Stand, may_fail_in, work_at}
 use Rattle.schedule_replay.specs.Works.{AreHonestWorks, Counts, Worked}
 use Rattle.schedule_replay.specs.declared.stand.Stand.{Stand as Stood}
+
+-- what failed is no spent piece, since nothing is worked of one
+abbrev pub IsFailable : Job → Stage → Type 0
+IsFailable job (stage.Faulted at cause) = may_fail_in job ≡ true
+IsFailable job _ = Unit {0}
 
 -- what is noted of a slot's work is so in the book
 abbrev pub IsSlotAt : Base → Option KnownJob → Option (Option Work) → Type 0
 IsSlotAt base known None = Unit {0}
 IsSlotAt base known (Some None) = known ≡ None
-IsSlotAt base known (Some (Some work)) = IsWorkAt base known work × IsJobIn base.setting work.job
+IsSlotAt base known (Some (Some work)) = IsWorkAt base known work × IsJobIn base.setting work.job × IsFailable work.job work.stage
 
 -- what is noted of each slot is so in the book, which is of this plan
 pub record IsStanding (base : Base) (stood : Stood) : Type 0 where

@@ -56,8 +56,14 @@ abbrev pub may_commit : Option (Option Working) → Bool
 may_commit (Some (Some work)) = may_commit_in work.job work.stage
 may_commit _ = false
 
+-- a job that isn't a spent piece
+abbrev pub may_fail_in : Job → Bool
+may_fail_in (job.Span piece) = is_none piece.spent
+may_fail_in _ = true
+
 abbrev pub may_fail : Option (Option Working) → Bool
-may_fail work = has_job work
+may_fail (Some (Some work)) = may_fail_in work.job
+may_fail _ = false
 
 abbrev pub is_allowed : Stand → Line → Bool
 is_allowed s (line.Take slot) = may_take (work_at s slot)

@@ -15,7 +15,7 @@ ghost use Rattle.schedule_replay.specs.Shown.{shown, shown_work};
 ghost use Rattle.schedule_replay.specs.Standing.{IsStanding};
 ghost use Rattle.schedule_replay.specs.Stands.{may_claim, may_take, work_at};
 
-use crate::slots::may_claim;
+use crate::slots::{may_claim, may_run};
 use crate::stand::Stand;
 use beam_ports::Store;
 use beam_values::NoMemory;
@@ -135,6 +135,10 @@ impl Stand {
     {
         if may_claim(self.works.as_slice(), FIRST) {
             return self.claim_all(graph, kit, worker);
+        }
+        // A spent piece is committed as it was taken.
+        if !may_run(self.works.as_slice(), FIRST) {
+            return Ok(());
         }
         self.run(FIRST, graph, kit, worker)?;
         Ok(())

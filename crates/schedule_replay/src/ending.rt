@@ -11,19 +11,20 @@ ghost use Rattle.schedule_words.specs.Told.{range_line};
 ghost use Rattle.lone_worker.specs.Work.{Base};
 ghost use Rattle.schedule_replay.specs.Printing.{AreRangesPrinted};
 ghost use Rattle.schedule_replay.specs.Replays.{IsEnding, IsFinished, IsRendered, as_done, break};
-ghost use Rattle.schedule_replay.specs.Replays.{pending_line};
+ghost use Rattle.schedule_replay.specs.Replays.{pending_line, position_of};
 ghost use Rattle.schedule_replay.specs.Standing.{IsStanding};
 
 use crate::slots::may_take;
 use crate::stand::Stand;
 use beam_text::render;
-use beam_values::{Bytes, Done, List, NoMemory, Piece};
+use beam_values::{Bytes, Dead, Done, List, NoMemory, Piece};
 use book_core::{Book, Taken};
-use schedule_words::push_range;
+use schedule_words::{push_position, push_range};
 use std::alloc::Global;
 use std::cmp::Ordering;
 
-/// Appends the ranges that are done, live and pending, and of a run that is finished the rendering of its outcome.
+/// Appends the ranges that are done, live and pending and the positions that were set aside, and of a run that is finished the
+/// rendering of its outcome.
 pub fn push_ending(alloc: Global, mut stand: Stand, out: &mut List<u8>) -> Result<(), NoMemory>
     requires standing { (base : Base) × IsStanding base stand }
     ensures { OnOk result (AppendsText (IsEnding stand.book) out.old out.new) }
@@ -36,7 +37,7 @@ pub fn push_ending(alloc: Global, mut stand: Stand, out: &mut List<u8>) -> Resul
     }
 }
 
-// Appends the ranges. Answers whether the run is finished, and then the book is as it was.
+// Appends the ranges and the positions. Answers whether the run is finished, and then the book is as it was.
 fn push_stand(alloc: Global, stand: &mut Stand, out: &mut List<u8>) -> Result<bool, NoMemory>
     requires standing { (base : Base) × IsStanding base stand.old }
     ensures ranges { OnOk result (AreRangesPrinted stand.old.book out.old out.new) }
@@ -80,7 +81,8 @@ fn push_all_ranges(
     push_ranges(b"done", book.done(), out)?;
     let live = live_ranges(alloc, book, slots)?;
     push_ranges(b"live", live.as_slice(), out)?;
-    push_pending(book.pending(), out)
+    push_pending(book.pending(), out)?;
+    push_dead(book.dead(), out)
 }
 
 // A law: slots are numbered with 32 bits.
@@ -118,6 +120,15 @@ fn push_ranges(word: &[u8], ranges: &[Done], out: &mut List<u8>) -> Result<(), N
 {
     for done in ranges {
         push_range(word, done.node, done.item, done.range, out)?;
+    }
+    Ok(())
+}
+
+fn push_dead(dead: &[Dead], out: &mut List<u8>) -> Result<(), NoMemory>
+    ensures { OnOk result (out.new ≡ out.old ++ flat_map position_of dead.now) }
+{
+    for position in dead {
+        push_position(b"dead", position.node, position.item, position.at, out)?;
     }
     Ok(())
 }

@@ -3,7 +3,7 @@ ghost use Rattle.std.specs.Prelude.{◌≡◌, ◌<◌, None, Some, is_none, len
 ghost use Rattle.std.specs.List.{list_all};
 ghost use Rattle.schedule_replay.specs.Shown.{shown_work};
 ghost use Rattle.schedule_replay.specs.Stands.{is_range, may_claim, may_commit};
-ghost use Rattle.schedule_replay.specs.Stands.{may_commit_in, may_fail, may_run, may_take};
+ghost use Rattle.schedule_replay.specs.Stands.{may_commit_in, may_fail, may_fail_in, may_run, may_take};
 ghost use Rattle.lone_worker.specs.Work.{may_claim_in, may_run_in};
 
 use bundle_commit::Job;
@@ -86,8 +86,17 @@ pub fn may_fail(works: &[Option<Work>], slot: u32) -> bool
     ensures { result ≡ may_fail (shown_work (slice_get works.now slot)) }
 {
     match works.get(slot as usize) {
-        Some(Some(_work)) => true,
+        Some(Some(work)) => may_fail_in(&work.job),
         _ => false,
+    }
+}
+
+fn may_fail_in(job: &Job) -> bool
+    ensures { result ≡ may_fail_in job.now }
+{
+    match job {
+        Job::Span { piece } => piece.spent.is_none(),
+        _ => true,
     }
 }
 

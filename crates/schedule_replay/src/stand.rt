@@ -5,7 +5,7 @@ ghost use Rattle.beam_ports.specs.Observed.{observed_store};
 ghost use Rattle.book_core.specs.Calls.{live_piece};
 ghost use Rattle.book_core.specs.Left.{rounds_left};
 ghost use Rattle.chain_exec.specs.Causes.{observed_shelf};
-ghost use Rattle.known_jobs.specs.Calls.{HasAttempted};
+ghost use Rattle.known_jobs.specs.Calls.{FailsInside, HasAttempted};
 ghost use Rattle.known_jobs.specs.Jobs.{known_at};
 ghost use Rattle.bundle_work.specs.Outside.{IsKitKept};
 ghost use Rattle.bundle_work.specs.Reading.{AreReaders};
@@ -211,7 +211,8 @@ impl Stand {
         ensures done { HasFailed base.setting.known.told (shown self.old) (shown self.new) slot
             result }
         ensures standing { IsStanding base self.new }
-        ensures rounds { rounds_left self.new.book < rounds_left self.old.book }
+        ensures rounds { FailsInside (known_at self.old.book slot)
+            → rounds_left self.new.book < rounds_left self.old.book }
     {
         self.book.is_sane();
         rounds_are_bounded();

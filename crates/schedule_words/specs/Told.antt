@@ -62,3 +62,7 @@ told_text (told.Drained spent) = before (codes "drain") (ended (if spent then co
 -- the line of a range behind a word that says what it is: `done 0 0 0 27`
 abbrev pub range_line : List ℕ → ℕ → ℕ → Offsets → List ℕ
 range_line word node item range = before word (range_text node item range)
+
+-- the line of a position behind such a word: `dead 0 0 9`
+abbrev pub position_line : List ℕ → ℕ → ℕ → ℕ → List ℕ
+position_line word node item at = before word (before (decimal node) (before (decimal item) (ended (decimal at))))

@@ -15,7 +15,7 @@ mod told;
 
 pub use line::{Line, read_line};
 pub use schedule::next_line;
-pub use told::{Claimed, Told, Took, push_range, push_told};
+pub use told::{Claimed, Told, Took, push_position, push_range, push_told};
 
 #[cfg(test)]
 mod tests;

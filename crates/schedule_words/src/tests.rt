@@ -1,6 +1,8 @@
 //! Lines and texts of a schedule, by hand.
 
-use crate::{Claimed, Line, Told, Took, next_line, push_range, push_told, read_line};
+use crate::{
+    Claimed, Line, Told, Took, next_line, push_position, push_range, push_told, read_line,
+};
 use beam_values::{List, Range};
 use std::test::Fail;
 
@@ -48,8 +50,9 @@ fn printed_lines(rt: HostRuntime) -> Result<(), Fail> {
         &mut out,
     )?;
     push_range(b"done", 0, 0, range, &mut out)?;
+    push_position(b"dead", 0, 1, 9, &mut out)?;
     let text =
-        b"take 0 range 0 0 0 27\nclaim 0 9 faulted\ncommit 12 panes 2 drops 1\ndone 0 0 0 27\n";
+        b"take 0 range 0 0 0 27\nclaim 0 9 faulted\ncommit 12 panes 2 drops 1\ndone 0 0 0 27\ndead 0 1 9\n";
     assert!(rt; out.as_slice() == text.as_slice());
     Ok(())
 }

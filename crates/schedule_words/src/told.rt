@@ -1,6 +1,6 @@
 ghost use Rattle.std.specs.Prelude.{◌≡◌, ◌++◌, [], OnOk, decimal};
 ghost use Rattle.schedule_words.specs.Told.{before, claimed_text, count_text, counts_text, ended};
-ghost use Rattle.schedule_words.specs.Told.{of_slot};
+ghost use Rattle.schedule_words.specs.Told.{of_slot, position_line};
 ghost use Rattle.schedule_words.specs.Told.{range_line, range_text, split_text, told_text, took_text};
 
 use beam_values::{List, NoMemory, Range};
@@ -94,6 +94,22 @@ pub fn push_range(
 {
     push_word(word, out)?;
     push_ends(node, item, range, out)
+}
+
+/// Appends the line of a position, behind a word that says what it is.
+pub fn push_position(
+    word: &[u8],
+    node: u32,
+    item: u32,
+    at: u64,
+    out: &mut List<u8>,
+) -> Result<(), NoMemory>
+    ensures { OnOk result (out.new ≡ out.old ++ position_line word.now node item at) }
+{
+    push_word(word, out)?;
+    push_number(node.into(), out)?;
+    push_number(item.into(), out)?;
+    push_last_number(at, out)
 }
 
 fn push_ends(node: u32, item: u32, range: Range, out: &mut List<u8>) -> Result<(), NoMemory>

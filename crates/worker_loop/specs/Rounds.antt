@@ -7,7 +7,7 @@ use Rattle.turn_desk.specs.declared.held.Note.{Note}
 use Rattle.book_core.specs.Steps.{Fail, Retried, Spent, Take}
 use Rattle.book_core.specs.declared.live.Taken.{Taken}
 use Rattle.book_core.specs.declared.live.Taken.TheVariants as taken
-use Rattle.known_jobs.specs.Calls.{HasAttempted}
+use Rattle.known_jobs.specs.Calls.{FailsInside, HasAttempted}
 use Rattle.known_jobs.specs.Jobs.{Setting}
 use Rattle.worker_table.specs.Calls.{take_answer}
 use Rattle.worker_table.specs.Notes.{Entry}
@@ -38,7 +38,7 @@ HasGivenUp setting m n result = (result ≡ Some end.NoMemory) × HasStopped set
 abbrev pub HasLooked : Setting → Note (List Entry) → Note (List Entry) → ℕ → Type 0
 HasLooked setting m n i = (answer : Result (Option ℕ) (Unit {0})) × HasHelped setting m n i answer
 
--- the job failed: it is tried again, or was the last fail that it may have
+-- the job failed: it is tried again, or its range in parts; or it was the last fail that it may have, which ends the run
 abbrev pub HasFailed : Setting → Note (List Entry) → Note (List Entry) → ℕ → ℕ → Cause → Option WorkerEnd → Type 0
 HasFailed setting m n i at cause None = HasStepped setting m n i (Fail at cause) Retried
 HasFailed setting m n i at cause (Some end.Spent) = (note : FaultNote) × HasStepped setting m n i (Fail at cause) (Spent note)
@@ -67,11 +67,12 @@ HasHandedIn setting m n i receipt worker later (Some e) =
 
 -- ---- a round
 
--- What ended a job after its claims: a position was attempted and its receipt was handed in, or it failed, or there was no memory for the work.
+-- What ended a job after its claims: a position was attempted, or it is a spent piece, and its receipt was handed in; or it failed, a range at a position that lies in it;
+-- or there was no memory for the work.
 abbrev pub EndsJob : Setting → Note (List Entry) → Note (List Entry) → ℕ → Option WorkerEnd → Type 0
 EndsJob setting m n i result =
     ((receipt : Receipt) × (worker : Worker) × (later : Worker) × HasAttempted (first_entry m).job × HasHandedIn setting m n i receipt worker later result)
-    ⊎ (((at : ℕ) × (cause : Cause) × HasFailed setting m n i at cause result) ⊎ HasGivenUp setting m n result)
+    ⊎ (((at : ℕ) × (cause : Cause) × FailsInside (first_entry m).job × HasFailed setting m n i at cause result) ⊎ HasGivenUp setting m n result)
 
 -- What follows a take. Only where it finds no memory the worker gives up without a job; where it gets none while others work, it looks for a range to split and goes on.
 abbrev pub FollowsTake : {E : Type 0} → Setting → Note (List Entry) → Note (List Entry) → ℕ → Result Taken E → Option WorkerEnd → Type 0

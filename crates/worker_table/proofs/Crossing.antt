@@ -10,6 +10,7 @@ use Rattle.beam_values.proofs.Crossing.{Arrival-send, Boxed-send, Boxed-sync, By
 use Rattle.beam_containers.specs.contracts.roomy.RoomyList as RoomyList
 use Rattle.beam_values.specs.contracts.element.Element as Element
 use Rattle.beam_values.specs.contracts.log.LogInput as LogInput
+use Rattle.beam_values.specs.contracts.piece.Dead as Dead
 use Rattle.beam_values.specs.contracts.piece.Done as Done
 use Rattle.beam_values.specs.contracts.piece.Piece as Piece
 use Rattle.windowing.specs.contracts.facts.NodeFacts as NodeFacts
@@ -248,8 +249,11 @@ Live-send = variants_send Live.enum (search (KeyTurn-send, Piece-send, Batch-sen
 Done-send : IsSend Done.the_row
 Done-send = search sendable depth 40
 
+Dead-send : IsSend Dead.the_row
+Dead-send = search (sendable, crosses) depth 40
+
 Results-send : IsSend Results.the_row
-Results-send = declared_send Results.the_type (search (RoomyList-send, Pane-send, Done-send, Arrival-send, CommitMarks-send, as_row_send) depth 40)
+Results-send = declared_send Results.the_type (search (RoomyList-send, Pane-send, Done-send, Dead-send, Arrival-send, CommitMarks-send, as_row_send) depth 40)
 
 pub Book-send : IsSend Book.the_row
 Book-send =

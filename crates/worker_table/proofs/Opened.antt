@@ -35,7 +35,7 @@ no_job known b slot (Fail at cause) none = λ job works. absurd (let w = slice_g
 no_job known b slot _ none = tt
 
 no_fail : (told : Option (List FileText)) (b new : SeenBook) (slot : ℕ) (action : Action) (answer : Answer) → Step told b slot action answer new → length b.slots ≡ 0 → (new.calls ≤ b.calls) × (new.reads ≤ b.reads)
-no_fail told b new slot (Fail at cause) answer step none = absurd (let w = slice_get_within b.slots slot _ step.works in omega (arith, none))
+no_fail told b new slot (Fail at cause) answer step none = absurd (let w = slice_get_within b.slots slot _ step.works.works in omega (arith, none))
 no_fail told b new slot action answer step none = let f = step_fails told b new slot action answer step in (f.calls, f.reads)
 
 quiet_run : (known : Surroundings) (steps : List MadeStep) (b end : SeenBook) → Run known.told b steps end → length end.slots ≡ 0 → HonestRun known b steps end × (end.calls ≤ b.calls) × (end.reads ≤ b.reads)

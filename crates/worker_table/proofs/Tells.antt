@@ -1,5 +1,5 @@
 -- What each call tells its pass, from the turn that it made.
-use Rattle.std.proofs.Common.{◌≡◌, ℕ, List, [], Bool, false, refl, sym, ap, ◌∙◌, subst}
+use Rattle.std.proofs.Common.{◌≡◌, ℕ, List, Bool, false, refl, sym, ap, ◌∙◌, subst}
 use Rattle.std.specs.Prelude.{Option, Some, None, Result, Ok, Err, IfErr, IsSomeAnd, slice_get}
 use Rattle.beam_values.specs.declared.cell.Pane.{Pane}
 use Rattle.beam_values.specs.declared.fault.Cause.{Cause}
@@ -155,7 +155,7 @@ module _ (setting : Setting) (m n : Note (List Entry)) (i : ℕ) where
   fail_job at cause answer turn =
       let step = turn.made in
       job_none (Fail at cause) answer turn
-      (ap (λ (b : SeenBook). slot_at b i) step.is ∙ ap (λ (s : List (Option Live)). slice_get s i) (fail_leaves turn.lent i at step.job cause).slots ∙ set_here turn.lent.slots i (Some step.job) None step.works)
+      (ap (λ (b : SeenBook). slot_at b i) step.is ∙ ap (λ (s : List (Option Live)). slice_get s i) (fail_leaves turn.lent i at step.job cause).slots ∙ set_here turn.lent.slots i (Some step.job) None step.works.works)
 
   pub fail_tells : (at : ℕ) (cause : Cause) (failure : Failure) → HasStepped setting m n i (Fail at cause) (failure_of failure) → AfterFail at cause failure (first_entry m) (first_entry n)
   fail_tells at cause failure.Retry turn = record {

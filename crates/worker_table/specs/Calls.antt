@@ -2,8 +2,6 @@
 use Rattle.std.specs.Prelude.{◌≡◌, ℕ, true, false, List, Option, Some, None, Result, Ok, Err}
 use Rattle.beam_values.specs.declared.fault.Cause.{Cause}
 use Rattle.beam_values.specs.declared.file_text.FileText.{FileText}
-use Rattle.bundle_commit.specs.declared.job.Job.{Job}
-use Rattle.bundle_commit.specs.declared.job.Job.TheVariants as job
 use Rattle.bundle_commit.specs.declared.job.Receipt.{Receipt}
 use Rattle.book_core.specs.Book.{SeenBook}
 use Rattle.book_core.specs.Calls.{Makes, answer_of}
@@ -70,7 +68,7 @@ abbrev pub ending_by : Failure → Ending → Ending
 ending_by failure.Retry ending = ending
 ending_by (failure.Spent note) ending = IsStopped
 
--- the job is given back, and the pass has one fail more; where that was the last one, it is stopped
+-- the job is given back, or its range is broken, and the pass has one fail more; where that ends the run, it is stopped
 pub record AfterFail (at : ℕ) (cause : Cause) (failure : Failure) (e e' : Entry) : Type 0 where
   pub job : e'.job ≡ None
   pub calls : e'.calls ≡ calls_after (Fail at cause) e.calls

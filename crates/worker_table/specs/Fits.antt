@@ -1,7 +1,6 @@
 -- When the book and the owners of its slots are what a note says of them.
 use Rattle.std.specs.Prelude.{◌≡◌, ◌≢◌, ℕ, ◌<◌, ◌≤◌, List, [], ◌∷◌, length, slice_get, Option, Some, None}
 use Rattle.std.specs.List.{AllByRecursion, sum_by}
-use Rattle.bundle_commit.specs.declared.job.Job.TheVariants as job
 use Rattle.turn_desk.specs.declared.held.Note.{Note}
 use Rattle.book_core.specs.Book.{SeenBook, last_commit, slot_at}
 use Rattle.book_core.specs.Jobs.{next_job}

@@ -128,9 +128,9 @@ step_frame told b b' i Take Finished step = frame_same b b' i step.4
 step_frame told b b' i Take Stopped step = frame_same b b' i step.2
 step_frame told b b' i Take NoMemory step = frame_same b b' i step.1
 step_frame told b b' i (Claim p) (Claimed granted) step =
-    subst (Frame b i) (sym step.is) (frame_busy b _ i (live.Span step.piece step.attempted) _ step.works refl (omega arith) (same_panes b b.panes refl) (λ h. h))
+    subst (Frame b i) (sym step.is) (frame_busy b _ i (live.Span step.piece step.attempted) _ step.works.works refl (omega arith) (same_panes b b.panes refl) (λ h. h))
 step_frame told b b' i (Split num den) (SplitAt (Some at)) step =
-    subst (Frame b i) (sym step.0.is) (frame_busy b _ i (live.Span step.0.piece step.0.attempted) _ step.0.works refl (omega arith) (same_panes b b.panes refl) (λ h. h))
+    subst (Frame b i) (sym step.0.is) (frame_busy b _ i (live.Span step.0.piece step.0.attempted) _ step.0.works.works refl (omega arith) (same_panes b b.panes refl) (λ h. h))
 step_frame told b b' i (Split num den) (SplitAt None) step = frame_same b b' i step.1
 step_frame told b b' i (Split num den) NoMemory step = frame_same b b' i step
 step_frame told b b' i Commit Committed step =
@@ -141,7 +141,7 @@ step_frame told b b' i Commit NoMemory step = frame_same b b' i step.1
 step_frame told b b' i (Fail at cause) answer step =
     let leaves = fail_leaves b i at step.job cause in
     subst (Frame b i) (sym step.is)
-    (frame_busy b _ i step.job None step.works leaves.slots (let k = ap length leaves.commits in omega (arith, k)) (same_panes b (failed b i step.job at cause).panes leaves.panes) leaves.stopped)
+    (frame_busy b _ i step.job None step.works.works leaves.slots (let k = ap length leaves.commits in omega (arith, k)) (same_panes b (failed b i step.job at cause).panes leaves.panes) leaves.stopped)
 step_frame told b b' i Stop Noted step =
     subst (Frame b i) (sym step) (record {
       others = λ j d. refl;

@@ -73,10 +73,10 @@ split_entry setting b b' i (SplitAt (Some at)) owners number e step fit =
     let piece = step.0.piece in
     let attempted = step.0.attempted in
     let cut : Live = live.Span (cut_to piece (record { from = piece.range.from; to = at })) attempted in
-    let here : slot_at b' i ≡ Some (Some cut) = ap (λ (x : SeenBook). slot_at x i) step.0.is ∙ set_here b.slots i (Some (live.Span piece attempted)) (Some cut) step.0.works in
+    let here : slot_at b' i ≡ Some (Some cut) = ap (λ (x : SeenBook). slot_at x i) step.0.is ∙ set_here b.slots i (Some (live.Span piece attempted)) (Some cut) step.0.works.works in
     let stays : (j : ℕ) → IsJobOf b.panes e.job (slot_at b j) → IsJobOf b'.panes e.job (slot_at b' j) = λ j job. elim (is_or_not j i) as (λ _. IsJobOf b'.panes e.job (slot_at b' j)) [
       | inl f ↦
-          let was = subst (IsJobOf b.panes e.job) (ap (slot_at b) f ∙ step.0.works) job in
+          let was = subst (IsJobOf b.panes e.job) (ap (slot_at b) f ∙ step.0.works.works) job in
           let split = known_split b.panes e.job piece attempted at (split_behind piece attempted 1 2 at step.0.point) step.0.inside was in
           subst (λ (z : List _ × Option (Option Live)). IsJobOf z.0 e.job z.1) (λ k. (sym (ap (λ (x : SeenBook). x.panes) step.0.is) k, sym (ap (slot_at b') f ∙ here) k)) split
       | inr f ↦ job_stays b b' i j e.job frame f job

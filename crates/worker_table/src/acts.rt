@@ -199,7 +199,7 @@ impl Act for Committing {
     }
 }
 
-/// The slot's job is given back, and its owner has one fail more.
+/// The slot's job is given back, or its range is broken; and its owner has one fail more.
 #[derive(Drop)]
 pub struct Failing {
     pub slot: u32,

@@ -182,7 +182,8 @@ impl Table {
         self.turn(rt, pass, Committing { slot, receipt })
     }
 
-    /// The pass's job failed at a node: it is given back, or at the limit the book is stopped.
+    /// The pass's job failed at a node: it is given back. At the limit the book is stopped, or, where a call failed on a
+    /// range of a plan that sets positions aside, the range is broken.
     pub fn fail<R: Wait>(&self, rt: &R, pass: &mut WorkerPass, at: u32, cause: Cause) -> Failure
         requires table { IsOf self.now pass.old }
         requires slot { IsSome (slot_of pass.old) }

@@ -1,4 +1,4 @@
-use Rattle.std.proofs.Common.{◌≡◌, List, Option, Some, length, sym, ap, subst, ◌∙◌}
+use Rattle.std.proofs.Common.{◌≡◌, false, List, [], Option, Some, length, sym, ap, subst, ◌∙◌}
 use Rattle.std.specs.Prelude.{IfSome}
 use Rattle.bundle_work.specs.declared.kit.Kit.{Kit}
 use Rattle.beam_values.specs.declared.options.Options.{Options}
@@ -6,26 +6,28 @@ use Rattle.beam_values.specs.declared.outcome.Outcome.{Outcome}
 use Rattle.beam_model.specs.Account.{IsAccounted}
 use Rattle.beam_model.specs.Positions.{items}
 use Rattle.beam_ports.specs.Observed.{WhereTold}
-use Rattle.book_core.specs.Runs.{IsEnded}
+use Rattle.book_core.specs.Book.{sets_aside}
 use Rattle.command_words.specs.Commands.{Asked, words_of}
 use Rattle.run_engine.specs.Kits.{ObservedKits, observed_kits}
-use Rattle.run_engine.specs.PlanRun.{surroundings_of}
+use Rattle.run_engine.specs.PlanRun.{IsEndedBy, surroundings_of}
+use Rattle.run_engine.specs.SetAside.{HasDeadLetters}
 use Rattle.run_engine.specs.declared.run_end.RunEnd.{RunEnd}
+use Rattle.beam_command.specs.Asking.{WherePipeline}
 use Rattle.beam_command.specs.Clauses.{Asking, CountsOnward, IsOfAsked, IsPartitioned, IsPlain, asked_by, asking, attempts_of}
-use Rattle.beam_command.specs.Ends.{IsEndOf, IsOutcomeOfAsked, IsRun}
+use Rattle.beam_command.specs.Ends.{HasRun, IsEndOf, IsOutcomeOfAsked, IsRun}
 use Rattle.beam_command.specs.Kits.{AreKitsLeft, IsOutcomeOfKits, TriesUnbegun, in_use, observed_in_use, told_for}
 use Rattle.beam_command.specs.Observing.{Observed}
 use Rattle.beam_command.specs.Promises.{HasLegalLogs, HasLegalPanes}
 use Rattle.beam_command.proofs.Asked.{end_of_same, noted_end}
 use Rattle.beam_command.proofs.CombineDecided.{combined, combined_strict, few_lifted, not_combined, unlifted}
-use Rattle.beam_command.proofs.Completeness.{complete, complete_strict, few_faults, same_files}
+use Rattle.beam_command.proofs.Completeness.{complete, complete_aside, complete_positions, complete_strict, few_faults, same_files}
 use Rattle.beam_command.proofs.DrillEnds.{checked_of}
 use Rattle.beam_command.proofs.DrillPrints.{drill_prints}
 use Rattle.beam_command.proofs.InUse.{all_written, written_back}
 use Rattle.beam_command.proofs.Kept.{become_length, left_before_note, still_some}
 use Rattle.beam_command.proofs.PanesEnds.{HasAttempts, absent, clean, not_ok, poison, some_attempts}
 use Rattle.beam_command.proofs.PlainPlans.{always_plainly}
-use Rattle.beam_command.proofs.Promises.{accounted, covered, files_found, legal, legally_logged, lengths_kept, plainly, plan_kept, promised}
+use Rattle.beam_command.proofs.Promises.{accounted, covered, files_found, legal, legally_logged, lengths_kept, no_dead, plainly, plan_kept, promised, set_aside}
 use Rattle.beam_command.proofs.ReplayDecided.{few_reads, replay, replay_accepted}
 use Rattle.beam_command.proofs.Stores.{AreOfOne, are_of_one, seen_of_one}
 use Rattle.beam_command.proofs.Tried.{at_no_memory, counts_onward, tries_before_note, writes_before_note}
@@ -86,12 +88,19 @@ module _ (g : Over) (c : goal.After-unless_no_memory-outcome g) where
   tried own is = some_attempts (words_of c.args.words.now) own ((c.words_ask_by_the_rules.ensures (words_of c.args.words.now) own).0 is)
 
   -- P holds of the outcome, where the run came to its end
-  run : (P : Outcome → Type 0) → ((own : Asked) (options : Options) (o : Outcome) → asked ≡ Some own → IsOutcomeOfAsked seen own options IsEnded o → P o) → IsRun asked end P
-  run P holds = promised asked seen P holds end.status end.outcome ends
+  run_with : (P : Options → Outcome → Type 0) → ((own : Asked) (options : Options) (o : Outcome) → asked ≡ Some own → IsOutcomeOfAsked seen own options (IsEndedBy seen.kits) o → P options o)
+      → WherePipeline asked (λ own options. HasRun end.status end.outcome (P options))
+  run_with P holds = promised asked seen P holds end.status end.outcome ends
 
-  account : (own : Asked) (options : Options) (o : Outcome) → asked ≡ Some own → IsOutcomeOfAsked seen own options IsEnded o
+  run : (P : Outcome → Type 0) → ((own : Asked) (options : Options) (o : Outcome) → asked ≡ Some own → IsOutcomeOfAsked seen own options (IsEndedBy seen.kits) o → P o) → IsRun asked end P
+  run P holds = run_with (λ options. P) holds
+
+  account : (own : Asked) (options : Options) (o : Outcome) → asked ≡ Some own → IsOutcomeOfAsked seen own options (IsEndedBy seen.kits) o
       → WhereTold seen.kits.store.files (λ told. IsAccounted (items told o.plan) o)
   account own options o is was = accounted asked seen own options o is was c.honest_runs_are_runs.ensures c.outcomes_are_accounted.ensures
+
+  none_aside : (own : Asked) (options : Options) (o : Outcome) → asked ≡ Some own → IsOutcomeOfAsked seen own options (IsEndedBy seen.kits) o → sets_aside o.plan ≡ false → o.dead ≡ []
+  none_aside own options o is was = no_dead asked seen own options o is was c.honest_runs_are_runs.ensures c.nothing_is_set_aside.ensures
 
 pub returns-clause-ends : goal.returns-clause-ends
 returns-clause-ends g c = ends g c
@@ -108,8 +117,14 @@ pub returns-clause-cover : goal.returns-clause-cover
 returns-clause-cover g c =
     run g c IsPartitioned (λ own options o is was. record {
       cover = covered (asked g c) (seen g c) own options o is was c.honest_runs_are_runs.ensures c.outcomes_are_covered.ensures;
-      no_dead = c.nothing_is_set_aside.ensures was.3.book o was.3.of_book;
+      no_dead = none_aside g c own options o is was;
     })
+
+pub returns-clause-dead_letters : goal.returns-clause-dead_letters
+returns-clause-dead_letters g c =
+    run_with g c (λ options. HasDeadLetters (seen g c).kits options.attempts) (λ own options o is was.
+    set_aside (asked g c) (seen g c) own options o is was c.honest_runs_are_runs.ensures c.outcomes_have_their_dead_letters.ensures.noted
+    c.outcomes_have_their_dead_letters.ensures.poison c.dead_positions_are_poison.ensures.outcome)
 
 pub returns-clause-account : goal.returns-clause-account
 returns-clause-account g c = run g c _ (account g c)
@@ -129,13 +144,13 @@ returns-clause-plain g c =
     record {
       where_sound = plain;
       always = λ asks.
-          always_plainly (asked g c) (seen g c).kits.store.files o (checked_of (surroundings_of (seen g c).kits) was.0 options IsEnded o was.3) asks
+          always_plainly (asked g c) (seen g c).kits.store.files o (checked_of (surroundings_of (seen g c).kits) was.0 options (IsEndedBy (seen g c).kits) o was.3) asks
           (plan_kept (asked g c) (seen g c) own options o is was) plain;
     })
 
 pub returns-clause-drilled : goal.returns-clause-drilled
 returns-clause-drilled g c =
-    drill_prints (seen g c) c.honest_runs_are_runs.ensures c.cells_are_kept.ensures.writes c.outcomes_are_plainly_written.ensures (asked g c)
+    drill_prints (seen g c) c.honest_runs_are_runs.ensures c.cells_are_kept.ensures.writes c.outcomes_are_plainly_written.ensures c.nothing_is_set_aside.ensures (asked g c)
     (λ count number options is. ap (λ (a : Option Asked). told_for a (kits g c).store.files) is) c.noted-status.result c.unless_no_memory-outcome.result (ends g c)
 
 pub returns-clause-opened : goal.returns-clause-opened
@@ -154,11 +169,13 @@ returns-clause-decided g c =
     let by_reads = c.runs_without_poison_fail_by_reads.ensures.reads in
     record {
       absent = absent (seen g c) (of_one g c) status outcome (asked g c) (tried g c) (ends g c);
-      poison = poison (seen g c) (of_one g c) status outcome runs kept honest (asked g c) (tried g c) (account g c) (ends g c);
+      poison = poison (seen g c) (of_one g c) status outcome runs kept honest (asked g c) (tried g c) (account g c) (none_aside g c) (ends g c);
       clean = clean (seen g c) (of_one g c) status outcome runs kept honest by_reads (asked g c) (ends g c);
-      not_ok = not_ok (asked g c) (seen g c) (account g c) status outcome (ends g c);
+      not_ok = not_ok (asked g c) (seen g c) (account g c) (none_aside g c) status outcome (ends g c);
       complete = complete (asked g c) (seen g c) (of_one g c) status outcome (ends g c);
       complete_strict = complete_strict (seen g c) (of_one g c) status outcome by_reads (asked g c) (ends g c);
+      complete_aside = complete_aside (seen g c) (of_one g c) status outcome c.runs_that_set_aside_are_stopped_by_reads.ensures (asked g c) (ends g c);
+      complete_positions = complete_positions (seen g c) (of_one g c) status outcome c.runs_without_poison_positions_fail_by_reads.ensures (asked g c) (ends g c);
       replay = replay (asked g c) (seen g c) (of_one g c) status outcome (ends g c);
       replay_accepted = replay_accepted (asked g c) (seen g c) (of_one g c) status outcome (ends g c);
       not_combined = not_combined (asked g c) (seen g c) (of_one g c) status outcome (ends g c);

@@ -9,6 +9,7 @@ use Rattle.beam_values.specs.declared.arrival.Arrival.{Arrival}
 use Rattle.beam_values.specs.declared.cell.Pane.{Pane}
 use Rattle.beam_values.specs.declared.marks.CommitMarks.{CommitMarks}
 use Rattle.beam_values.specs.declared.marks.StageMarks.{StageMarks}
+use Rattle.beam_values.specs.declared.piece.Dead.{Dead}
 use Rattle.beam_values.specs.declared.piece.Done.{Done}
 use Rattle.beam_values.specs.declared.piece.Piece.{Piece}
 use Rattle.beam_values.specs.declared.plan.Plan.{Plan}
@@ -19,8 +20,8 @@ use Rattle.stateful_core.specs.Opening.{IsStanding, done_of}
 use Rattle.stateful_core.specs.Placing.{Done as KeyDone, place}
 use Rattle.book_core.specs.Book.{SeenBook, last_marks, waiting_in}
 use Rattle.book_core.specs.KeyCells.{CanPlace, cells_in, logged_of}
-use Rattle.book_core.specs.Changes.{done_cmp, key_done, keys_after, with_residual, with_slot}
-use Rattle.book_core.specs.Committing.{job_holds, node_of, with_done_in}
+use Rattle.book_core.specs.Changes.{dead_cmp, done_cmp, key_done, keys_after, with_residual, with_slot}
+use Rattle.book_core.specs.Committing.{job_holds, node_of, with_done_in, with_dead_in}
 use Rattle.book_core.specs.Indexes.{AreHeldIn, own_holds, least_with, room_in}
 use Rattle.book_core.specs.Inside.{data_of}
 use Rattle.book_core.specs.Steps.{CanCommit, IsCommitting, IsWithinLimits}
@@ -166,8 +167,8 @@ invariant_of-self-in_default-fired c =
     record {
       indexed =
           indexed_as (data_of c.self.inside) _ c.self.inside.held c.hold_job.new.held c.self.inside.pieces.room c.self.inside.returned.room
-          (same_back (data_of c.self.inside) c.args.slot c.in-Some.job c.self.inside.groups c.fire-fired.new.groups c.take_out.new.slots.items _ _ _ _ _ _ c.in-Some.ensures.job c.in-Some.ensures.free
-          c.in_default-fired.ensures.err.0 refl refl c.in-Ok.ensures.queued c.in-Ok.ensures.panes c.in-Ok.ensures.done c.in-Ok.ensures.written c.in-Ok.ensures.commits c.in_default-fired.ensures.keys)
+          (same_back (data_of c.self.inside) c.args.slot c.in-Some.job c.self.inside.groups c.fire-fired.new.groups c.take_out.new.slots.items _ _ _ _ _ _ _ c.in-Some.ensures.job c.in-Some.ensures.free
+          c.in_default-fired.ensures.err.0 refl refl c.in-Ok.ensures.queued c.in-Ok.ensures.panes c.in-Ok.ensures.done c.in-Ok.ensures.dead c.in-Ok.ensures.written c.in-Ok.ensures.commits c.in_default-fired.ensures.keys)
           back (c.hold_job.ensures.sized ∙ c.free_residual.ensures.sized ∙ c.hold_residual.ensures.sized ∙ c.free_job.ensures.sized ∙ c.in-Ok.ensures.sized) c.self.invariant.indexed;
       grouped = ap (λ (g : SeenGroups). g.plan) c.in_default-fired.ensures.err.0 ∙ c.self.invariant.grouped;
       counted = c.self.invariant.counted ∙ ap waiting_in (sym c.in_default-fired.ensures.keys);
@@ -181,8 +182,8 @@ returns-in_default-fired-clause-err c =
       ap (λ (a : List Arrival). record { arrivals = a; seen = c.args.receipt.seen; logged = c.logged_of.result }) c.in_default-fired.ensures.err.1
           ∙ ap (λ (l : Option Logged). record { arrivals = c.args.receipt.arrivals; seen = c.args.receipt.seen; logged = l })
           (c.logged_of.ensures ∙ ap logged_of c.key_done-done.ensures ∙ logged_same None (data_of c.self.inside) c.in-Some.job c.args.receipt c.len-number.result given),
-      same_back (data_of c.self.inside) c.args.slot c.in-Some.job c.self.inside.groups c.fire-fired.new.groups c.take_out.new.slots.items _ _ _ _ _ _ c.in-Some.ensures.job c.in-Some.ensures.free
-          c.in_default-fired.ensures.err.0 refl refl c.in-Ok.ensures.queued c.in-Ok.ensures.panes c.in-Ok.ensures.done c.in-Ok.ensures.written c.in-Ok.ensures.commits c.in_default-fired.ensures.keys
+      same_back (data_of c.self.inside) c.args.slot c.in-Some.job c.self.inside.groups c.fire-fired.new.groups c.take_out.new.slots.items _ _ _ _ _ _ _ c.in-Some.ensures.job c.in-Some.ensures.free
+          c.in_default-fired.ensures.err.0 refl refl c.in-Ok.ensures.queued c.in-Ok.ensures.panes c.in-Ok.ensures.done c.in-Ok.ensures.dead c.in-Ok.ensures.written c.in-Ok.ensures.commits c.in_default-fired.ensures.keys
           ∙ c.self.view_is,
     )
 
@@ -233,14 +234,19 @@ pub done_of-requires : goal.done_of-requires
 done_of-requires c =
     job_attempted (data_of c.self.inside) c.args.slot c.in-Some.job c.args.receipt c.self.inside.held c.self.inside.pieces.room c.self.inside.returned.room c.in-Some.ensures.job c.self.invariant.indexed
 
-pub add-requires-clause-sorted : goal.add-requires-clause-sorted
-add-requires-clause-sorted c =
+pub add-requires-clause-done_sorted : goal.add-requires-clause-done_sorted
+add-requires-clause-done_sorted c =
     subst (λ (l : List Done). IsSorted done_cmp l) (sym c.in-Ok.ensures.done) c.self.invariant.indexed.sane.formed.done
+
+pub add-requires-clause-dead_sorted : goal.add-requires-clause-dead_sorted
+add-requires-clause-dead_sorted c =
+    subst (λ (l : List Dead). IsSorted dead_cmp l) (sym c.in-Ok.ensures.dead) c.self.invariant.indexed.sane.formed.dead
 
 pub add-requires-clause-room : goal.add-requires-clause-room
 add-requires-clause-room c = record {
   panes = omega (arith, c.in-Ok.ensures.results.panes, c.in-Ok-fired.ensures.few, ap length c.cells.ensures, c.len-count.ensures);
   done = c.in-Ok.ensures.results.done;
+  dead = c.in-Ok.ensures.results.dead;
   written = omega (
     arith,
     c.in-Ok.ensures.results.written,
@@ -290,7 +296,7 @@ invariant_of-self-2 c =
       indexed =
           commit_indexed (data_of c.self.inside) c.args.slot c.in-Some.job c.args.receipt c.self.inside.groups c.fire-fired.new.groups c.in-Ok-fired.fired.panes c.in-Ok-fired.fired.marks
           c.fire-fired.new.arrivals c.hold_residual.new.held fired c.self.invariant.indexed.sane
-          c.take_out.new.slots.items c.put_back.new.pieces.pending (lists_of c.wait_all.new.queues.items) (cells_in c.place-waiting.new.keys) c.add.new.self.panes.items c.add.new.self.done.items c.add.new.self.written.items c.add.new.self.commits.items
+          c.take_out.new.slots.items c.put_back.new.pieces.pending (lists_of c.wait_all.new.queues.items) (cells_in c.place-waiting.new.keys) c.add.new.self.panes.items c.add.new.self.done.items c.add.new.self.dead.items c.add.new.self.written.items c.add.new.self.commits.items
           (record {
             slots_are = c.in-Some.ensures.free;
             pending_are = c.put_back.ensures.pending ∙ ap (λ (r : Option Piece). with_residual r c.self.inside.pieces.pending) c.residual_of-residual.ensures;
@@ -303,6 +309,9 @@ invariant_of-self-2 c =
             done_are =
                 c.add.ensures.done ∙ ap (λ (l : List Done). with_done_in c.done_of.result l) c.in-Ok.ensures.done
                 ∙ ap (λ (d : Option Done). with_done_in d c.self.inside.results.done.items) c.done_of.ensures;
+            dead_are =
+                c.add.ensures.dead ∙ ap (λ (l : List Dead). with_dead_in c.dead_of.result l) c.in-Ok.ensures.dead
+                ∙ ap (λ (d : Option Dead). with_dead_in d c.self.inside.results.dead.items) c.dead_of.ensures;
             written_are =
                 c.add.ensures.written ∙ ap (λ (l : List Arrival). c.keep_room.new.results.written.items ++ filter (λ arrival. is_write c.plan-plan.result.now arrival.node) l) c.place-waiting.ensures.left
                 ∙ ap (λ (l : List Arrival). c.keep_room.new.results.written.items ++ l) (others_written c.plan-plan.result.now c.fire-fired.new.arrivals)
@@ -367,7 +376,7 @@ returns-clause-ok c = λ told can.
     subst (λ (b : SeenBook). IsCommitting told b c.args.slot c.args.receipt seen × IsWithinLimits seen) c.self.view_is
     (commit_written (data_of c.self.inside) c.args.slot c.in-Some.job c.args.receipt c.self.inside.groups c.fire-fired.new.groups c.in-Ok-fired.fired.panes c.in-Ok-fired.fired.marks
     c.fire-fired.new.arrivals c.hold_residual.new.held fired c.self.invariant.indexed.sane
-    c.take_out.new.slots.items c.put_back.new.pieces.pending (lists_of c.wait_all.new.queues.items) (cells_in c.place-waiting.new.keys) c.add.new.self.panes.items c.add.new.self.done.items c.add.new.self.written.items c.add.new.self.commits.items
+    c.take_out.new.slots.items c.put_back.new.pieces.pending (lists_of c.wait_all.new.queues.items) (cells_in c.place-waiting.new.keys) c.add.new.self.panes.items c.add.new.self.done.items c.add.new.self.dead.items c.add.new.self.written.items c.add.new.self.commits.items
     (record {
       slots_are = c.in-Some.ensures.free;
       pending_are = c.put_back.ensures.pending ∙ ap (λ (r : Option Piece). with_residual r c.self.inside.pieces.pending) c.residual_of-residual.ensures;
@@ -380,6 +389,9 @@ returns-clause-ok c = λ told can.
       done_are =
           c.add.ensures.done ∙ ap (λ (l : List Done). with_done_in c.done_of.result l) c.in-Ok.ensures.done
           ∙ ap (λ (d : Option Done). with_done_in d c.self.inside.results.done.items) c.done_of.ensures;
+      dead_are =
+          c.add.ensures.dead ∙ ap (λ (l : List Dead). with_dead_in c.dead_of.result l) c.in-Ok.ensures.dead
+          ∙ ap (λ (d : Option Dead). with_dead_in d c.self.inside.results.dead.items) c.dead_of.ensures;
       written_are =
           c.add.ensures.written ∙ ap (λ (l : List Arrival). c.keep_room.new.results.written.items ++ filter (λ arrival. is_write c.plan-plan.result.now arrival.node) l) c.place-waiting.ensures.left
           ∙ ap (λ (l : List Arrival). c.keep_room.new.results.written.items ++ l) (others_written c.plan-plan.result.now c.fire-fired.new.arrivals)

@@ -2,7 +2,7 @@ use Rattle.std.proofs.Common.{◌≡◌, ℤ, List, ◌∷◌, ◌<◌, ◌+◌,
 use Rattle.std.specs.Prelude.{slice_get, Option, Some}
 use Rattle.std.specs.List.{flat_map}
 use Rattle.beam_model.specs.Holds.{Hold, piece_hold}
-use Rattle.book_core.specs.Book.{piece_of, tracker_of}
+use Rattle.book_core.specs.Book.{most_parts, piece_of, places_kept, tracker_of}
 use Rattle.beam_values.specs.Tracking.{Tracked, split_point_of, residual, primary}
 use Rattle.beam_values.specs.declared.plan.Plan.{Plan}
 use Rattle.book_core.specs.Indexes.{AreHeldIn}
@@ -16,17 +16,12 @@ use Rattle.book_core.proofs.book.Book.split.Goals as goal
 
 pub tracker_of-tracker-requires : goal.tracker_of-tracker-requires
 tracker_of-tracker-requires c =
-    let works : slice_get c.self.inside.slots.items c.args.slot ≡ Some (Some (live.Span c.in-Some.piece c.in-Some.attempted)) = cc (c.in-Some.ensures, c.as_slice.ensures.value) in
+    let works : slice_get c.self.inside.slots.items c.args.slot ≡ Some (Some (live.Span c.in-Some.piece c.in-Some.attempted)) = cc (c.in-Some.ensures.0, c.as_slice.ensures.value) in
     attempted_within (data_of c.self.inside) c.args.slot c.in-Some.piece c.in-Some.attempted c.self.invariant.indexed.sane works
-
-pub overflow_sub-count_pieces : goal.overflow_sub-count_pieces
-overflow_sub-count_pieces c =
-    let within = c.self.invariant.indexed.sane.formed.within in
-    omega (arith, c.count_pieces.ensures.within, c.as_slice-2.ensures.len, c.self.inside.slots.ok, within.slots)
 
 pub keep_room-requires : goal.keep_room-requires
 keep_room-requires c =
-    let works : slice_get c.self.inside.slots.items c.args.slot ≡ Some (Some (live.Span c.in-Some.piece c.in-Some.attempted)) = cc (c.in-Some.ensures, c.as_slice.ensures.value) in
+    let works : slice_get c.self.inside.slots.items c.args.slot ≡ Some (Some (live.Span c.in-Some.piece c.in-Some.attempted)) = cc (c.in-Some.ensures.0, c.as_slice.ensures.value) in
     node_within (data_of c.self.inside) c.self.inside.held c.self.inside.pieces.room c.self.inside.returned.room c.args.slot c.in-Some.piece c.in-Some.attempted works c.self.invariant.indexed
 
 pub invariant_of-self : goal.invariant_of-self
@@ -51,7 +46,7 @@ invariant_of-self-in_err-add_residual c = record {
 
 pub add_kept-requires-clause-within : goal.add_kept-requires-clause-within
 add_kept-requires-clause-within c =
-    let works : slice_get c.self.inside.slots.items c.args.slot ≡ Some (Some (live.Span c.in-Some.piece c.in-Some.attempted)) = cc (c.in-Some.ensures, c.as_slice.ensures.value) in
+    let works : slice_get c.self.inside.slots.items c.args.slot ≡ Some (Some (live.Span c.in-Some.piece c.in-Some.attempted)) = cc (c.in-Some.ensures.0, c.as_slice.ensures.value) in
     omega (
       arith,
       node_within (data_of c.self.inside) c.self.inside.held c.self.inside.pieces.room c.self.inside.returned.room c.args.slot c.in-Some.piece c.in-Some.attempted works c.self.invariant.indexed,
@@ -60,26 +55,32 @@ add_kept-requires-clause-within c =
 
 pub index_mut-requires : goal.index_mut-requires
 index_mut-requires c =
-    let works : slice_get c.self.inside.slots.items c.args.slot ≡ Some (Some (live.Span c.in-Some.piece c.in-Some.attempted)) = cc (c.in-Some.ensures, c.as_slice.ensures.value) in
+    let works : slice_get c.self.inside.slots.items c.args.slot ≡ Some (Some (live.Span c.in-Some.piece c.in-Some.attempted)) = cc (c.in-Some.ensures.0, c.as_slice.ensures.value) in
     omega (arith, works_within (data_of c.self.inside) c.args.slot (live.Span c.in-Some.piece c.in-Some.attempted) works, c.self.inside.slots.ok)
+
+-- a place more has a number
+few_kept : (c : goal.After-from) → length c.self.inside.pieces.pending + places_kept (data_of c.self.inside) + 1 < 4294967295
+few_kept c =
+    let worked_is = c.count_pieces-worked.ensures.exact ∙ ap (λ (s : List (Option Live)). length (flat_map piece_of s)) c.as_slice-2.ensures.value in
+    let places_are = c.most_parts.ensures ∙ ap (λ (plan : Plan). most_parts plan c.count_pieces-worked.result) c.plan.ensures.value ∙ ap (most_parts c.self.inside.graph) worked_is in
+    omega (arith, c.if-len-most_parts.false, c.len.ensures, places_are)
 
 pub invariant_of-self-2 : goal.invariant_of-self-2
 invariant_of-self-2 c = record {
   indexed =
-      let works : slice_get c.self.inside.slots.items c.args.slot ≡ Some (Some (live.Span c.in-Some.piece c.in-Some.attempted)) = cc (c.in-Some.ensures, c.as_slice.ensures.value) in
+      let works : slice_get c.self.inside.slots.items c.args.slot ≡ Some (Some (live.Span c.in-Some.piece c.in-Some.attempted)) = cc (c.in-Some.ensures.0, c.as_slice.ensures.value) in
       let cut : IsCut c.in-Some.piece (split_point_of (tracker_of c.in-Some.piece c.in-Some.attempted) c.args.num c.args.den) c.from.result c.in-Some-try_split.rest c.range.result =
       is_cut c.in-Some.piece c.in-Some.attempted c.args.num c.args.den c.from.result c.in-Some-try_split.rest c.range.result c.try_split.new.self
       (subst (λ (t : Tracked). Some c.in-Some-try_split.rest ≡ residual (split_point_of t c.args.num c.args.den) t.range.to) c.tracker_of-tracker.ensures c.in-Some-try_split.ensures.answer)
       (subst (λ (t : Tracked). c.try_split.new.self ≡ primary t (split_point_of t c.args.num c.args.den)) c.tracker_of-tracker.ensures c.in-Some-try_split.ensures.after)
       c.range.ensures c.from.ensures.value in
-      let less : length c.self.inside.pieces.pending + length (flat_map piece_of c.self.inside.slots.items) + 1 < 4294967295 =
-      omega (arith, c.if-len-count_pieces.false, c.count_pieces.ensures.exact, c.len.ensures, ap (λ (s : List (Option Live)). length (flat_map piece_of s)) c.as_slice-2.ensures.value) in
+      let less : length c.self.inside.pieces.pending + places_kept (data_of c.self.inside) + 1 < 4294967295 = few_kept c in
       let mark_is : c.mark_of_piece-mark.result ≡ (piece_hold c.self.inside.graph c.in-Some.piece).mark =
-      c.mark_of_piece-mark.ensures ∙ ap (λ (plan : Plan). (piece_hold plan c.in-Some.piece).mark) c.plan.ensures.value in
+      c.mark_of_piece-mark.ensures ∙ ap (λ (plan : Plan). (piece_hold plan c.in-Some.piece).mark) c.plan-2.ensures.value in
       let add : (holds : List Hold) → AreHeldIn c.keep_room.new.self holds → AreHeldIn c.add_kept.new.self (piece_hold c.self.inside.graph c.in-Some.piece ∷ holds) =
       subst (λ (m : ℤ). (holds : List Hold) → AreHeldIn c.keep_room.new.self holds → AreHeldIn c.add_kept.new.self (record { node = c.in-Some.piece.node; mark = m } ∷ holds)) mark_is c.add_kept.ensures.added in
       cut_indexed (data_of c.self.inside) c.self.inside.held c.keep_room.new.self c.add_kept.new.self c.self.inside.pieces.room c.add_residual.new.self.room c.self.inside.returned.room
-      c.args.slot c.args.num c.args.den c.from.result c.in-Some.piece c.in-Some.attempted c.in-Some-try_split.rest c.range.result _ _ works cut
+      c.args.slot c.args.num c.args.den c.from.result c.in-Some.piece c.in-Some.attempted c.in-Some-try_split.rest c.range.result _ _ works c.in-Some.ensures.1 cut
       c.in_ok-add_residual.ensures.ok refl less c.in_ok-keep_room.ensures.marks
       add (c.add_kept.ensures.sized ∙ c.in_ok-keep_room.ensures.sized) c.in_ok-add_residual.ensures.kept c.self.invariant.indexed;
   grouped = c.self.invariant.grouped;
@@ -88,14 +89,13 @@ invariant_of-self-2 c = record {
 
 pub returns-clause-ok : goal.returns-clause-ok
 returns-clause-ok c =
-    let works : slice_get c.self.inside.slots.items c.args.slot ≡ Some (Some (live.Span c.in-Some.piece c.in-Some.attempted)) = cc (c.in-Some.ensures, c.as_slice.ensures.value) in
+    let works : slice_get c.self.inside.slots.items c.args.slot ≡ Some (Some (live.Span c.in-Some.piece c.in-Some.attempted)) = cc (c.in-Some.ensures.0, c.as_slice.ensures.value) in
     let cut : IsCut c.in-Some.piece (split_point_of (tracker_of c.in-Some.piece c.in-Some.attempted) c.args.num c.args.den) c.from.result c.in-Some-try_split.rest c.range.result =
     is_cut c.in-Some.piece c.in-Some.attempted c.args.num c.args.den c.from.result c.in-Some-try_split.rest c.range.result c.try_split.new.self
     (subst (λ (t : Tracked). Some c.in-Some-try_split.rest ≡ residual (split_point_of t c.args.num c.args.den) t.range.to) c.tracker_of-tracker.ensures c.in-Some-try_split.ensures.answer)
     (subst (λ (t : Tracked). c.try_split.new.self ≡ primary t (split_point_of t c.args.num c.args.den)) c.tracker_of-tracker.ensures c.in-Some-try_split.ensures.after)
     c.range.ensures c.from.ensures.value in
-    let less : length c.self.inside.pieces.pending + length (flat_map piece_of c.self.inside.slots.items) + 1 < 4294967295 =
-    omega (arith, c.if-len-count_pieces.false, c.count_pieces.ensures.exact, c.len.ensures, ap (λ (s : List (Option Live)). length (flat_map piece_of s)) c.as_slice-2.ensures.value) in
+    let less : length c.self.inside.pieces.pending + places_kept (data_of c.self.inside) + 1 < 4294967295 = few_kept c in
     makes_seen (data_of c.self.inside) _ _ c.args.slot (Split c.args.num c.args.den) (SplitAt (Some c.from.result)) c.self.view_is
-    (makes_cut (data_of c.self.inside) c.args.slot c.args.num c.args.den c.from.result c.in-Some.piece c.in-Some.attempted c.in-Some-try_split.rest c.range.result _ _ works cut
+    (makes_cut (data_of c.self.inside) c.args.slot c.args.num c.args.den c.from.result c.in-Some.piece c.in-Some.attempted c.in-Some-try_split.rest c.range.result _ _ works c.in-Some.ensures.1 cut
     c.in_ok-add_residual.ensures.ok refl less c.self.invariant.indexed.sane)

@@ -1,20 +1,33 @@
 use Rattle.std.proofs.Common.{◌≡◌, ℕ, ◌<◌, Some, None, ap, refl, sym, subst, ◌∙◌, arith}
 use Rattle.std.specs.List.{list_any}
 use Rattle.beam_ports.specs.Observed.{observed_store}
+use Rattle.book_core.specs.Work.{worked_to}
 use Rattle.bundle_commit.specs.declared.job.Job.TheVariants as job
 use Rattle.chain_exec.specs.Causes.{observed_shelf}
 use Rattle.known_jobs.specs.Calls.{CanClaimAs, holds_end}
 use Rattle.bundle_work.specs.Bundles.{CanRead}
-use Rattle.bundle_work.proofs.Claiming.{can_claim, can_first, first_claimed, goes_on}
+use Rattle.bundle_work.proofs.Claiming.{can_claim, can_first, first_claimed, goes_on, unspent}
 use Rattle.bundle_work.proofs.Jobs.{job_given}
-use Rattle.bundle_work.proofs.PieceReads.{end_given, end_honest, none_claimed, reader_for, readers_hold, reading_after, reading_same, turned_able}
+use Rattle.bundle_work.proofs.PieceReads.{end_given, end_honest, none_claimed, nothing_given, reader_for, readers_hold, reading_after, reading_same, turned_able}
 use Rattle.bundle_work.proofs.bundles.Worker.work_span.Goals as goal
 
 pub claim_end-end-requires-clause-may : goal.claim_end-end-requires-clause-may
 claim_end-end-requires-clause-may g c =
     let piece = c.args.piece.now in
     let known = g.C.Claims.known c.args.claims.now c.args.pass.now in
-    subst (λ (q : ℕ). CanClaimAs known q) (sym c.from-from.ensures.value) (can_claim piece known piece.range.from (can_first piece known c.requires.1.1.1.1.1.1.1.0 c.from-from.ensures.ordered))
+    subst (λ (q : ℕ). CanClaimAs known q) (sym c.from-from.ensures.value) (can_claim piece known piece.range.from (can_first piece known (unspent piece c.is_some.result c.is_some.ensures c.if-is_some.false) c.requires.1.1.1.1.1.1.1.0 c.from-from.ensures.ordered))
+
+pub returns-then-is_some-clause-given : goal.returns-then-is_some-clause-given
+returns-then-is_some-clause-given g c =
+    let plan = c.args.graph.now in
+    let piece = c.args.piece.now in
+    let known = g.C.Claims.known c.args.claims.now c.args.pass.now in
+    let none : worked_to piece None ≡ piece.range.from = omega (arith, c.from-from.ensures.ordered) in
+    let receipt = c.take_receipt.result in
+    let is = c.take_receipt.ensures.same ∙ c.expecting.ensures in
+    let time = c.take_receipt.ensures.time in
+    job_given g.setting plan c.requires.1.1.1.1.1.1.1.1.0 (job.Span piece) None known c.requires.1.1.1.1.1.1.1.0 receipt (nothing_given None plan piece None receipt none is time)
+    (nothing_given g.setting.known.told plan piece None receipt none is time)
 
 pub returns-then-end-from-clause-given : goal.returns-then-end-from-clause-given
 returns-then-end-from-clause-given g c =
@@ -22,26 +35,26 @@ returns-then-end-from-clause-given g c =
     let piece = c.args.piece.now in
     let end = c.claim_end-end.result in
     let known = g.C.Claims.known c.args.claims.now c.claim_end-end.new.pass in
-    let claim = first_claimed piece (g.C.Claims.known c.args.claims.now c.args.pass.now) c.from-from.result end known c.from-from.ensures.value c.requires.1.1.1.1.1.1.1.0 c.from-from.ensures.ordered c.claim_end-end.ensures.told
+    let claim = first_claimed piece (g.C.Claims.known c.args.claims.now c.args.pass.now) c.from-from.result end known (unspent piece c.is_some.result c.is_some.ensures c.if-is_some.false) c.from-from.ensures.value c.requires.1.1.1.1.1.1.1.0 c.from-from.ensures.ordered c.claim_end-end.ensures.told
     c.claim_end-end.ensures.end in
     let empty : piece.range.from ≡ end = omega (arith, claim.1, c.if-end-from.true, c.from-from.ensures.value) in
-    let receipt = c.take_receipt.result in
-    let is = c.take_receipt.ensures.same ∙ c.expecting.ensures in
-    let time = c.take_receipt.ensures.time in
+    let receipt = c.take_receipt-then-end-from.result in
+    let is = c.take_receipt-then-end-from.ensures.same ∙ c.expecting.ensures in
+    let time = c.take_receipt-then-end-from.ensures.time in
     job_given g.setting plan c.requires.1.1.1.1.1.1.1.1.0 (job.Span claim.0.now) (Some piece.range.from) known claim.0.claimed.is receipt (none_claimed None plan piece end known claim.0 empty receipt is time)
     (none_claimed g.setting.known.told plan piece end known claim.0 empty receipt is time)
 
 pub returns-then-end-from-clause-reading : goal.returns-then-end-from-clause-reading
 returns-then-end-from-clause-reading g c =
     let self = c.args.self.now in
-    reading_same g.setting.known.told (g.S.Store.opened c.args.kit.now.store) c.args.graph.now self.readers.items self.readers.items self.place self.place self.bench.pager c.take_receipt.new.self.pager refl refl
-    c.take_receipt.ensures.pager c.requires.1.1.1.1.1.1.1.1.1.1.0
+    reading_same g.setting.known.told (g.S.Store.opened c.args.kit.now.store) c.args.graph.now self.readers.items self.readers.items self.place self.place self.bench.pager c.take_receipt-then-end-from.new.self.pager refl refl
+    c.take_receipt-then-end-from.ensures.pager c.requires.1.1.1.1.1.1.1.1.1.1.0
 
 pub returns-then-end-from-clause-goes_on : goal.returns-then-end-from-clause-goes_on
 returns-then-end-from-clause-goes_on g c =
     let piece = c.args.piece.now in
     let known = g.C.Claims.known c.args.claims.now c.claim_end-end.new.pass in
-    let claim = first_claimed piece (g.C.Claims.known c.args.claims.now c.args.pass.now) c.from-from.result c.claim_end-end.result known c.from-from.ensures.value c.requires.1.1.1.1.1.1.1.0 c.from-from.ensures.ordered
+    let claim = first_claimed piece (g.C.Claims.known c.args.claims.now c.args.pass.now) c.from-from.result c.claim_end-end.result known (unspent piece c.is_some.result c.is_some.ensures c.if-is_some.false) c.from-from.ensures.value c.requires.1.1.1.1.1.1.1.0 c.from-from.ensures.ordered
     c.claim_end-end.ensures.told c.claim_end-end.ensures.end in
     goes_on piece claim.0.now piece.range.from known claim.0.claimed
 
@@ -49,14 +62,14 @@ pub turn_to-requires : goal.turn_to-requires
 turn_to-requires g c =
     let piece = c.args.piece.now in
     let known = g.C.Claims.known c.args.claims.now c.claim_end-end.new.pass in
-    let claim = first_claimed piece (g.C.Claims.known c.args.claims.now c.args.pass.now) c.from-from.result c.claim_end-end.result known c.from-from.ensures.value c.requires.1.1.1.1.1.1.1.0 c.from-from.ensures.ordered
+    let claim = first_claimed piece (g.C.Claims.known c.args.claims.now c.args.pass.now) c.from-from.result c.claim_end-end.result known (unspent piece c.is_some.result c.is_some.ensures c.if-is_some.false) c.from-from.ensures.value c.requires.1.1.1.1.1.1.1.0 c.from-from.ensures.ordered
     c.claim_end-end.ensures.told c.claim_end-end.ensures.end in
     let some : piece.range.from < piece.range.to = omega (arith, claim.0.ends, claim.0.claimed.below, c.if-end-from.false, c.from-from.ensures.value) in
     readers_hold piece c.args.self.now.readers.items ∙ ap (list_any (holds_end piece)) c.requires.1.1.1.1.1.1.1.1.1.1.1.1 ∙ c.requires.1.1.1.1.1.1.1.1.1.1.1.0 some
 
 pub work_positions-requires-clause-claimed : goal.work_positions-requires-clause-claimed
 work_positions-requires-clause-claimed g c κs within =
-    (first_claimed c.args.piece.now (g.C.Claims.known c.args.claims.now c.args.pass.now) c.from-from.result c.claim_end-end.result (g.C.Claims.known c.args.claims.now c.claim_end-end.new.pass) c.from-from.ensures.value
+    (first_claimed c.args.piece.now (g.C.Claims.known c.args.claims.now c.args.pass.now) c.from-from.result c.claim_end-end.result (g.C.Claims.known c.args.claims.now c.claim_end-end.new.pass) (unspent c.args.piece.now c.is_some.result c.is_some.ensures c.if-is_some.false) c.from-from.ensures.value
     c.requires.1.1.1.1.1.1.1.0 c.from-from.ensures.ordered c.claim_end-end.ensures.told c.claim_end-end.ensures.end).0
 
 pub work_positions-requires-clause-inside : goal.work_positions-requires-clause-inside
@@ -94,7 +107,7 @@ returns-in-Ok-clause-given g c =
     let turned = c.turn_to.ensures.turned in
     let opened = g.S.Store.opened c.args.kit.now.store in
     let is = turned_able g.setting.known.told opened plan self.readers.items self.place c.args.piece.now new.place self.bench.pager new.bench.pager c.requires.1.1.1.1.1.1.1.1.1.1.0 turned in
-    end_given g.setting opened plan c.requires.1.1.1.1.1.1.1.1.0 self.readers.items c.requires.1.1.1.1.1.1.1.1.1.1.0.all new.place turned.reader turned.at c.args.piece.now turned.is_for new.bench.pager is
+    end_given g.setting opened plan c.requires.1.1.1.1.1.1.1.1.0 self.readers.items c.requires.1.1.1.1.1.1.1.1.1.1.0.all new.place turned.reader turned.at c.args.piece.now turned.is_for (unspent c.args.piece.now c.is_some.result c.is_some.ensures c.if-is_some.false) new.bench.pager is
     (g.C.Claims.known c.args.claims.now c.work_positions.new.pass) c.work_positions.new.self.bench.staging _ _ tt c.in-Ok.ensures.end c.take_receipt-in-Ok.result c.take_receipt-in-Ok.ensures.same
     c.take_receipt-in-Ok.ensures.time
 
@@ -133,7 +146,7 @@ returns-in-Err-clause-refused g c =
     let turned = c.turn_to.ensures.turned in
     let opened = g.S.Store.opened c.args.kit.now.store in
     let is = turned_able g.setting.known.told opened plan self.readers.items self.place c.args.piece.now new.place self.bench.pager new.bench.pager c.requires.1.1.1.1.1.1.1.1.1.1.0 turned in
-    end_honest g.setting opened plan c.requires.1.1.1.1.1.1.1.1.0 self.readers.items c.requires.1.1.1.1.1.1.1.1.1.1.0.all new.place turned.reader turned.at c.args.piece.now turned.is_for new.bench.pager is
+    end_honest g.setting opened plan c.requires.1.1.1.1.1.1.1.1.0 self.readers.items c.requires.1.1.1.1.1.1.1.1.1.1.0.all new.place turned.reader turned.at c.args.piece.now turned.is_for (unspent c.args.piece.now c.is_some.result c.is_some.ensures c.if-is_some.false) new.bench.pager is
     (g.C.Claims.known c.args.claims.now c.work_positions.new.pass) c.work_positions.new.self.bench.staging (Unit {0}) (observed_shelf g.F.Shelf.strict g.F.Shelf.faults c.args.kit.now.shelf c.work_positions.new.kit.shelf)
     (observed_store g.S.Store.files g.S.Store.faults c.args.kit.now.store c.work_positions.new.kit.store) c.requires.1.1.1.1.1.1.1.1.1.0 c.in-Err.refusal c.in-Err.ensures.end
 

@@ -15,9 +15,9 @@ use Rattle.bundle_work.proofs.PieceReads.{readers_hold}
 use Rattle.lone_worker.specs.declared.work.Stage.TheVariants as stage
 use Rattle.lone_worker.specs.declared.work.Work.{Work}
 use Rattle.lone_worker.proofs.Bases.{lengths_on}
-use Rattle.lone_worker.proofs.Claiming.{can, first_at, going, made}
+use Rattle.lone_worker.proofs.Claiming.{can, going, made}
 use Rattle.lone_worker.proofs.Granted.{able, emitted_worked, failed_at, goes_worked, next_worked, reaches, reading_then, sound_worked}
-use Rattle.lone_worker.proofs.Ranges.{behind, refused_given, tried}
+use Rattle.lone_worker.proofs.Ranges.{failed_inside, refused_given}
 use Rattle.lone_worker.proofs.Works.{no_receipt, opened, work_failed, work_goes, work_over}
 use Rattle.lone_worker.proofs.at_slot.AtSlot.claim.Goals as goal
 
@@ -180,7 +180,8 @@ returns-in-Err-Faulted-clause-done g c =
     let refused =
     failed_at g.base (g.S.Store.opened c.args.kit.now.store) worker.readers.items worker.place worker.bench.pager r.1.1.0 piece turned.place turned.bench.pager c.turn_to.ensures.turned from.now (known_at b slot) work.next end
     (known_at new slot) claim inside from c.args.graph.now r.0 work.staged shelf store r.1.0 c.in-Err-Faulted.field-0 c.in-Err-Faulted.ensures.refused in
-    (refl, subst (λ (e : ExecRefusal). IsJobRefused g.base.setting shelf store (known_at new slot) e) c.in-Err-Faulted.field-0-is refused)
+    let fails = subst (λ (e : ExecRefusal). IsJobRefused g.base.setting shelf store (known_at new slot) e) c.in-Err-Faulted.field-0-is refused in
+    (refl, (fails.0, fails.1))
 
 pub returns-in-Err-Faulted-clause-work : goal.returns-in-Err-Faulted-clause-work
 returns-in-Err-Faulted-clause-work g c =
@@ -194,11 +195,10 @@ returns-in-Err-Faulted-clause-work g c =
     let end = c.claim_end-end.result in
     let from = can g.base b slot piece held work c.in-Span.is r.1.1.1.1.1 r.1.1.1.1.0 in
     let claim = made g.base b slot piece held work c.in-Span.is r.1.1.1.1.1 r.1.1.1.1.0 new end c.claim_end-end.ensures.step c.claim_end-end.ensures.end in
-    let first = first_at g.base b slot piece held work c.in-Span.is r.1.1.1.1.1 r.1.1.1.1.0 in
-    let low = behind g.base piece from.now (known_at b slot) work.next from work.next end (known_at new slot) claim first in
+    let inside : work.next < end = omega (arith, c.if-p-end.false) in
     let later : Work = record work { stage = stage.Faulted c.in-Err-Faulted.at c.in-Err-Faulted.cause; staged = c.work_at.new.staged } in
     work_failed g.base (known_at new slot) later piece c.in-Span.is c.in-Err-Faulted.at c.in-Err-Faulted.cause refl (no_receipt g.base (known_at b slot) work piece c.in-Span.is r.1.1.1.1.0)
-    (tried g.base piece from.now (known_at b slot) work.next end (known_at new slot) claim low)
+    (failed_inside g.base piece from.now (known_at b slot) work.next end (known_at new slot) claim from.start inside)
 
 pub returns-in-Err-Faulted-clause-reading : goal.returns-in-Err-Faulted-clause-reading
 returns-in-Err-Faulted-clause-reading g c =

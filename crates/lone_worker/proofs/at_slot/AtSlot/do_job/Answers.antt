@@ -71,7 +71,7 @@ give_back-requires g c =
     let store = observed_store g.S.Store.files g.S.Store.faults c.args.kit.now.store c.work_job.new.kit.store in
     let keeps = claims_keep g.setting c.args.self.now.slot c.rounds_are_bounded.ensures.claim b mid c.in-Err-Faulted.ensures.claims in
     let refused = subst (λ (e : ExecRefusal). IsJobRefused g.setting shelf store (known_at mid c.args.self.now.slot) e) c.in-Err-Faulted.field-0-is c.in-Err-Faulted.ensures.refused in
-    (in_after g.setting g.setting.known b mid keeps.run c.requires.1.1.1.1.0, (refused.1, (keeps.stopped ∙ c.requires.1.1.1.1.1.0, keeps.others c.requires.1.1.1.1.1.1.0)))
+    (in_after g.setting g.setting.known b mid keeps.run c.requires.1.1.1.1.0, (refused.1, (refused.2, (keeps.stopped ∙ c.requires.1.1.1.1.1.0, keeps.others c.requires.1.1.1.1.1.1.0))))
 
 pub returns-in-Err-Faulted-clause-run : goal.returns-in-Err-Faulted-clause-run
 returns-in-Err-Faulted-clause-run g c =

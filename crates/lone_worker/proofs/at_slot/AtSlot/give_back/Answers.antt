@@ -5,7 +5,7 @@ use Rattle.known_jobs.specs.Carried.{can_fail, fails_honestly}
 use Rattle.known_jobs.specs.Jobs.{known_at}
 use Rattle.known_jobs.specs.Known.{known_where}
 use Rattle.lone_worker.proofs.Leading.{run_one}
-use Rattle.lone_worker.proofs.Rounds.{failed_calls, failed_reads, failed_round, spent_stops}
+use Rattle.lone_worker.proofs.Rounds.{breaks_none, failed_calls, failed_reads, failed_round, spent_stops}
 use Rattle.lone_worker.proofs.at_slot.AtSlot.give_back.Goals as goal
 
 pub fail-requires : goal.fail-requires
@@ -28,7 +28,8 @@ returns-in-Retry-clause-end g c =
     let b = c.args.book.now in
     let slot = c.args.self.now.slot in
     let step = c.in-Retry.ensures g.setting.known.told in
-    failed_round b c.fail.new.self slot c.args.at c.args.cause Retried step refl c.requires.1.1.0 c.requires.1.1.1 (c.rounds_are_bounded.ensures.fail b c.fail.new.self slot c.args.at c.args.cause Retried c.is_sane.ensures step)
+    failed_round b c.fail.new.self slot c.args.at c.args.cause Retried step refl c.requires.1.1.1.0 c.requires.1.1.1.1
+    (c.rounds_are_bounded.ensures.fail b c.fail.new.self slot c.args.at c.args.cause Retried c.is_sane.ensures (breaks_none b slot c.args.cause c.requires.1.1.0) step)
 
 pub returns-in-Retry-clause-calls : goal.returns-in-Retry-clause-calls
 returns-in-Retry-clause-calls g c = failed_calls c.args.book.now c.fail.new.self c.args.self.now.slot c.args.at c.args.cause Retried (c.in-Retry.ensures g.setting.known.told)
@@ -45,7 +46,7 @@ returns-in-Spent-clause-run g c =
     run_one g.setting.known b c.fail.new.self slot (Fail c.args.at c.args.cause) (Spent c.in-Spent.note) (c.in-Spent.ensures g.setting.known.told) honest
 
 pub returns-in-Spent-clause-end : goal.returns-in-Spent-clause-end
-returns-in-Spent-clause-end g c = spent_stops c.args.book.now c.fail.new.self c.args.self.now.slot c.args.at c.args.cause c.in-Spent.note c.requires.1.1.0 (c.in-Spent.ensures g.setting.known.told)
+returns-in-Spent-clause-end g c = spent_stops c.args.book.now c.fail.new.self c.args.self.now.slot c.args.at c.args.cause c.in-Spent.note c.requires.1.1.1.0 (c.in-Spent.ensures g.setting.known.told)
 
 pub returns-in-Spent-clause-calls : goal.returns-in-Spent-clause-calls
 returns-in-Spent-clause-calls g c = failed_calls c.args.book.now c.fail.new.self c.args.self.now.slot c.args.at c.args.cause (Spent c.in-Spent.note) (c.in-Spent.ensures g.setting.known.told)

@@ -3,15 +3,21 @@ use Rattle.schedule_replay.specs.Draining.{has_failed}
 use Rattle.schedule_replay.specs.Shown.{shown}
 use Rattle.schedule_replay.specs.Stands.{has_job, work_at}
 use Rattle.schedule_replay.proofs.Drained.{commit_line, fail_line, may_commit_now}
-use Rattle.schedule_replay.proofs.Idle.{tested}
+use Rattle.schedule_replay.proofs.Idle.{failed_inside, failed_may, tested}
 use Rattle.schedule_replay.proofs.Onward.{commits_job, last_frees, last_rests}
 use Rattle.schedule_replay.proofs.stand.Stand.finish.Goals as goal
+
+pub fail-requires : goal.fail-requires
+fail-requires g c =
+    let stood = c.args.self.now in
+    let failed = tested has_failed stood 0 c.as_slice.result.now c.has_failed.result true c.as_slice.ensures.value c.has_failed.ensures c.if-has_failed.true in
+    (c.requires.0, failed_may g.base stood c.requires.0 failed)
 
 pub returns-then-has_failed-clause-line : goal.returns-then-has_failed-clause-line
 returns-then-has_failed-clause-line g c = λ emitted ends.
     let stood = c.args.self.now in
     let failed = tested has_failed stood 0 c.as_slice.result.now c.has_failed.result true c.as_slice.ensures.value c.has_failed.ensures c.if-has_failed.true in
-    fail_line g.base emitted (shown stood) ends (shown c.fail.new.self) c.fail.result failed c.fail.ensures.done
+    fail_line g.base emitted (shown stood) ends (shown c.fail.new.self) c.fail.result failed (failed_may g.base stood c.requires.0 failed) c.fail.ensures.done
 
 pub returns-then-has_failed-clause-free : goal.returns-then-has_failed-clause-free
 returns-then-has_failed-clause-free g c =
@@ -43,3 +49,9 @@ returns-clause-free g c =
 
 pub returns-clause-others : goal.returns-clause-others
 returns-clause-others g c = last_rests (shown c.args.self.now) (shown c.commit.new.self) c.in_ok-commit.ensures.done.done.after c.requires.1.1.1.1
+
+pub returns-then-has_failed-clause-rounds : goal.returns-then-has_failed-clause-rounds
+returns-then-has_failed-clause-rounds g c =
+    let stood = c.args.self.now in
+    let failed = tested has_failed stood 0 c.as_slice.result.now c.has_failed.result true c.as_slice.ensures.value c.has_failed.ensures c.if-has_failed.true in
+    c.fail.ensures.rounds (failed_inside g.base stood c.requires.0 failed)

@@ -1,10 +1,13 @@
 use mir.Syntax.{of_param}
 use Rattle.std.specs.Prelude.{Some, None}
 use Rattle.std.proofs.Common.{rules, inl, inr, Ok, IsSome, refl, subst, sym, ◌∙◌}
+use Rattle.beam_ports.specs.Observed.{observed_store}
+use Rattle.chain_exec.specs.Causes.{observed_shelf}
 use Rattle.book_core.specs.declared.live.Taken.{Taken}
 use Rattle.worker_table.specs.Calls.{AfterTake}
 use Rattle.book_core.specs.declared.live.Taken.TheVariants as taken
-use Rattle.worker_table.specs.Passes.{entry_of, note_of_pass, setting_of, slot_of}
+use Rattle.worker_table.specs.Passes.{entry_of, job_known, note_of_pass, setting_of, slot_of}
+use Rattle.bundle_work.specs.Bundles.{IsJobRefused}
 use Rattle.worker_loop.specs.declared.workers.WorkerEnd.TheVariants as end
 use Rattle.worker_loop.proofs.Steps.{round_of, round_refused}
 use Rattle.worker_loop.proofs.turns.Turns.round.Goals as goal
@@ -43,11 +46,15 @@ returns-in-Ok-clause-turns g c =
 
 pub returns-in-Err-Faulted-clause-turns : goal.returns-in-Err-Faulted-clause-turns
 returns-in-Err-Faulted-clause-turns g c =
+    let setting = setting_of c.args.self.now.table.now in
+    let shelf = observed_shelf g.F.Shelf.strict g.F.Shelf.faults c.args.kit.now.shelf c.work_job.new.kit.shelf in
+    let store = observed_store g.S.Store.files g.S.Store.faults c.args.kit.now.store c.work_job.new.kit.store in
+    let refused = subst (IsJobRefused setting shelf store (job_known c.work_job.new.pass)) c.in-Err-Faulted.field-0-is c.in-Err-Faulted.ensures.refused in
     let m = note_of_pass c.args.pass.now in
     let next = note_of_pass c.take_job.new.pass in
     let worked = note_of_pass c.work_job.new.pass in
     round_of (Unit {0}) (setting_of c.args.self.now.table.now) m next (note_of_pass c.give_back.new.pass) (slot_of c.args.pass.now) c.args.self.now.slot c.in-Ok-Job.field-0 (taken.Job c.in-Ok-Job.job) c.give_back.result c.requires.slot
-    c.in-Ok-Job.field-0-is c.in-Ok-Job.ensures.turn (worked, c.work_job.ensures.claims, inr (inl (c.in-Err-Faulted.at, c.in-Err-Faulted.cause, c.give_back.ensures.turn)))
+    c.in-Ok-Job.field-0-is c.in-Ok-Job.ensures.turn (worked, c.work_job.ensures.claims, inr (inl (c.in-Err-Faulted.at, c.in-Err-Faulted.cause, refused.2, c.give_back.ensures.turn)))
 
 pub returns-in-Ok-Job-clause-turns : goal.returns-in-Ok-Job-clause-turns
 returns-in-Ok-Job-clause-turns g c =
