@@ -1,7 +1,7 @@
 #!/usr/bin/env python3
 """Runs random small plans with several workers, and compares each run with the one of a single worker.
 
-    tests/random_runs.py ./beam_run [--runs N] [--seed S] [--seconds N] [--load] [--combine]
+    tests/random_runs.py ./beam_run [--runs N] [--seed S] [--seconds N] [--load] [--dead] [--combine]
 
 Run number i is made from the seed S + i alone, so `--runs 1 --seed` with the seed of a difference repeats it; what it ran is kept
 in a folder that is named then. `--load` keeps all processors busy meanwhile. A run that takes more than `--seconds` counts as one that
@@ -24,6 +24,10 @@ alone   One worker reads in the order of the files. Without an estimator no time
         windows stay the same, the calls of each key are determined: several runs by one worker, at other bundles and chunks, print the
         same text. Several workers are compared as in `inputs`.
 settled The same, and what is put out at the end doesn't depend on the order of the elements either: what is written is compared too.
+
+Some plans are of version 2, over files with bad lines, or with functions that don't take all that comes; with `--dead` all are. They are compared in
+the same ways, and each run has its own `--attempts`. Whatever else is compared, what each run sets aside has to be the positions that run_model.py
+finds to fail whenever they are worked, with their nodes.
 
 With `--combine` it runs `combine` by several workers on random plans that can be combined, or just can't:
 
@@ -69,6 +73,7 @@ class Plan:
 
     def __init__(self, choose):
         self.choose = choose
+        self.version = 1
         self.nodes = []
         self.files = {}
         self.compared = "text"
@@ -82,7 +87,10 @@ class Plan:
         return name
 
     def document(self):
-        return json.dumps({"beam": 1, "nodes": self.nodes})
+        return json.dumps({"beam": self.version, "nodes": self.nodes})
+
+    def read(self, name):
+        return self.files[name].encode()
 
 
 class End:
@@ -127,12 +135,14 @@ def file_of_timed_lines(plan, declares, ordered):
 
 def write_lines(plan, lines):
     name = f"f{len(plan.files)}"
-    end = plan.choose.choice(["\n", "\r\n"])
-    text = "".join(line + end for line in lines)
-    if lines and plan.choose.random() < 0.2:
-        text = text[: -len(end)]
-    plan.files[name] = text
+    plan.files[name] = text_of_lines(plan.choose, lines)
     return name
+
+
+def text_of_lines(choose, lines):
+    end = choose.choice(["\n", "\r\n"])
+    text = "".join(line + end for line in lines)
+    return text[: -len(end)] if lines and choose.random() < 0.2 else text
 
 
 def timed_source(plan, sound=True):
@@ -461,7 +471,76 @@ def poison_state_plan(plan):
 
 
 STATEFUL_KINDS = [alone_plan, alone_plan, settled_plan, inputs_plan, inputs_plan, poison_state_plan]
-KINDS = [text_plan] * 6 + [panes_plan, two_groups_plan, two_groups_plan, early_plan, unsound_plan, poison_plan, poison_panes_plan, *STATEFUL_KINDS]
+FIRST_KINDS = [text_plan] * 6 + [panes_plan, two_groups_plan, two_groups_plan, early_plan, unsound_plan, poison_plan, poison_panes_plan, *STATEFUL_KINDS]
+
+
+# ---- plans of version 2
+
+BAD_TIMES = ["", "no time", "12345678901234567", "9223372036854776", " 5", "+5"]
+BAD_LINES = [*BAD_TIMES, "1000", "!", "!no time", "!1000\ta", *(f"{time}\ta\t1" for time in BAD_TIMES)]
+
+
+def change_timed_lines(plan, change):
+    """Writes the files of timed lines anew, with the lines that a change makes of theirs."""
+    for node in plan.nodes:
+        for name in node["files"] if node.get("work") == "TimedLines" else []:
+            plan.files[name] = text_of_lines(plan.choose, change(plan.files[name].splitlines()))
+
+
+def with_bad_lines(choose, lines):
+    for _ in range(choose.choice([0, 1, 1, 2, 5])):
+        lines.insert(choose.randrange(len(lines) + 1), choose.choice(BAD_LINES))
+    return lines
+
+
+def with_bad_parts(choose, lines):
+    """The same with parts that are no numbers any more. The times stay, so an estimator is as sound as it was."""
+    return [line + "x" if line[0] != "!" and choose.random() < 0.1 else line for line in lines]
+
+
+def dead_plan(plan):
+    """A plan of any kind, whose files have lines that are none."""
+    choose = plan.choose
+    choose.choice([kind for kind in FIRST_KINDS if kind is not poison_plan])(plan)
+    plan.version = 2
+    change_timed_lines(plan, lambda lines: with_bad_lines(choose, lines))
+
+
+def bad_parts_plan(plan):
+    """Sums of the parts that are numbers."""
+    choose = plan.choose
+    plan.version = 2
+    end = add_key(plan, timed_source(plan))
+    change_timed_lines(plan, lambda lines: with_bad_lines(choose, with_bad_parts(choose, lines)))
+    end = End(plan.add("pardo", [end.name], work="FieldInt"), pair(TEXT, NUMBER))
+    ends = [end] if choose.random() < 0.3 else []
+    end = add_group(plan, add_window(plan, end))
+    ends.append(End(plan.add("pardo", [end.name], work="SumSeq"), pair(TEXT, NUMBER), end.windows, True))
+    add_writes(plan, ends)
+
+
+def bad_fields_plan(plan):
+    """Lines that have too few fields for one of two functions, or for both."""
+    choose = plan.choose
+    plan.version = 2
+    lines = ["\t".join(choose.choice(KEYS) for _ in range(choose.randrange(1, 5))) for _ in range(choose.choice([1, 5, 30]))]
+    source = plan.add("source", [], work="Lines", files=[write_lines(plan, lines)])
+    ends = [End(plan.add("pardo", [source], work="Field", number=choose.randrange(4)), TEXT) for _ in range(2)]
+    add_writes(plan, [add_group(plan, add_window(plan, end)) for end in ends])
+
+
+def bad_numbers_plan(plan):
+    """Numbers are no texts: beside what comes of other lines each of them is set aside."""
+    choose = plan.choose
+    plan.version = 2
+    numbers = plan.add("source", [], work="Count", count=choose.choice([1, 7, 30]), number=choose.choice([0, 999]))
+    lines = lines_source(plan)
+    both = plan.add("flatten", [numbers, lines.name] if choose.random() < 0.5 else [lines.name, numbers, numbers])
+    add_writes(plan, [End(plan.add("pardo", [both], work=choose.choice(["KeyField", "Words"])), TEXT)])
+
+
+DEAD_KINDS = [dead_plan] * 7 + [bad_parts_plan, bad_parts_plan, bad_fields_plan, bad_numbers_plan]
+KINDS = FIRST_KINDS + DEAD_KINDS
 
 
 # ---- plans for combine
@@ -568,7 +647,10 @@ def other_shape_plan(plan):
     """A plan that breaks one rule of those that can be combined."""
     choose = plan.choose
     plan.compared = "refused 1 shape"
-    end, broken = before_group(plan), choose.choice(["trigger", "sessions", "stateful", "past", "follower", "function", "second", "none"])
+    rules = ["version", "trigger", "sessions", "stateful", "past", "follower", "function", "second", "none"]
+    end, broken = before_group(plan), choose.choice(rules)
+    if broken == "version":
+        plan.version = 2
     if broken == "sessions":
         end = add_window(plan, end, ["sessions"])
     if broken == "past":
@@ -626,8 +708,17 @@ class Program:
 
 def bag_of(out, columns):
     """These columns of each line, of the window's start and end, the timing, the index and the value."""
-    lines = [line.split(b"\t", 4) for line in out.splitlines()]
+    lines = [line.split(b"\t", 4) for line in out.splitlines() if not line.startswith(b"dead\t")]
     return sorted([line[at] for at in columns] for line in lines)
+
+
+def dead_of(out):
+    """The lines of what is set aside."""
+    return [line + b"\n" for line in out.splitlines() if line.startswith(b"dead\t")]
+
+
+def dead_as_wanted(plan, out):
+    return dead_of(out) == [line.encode() for line in run_model.dead_lines(plan.document(), plan.read)]
 
 
 def reads_sources_alone(plan, node):
@@ -653,6 +744,8 @@ def difference(plan, compared, one, several):
         return f"status {one.status} and {several.status}, notes {one.note!r} and {several.note!r}"
     if one.status not in ((6,) if compared in ("note", "fault") else (0,)):
         return f"status {one.status}, note {one.note!r}"
+    if one.status == 0 and not (dead_as_wanted(plan, one.out) and dead_as_wanted(plan, several.out)):
+        return "what is set aside"
     if compared == "text" and one.out != several.out:
         return "the texts"
     if compared == "cells" and bag_of(one.out, [0, 1, 4]) != bag_of(several.out, [0, 1, 4]):
@@ -662,7 +755,7 @@ def difference(plan, compared, one, several):
     if compared in STATEFUL and inputs_of(plan, one.out) != inputs_of(plan, several.out):
         return "what came to stateful nodes"
     if compared in STATEFUL and all(node.get("log") for node in plan.nodes if node["kind"] == "stateful"):
-        fault = run_model.log_fault(plan.document(), lambda name: plan.files[name].encode(), several.out.decode())
+        fault = run_model.log_fault(plan.document(), plan.read, several.out.decode())
         if fault is not None:
             return fault
     if compared == "settled" and written(one.out) != written(several.out):
@@ -686,7 +779,8 @@ def random_options(choose, plan, workers):
     bundle = choose.choice([1, 2, 7, 64])
     # Some fifty pieces of all files together at most, since each piece costs several turns at the lock.
     chunk = max(choose.choice([1, 5, 64, 1000, 4096]), sum(map(len, plan.files.values())) // 50)
-    return ["--workers", str(workers), "--bundle", str(bundle), "--chunk", str(chunk)]
+    attempts = ["--attempts", str(choose.choice([1, 2, 3, 7]))] if plan.version == 2 else []
+    return ["--workers", str(workers), "--bundle", str(bundle), "--chunk", str(chunk), *attempts]
 
 
 def comparisons(choose, plan):
@@ -728,14 +822,14 @@ def first_difference_combined(program, folder, choose, plan):
     return None
 
 
-def try_seed(program, seed, combine=False):
+def try_seed(program, seed, kinds):
     """How the plan of the seed was compared, and what differs; the plan stays in a folder then."""
     choose = random.Random(seed)
-    plan = random_plan(choose, COMBINE_KINDS if combine else KINDS)
+    plan = random_plan(choose, kinds)
     with tempfile.TemporaryDirectory(prefix="random_runs_") as name:
         folder = pathlib.Path(name)
         write_plan(plan, folder)
-        found = (first_difference_combined if combine else first_difference)(program, folder, choose, plan)
+        found = (first_difference_combined if kinds is COMBINE_KINDS else first_difference)(program, folder, choose, plan)
         if found is None:
             return plan.compared, None
     kept = pathlib.Path(tempfile.mkdtemp(prefix=f"random_runs_{seed}_"))
@@ -762,13 +856,15 @@ def main():
     words.add_argument("--seed", type=int, default=1)
     words.add_argument("--seconds", type=float, default=120)
     words.add_argument("--load", action="store_true", help="keeps all processors busy meanwhile")
+    words.add_argument("--dead", action="store_true", help="plans of version 2 alone")
     words.add_argument("--combine", action="store_true", help="compares combine with run")
     words = words.parse_args()
     program = Program(words.program, words.seconds)
+    kinds = COMBINE_KINDS if words.combine else DEAD_KINDS if words.dead else KINDS
     busy = busy_processes() if words.load else []
     counts, differences = {}, 0
     for seed in range(words.seed, words.seed + words.runs):
-        compared, found = try_seed(program, seed, words.combine)
+        compared, found = try_seed(program, seed, kinds)
         counts[compared] = counts.get(compared, 0) + 1
         if found is not None:
             differences += 1

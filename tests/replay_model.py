@@ -5,7 +5,8 @@
     tests/replay_model.py --cases FILE [FILE ..]       compares it with the commands `replay`, `make` and `drill` of files of cases
 
 A run under a schedule is the one of run_model.py but for what takes jobs and works them: here slots do, as the lines say. Elements, windows,
-marks, panes and texts are those of run_model.py. The plan has to be one that the program accepts. Where something differs the status is 1.
+marks, panes and texts are those of run_model.py, and so is how a range of a plan of version 2 is broken. The plan has to be one that the program
+accepts. Where something differs the status is 1.
 """
 import argparse
 import pathlib
@@ -38,18 +39,21 @@ class RangeWork:
     """A piece that a slot reads. Its present end is that of the piece, whose `seen` stays as it was at the take."""
 
     def __init__(self, piece):
-        self.piece, self.node = piece, piece.node
+        self.piece, self.node, self.is_spent = piece, piece.node, piece.is_spent()
         self.next, self.attempted, self.was_refused = piece.start, None, False
         self.arrivals, self.seen, self.emitted, self.fault = [], piece.seen, 0, None
 
     def may_claim(self):
-        return self.fault is None and not self.was_refused
+        return self.fault is None and not self.was_refused and not self.is_spent
 
     def may_run(self):
         return False
 
     def may_commit(self):
         return self.fault is None
+
+    def may_fail(self):
+        return not self.is_spent
 
     def last(self):
         """The last attempted position, or the one before the range."""
@@ -70,6 +74,9 @@ class WholeWork:
 
     def may_commit(self):
         return self.was_run and self.fault is None
+
+    def may_fail(self):
+        return True
 
 
 class BatchWork(WholeWork):
@@ -113,7 +120,7 @@ class Replay(run_model.Run):
         work = self.works[numbers[0]]
         if word in ("take", "split"):
             return word == "split" or work is None
-        return work is not None and (word == "fail" or getattr(work, f"may_{word}")())
+        return work is not None and getattr(work, f"may_{word}")()
 
     def follow(self, schedule):
         """What the lines of a schedule print."""
@@ -234,7 +241,7 @@ class Replay(run_model.Run):
 
     def do_split(self, slot, part, whole):
         work = self.works[slot]
-        if not isinstance(work, RangeWork):
+        if not isinstance(work, RangeWork) or work.is_spent:
             return f"split {slot} none"
         piece, last = work.piece, work.last()
         at = last + max(1, (piece.end - last) * part // whole)
@@ -256,6 +263,9 @@ class Replay(run_model.Run):
 
     def commit_range(self, work):
         piece, end = work.piece, work.piece.end
+        if work.is_spent:
+            self.set_aside(piece)
+            return
         is_done = piece.start == end or work.attempted is not None and work.attempted >= end - 1
         if not is_done:
             end = work.last() + 1
@@ -274,9 +284,11 @@ class Replay(run_model.Run):
     def do_fail(self, slot):
         work, self.works[slot] = self.works[slot], None
         if isinstance(work, RangeWork):
-            work.piece.attempts += 1
+            attempts = work.piece.attempts = work.piece.attempts + 1
+            if attempts >= self.limit and self.plan.version == 2:
+                self.pieces += work.piece.broken(work.attempted, work.fault.at if work.fault else work.node)
+                return f"fail {slot} retry"
             self.pieces.append(work.piece)
-            attempts = work.piece.attempts
         elif isinstance(work, BatchWork):
             attempts = work.attempts + 1
             self.returned.append((work.panes, attempts))
@@ -326,6 +338,7 @@ class Replay(run_model.Run):
         lines += ["done {} {} {} {}".format(*done) for done in sorted(self.done)]
         for word, pieces in (("live", live), ("pending", self.pieces)):
             lines += [f"{word} {piece.node} {piece.item} {piece.start} {piece.end}" for piece in sorted(pieces, key=Piece.order)]
+        lines += ["dead {} {} {}".format(*dead) for dead in sorted(self.dead)]
         if not self.is_finished():
             return "".join(line + "\n" for line in lines)
         return "".join(line + "\n" for line in [*lines, "--"]) + self.rendering()

@@ -4,11 +4,13 @@
     tests/run_model.py plan.json [--bundle N] [--chunk N] [--attempts N]     prints it, and ends with its status
     tests/run_model.py --combine plan.json [the same]       prints what `combine` does
     tests/run_model.py --cases FILE [FILE ..]       compares it with the commands `run` and `combine` of files of cases
-    tests/run_model.py --beside ./beam_run [--runs N] [--seed S] [--stateful]      and with runs of random plans of random_runs.py
+    tests/run_model.py --beside ./beam_run [--runs N] [--seed S] [--stateful] [--dead]      and with runs of random plans of random_runs.py
     tests/run_model.py --beside ./beam_run --combine [--runs N] [--seed S]      and with `combine` of random plans by several workers
 
 One worker takes batches of panes first, then jobs of keys, then pieces, each in their order, so the rules determine the whole text,
 whatever the estimators and triggers are. The model is as plain as it can be, and slow: after each commit it looks at all cells.
+A plan of version 2 goes on without a position whose work fails `--attempts` times: the range that failed is broken around it, and it is tried
+alone as often again, and then set aside. Its line stands at the end of the text.
 What `combine` prints, it works out without watermarks and tables: it lists the parts of each key and window, and folds them at the end. Of two things
 that are wrong several workers may tell another one.
 The plan has to be one that the program accepts. Where something differs the status is 1.
@@ -339,7 +341,8 @@ def merged(spans):
 
 class Plan:
     def __init__(self, document, read):
-        self.nodes = json.loads(document)["nodes"]
+        document = json.loads(document)
+        self.version, self.nodes = document["beam"], document["nodes"]
         names = {node["name"]: at for at, node in enumerate(self.nodes)}
         self.inputs = [[names[name] for name in node.get("input", [])] for node in self.nodes]
         self.followers = [[to for to, inputs in enumerate(self.inputs) for it in inputs if it == at] for at in range(len(self.nodes))]
@@ -397,6 +400,24 @@ def merges(strategy):
 class Piece:
     def __init__(self, node, item, start, end, seen=LEAST_TIME, attempts=0):
         self.node, self.item, self.start, self.end, self.seen, self.attempts = node, item, start, end, seen, attempts
+        # Of a spent piece the node at which its only position failed.
+        self.spent_at = None
+
+    def is_spent(self):
+        return self.spent_at is not None
+
+    def broken(self, attempted, at):
+        """What is left of it where it failed as often as it may, for a plan of version 2: the last attempted position alone, and what lies
+        around it. A position that was alone is spent; an empty range stays as it is, with no attempts."""
+        part = lambda start, end: Piece(self.node, self.item, start, end, self.seen)
+        if self.start == self.end:
+            return [part(self.start, self.end)]
+        if self.end - self.start == 1:
+            self.spent_at = at
+            return [self]
+        alone = self.start if attempted is None else min(attempted, self.end - 1)
+        cuts = (self.start, alone), (alone, alone + 1), (alone + 1, self.end)
+        return [part(start, end) for start, end in cuts if start < end]
 
     def order(self):
         return self.node, self.item, self.start, self.end, self.seen, self.attempts
@@ -444,9 +465,12 @@ class Run:
             Piece(node, number, start, min(start + chunk, item.length))
             for node, items in plan.items.items() for number, item in enumerate(items) for start in range(0, item.length, chunk)
         ]
-        self.live_piece = None
+        # The position that was read last.
+        self.attempted = None
         self.panes, self.panes_fired, self.batch_attempts = [], 0, 0
         self.groups, self.cells, self.written, self.commits = {}, {}, {}, 0
+        # The node, item and position of what is set aside, and the node at which it failed.
+        self.dead = []
         count = len(plan.nodes)
         self.mark_in, self.mark_out = [LEAST_TIME] * count, [LEAST_TIME] * count
         self.compute_marks()
@@ -524,10 +548,15 @@ class Run:
         if not self.pieces:
             return False
         piece = min(self.pieces, key=Piece.order)
+        if piece.is_spent():
+            self.pieces.remove(piece)
+            self.set_aside(piece)
+            self.commit([])
+            return True
         try:
             arrivals, seen, left = self.read(piece)
         except Poison as poison:
-            piece.attempts = self.failed(piece.node, piece.item, poison, piece.attempts + 1)
+            self.fail_piece(piece, poison)
             return True
         self.pieces.remove(piece)
         if left < piece.end:
@@ -535,11 +564,23 @@ class Run:
         self.commit(arrivals)
         return True
 
+    def fail_piece(self, piece, poison):
+        piece.attempts += 1
+        if self.plan.version == 1 or piece.attempts < self.limit:
+            self.failed(piece.node, piece.item, poison, piece.attempts)
+        else:
+            self.pieces.remove(piece)
+            self.pieces += piece.broken(self.attempted, poison.at)
+
+    def set_aside(self, piece):
+        self.dead.append((piece.node, piece.item, piece.start, piece.spent_at))
+
     def read(self, piece):
         """What a bundle of a piece brings, what it has seen, and where what is left of the piece begins."""
         item, estimator = self.plan.items[piece.node][piece.item], self.plan.nodes[piece.node].get("estimator", "none")
         arrivals, seen, emitted, at = [], piece.seen, 0, piece.start
         while at < piece.end:
+            self.attempted = at
             values, declared = self.call(piece.node, item.emission, at)
             for value, time in values:
                 arrivals += self.plan.chain(piece.node, Element(value, time, GLOBAL, NO_PANE))
@@ -667,7 +708,11 @@ class Run:
             if self.plan.nodes[at].get("log"):
                 for entry in cell.log:
                     lines.append("\t".join(map(str, ("log", at, *span, text(cell.key), *entry))) + "\n")
-        return "".join(lines)
+        return "".join(lines + [dead_line(*dead) for dead in sorted(self.dead)])
+
+
+def dead_line(*dead):
+    return "\t".join(map(str, ("dead", *dead))) + "\n"
 
 
 def answer(document, read, bundle=64, chunk=65536, attempts=3):
@@ -690,7 +735,7 @@ DEFAULT_TRIGGER = {"early": None, "late": 1, "lateness": 0, "mode": "discarding"
 def is_lifted(plan):
     """Whether a Group and its function are combined: the rules of a check list, one after another."""
     groups = [at for at, node in enumerate(plan.nodes) if node["kind"] == "group"]
-    if len(groups) != 1 or any(node["kind"] == "stateful" for node in plan.nodes):
+    if plan.version != 1 or len(groups) != 1 or any(node["kind"] == "stateful" for node in plan.nodes):
         return False
     group = plan.nodes[groups[0]]
     if any(group.get(key, usual) != usual for key, usual in DEFAULT_TRIGGER.items()) or merges(plan.strategies[plan.inputs[groups[0]][0]]):
@@ -742,10 +787,10 @@ def combined(document, read, bundle=64, chunk=65536, attempts=3):
 
 
 class Printed:
-    """The written lines of each Write, and the logs, of a text."""
+    """The written lines of each Write, the logs, and the positions that are set aside, of a text."""
 
     def __init__(self, plan, out):
-        self.written, self.logs = {}, {}
+        self.written, self.logs, self.dead = {}, {}, set()
         writes = [at for at, node in enumerate(plan.nodes) if node["kind"] == "write"]
         if len(writes) == 1:
             self.written[writes[0]] = []
@@ -756,6 +801,8 @@ class Printed:
             elif cells[0] == "log":
                 at, start, end = map(int, cells[1:4])
                 self.logs.setdefault((at, (start, end), cells[4]), []).append(cells[5:])
+            elif cells[0] == "dead":
+                self.dead.add(tuple(map(int, cells[1:4])))
             else:
                 self.written[max(self.written)].append(cells)
 
@@ -766,9 +813,10 @@ def log_fault(document, read, out):
     plan = Plan(document, read)
     printed, came = Printed(plan, out), {}
     bring = lambda at, element: [came.setdefault(to, []).append(brought) for to, brought in plan.chain(at, element)]
-    for at, items in plan.items.items():
-        for item in items:
-            spread(at, item, bring)
+    for at, number, item in all_items(plan):
+        for position in positions(item):
+            if (at, number, position) not in printed.dead:
+                spread(at, item, position, bring)
     arrived = {}
     for (at, span, key), calls in printed.logs.items():
         state = State()
@@ -800,12 +848,32 @@ def log_fault(document, read, out):
     return None
 
 
-def spread(at, item, bring):
+def dead_lines(document, read):
+    """The lines of the positions whose work fails whenever it is done: those that a whole run of a plan of version 2 sets aside."""
+    plan, lines = Plan(document, read), []
+    for at, number, item in all_items(plan):
+        for position in positions(item):
+            try:
+                spread(at, item, position, lambda *brought: list(plan.chain(*brought)))
+            except Poison as poison:
+                lines.append(dead_line(at, number, position, poison.at))
+    return lines
+
+
+def all_items(plan):
+    return [(at, number, item) for at, items in plan.items.items() for number, item in enumerate(items)]
+
+
+def positions(item):
     position = 0
     while position < item.length:
-        for value, time in item.emission(position)[0]:
-            bring(at, Element(value, time, GLOBAL, NO_PANE))
+        yield position
         position = item.next(position)
+
+
+def spread(at, item, position, bring):
+    for value, time in Run.call(at, item.emission, position)[0]:
+        bring(at, Element(value, time, GLOBAL, NO_PANE))
 
 
 def comes_from_group(plan, at):
@@ -887,11 +955,12 @@ def compare_cases(paths):
 # ---- beside the program
 
 
-def compare(program, runs, seed, stateful, combine):
+def compare(program, runs, seed, stateful, dead, combine):
     import random_runs
 
     program = random_runs.Program(program, 120)
-    kinds = random_runs.COMBINE_KINDS if combine else random_runs.STATEFUL_KINDS if stateful else random_runs.KINDS
+    kinds = random_runs.STATEFUL_KINDS if stateful else random_runs.DEAD_KINDS if dead else random_runs.KINDS
+    kinds = random_runs.COMBINE_KINDS if combine else kinds
     differences = 0
     for number in range(seed, seed + runs):
         choose = random.Random(number)
@@ -899,8 +968,7 @@ def compare(program, runs, seed, stateful, combine):
         choose.choice(kinds)(plan)
         bundle, chunk, attempts = choose.choice([1, 2, 7, 64]), choose.choice([7, 64, 1000, 65536]), choose.choice([1, 2, 3])
         workers = choose.choice(random_runs.WORKERS) if combine else 1
-        read = lambda name: plan.files[name].encode()
-        wanted = combined(plan.document(), read, bundle, chunk, attempts) if combine else answer(plan.document(), read, bundle, chunk, attempts)
+        wanted = (combined if combine else answer)(plan.document(), plan.read, bundle, chunk, attempts)
         words = ["--workers", str(workers), "--bundle", str(bundle), "--chunk", str(chunk), "--attempts", str(attempts)]
         with tempfile.TemporaryDirectory(prefix="run_model_") as name:
             random_runs.write_plan(plan, pathlib.Path(name))
@@ -926,12 +994,13 @@ def main():
     words.add_argument("--runs", type=int, default=500)
     words.add_argument("--seed", type=int, default=1)
     words.add_argument("--stateful", action="store_true", help="plans with stateful nodes alone")
+    words.add_argument("--dead", action="store_true", help="plans of version 2 alone")
     words.add_argument("--combine", action="store_true", help="combine in place of run")
     words = words.parse_args()
     if words.cases:
         return compare_cases(words.cases)
     if words.beside:
-        return compare(words.beside, words.runs, words.seed, words.stateful, words.combine)
+        return compare(words.beside, words.runs, words.seed, words.stateful, words.dead, words.combine)
     if not words.plan:
         sys.exit(__doc__)
     read = lambda name: pathlib.Path(name).read_bytes()
