@@ -19,7 +19,7 @@ out/    what rt makes in a crate, and the program
 END
 
 # Documents whose commands no case of commands.cases has to have.
-only_run=' docs/using/ERRORS.md docs/using/PLAN.md docs/using/RECIPES.md docs/using/REPLAY.md docs/using/SCORES.md docs/using/TESTING.md '
+only_run=' docs/using/DEAD_LETTERS.md docs/using/ERRORS.md docs/using/PLAN.md docs/using/RECIPES.md docs/using/REPLAY.md docs/using/SCORES.md docs/using/TESTING.md '
 
 programs=()
 case "${1-}" in

@@ -36,12 +36,12 @@ def timed(times, key=lambda at: "k", part=lambda at: "v"):
         file.writelines(f"{moment}\t{key(at)}\t{part(at)}\n" for at, moment in enumerate(times))
 
 
-def plan(*nodes, source=None):
+def plan(*nodes, source=None, version=1):
     made = [{"name": "in", "kind": "source", "work": "TimedLines", "files": ["lines"], **(source or {})}]
     for number, node in enumerate([*nodes, {"kind": "write"}]):
         made.append({"name": f"n{number}", "input": [made[-1]["name"]], **node})
     with open("plan", "w") as file:
-        json.dump({"beam": 1, "nodes": made}, file)
+        json.dump({"beam": version, "nodes": made}, file)
     return ["run", "plan"]
 
 
@@ -122,6 +122,23 @@ def late_lines(n):
 def early_panes(n):
     timed(range(n), key=lambda at: f"k{at % 10}")
     return counted({"fixed": 10**9}, early=1)
+
+
+def set_aside(n, every):
+    """So many lines, of which every so many-th is bad and set aside."""
+    with open("lines", "w") as file:
+        file.writelines(f"{at * 10}\tk{at % 100}\tv\n" if (at + 1) % every else f"bad {at}\n" for at in range(n))
+    return plan({"kind": "pardo", "work": "KeyField"}, {"kind": "group"}, {"kind": "pardo", "work": "CountSeq"}, version=2)
+
+
+@shape(200_000)
+def a_bad_line_in_11(n):
+    return set_aside(n, 11)
+
+
+@shape(100_000)
+def bad_lines_alone(n):
+    return set_aside(n, 1)
 
 
 def combined(windows):

@@ -17,12 +17,12 @@ ROOT = pathlib.Path(__file__).resolve().parent.parent
 SIZES = (140_000, 270_000, 500_000)
 
 
-def plan(files, *nodes):
+def plan(files, *nodes, version=1):
     """A plan of timed lines and nodes that each take from the one before."""
     made = [{"name": "in", "kind": "source", "work": "TimedLines", "files": files}]
     for number, node in enumerate([*nodes, {"kind": "write"}]):
         made.append({"name": f"n{number}", "input": [made[-1]["name"]], **node})
-    return json.dumps({"beam": 1, "nodes": made})
+    return json.dumps({"beam": version, "nodes": made})
 
 
 def most_memory(program, words):
@@ -84,6 +84,15 @@ def filtered(count, folder):
     return ["run", str(folder / "plan.json"), "--workers", "1", "--bundle", "1"]
 
 
+def set_aside(count, folder):
+    """A run over bad lines alone, each of which is set aside."""
+    path = folder / "lines.tsv"
+    with open(path, "w") as file:
+        file.writelines(f"bad {at}\n" for at in range(count))
+    (folder / "plan.json").write_text(plan([str(path)], {"kind": "pardo", "work": "KeyField"}, {"kind": "group"}, version=2))
+    return ["run", str(folder / "plan.json"), "--workers", "1"]
+
+
 # How each row of the table is tried, and what stands in a line beside what is measured.
 TRIED = {
     "each line grouped": (grouped(lambda at: f"{at % 60000}\tkey\t{at}\n"), ()),
@@ -93,6 +102,7 @@ TRIED = {
         grouped(lambda at: f"{at % 60000}\tkey\t{at:0272}\n"), ("each line grouped", "each part of more than 22 bytes"),
     ),
     "each bundle": (filtered, ()),
+    "each position that is set aside": (set_aside, ()),
     "each call of a stateful node": (stateful("LatestThenEmit", lambda at: f"{at}\tkey\t{at}\n", number=1000), ()),
     "what such a call gives": (stateful("RunningSum", lambda at: f"{at}\tkey\t1\n", "FieldInt"), ("each call of a stateful node",)),
     "each key and window of a stateful node": (

@@ -163,9 +163,9 @@ def changed(schema, path, step):
 
 
 def each_node(plans):
-    """Plans of one node, of each node of these plans once."""
-    nodes = {json.dumps(node): node for plan in plans if isinstance(plan, dict) for node in plan.get("nodes", [])}
-    return [{"beam": 1, "nodes": [node]} for node in nodes.values()]
+    """Plans of one node, of each node and version of these plans once."""
+    alone = [{"beam": plan.get("beam", 1), "nodes": [node]} for plan in plans if isinstance(plan, dict) for node in plan.get("nodes", [])]
+    return list({json.dumps(plan): plan for plan in alone}.values())
 
 
 def not_shown(schema, taken, refused):

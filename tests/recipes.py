@@ -1,7 +1,7 @@
 #!/usr/bin/env python3
 """Runs the scripts of examples/recipes/ on small inputs and compares with what was worked out by hand.
 
-panes_to.py also reads each text that a worked case says the program prints, and what it makes of that is spelled as a
+dead_lines.py gets a plan, its files and a text. panes_to.py also reads each text that a worked case says the program prints, and what it makes of that is spelled as a
 text again: it has to be the same. A script whose awk isn't there is passed over, and the last line says so.
 """
 import json
@@ -176,6 +176,36 @@ def script(name):
     return [sys.executable, str(RECIPES / name)]
 
 
+# Files with bad lines: line ends of both kinds, an empty line, bytes that are no UTF-8, a last line without its end, and one file twice.
+DEAD_PLAN = {"beam": 2, "nodes": [
+    {"name": "in", "files": ["FOLDER/a", "FOLDER/b", "FOLDER/a"]}, {"name": "n", "work": "Count"}, {"name": "\u00e9", "input": ["in"]}]}
+DEAD_FILES = {"a": b"1\ta\tx\r\nbad\r\n\n2\ta\ty\n\xffz", "b": b"x\n"}
+# A text, what list and take print of it, the status, and a part of standard error.
+DEAD_CASES = [
+    ("", "", "", 0, ""),
+    ('0\t60000\tON_TIME\t0\t("dead",5)\ndead\t0\t0\t7\t0\ndead\t0\t0\t12\t0\ndead\t0\t0\t19\t2\ndead\t0\t1\t0\t2\ndead\t0\t2\t7\t0\n',
+     "FOLDER/a:2: in: bad\nFOLDER/a:3: in: \nFOLDER/a:5: \u00e9: \udcffz\nFOLDER/b:1: \u00e9: x\nFOLDER/a:2: in: bad\n",
+     "bad\r\n\n\udcffz\nx\nbad\r\n", 0, ""),
+    # offsets inside a line and behind the end, and a source without files
+    ("dead\t0\t0\t8\t0\ndead\t0\t0\t9\t0\ndead\t0\t0\t12\t0\ndead\t0\t0\t21\t0\n", "FOLDER/a:3: in: \n", "\n", 1, "a: no line begins at 9\n"),
+    ("dead\t0\t1\t0\t0\ndead\t1\t0\t4\t2\ndead\t1\t0\t7\t2\n", "FOLDER/b:1: in: x\n", "x\n", 1, "n: has no file, its positions are 4, 7\n"),
+    # a replay's own lines, and a text that was cut, are none of these
+    ("dead 0 0 7\n--\ndead\t0\t0\t7", "", "", 0, ""),
+]
+
+
+def dead_faults():
+    with tempfile.TemporaryDirectory() as folder:
+        at = pathlib.Path(folder)
+        (at / "plan.json").write_text(json.dumps(DEAD_PLAN).replace("FOLDER", folder))
+        for name, data in DEAD_FILES.items():
+            (at / name).write_bytes(data)
+        for text, listed, taken, status, note in DEAD_CASES:
+            for word, wanted in (("list", listed), ("take", taken)):
+                yield fault_of([*script("dead_lines.py"), word, str(at / "plan.json"), "FILE"], text, wanted.replace("FOLDER", folder), status, note)
+                yield fault_of([*script("dead_lines.py"), word, str(at / "plan.json"), "-"], text, wanted.replace("FOLDER", folder), status, note)
+
+
 def line_faults():
     """All lines as one text: each that is none is named by its number."""
     text = "".join(line + "\n" for line, _ in LINES)
@@ -211,6 +241,8 @@ def line_of(record):
         words = ["log", record["node"], *window, spelled(record["key"]), "element", record["time"], spelled(record["value"])]
     elif record.get("line") == "timer":
         words = ["log", record["node"], *window, spelled(record["key"]), "timer", record["name"], record["time"]]
+    elif record.get("line") == "dead":
+        words = ["dead", record["node"], record["item"], record["position"], record["at"]]
     else:
         value = record if "key" in record else record["value"]
         words = [*window, record["timing"], record["index"], spelled(value)]
@@ -219,14 +251,14 @@ def line_of(record):
 
 def printed_texts():
     """Each text of panes that the program prints in the worked cases, as bytes. Made lines are none."""
-    for name, first in (("commands.cases", "command"), ("texts.cases", "outcome")):
+    for name, first in (("commands.cases", "command"), ("dead.cases", "command"), ("texts.cases", "outcome")):
         text, has_panes = "", True
         for line in next(ROOT.glob(f"crates/*/data/{name}")).read_text("ascii").splitlines():
             if line.startswith(first):
                 text, has_panes = "", not line.startswith("command make ")
             elif line.startswith("out "):
                 text += line[len("out "):]
-            elif line == "end" and has_panes and re.match(r"-?\d|#|log", text):
+            elif line == "end" and has_panes and re.match(r"-?\d|#|log|dead\\t", text):
                 yield re.sub(r'\\(x([0-9a-f]{2})|.)', lambda m: chr(int(m[2], 16)) if m[2] else {"n": "\n", "t": "\t"}.get(m[1], m[1]), text)
                 text = ""
 
@@ -271,10 +303,11 @@ def main():
             faults.append(fault_of([*words, "-v", f"key={key}", "-f", str(RECIPES / "access.awk")], ACCESS, timed, 1, ": 1 line left out"))
         faults.append(fault_of([*words, "-v", "key=size", "-f", str(RECIPES / "access.awk")], ACCESS, "", 2, "key is path, status"))
         faults.extend(good_lines_fault(words))
+    faults.extend(dead_faults())
     faults = [*filter(None, faults), *line_faults(), *text_faults(), *memory_fault()]
     for fault in faults:
         print(fault)
-    count = len(CASES) + len(LINES) + len(awks) * (5 + len(KEYS) + 1 + 2 * (len(BAD) + len(NO_NUMBERS)))
+    count = len(CASES) + 4 * len(DEAD_CASES) + len(LINES) + len(awks) * (5 + len(KEYS) + 1 + 2 * (len(BAD) + len(NO_NUMBERS)))
     print(f"recipes: {count} cases, awk is {' and '.join(awks) or 'not here'}, {len(faults)} wrong")
     return 1 if faults else 0
 
