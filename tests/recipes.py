@@ -190,7 +190,8 @@ DEAD_CASES = [
     ("dead\t0\t0\t8\t0\ndead\t0\t0\t9\t0\ndead\t0\t0\t12\t0\ndead\t0\t0\t21\t0\n", "FOLDER/a:3: in: \n", "\n", 1, "a: no line begins at 9\n"),
     ("dead\t0\t1\t0\t0\ndead\t1\t0\t4\t2\ndead\t1\t0\t7\t2\n", "FOLDER/b:1: in: x\n", "x\n", 1, "n: has no file, its positions are 4, 7\n"),
     # a replay's own lines, and a text that was cut, are none of these
-    ("dead 0 0 7\n--\ndead\t0\t0\t7", "", "", 0, ""),
+    ("dead 0 0 7\n--\ndead\t0\t0\t7\n", "", "", 0, ""),
+    ("dead\t0\t0\t7\t0\ndead\t0\t0\t1", "", "", 1, "the text was cut: its last line has no end\n"),
 ]
 
 

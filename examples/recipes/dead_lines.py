@@ -13,8 +13,10 @@ import sys
 def positions_of(text):
     """The dead positions of a text: the places of their source and file, the offset, and the place of the node that failed."""
     for line in text:
+        if not line.endswith(b"\n"):
+            sys.exit("the text was cut: its last line has no end")
         fields = line.split(b"\t")
-        if fields[0] == b"dead" and len(fields) == 5 and line.endswith(b"\n"):
+        if fields[0] == b"dead" and len(fields) == 5:
             yield tuple(map(int, fields[1:]))
 
 
@@ -43,6 +45,8 @@ def main():
     nodes = json.load(open(plan, encoding="utf-8"))["nodes"]
     with sys.stdin.buffer if text == "-" else open(text, "rb") as file:
         dead = list(positions_of(file))
+    if any(max(node, at) >= len(nodes) or item >= len(nodes[node].get("files", [0])) for node, item, _, at in dead):
+        sys.exit(f"{text}: isn't what {plan} printed")
     by_file = {}
     for node, item, offset, at in dead:
         by_file.setdefault((node, item), []).append((offset, at))
@@ -73,3 +77,5 @@ if __name__ == "__main__":
         os._exit(141)
     except OSError as fault:
         sys.exit(str(fault))
+    except (ValueError, LookupError, TypeError):
+        sys.exit(f"{sys.argv[2]}: no plan")
