@@ -110,12 +110,13 @@ fn range_in(taken: &Taken) -> Option<Piece>
 
 fn fits(piece: &Piece, last: u64, seen: Time) -> bool
     ensures node { result ≡ true → piece.now.node ≡ 0 }
+    ensures fresh { result ≡ true → piece.now.spent ≡ None }
     ensures from { result ≡ true → piece.now.range.from ≤ last }
     ensures seen { result ≡ true → piece.now.seen ≤ℤ seen }
     ensures time { seen ≤ℤ greatest_time }
 {
     let ms = seen.ms();
-    piece.node == 0 && piece.range.from() <= last && piece.seen.ms() <= ms
+    piece.node == 0 && piece.spent.is_none() && piece.range.from() <= last && piece.seen.ms() <= ms
 }
 
 fn batch_in(taken: Taken) -> Option<(u32, List<Pane>)>

@@ -1,9 +1,10 @@
 //! Two passes of one table.
 
-ghost use Rattle.std.specs.Prelude.{◌≡◌, [], ◌∷◌, IfOk, None, false};
+ghost use Rattle.std.specs.Prelude.{◌≡◌, [], ◌∷◌, IfOk, None, true, false};
 ghost use Rattle.beam_model.specs.Positions.{items};
 ghost use Rattle.turn_desk.specs.Notes.{size_of};
 ghost use Rattle.book_core.specs.Runs.{AreLengthsOf, Reached};
+ghost use Rattle.known_jobs.specs.Calls.{IsFreshJob};
 ghost use Rattle.worker_table.specs.Passes.{IsOf, entry_of, note_of_pass, setting_of, slot_of};
 
 use beam_values::{
@@ -11,6 +12,7 @@ use beam_values::{
     SourceKind, StopCause,
 };
 use book_core::{Book, Taken};
+use bundle_commit::Job;
 use pipeline_graph::Graph;
 use std::alloc::Global;
 use std::sync::Wait;
@@ -71,6 +73,17 @@ fn open_table(alloc: Global) -> Result<(Table, WorkerPass), Fail>
     Ok(Table::new(alloc, open_book(alloc)?)?)
 }
 
+// A job that may fail: none is a spent piece.
+fn is_fresh(job: &Job) -> bool
+    ensures { result ≡ true → IsFreshJob job.now }
+{
+    match job {
+        Job::Span { piece } => piece.spent.is_none(),
+        Job::Batch { .. } => true,
+        Job::Key { .. } => true,
+    }
+}
+
 // Takes a job, if there is one, and fails it; then no job is given out any more.
 fn fail_and_stop<R: Wait>(rt: &R, table: &Table, mut pass: WorkerPass) -> WorkerPass
     requires table { IsOf table.now pass }
@@ -81,7 +94,9 @@ fn fail_and_stop<R: Wait>(rt: &R, table: &Table, mut pass: WorkerPass) -> Worker
     ensures size { size_of (note_of_pass result) ≡ size_of (note_of_pass pass) }
 {
     if table.enroll(rt, &mut pass).is_ok() {
-        if let Ok(Taken::Job(_job)) = table.take_job(rt, &mut pass) {
+        if let Ok(Taken::Job(job)) = table.take_job(rt, &mut pass)
+            && is_fresh(&job)
+        {
             let _failure = table.fail(rt, &mut pass, 0, Cause::Call);
         }
     }

@@ -16,7 +16,7 @@ claim-requires c =
     record {
       piece = c.in-Some.piece;
       attempted = None;
-      works = taken_range c.args.book.now c.take.new.self c.args.slot c.in-Some.piece step;
+      works = record { works = taken_range c.args.book.now c.take.new.self c.args.slot c.in-Some.piece step; fresh = c.if-not-fits.ensures.fresh refl };
       may = record { from_start = c.if-not-fits.ensures.from refl; ascending = tt };
     }
 
