@@ -108,6 +108,12 @@ CASES = [
      "-1\tu\t\n0\tu\t\n-59500\tu\t\n1709164800000\tu\t\n", 1, ":10: "),
     ("json_to_timed.py", ["FILE", "at", "user", "page"], "x\n" + '{"at":5,"user":"u","page":"p"}\n' + "y\n", "5000\tu\tp\n", 1, ": 2 lines left out\n"),
     ("json_to_timed.py", ["FILE", "at", "user", "page"], '\ufeff{"at":5,"user":"u","page":"\udcff"}\n', "5000\tu\t\udcff\n", 0, ""),
+    ("json_to_timed.py", ["FILE", "at", "log.level,user.id", "user.id,at"],
+     '{"at":5,"log.level":"x","user":{"id":"u"}}\n{"at":5,"log":{"level":"y\\t"},"user.id":7}\n{"at":5,"log":[],"user.id":7}\n',
+     "5000\tx|u\tu\t5\n5000\ty |7\t7\t5\n", 1, ":3: TypeError"),
+    ("csv_to_timed.py", ["FILE", "t", "k,p", "t,k,q"], 'p,t,k,"t,k,q"\n1,0,"a\tb",9\n', "0\ta b|1\t9\n", 0, ""),
+    ("csv_to_timed.py", ["FILE", "-", "k", "t,p"], "p,t,k\n1,0,a\n", "0\ta\t0\t1\n", 0, ""),
+    ("csv_to_timed.py", ["FILE", "t", "k,q", "p,"], "p,t,k\n1,0,a\n", "", 1, "no column ['q', '']"),
     ("csv_to_timed.py", ["FILE", "t", "k", "p"],
      '\ufefft,k,p\r\n2023-11-14T22:13:20Z,"a,""b",1\r\n1700000000,k,\r\n1700000000123,k\r\n1700000000.9999,k,"x\ny"\r\nsoon,k,1\r\n',
      '1700000000000\ta,"b\t1\n1700000000000\tk\t\n1700000000999\tk\tx y\n', 1, ":4: not as many fields"),
@@ -123,7 +129,8 @@ ACCESS = (
     '1.2.3.4 - - [29/Feb/2024:00:00:00 -0130] "-" 400 7\n'
     '1.2.3.4 - - [30/Feb/2024:00:00:00 +0000] "GET / HTTP/1.1" 200 7\n'
 )
-KEYS = {"status": ("200", "200", "400"), "method": ("GET", "GET", "-"), "host": ("1.2.3.4",) * 3}
+KEYS = {"status": ("200", "200", "400"), "method": ("GET", "GET", "-"), "host": ("1.2.3.4",) * 3,
+        "status,method,host": ("200|GET|1.2.3.4", "200|GET|1.2.3.4", "400|-|1.2.3.4")}
 TIMED = '1700000001000\t/index.html\t512\n1700000002000\t/a\\"b\t0\n1709170200000\t-\t7\n'
 
 # What TimedLines takes, and FieldInt of it, at the bounds of times and numbers.

@@ -1,9 +1,14 @@
 # An access log in the common or combined form: milliseconds, path, bytes. A request of one word, as "-", is its own path.
 # With -v key=status, method or host that stands in place of the path; the method of a request of one word is "-".
+# With several of them, as -v key=status,path, the key has | between them.
 # A line of another form, or with a time that there isn't, is named on standard error and counted, and the status is then 1.
 BEGIN {
     if (key == "") key = "path"
-    if (key !~ /^(path|status|method|host)$/) { print "key is path, status, method or host" > "/dev/stderr"; exit unknown = 2 }
+    keys = split(key, named, ",")
+    for (i = 1; i <= keys; i++) if (named[i] !~ /^(path|status|method|host)$/) {
+        print "key is path, status, method or host, or several with commas between" > "/dev/stderr"
+        exit unknown = 2
+    }
 }
 BEGIN { for (i = 1; i <= 12; i++) month[substr("JanFebMarAprMayJunJulAugSepOctNovDec", 3 * i - 2, 3)] = i }
 # days from 1970-01-01 to a date of the Gregorian calendar
@@ -32,7 +37,9 @@ match(line, /\[[0-9][0-9]\/[A-Z][a-z][a-z]\/[0-9][0-9][0-9][0-9]:[0-9][0-9]:[0-9
         field["method"] = n > 1 ? request[1] : "-"
         field["status"] = answer[1]
         field["host"] = host[1]
-        printf("%.0f\t%s\t%s\n", at * 1000, field[key], answer[2] == "-" ? 0 : answer[2])
+        together = field[named[1]]
+        for (i = 2; i <= keys; i++) together = together "|" field[named[i]]
+        printf("%.0f\t%s\t%s\n", at * 1000, together, answer[2] == "-" ? 0 : answer[2])
         next
     }
 }

@@ -1,8 +1,9 @@
 """Turns JSON lines into timed lines: json_to_timed.py FILE TIME KEY PART
 
-TIME, KEY and PART are keys of the records; one as user.id is the key id in the record user. A time is a text in RFC 3339
-with a zone, or a number: of seconds below 100000000000, else of milliseconds. A line that is no such record is named on
-standard error and counted, and the status is then 1.
+TIME, KEY and PART are keys of the records; one as user.id is that key, or else the key id in the record user. A time is
+a text in RFC 3339 with a zone, or a number: of seconds below 100000000000, else of milliseconds. KEY and PART may each
+name several, with commas between: a key has | between them then, and a part a TAB. A line that is no such record is named
+on standard error and counted, and the status is then 1.
 """
 import datetime
 import decimal
@@ -36,18 +37,25 @@ def text(value):
     return (value if isinstance(value, str) else json.dumps(value, ensure_ascii=False)).translate(BLANKS)
 
 
+def field(record, path):
+    if isinstance(record, dict) and path in record:
+        return record[path]
+    return functools.reduce(lambda at, word: at[word], path.split("."), record)
+
+
 if len(sys.argv) != 5:
     sys.exit(__doc__)
-name, *paths = sys.argv[1:]
-paths = [path.split(".") for path in paths]
+name, at, *several = sys.argv[1:]
+several = [paths.split(",") for paths in several]
 sys.stdout.reconfigure(encoding="utf-8", errors="surrogateescape")
 bad = 0
 with open(name, encoding="utf-8-sig", errors="surrogateescape") as file:
     for number, line in enumerate(file, 1):
         try:
             record = json.loads(line)
-            time, key, part = (functools.reduce(lambda at, word: at[word], path, record) for path in paths)
-            print(milliseconds(time), text(key), text(part), sep="\t")
+            time = field(record, at)
+            key, part = ([text(field(record, path)) for path in paths] for paths in several)
+            print(milliseconds(time), "|".join(key), *part, sep="\t")
         except (ValueError, KeyError, TypeError, OverflowError) as fault:
             print(f"{name}:{number}: {type(fault).__name__}: {fault}: {line.rstrip()[:200]}", file=sys.stderr)
             bad += 1
