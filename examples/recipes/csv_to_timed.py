@@ -11,6 +11,7 @@ import datetime
 import decimal
 import math
 import re
+import signal
 import sys
 
 if not 5 <= len(sys.argv) <= 6:
@@ -34,9 +35,14 @@ def milliseconds(time):
     return (at - EPOCH) // datetime.timedelta(seconds=1) * 1000 + int(((fraction or "") + "000")[:3])
 
 
+signal.signal(signal.SIGPIPE, signal.SIG_DFL)  # as other commands, it ends where its reader did
 sys.stdout.reconfigure(encoding="utf-8", errors="surrogateescape")
 bad = 0
-with open(name, newline="", encoding="utf-8-sig", errors="surrogateescape") as file:
+try:
+    file = open(name, newline="", encoding="utf-8-sig", errors="surrogateescape")
+except OSError as fault:
+    sys.exit(str(fault))
+with file:
     rows = csv.DictReader(file, delimiter=delimiter)
     timeless = columns[0] == "-"
     names = rows.fieldnames or []

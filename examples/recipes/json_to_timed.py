@@ -11,6 +11,7 @@ import functools
 import json
 import math
 import re
+import signal
 import sys
 
 STAMP = re.compile(r"([0-9]{4}-[0-9]{2}-[0-9]{2})[Tt ]([0-9]{2}:[0-9]{2}:[0-9]{2})(?:[.]([0-9]+))?(?:[Zz]|([-+][0-9]{2}:[0-9]{2}))")
@@ -47,9 +48,14 @@ if len(sys.argv) != 5:
     sys.exit(__doc__)
 name, at, *several = sys.argv[1:]
 several = [paths.split(",") for paths in several]
+signal.signal(signal.SIGPIPE, signal.SIG_DFL)  # as other commands, it ends where its reader did
 sys.stdout.reconfigure(encoding="utf-8", errors="surrogateescape")
 bad = 0
-with open(name, encoding="utf-8-sig", errors="surrogateescape") as file:
+try:
+    file = open(name, encoding="utf-8-sig", errors="surrogateescape")
+except OSError as fault:
+    sys.exit(str(fault))
+with file:
     for number, line in enumerate(file, 1):
         try:
             record = json.loads(line)
