@@ -104,10 +104,11 @@ abbrev pub AreSeenBefore : List FileText → SeenBook → Type 0
 AreSeenBefore told b =
     All (λ piece. IsSeenOf b (item_at (items_told (Some told) b.plan) piece.node piece.item) piece) (b.pending ++ live_pieces b)
 
--- A job that is worked has failed less often than it may, and so has one that isn't worked, unless the book is stopped: then it may have failed as often. This is
--- said of pieces that aren't spent; spent ones have failed as often as they may (`AreSpentWell`). The limit for each dead position and the attempts of all pieces are together no more than the jobs that failed at all, and
--- so are the attempts of each batch and of each key cell by itself. After two calls and a read failed, pieces with 2 and 1 attempts may be there and a key cell
--- with 3, or one piece with 3, but no other piece beside it with 1.
+-- A job that is worked has failed less often than it may, and so has one that isn't worked, unless the book is stopped: then it may have failed as
+-- often. This is said of pieces that aren't spent; spent ones have failed as often as they may (`AreSpentWell`). The limit for each dead position and the
+-- attempts of all pieces are together no more than the jobs that failed at all, and so are the attempts of each batch and of each key cell by itself.
+-- After two calls and a read failed, pieces with 2 and 1 attempts may be there and a key cell with 3, or one piece with 3, but no other piece beside it
+-- with 1.
 abbrev pub IsBelowLimit : SeenBook → ℕ → Type 0
 IsBelowLimit b attempts = attempts < b.options.attempts
 

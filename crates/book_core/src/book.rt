@@ -364,7 +364,8 @@ impl Book {
 
     /// Places the receipt of the slot's job: arrivals become entries, wait at key cells or are written, the
     /// range that was worked is done and its rest pending again, the position of a spent piece is set aside, a
-    /// key job's calls are logged, panes fire and wait, and the slot is free. Where there is no memory nothing is changed, and the receipt is handed back.
+    /// key job's calls are logged, panes fire and wait, and the slot is free. Where there is no memory nothing is
+    /// changed, and the receipt is handed back.
     pub fn commit(&mut self, slot: u32, receipt: Receipt) -> Result<(), Unplaced>
         requires { CanCommit None self.old slot receipt }
         ensures ok { OnOk result

@@ -12,7 +12,7 @@ ghost use Rattle.bundle_commit.specs.declared.job.Job.{Job};
 ghost use Rattle.book_core.specs.Book.{SeenBook};
 ghost use Rattle.book_core.specs.Facts.{AreAtWrites, AreAttemptsCounted, AreCellsKept, AreHeldOnce};
 ghost use Rattle.book_core.specs.Facts.{AreKept, AreKeptOf, AreMarksKept, ArePartitioned};
-ghost use Rattle.book_core.specs.Facts.{AreSetAside};
+ghost use Rattle.book_core.specs.Facts.{AreSetAside, AreSpentWell};
 ghost use Rattle.book_core.specs.Facts.{IsStopNoted, IsWellFormed};
 ghost use Rattle.book_core.specs.Jobs.{next_job};
 ghost use Rattle.book_core.specs.Left.{BreaksNoEmpty, GoesOnAt, IsBelow, left, rounds_left};
@@ -104,6 +104,8 @@ pub fn attempts_are_counted()
         → Reached told b → AreAttemptsCounted b }
     ensures aside { (told : Option (List FileText)) (b : SeenBook)
         → Reached told b → AreSetAside b }
+    ensures spent { (told : Option (List FileText)) (b : SeenBook)
+        → Reached told b → AreSpentWell b }
     ensures noted { (told : Option (List FileText)) (b : SeenBook)
         → Reached told b → IsStopNoted b b.stopped }
 {}

@@ -6,5 +6,6 @@ pub returns : goal.returns
 returns c = record {
   counted = λ told b reached. (reached_sane told b reached).attempts;
   aside = reached_aside;
+  spent = λ told b reached. (reached_sane told b reached).spent;
   noted = λ told b reached. (reached_sane told b reached).stop;
 }
