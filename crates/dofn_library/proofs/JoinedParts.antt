@@ -12,14 +12,15 @@ use Rattle.beam_values.specs.declared.element.Element.{Element}
 use Rattle.beam_values.specs.declared.plan.FnKind.{FnKind}
 use Rattle.beam_values.specs.declared.plan.FnKind.TheVariants.{JoinList, JoinSingle, JoinLookup}
 use Rattle.beam_values.specs.declared.value.Value.{Value}
-use Rattle.beam_values.specs.declared.value.Value.TheVariants.{Seq, rolls-Seq}
+use Rattle.beam_values.specs.declared.value.Value.TheVariants.{Pair, rolls-Pair}
 use Rattle.beam_model.specs.Functions.{all_there, ascending, found_in, is_pair, is_side_part, joined_value, joined_values, joins, main_values, one, only_one, side_parts, takes_views, value_tagged, valued, view_values}
 use Rattle.beam_model.specs.Values.{KeyedValue, as_pair, pair, seq}
 use Rattle.dofn_traits.specs.declared.calls.CallRefusal.{CallRefusal}
 use Rattle.dofn_traits.specs.declared.calls.CallRefusal.TheVariants.{Failed, NoMemory}
 use Rattle.dofn_library.specs.Answers.{Gives}
 use Rattle.dofn_library.proofs.Lookups.{found_in_order}
-use Rattle.dofn_library.specs.Sides.{at_most_one, looked_up, sides_of, where_tagged}
+use Rattle.dofn_library.proofs.Runs.{ascending_pairs}
+use Rattle.dofn_library.specs.Sides.{at_most_one, looked_up, IsAllFound, sides_of, where_tagged}
 
 -- one item more
 flat_suc : {X A : Type 0} (f : X → List A) (xs : List X) (i : ℕ) (d : X) → i < length xs → flat_map f (take (suc i) xs) ≡ flat_map f (take i xs) ++ f (get_or xs i d)
@@ -189,6 +190,10 @@ are_pairs tag parts = list_all (λ part. list_all is_pair (value_tagged tag part
 of_each : (tag : ℤ) (parts : List Value) (all : Bool) → all ≡ are_pairs tag parts → all ≡ list_all is_pair (flat_map (value_tagged tag) parts)
 of_each tag parts all is = is ∙ sym (all_of_each is_pair (value_tagged tag) parts)
 
+-- the view of parts whose values of the view are pairs
+pub sorted_pairs : (parts : List Value) → are_pairs (pos 0) parts ≡ true → list_all is_pair (ascending (view_values parts)) ≡ true
+sorted_pairs parts pairs = ascending_pairs (view_values parts) ∙ sym (of_each (pos 0) parts true (sym pairs))
+
 -- what is given where it is known whether all values of the view are pairs
 abbrev taken_by : List Value → Bool → Option (List Value)
 taken_by parts takes = if takes then all_there (map (joined_value JoinLookup (view_values parts)) (main_values parts)) else None
@@ -212,13 +217,15 @@ no_lookup_of_mains e parts found one = by_parts JoinLookup e parts None found (b
 -- ---- one part more
 
 -- a main value that has a key, with what was found for it; and one that has none
-pub found_joined : (e : Element) (all : List Value) (main seen : Value) (keyed : KeyedValue) (views found : List Value) (old new : List Element) → Some keyed ≡ as_pair seen → seen ≡ main
-    → found ≡ flat_map (found_in keyed.key) views → views ≡ ascending all → new ≡ old ++ one e (pair main (Seq found))
+pub found_joined : (e : Element) (all : List Value) (main seen : Value) (keyed : KeyedValue) (views : List Value) (part own shared : Value) (old new : List Element)
+    → Some keyed ≡ as_pair seen → seen ≡ main → IsAllFound views keyed.key part → views ≡ ascending all → own ≡ main → shared ≡ part → new ≡ old ++ one e (Pair own shared)
     → new ≡ old ++ map (valued e) (looked_up all main)
-found_joined e all main seen keyed views found old new is same finds sorted adds =
+found_joined e all main seen keyed views part own shared old new is same finds sorted is_main is_part adds =
     adds
-    ∙ ap (λ part. old ++ one e (pair main part)) (sym (rolls-Seq found))
-    ∙ ap (λ parts. old ++ one e (pair main (seq parts))) (finds ∙ ap (flat_map (found_in keyed.key)) sorted ∙ found_in_order keyed.key all)
+    ∙ ap (λ pair. old ++ one e pair) (sym (rolls-Pair own shared))
+    ∙ ap (λ main. old ++ one e (pair main shared)) is_main
+    ∙ ap (λ found. old ++ one e (pair main found)) (is_part ∙ finds)
+    ∙ ap (λ parts. old ++ one e (pair main (seq parts))) (ap (flat_map (found_in keyed.key)) sorted ∙ found_in_order keyed.key all)
     ∙ ap (λ pair. old ++ map (valued e) (at_most_one (seen_as all main pair))) (is ∙ ap as_pair same)
 
 pub unkeyed_joined : (e : Element) (all : List Value) (main seen : Value) (old : List Element) → None ≡ as_pair seen → seen ≡ main

@@ -5,6 +5,7 @@ pub mod Fields
 pub mod JoinedParts
 pub mod Lookups
 pub mod NumbersIn
+pub mod Runs
 pub mod SameValues
 pub mod ScriptedCalls
 pub mod StableSorts

@@ -22,6 +22,7 @@ mod sides;
 mod state_work;
 mod strict;
 mod texts;
+mod views;
 pub mod work;
 
 pub use element_work::ElementWork;

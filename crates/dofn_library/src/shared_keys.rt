@@ -1,11 +1,11 @@
 //! Boxes of keys that were made lately, so that keys that are equal mostly lie in memory once for each
-//! worker. A slot is read and then compared, so that a box that is lost, or never found, costs a box more
-//! and nothing else.
+//! worker; and of the parts that are the same in all that a function tags. A slot is read and then
+//! compared, so that a box that is lost, or never found, costs a box more and nothing else.
 
 ghost use Rattle.std.specs.Prelude.{◌≡◌, IfOk, IfSome, IsTrue};
-ghost use Rattle.beam_model.specs.Values.{blob};
+ghost use Rattle.beam_model.specs.Values.{blob, int, null};
 
-use beam_values::{Boxed, Bytes, NoMemory, Value};
+use beam_values::{Boxed, Bytes, NoMemory, Value, cmp_values};
 use std::alloc::Global;
 
 /// How many slots there are once there is a key.
@@ -30,6 +30,8 @@ pub struct SharedKeys {
     // How many keys were found, and how many made, since it was last looked whether the slots are too few.
     found: usize,
     made: usize,
+    null: Option<Boxed<Value>>,
+    number: Option<Boxed<Value>>,
 }
 
 impl SharedKeys {
@@ -39,7 +41,23 @@ impl SharedKeys {
             slots: Vec::new(alloc),
             found: 0,
             made: 0,
+            null: None,
+            number: None,
         }
+    }
+
+    /// `Null`, of which there is one box.
+    pub fn shared_null(&mut self, alloc: Global) -> Result<Boxed<Value>, NoMemory>
+        ensures { IfOk result (λ shared. shared ≡ null) }
+    {
+        shared_from(&mut self.null, alloc, Value::Null)
+    }
+
+    /// A number, of which there is one box as long as no other number comes.
+    pub fn shared_number(&mut self, alloc: Global, n: i64) -> Result<Boxed<Value>, NoMemory>
+        ensures { IfOk result (λ shared. shared ≡ int n) }
+    {
+        shared_from(&mut self.number, alloc, Value::Int(n))
     }
 
     /// The key of these bytes: a share of one that was made lately, or a new one. Memory for slots may be
@@ -99,6 +117,24 @@ impl SharedKeys {
     fn grow(&mut self, count: usize) {
         let _ = self.slots.resize_with(count, || None);
     }
+}
+
+/// A share of what is in a slot, where it is this value, or a new box, which goes into the slot.
+fn shared_from(
+    slot: &mut Option<Boxed<Value>>,
+    alloc: Global,
+    value: Value,
+) -> Result<Boxed<Value>, NoMemory>
+    ensures { IfOk result (λ shared. shared ≡ value) }
+{
+    if let Some(known) = slot.as_ref()
+        && cmp_values(known.get(), &value).is_eq()
+    {
+        return known.share();
+    }
+    let made = Boxed::new(alloc, value)?;
+    *slot = Some(made.share()?);
+    Ok(made)
 }
 
 fn made(alloc: Global, bytes: &[u8]) -> Result<Boxed<Value>, NoMemory>

@@ -1,18 +1,20 @@
-ghost use Rattle.std.specs.Prelude.{◌≡◌, ◌++◌, List as ListOf, map, IfOk, OnOk};
-ghost use Rattle.std.specs.List.{flat_map};
+ghost use Rattle.std.specs.Prelude.{◌≡◌, ◌++◌, List as ListOf, map, pos, true, IfOk, IfSome, OnOk};
+ghost use Rattle.std.specs.List.{flat_map, list_all};
+ghost use Rattle.std.specs.List.Sorted.{IsSorted};
+ghost use Rattle.beam_values.specs.Orders.{value_cmp};
 ghost use Rattle.beam_values.specs.declared.plan.FnKind.TheVariants as kinds;
-ghost use Rattle.beam_model.specs.Functions.{ascending, found_in, main_values, valued};
-ghost use Rattle.beam_model.specs.Functions.{view_values};
+ghost use Rattle.beam_model.specs.Functions.{ascending, is_pair, main_values, valued};
+ghost use Rattle.beam_model.specs.Functions.{value_tagged, view_values};
 ghost use Rattle.beam_model.specs.Values.{pair, seq};
-ghost use Rattle.dofn_library.specs.Sides.{looked_up};
+ghost use Rattle.dofn_library.specs.Sides.{looked_up, IsAllFound};
 
 use crate::arguments::number_of;
 use crate::batches::sorted;
-use crate::kept::is_same;
-use crate::shapes::{pair_of, push_pair};
+use crate::shapes::{pair_of, push_valued};
 use crate::sides::{
     MAIN, VIEW, are_pairs, copy_views, has_mains, only_view, push_mains, sides_of, tagged,
 };
+use crate::views::{Found, found_for};
 use crate::{ElementWork, SharedKeys};
 use beam_values::{Args, Boxed, Element, FnKind, List, NoMemory, Value};
 use dofn_traits::CallRefusal;
@@ -31,15 +33,16 @@ impl ElementWork for Tag {
 
     fn give(
         alloc: Global,
-        _keys: &mut SharedKeys,
+        keys: &mut SharedKeys,
         args: &Args,
         e: &Element,
         out: &mut List<Element>,
     ) -> Result<(), CallRefusal> {
-        let tag = Boxed::new(alloc, Value::Int(number_of(args)))?;
+        let null = keys.shared_null(alloc)?;
+        let tag = keys.shared_number(alloc, number_of(args))?;
         let value = Boxed::new(alloc, e.value.copy(alloc)?)?;
-        let null = Boxed::new(alloc, Value::Null)?;
-        push_pair(alloc, e, &null, Value::Pair(tag, value), out)?;
+        let part = Boxed::new(alloc, Value::Pair(tag, value))?;
+        push_valued(e, Value::Pair(null, part), out)?;
         Ok(())
     }
 }
@@ -143,47 +146,41 @@ fn look_up(
     parts: &[Value],
     out: &mut List<Element>,
 ) -> Result<(), NoMemory>
+    requires { list_all (λ part. list_all is_pair (value_tagged (pos 0) part)) parts.now ≡ true }
     ensures { OnOk result (out.new ≡ out.old ++ map (valued e.now)
         (flat_map (looked_up (view_values parts.now)) (main_values parts.now))) }
 {
     let views = sorted(copy_views(alloc, parts)?)?;
+    let mut last = None;
     for part in parts {
         if let Some(main) = tagged(part, MAIN) {
-            push_found(alloc, e, main, views.as_slice(), out)?;
+            last = push_found(alloc, e, main, views.as_slice(), last, out)?;
         }
     }
     Ok(())
 }
 
-// Adds a main value with what belongs to its key in a view, which is in ascending order.
+// Adds a main value with what belongs to its key in a view, and gives this for the next one.
 fn push_found(
     alloc: Global,
     e: &Element,
     main: &Boxed<Value>,
     views: &[Value],
+    last: Option<Found>,
     out: &mut List<Element>,
-) -> Result<(), NoMemory>
-    ensures { OnOk result ((all : ListOf Value) → views.now ≡ ascending all
+) -> Result<Option<Found>, NoMemory>
+    requires ascending { IsSorted value_cmp views.now }
+    requires pairs { list_all is_pair views.now ≡ true }
+    requires last { IfSome last (λ found. IsAllFound views.now found.key found.part) }
+    ensures out { OnOk result ((all : ListOf Value) → views.now ≡ ascending all
         → out.new ≡ out.old ++ map (valued e.now) (looked_up all main.now)) }
+    ensures found { IfOk result
+        (λ last. IfSome last (λ found. IsAllFound views.now found.key found.part)) }
 {
     let Some(pair) = pair_of(main.get()) else {
-        return Ok(());
+        return Ok(last);
     };
-    let found = found_in(alloc, views, pair.key.get())?;
-    push_pair(alloc, e, main, Value::Seq(found), out)
-}
-
-// What belongs to a key in a view, in the order of the view.
-fn found_in(alloc: Global, views: &[Value], key: &Value) -> Result<List<Value>, NoMemory>
-    ensures { IfOk result (λ found. found ≡ flat_map (found_in key.now) views.now) }
-{
-    let mut found = List::new(alloc);
-    for view in views {
-        if let Some(pair) = pair_of(view)
-            && is_same(pair.key.get(), key)
-        {
-            found.push(pair.part.get().copy(alloc)?)?;
-        }
-    }
-    Ok(found)
+    let found = found_for(alloc, views, pair.key, last)?;
+    push_valued(e, Value::Pair(main.share()?, found.part.share()?), out)?;
+    Ok(Some(found))
 }
