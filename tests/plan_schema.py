@@ -48,6 +48,17 @@ MESSAGES = [
     ({"input": "win"}, 3, "'win' is not of type 'array'"),
     ({"labl": "x"}, 4, "'labl' was unexpected"),
 ]
+# The same of version 3, and there of these mistakes as well.
+LATER_MESSAGES = [
+    ({"early_when": {"count": 0}}, 3, "0 is less than the minimum of 1"),
+    ({"early_when": {"mark": 5}}, 3, "5 is greater than the maximum of -1"),
+    ({"late_when": {"mark": -5}}, 3, "-5 is less than the minimum of 0"),
+    ({"early_when": {"each": []}}, 3, "'each' was unexpected"),
+    ({"early_when": {"first": [{"count": 3, "mark": -5}]}}, 3, "{'count': 3, 'mark': -5} has too many properties"),
+    ({"early": 2, "early_when": {"count": 2}}, 3, "should not be valid under {'required': ['early']}"),
+    ({"kind": "side", "lateness": None, "mode": "lookup"}, 3, "'view' is a required property"),
+    ({"kind": "side", "lateness": None, "view": "key", "mode": "each"}, 3, "'each' is not one of ['list', 'single', 'lookup']"),
+]
 
 
 def document_bytes(text):
@@ -72,7 +83,7 @@ def documents():
 def shown_plan():
     """The nodes of docs/using/PLAN.md, each on a line of its own, as one plan."""
     lines = (ROOT / "docs/using/PLAN.md").read_text().splitlines()
-    return {"beam": 1, "nodes": [json.loads(line) for line in lines if line.startswith('    {"name"')]}
+    return {"beam": 3, "nodes": [json.loads(line) for line in lines if line.startswith('    {"name"')]}
 
 
 def is_taken(answer):
@@ -89,9 +100,18 @@ def has_whole_float(value):
     return isinstance(value, float) and value.is_integer()
 
 
+def depth_and_leaves(tree):
+    """How many levels a tree of a trigger has, and how many counts and marks."""
+    [value] = tree.values()
+    if not isinstance(value, list):
+        return 1, 1
+    parts = [depth_and_leaves(part) for part in value]
+    return 1 + max([depth for depth, _ in parts], default=0), sum(leaves for _, leaves in parts)
+
+
 def only_the_reader_sees(plan, answer):
     """Whether a schema can't know why the reader refuses this plan: of a node it knows no other node, of a text
-    only how many letters it has, and of two numbers not how one divides by the other."""
+    only how many letters it has, of two numbers not how one divides by the other, and not how large a tree is."""
     if answer == "6 version":
         return has_whole_float(plan["beam"])
     told = re.fullmatch(r"(\d) (name|number) node (\d+) (\w+)", answer)
@@ -105,8 +125,14 @@ def only_the_reader_sees(plan, answer):
     if key == "windows":
         size, period = value.get("sliding", (0, 1))
         return 1 <= period <= size and -(-size // period) > 1024
+    if key in ("early_when", "late_when"):
+        depth, leaves = depth_and_leaves(value)
+        return depth > 8 or leaves > 32
     if key == "input":
         return not set(value) <= set(names)
+    # The view is no node, or has sessions.
+    if key == "view":
+        return value not in names or any("sessions" in node.get("windows", ()) for node in plan["nodes"])
     if key == "name" and value in names[:number]:
         return True
     most = {"name": 64, "label": 64, "text": 4096}.get(key)
@@ -184,8 +210,9 @@ def other_messages(schema):
     """The mistakes of which the schema says something else or much more, and what it says."""
     good = json.loads((ROOT / "examples/late/plan.json").read_text())
     validator = jsonschema.Draft202012Validator(schema)
-    for mistake, number, wanted in MESSAGES:
-        plan = copy.deepcopy(good)
+    tried = [(1, *said) for said in MESSAGES] + [(3, *said) for said in MESSAGES + LATER_MESSAGES]
+    for version, mistake, number, wanted in tried:
+        plan = {**copy.deepcopy(good), "beam": version}
         node = plan["nodes"][number]
         node.update(mistake)
         for key in [key for key in node if node[key] is None]:

@@ -1,5 +1,5 @@
 -- No rule on the JSON value says that the bytes are no JSON text, or that they are too many.
-use Rattle.std.proofs.Common.{◌≡◌, ℕ, List, [], ◌∷◌, ◌++◌, length, Bool, true, false, cond, Option, Some, None, Ok, Err, ok_or, refl, subst}
+use Rattle.std.proofs.Common.{◌≡◌, ℕ, ◌+◌, ℤ, List, [], ◌∷◌, ◌++◌, length, Bool, true, false, cond, Option, Some, None, Ok, Err, ok_or, refl, subst}
 use Rattle.std.specs.Prelude.{⊤}
 use Rattle.std.specs.Option.{option_map_or}
 use Rattle.serde_json.specs.Data.{Data}
@@ -20,11 +20,17 @@ use Rattle.plan_reader.specs.declared.refusal.PlanRefusal.{PlanRefusal}
 use Rattle.plan_reader.specs.declared.refusal.PlanRefusal.TheVariants as refusal
 use Rattle.plan_reader.specs.declared.words.KindWord.{KindWord}
 use Rattle.plan_reader.specs.declared.words.KindWord.TheVariants as kind
-use Rattle.plan_reader.specs.Documents.{array_of, checked, plan_of, version_in, version_of}
+use Rattle.plan_reader.specs.declared.placing.DocumentNode.{DocumentNode}
+use Rattle.plan_reader.specs.declared.words.DocumentKind.{DocumentKind}
+use Rattle.plan_reader.specs.declared.words.DocumentKind.TheVariants as document
+use Rattle.plan_reader.specs.Documents.{array_of, checked, plan_of, unmerged, version_in, version_of}
 use Rattle.plan_reader.specs.Forms.{◌>>=◌, one_by_one, or_absent, needed, string_in, text_in, word_in, strings_in, pair_in, any_number_in, within, number_in, bool_in, value_of}
-use Rattle.plan_reader.specs.Nodes.{name_of, names_of, inputs_in, inputs_of, kind_of, node_of, nodes_of, plain_of}
+use Rattle.plan_reader.specs.Nodes.{name_of, names_of, number_of, inputs_in, inputs_of, kind_of, main_of, node_of, node_of_kind, nodes_of, plain_of, side_of, view_mode_of, view_of}
+use Rattle.plan_reader.specs.Placing.{merges, side_refusal, width}
 use Rattle.plan_reader.specs.Refusals.{Meaning}
-use Rattle.plan_reader.specs.Settings.{work_at, number_at, number_or, files_at, source_files, counts_at, source_args, lag_of, estimator_in, estimator_at, source_of, number_args, text_args, function_args, pardo_of, state_args, stateful_of, allowed, fixed_in, sliding_in, sessions_in, windows_of, strategy_in, window_of, early_in, early_at, mode_at, group_of, write_of, settings_of, longest}
+use Rattle.plan_reader.specs.Settings.{work_at, number_at, number_or, files_at, source_files, counts_at, source_args, lag_of, estimator_in, estimator_at, source_of, number_args, text_args, function_args, pardo_of, state_args, stateful_of, allowed, fixed_in, sliding_in, sessions_in, windows_of, strategy_in, window_of, early_in, early_at, early_of, late_of, needed_alone, mode_at, group_of, write_of, settings_of, longest}
+use Rattle.plan_reader.specs.Trees.{bars_in, bars_of}
+use Rattle.trigger_algebra.specs.declared.when.When.{When}
 
 -- a refusal of the JSON value
 abbrev pub IsOfValue : PlanRefusal → Type 0
@@ -187,20 +193,38 @@ early_judges node d = search (absent_judges, early)
 mode_judges : (node : ℕ) (d : Data) → Judges (mode_at node d)
 mode_judges node d = search (absent_judges, word)
 
-group_judges : (node : ℕ) (d : Data) → Judges (group_of node d)
-group_judges node d = search (then, early_judges, number_absent, mode_judges, judged)
+-- ---- trees of triggers
+
+judged_bars : (least most : ℤ) (place : Place) (o : Option When) → Judges (bars_of least most place o)
+judged_bars least most place None = refused _ tt
+judged_bars least most place (Some when) = search (tested, judged, refused)
+
+bars : (least most : ℤ) (place : Place) (d : Data) → Judges (bars_in least most place d)
+bars least most place d = search (tested, judged_bars, refused)
+
+alone : (sibling : PlanKey) (place : Place) (d : Data) → Judges (needed_alone sibling place d)
+alone sibling place d = search (tested, needed_judges, refused)
+
+early_triggers : (version node : ℕ) (d : Data) → Judges (early_of version node d)
+early_triggers version node d = search (tested, then, alone, bars, early_judges, judged) depth 9
+
+late_triggers : (version node : ℕ) (d : Data) → Judges (late_of version node d)
+late_triggers version node d = search (tested, then, alone, bars, number_absent, judged) depth 9
+
+group_judges : (version node : ℕ) (d : Data) → Judges (group_of version node d)
+group_judges version node d = search (then, early_triggers, late_triggers, number_absent, mode_judges, judged)
 
 write_judges : (node : ℕ) (d : Data) → Judges (write_of node d)
 write_judges node d = search (then, absent_judges, text, judged)
 
-settings : (word : KindWord) (node : ℕ) (d : Data) → Judges (settings_of word node d)
-settings kind.Source node d = source_judges node d
-settings kind.ParDo node d = pardo_judges node d
-settings kind.Flatten node d = judged _
-settings kind.Window node d = window_judges node d
-settings kind.Group node d = group_judges node d
-settings kind.Stateful node d = stateful_judges node d
-settings kind.Write node d = write_judges node d
+settings : (word : KindWord) (version node : ℕ) (d : Data) → Judges (settings_of word version node d)
+settings kind.Source version node d = source_judges node d
+settings kind.ParDo version node d = pardo_judges node d
+settings kind.Flatten version node d = judged _
+settings kind.Window version node d = window_judges node d
+settings kind.Group version node d = group_judges version node d
+settings kind.Stateful version node d = stateful_judges node d
+settings kind.Write version node d = write_judges node d
 
 -- ---- nodes and documents
 
@@ -225,23 +249,46 @@ inputs_judges kind.Group names node d = inputs_needed names node d
 inputs_judges kind.Stateful names node d = inputs_needed names node d
 inputs_judges kind.Write names node d = inputs_needed names node d
 
-kind_judges : (node : ℕ) (d : Data) → Judges (kind_of node d)
-kind_judges node d = search (then, needed_judges, word)
+kind_judges : (version node : ℕ) (d : Data) → Judges (kind_of version node d)
+kind_judges version node d = search (then, needed_judges, word)
 
-plain_judges : (word : KindWord) (names : List (List ℕ)) (node : ℕ) (d : Data) → Judges (plain_of word names node d)
-plain_judges word names node d = search (then, inputs_judges, settings, tested, judged, refused) depth 9
+plain_judges : (word : KindWord) (version : ℕ) (names : List (List ℕ)) (node : ℕ) (d : Data) → Judges (plain_of word version names node d)
+plain_judges word version names node d = search (then, inputs_judges, settings, tested, judged, refused) depth 9
 
-node_judges : (names : List (List ℕ)) (node : ℕ) (d : Data) → Judges (node_of names node d)
-node_judges names node d = search (then, kind_judges, plain_judges, judged)
+-- ---- side inputs
 
-nodes : (names : List (List ℕ)) (array : List Data) → Judges (nodes_of names array)
-nodes names array = each _ (λ before d. node_judges names (length before) d) [] array
+number_judged : (names : List (List ℕ)) (place : Place) (name : List ℕ) → Judges (number_of names place name)
+number_judged names place name = search (found)
+
+main_judges : (names : List (List ℕ)) (node : ℕ) (d : Data) → Judges (main_of names node d)
+main_judges names node d = search (then, needed_judges, strings, found, number_judged) depth 9
+
+view_judges : (names : List (List ℕ)) (node : ℕ) (d : Data) → Judges (view_of names node d)
+view_judges names node d = search (then, needed_judges, string, number_judged) depth 9
+
+view_mode_judges : (node : ℕ) (d : Data) → Judges (view_mode_of node d)
+view_mode_judges node d = search (then, needed_judges, word)
+
+side_judges : (names : List (List ℕ)) (node : ℕ) (d : Data) → Judges (side_of names node d)
+side_judges names node d = search (then, main_judges, view_judges, view_mode_judges, tested, judged, refused) depth 9
+
+-- ---- documents
+
+of_kind : (kind : DocumentKind) (version : ℕ) (names : List (List ℕ)) (node : ℕ) (d : Data) → Judges (node_of_kind kind version names node d)
+of_kind (document.Plain word) version names node d = search (then, plain_judges, judged)
+of_kind document.Side version names node d = side_judges names node d
+
+node_judges : (version : ℕ) (names : List (List ℕ)) (node : ℕ) (d : Data) → Judges (node_of version names node d)
+node_judges version names node d = search (then, kind_judges, of_kind)
+
+nodes : (version : ℕ) (names : List (List ℕ)) (array : List Data) → Judges (nodes_of version names array)
+nodes version names array = each _ (λ before d. node_judges version names (length before) d) [] array
 
 version_number : (n : _) → Judges (version_in n)
 version_number n = search (then, found, tested, judged, refused)
 
-version : (d : Data) → Judges (version_of d)
-version d = search (tested, then, needed_judges, any_number, version_number, refused) depth 9
+version_judges : (d : Data) → Judges (version_of d)
+version_judges d = search (tested, then, needed_judges, any_number, version_number, refused) depth 9
 
 array_judges : (d : Data) → Judges (array_of d)
 array_judges d = search (then, needed_judges, found, tested, judged, refused) depth 9
@@ -249,5 +296,21 @@ array_judges d = search (then, needed_judges, found, tested, judged, refused) de
 checked_judges : (plan : Plan) → Judges (checked plan)
 checked_judges plan = either _ (graph_refusal plan) (Ok plan) (λ r. refused (refusal.Graph r) tt) (judged plan)
 
+-- a refusal of a side input is a name
+told : {A : Type 0} (o : Option PlanRefusal) (m : Meaning A) → ((r : PlanRefusal) → o ≡ Some r → IsOfValue r) → Judges m → Judges (option_map_or (λ r. Err r) o m)
+told None m h k = k
+told (Some r) m h k = refused r (h r refl)
+
+named_or : (b : Bool) (number : ℕ) (o : Option PlanRefusal) (r : PlanRefusal) → (o ≡ Some r → IsOfValue r) → cond b (Some (refusal.Name (in_node number key.View))) o ≡ Some r → IsOfValue r
+named_or true number o r h e = let is : refusal.Name (in_node number key.View) ≡ r = cc in subst IsOfValue is tt
+named_or false number o r h e = h e
+
+named : (plan : Plan) (number first : ℕ) (nodes : List DocumentNode) (r : PlanRefusal) → side_refusal plan number first nodes ≡ Some r → IsOfValue r
+named plan number first [] r e = absurd cc
+named plan number first (node ∷ nodes) r e = named_or (merges plan first node) number (side_refusal plan (number + 1) (first + width node) nodes) r (named plan (number + 1) (first + width node) nodes r) e
+
+unmerged_judges : (nodes : List DocumentNode) (plan : Plan) → Judges (unmerged nodes plan)
+unmerged_judges nodes plan = told (side_refusal plan 0 0 nodes) (Ok plan) (named plan 0 0 nodes) (judged plan)
+
 pub plan_judges : (d : Data) → Judges (plan_of d)
-plan_judges d = search (then, version, array_judges, names, nodes, checked_judges) depth 9
+plan_judges d = search (then, version_judges, array_judges, names, nodes, checked_judges, unmerged_judges) depth 12

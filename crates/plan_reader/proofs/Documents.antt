@@ -1,18 +1,18 @@
 -- When a document is refused for its bytes, and what is read of it.
-use Rattle.std.proofs.Common.{◌≡◌, ◌⊎◌, inl, inr, ℕ, ◌<◌, ◌≤◌, ◌↔◌, ◌&&◌, List, length, Bool, true, false, Option, Some, None, Ok, Err, is_some, ok_or, nat_le, nat_lt, refl, subst, cond, arith}
+use Rattle.std.proofs.Common.{◌≡◌, ℕ, ◌<◌, ◌≤◌, ◌↔◌, ◌&&◌, List, length, Bool, true, false, Option, Some, None, Ok, Err, is_some, ok_or, nat_le, nat_lt, refl, subst, cond}
 use Rattle.std.specs.Option.{option_and_then, option_map_or}
-use Rattle.std.proofs.Math.Nat.{eq-or-lt_of_le}
 use Rattle.std.proofs.lemmas.Bool.{and_parts, leb-true, ltb-false, le-ltb, ltb-true, lt-ltb}
 use Rattle.serde_json.specs.Data.{Data, Num}
 use Rattle.serde_json.specs.Find.{as_number, as_object, as_u64}
 use Rattle.beam_values.specs.Checked.{IsChecked, graph_refusal}
 use Rattle.beam_values.specs.declared.graph_refusal.GraphRefusal.{GraphRefusal}
 use Rattle.beam_values.specs.declared.plan.Plan.{Plan}
-use Rattle.plan_reader.specs.Documents.{array_of, beam_in, beam_of, document_of, json_of, latest_version, longest_document, plan_of, version_in, version_of}
+use Rattle.plan_reader.specs.Documents.{array_of, beam_in, beam_of, checked, document_of, graph_of, json_of, latest_version, longest_document, plan_of, plan_version, unmerged, version_in, version_of}
 use Rattle.plan_reader.specs.Nodes.{names_of, nodes_of}
 use Rattle.plan_reader.specs.Forms.{◌>>=◌, any_number_in, needed, value_of}
 use Rattle.plan_reader.specs.Places.{at_top}
-use Rattle.plan_reader.specs.Placing.{plan_nodes}
+use Rattle.plan_reader.specs.Placing.{plan_nodes, side_refusal}
+use Rattle.plan_reader.specs.declared.placing.DocumentNode.{DocumentNode}
 use Rattle.plan_reader.specs.declared.refusal.PlanKey.TheVariants as key
 use Rattle.plan_reader.specs.Refusals.{Meaning}
 use Rattle.plan_reader.specs.declared.refusal.PlanRefusal.{PlanRefusal}
@@ -69,28 +69,29 @@ read_of : {A B : Type 0} (P : B → Type 0) (o : Option A) (r : PlanRefusal) (f 
 read_of P (Some x) r f h = h x refl
 read_of P None r f h = tt
 
--- this number is there and is the version, which is one of those that are read
+-- this number is there and is the version of a document that is read
 record IsVersionOf (number : Option ℕ) (version : ℕ) : Type 0 where
   own : number ≡ Some version
-  known : (version ≡ 1) ⊎ (version ≡ 2)
+  least : 1 ≤ version
+  most : version ≤ 3
 
 record IsPipelineOf (number : Option ℕ) (plan : Plan) : Type 0 where
   pipeline : IsChecked plan
-  version : IsVersionOf number plan.version
+  beam : ℕ
+  version : IsVersionOf number beam
+  same : plan.version ≡ plan_version beam
 
-checked_at : (number : Option ℕ) (plan : Plan) (o : Option GraphRefusal) → graph_refusal plan ≡ o → IsVersionOf number plan.version → Read (IsPipelineOf number) (option_map_or (λ refusal. Err (Graph refusal)) o (Ok plan))
-checked_at number plan None e v = record { pipeline = record { unrefused = e }; version = v }
-checked_at number plan (Some r) e v = tt
+checked_at : (number : Option ℕ) (plan : Plan) (beam : ℕ) (o : Option GraphRefusal) → graph_refusal plan ≡ o → IsVersionOf number beam → plan.version ≡ plan_version beam
+    → Read (IsPipelineOf number) (option_map_or (λ refusal. Err (Graph refusal)) o (Ok plan))
+checked_at number plan beam None e v same = record { pipeline = record { unrefused = e }; beam = beam; version = v; same = same }
+checked_at number plan beam (Some r) e v same = tt
 
-one_or_two : (n : ℕ) → 1 ≤ n → n ≤ 2 → (n ≡ 1) ⊎ (n ≡ 2)
-one_or_two n least most = by (eq-or-lt_of_le most)
-  where
-    by : (n ≡ 2) ⊎ (n < 2) → (n ≡ 1) ⊎ (n ≡ 2)
-    by (inl two) = inr two
-    by (inr below) = inl (omega (arith, least, below))
+kept : {A : Type 0} (P : A → Type 0) (o : Option PlanRefusal) (x : A) → P x → Read P (option_map_or (λ refusal. Err refusal) o (Ok x))
+kept P None x h = h
+kept P (Some r) x h = tt
 
 accepted : (b : Bool) (number : Option ℕ) (n : ℕ) → number ≡ Some n → (nat_le 1 n && nat_le n latest_version) ≡ b → Read (IsVersionOf number) (cond b (Ok n) (Err Version))
-accepted true number n own test = let parts = and_parts (nat_le 1 n) (nat_le n latest_version) test in record { own = own; known = one_or_two n (leb-true 1 n parts.0) (leb-true n latest_version parts.1) }
+accepted true number n own test = let parts = and_parts (nat_le 1 n) (nat_le n latest_version) test in record { own = own; least = leb-true 1 n parts.0; most = leb-true n latest_version parts.1 }
 accepted false number n own test = tt
 
 version_read : (d : Data) → Read (IsVersionOf (beam_in d)) (version_of d)
@@ -109,11 +110,18 @@ version_read d = by (is_some (as_object d))
     by true = read_of P (value_of key.Beam d) (Field (at_top key.Beam)) _ by_value
     by false = tt
 
+graph_read : (number : Option ℕ) (version : ℕ) (nodes : List DocumentNode) → IsVersionOf number version
+    → Read (IsPipelineOf number) (graph_of version nodes)
+graph_read number version nodes known =
+    read_with (IsPipelineOf number) (IsPipelineOf number) (checked (record { version = plan_version version; nodes = plan_nodes nodes })) (unmerged nodes)
+    (checked_at number (record { version = plan_version version; nodes = plan_nodes nodes }) version _ refl known refl)
+    (λ plan is. kept (IsPipelineOf number) (side_refusal plan 0 0 nodes) plan is)
+
 plan_read : (d : Data) → Read (IsPipelineOf (beam_in d)) (plan_of d)
 plan_read d =
     read_with (IsVersionOf (beam_in d)) (IsPipelineOf (beam_in d)) (version_of d) _ (version_read d)
     (λ version known. read_then (IsPipelineOf (beam_in d)) (array_of d) _ (λ array. read_then (IsPipelineOf (beam_in d)) (names_of array) _
-    (λ names. read_then (IsPipelineOf (beam_in d)) (nodes_of names array) _ (λ nodes. checked_at (beam_in d) (record { version = version; nodes = plan_nodes nodes }) _ refl known))))
+    (λ names. read_then (IsPipelineOf (beam_in d)) (nodes_of version names array) _ (λ nodes. graph_read (beam_in d) version nodes known))))
 
 document_read : (len : ℕ) (long : Bool) (o : Option Data) → Read (IsPipelineOf (option_and_then beam_in o)) (document_at len long o)
 document_read len true o = tt
@@ -126,5 +134,8 @@ pipeline_of bytes plan e = subst (Read (IsPipelineOf (beam_of bytes))) e (docume
 pub are_pipelines : (bytes : List ℕ) (plan : Plan) → document_of bytes ≡ Ok plan → IsChecked plan
 are_pipelines bytes plan e = (pipeline_of bytes plan e).pipeline
 
-pub have_their_version : (bytes : List ℕ) (plan : Plan) → document_of bytes ≡ Ok plan → (beam_of bytes ≡ Some plan.version) × ((plan.version ≡ 1) ⊎ (plan.version ≡ 2))
-have_their_version bytes plan e = let v = (pipeline_of bytes plan e).version in (v.own, v.known)
+pub have_their_version : (bytes : List ℕ) (plan : Plan) → document_of bytes ≡ Ok plan
+    → (beam : ℕ) × (beam_of bytes ≡ Some beam) × (1 ≤ beam) × (beam ≤ 3) × (plan.version ≡ plan_version beam)
+have_their_version bytes plan e =
+    let p = pipeline_of bytes plan e in
+    (p.beam, p.version.own, p.version.least, p.version.most, p.same)

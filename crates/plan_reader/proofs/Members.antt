@@ -1,11 +1,12 @@
 -- The keys of an object, objects of one key and arrays of two, by the entries and the items that they hold.
-use Rattle.std.proofs.Common.{◌≡◌, List, [], ◌∷◌, length, Some, None, String, Global, refl, ap, arith}
+use Rattle.std.proofs.Common.{◌≡◌, ℕ, List, [], ◌∷◌, length, map, Bor, Some, None, String, Global, refl, ap, arith}
 use Rattle.std.specs.Prelude.{◌&&◌, string_bytes, slice_get}
 use Rattle.std.specs.List.{list_all}
 use Rattle.std.specs.Map.{keys_of}
 use Rattle.serde_json.specs.View.{view, items_view, members_view}
 use Rattle.serde_json.specs.declared.value.Value.{Value}
 use Rattle.plan_reader.specs.Forms.{are_listed, is_listed, only_of, pair_of}
+use Rattle.plan_reader.specs.Nodes.{one_of}
 use Rattle.plan_reader.specs.declared.refusal.PlanKey.{PlanKey}
 
 pub are_listed_by_words : (keys : List PlanKey) (es : List (String Global × Value))
@@ -29,3 +30,8 @@ pair_of_others [] h = refl
 pair_of_others (v ∷ []) h = refl
 pair_of_others (v ∷ w ∷ []) h = absurd (h (omega arith))
 pair_of_others (v ∷ w ∷ u ∷ vs) h = refl
+
+pub one_of_others : (names : List (Bor (List ℕ))) → (length names ≡ 1 → ⊥) → one_of (map (λ name. name.now) names) ≡ None
+one_of_others [] h = refl
+one_of_others (name ∷ []) h = absurd (h (omega arith))
+one_of_others (name ∷ other ∷ names) h = refl

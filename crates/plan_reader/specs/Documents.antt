@@ -1,6 +1,6 @@
 -- What a plan document means: the plan, or the first rule that the document breaks. It is a function of the value that its JSON text
 -- reads as.
-use Rattle.std.specs.Prelude.{ℕ, ◌≤◌, IfOk, ◌&&◌, List, length, nat_le, nat_lt, if◌then◌else◌, Option, Some, None, is_some, ok_or, Ok, Err}
+use Rattle.std.specs.Prelude.{ℕ, ◌≤◌, IfOk, ◌&&◌, List, length, min, nat_le, nat_lt, if◌then◌else◌, Option, Some, None, is_some, ok_or, Ok, Err}
 use Rattle.std.specs.Option.{option_and_then, option_map_or}
 use Rattle.std.specs.Str.{is_utf8}
 use Rattle.serde_json.specs.Data.{Data, Num}
@@ -8,6 +8,7 @@ use Rattle.serde_json.specs.Find.{as_array, as_number, as_object, as_u64}
 use Rattle.serde_json.specs.Read.{read}
 use Rattle.beam_values.specs.Checked.{graph_refusal}
 use Rattle.beam_values.specs.declared.plan.Plan.{Plan}
+use Rattle.plan_reader.specs.declared.placing.DocumentNode.{DocumentNode}
 use Rattle.plan_reader.specs.declared.refusal.PlanKey.TheVariants as key
 use Rattle.plan_reader.specs.declared.refusal.PlanRefusal.{PlanRefusal}
 use Rattle.plan_reader.specs.declared.refusal.PlanRefusal.TheVariants.{Syntax, Field, Graph, Version, Length}
@@ -15,13 +16,17 @@ use Rattle.plan_reader.specs.Forms.{◌>>=◌, value_of, needed, has_only, any_n
 use Rattle.plan_reader.specs.Keys.{document_keys}
 use Rattle.plan_reader.specs.Nodes.{names_of, nodes_of}
 use Rattle.plan_reader.specs.Places.{at_top}
-use Rattle.plan_reader.specs.Placing.{plan_names, plan_nodes}
+use Rattle.plan_reader.specs.Placing.{plan_names, plan_nodes, side_refusal}
 use Rattle.plan_reader.specs.Refusals.{Meaning}
 
 -- ---- the top object
 
 abbrev pub latest_version : ℕ
-latest_version = 2
+latest_version = 3
+
+-- Version 3 says more than a plan does: its side inputs and trees of triggers are read into a plan of version 2.
+abbrev pub plan_version : ℕ → ℕ
+plan_version version = min version 2
 
 -- a whole number from 1 to the latest version
 abbrev pub version_in : Num → Meaning ℕ
@@ -54,20 +59,39 @@ array_of d = do
 abbrev pub checked : Plan → Meaning Plan
 checked plan = option_map_or (λ refusal. Err (Graph refusal)) (graph_refusal plan) (Ok plan)
 
+-- a pipeline none of whose side inputs has windows that merge; the first one that has is refused by its view
+abbrev pub unmerged : List DocumentNode → Plan → Meaning Plan
+unmerged nodes plan = option_map_or (λ refusal. Err refusal) (side_refusal plan 0 0 nodes) (Ok plan)
+
+-- the pipeline of the nodes of a document of this version
+abbrev pub graph_of : ℕ → List DocumentNode → Meaning Plan
+graph_of version nodes = do
+  plan ← checked (record { version = plan_version version; nodes = plan_nodes nodes })
+  unmerged nodes plan
+
 abbrev pub plan_of : Data → Meaning Plan
 plan_of d = do
   version ← version_of d
   array ← array_of d
   names ← names_of array
-  nodes ← nodes_of names array
-  checked (record { version = version; nodes = plan_nodes nodes })
+  nodes ← nodes_of version names array
+  graph_of version nodes
+
+-- the nodes, as the document has them
+abbrev pub read_nodes_of : Data → Meaning (List DocumentNode)
+read_nodes_of d = do
+  version ← version_of d
+  array ← array_of d
+  names ← names_of array
+  nodes_of version names array
 
 -- the names of the nodes of the plan, in their order
 abbrev pub array_names_of : Data → Meaning (List (List ℕ))
 array_names_of d = do
+  version ← version_of d
   array ← array_of d
   names ← names_of array
-  nodes ← nodes_of names array
+  nodes ← nodes_of version names array
   Ok (plan_names names nodes)
 
 -- ---- the bytes
@@ -94,6 +118,10 @@ text_of bytes = ok_or (json_of bytes) Syntax >>= plan_of
 
 abbrev pub document_of : List ℕ → Meaning Plan
 document_of bytes = option_map_or (λ refusal. Err refusal) (length_refusal (length bytes)) (text_of bytes)
+
+-- the nodes of a document
+abbrev pub document_nodes_of : List ℕ → Meaning (List DocumentNode)
+document_nodes_of bytes = ok_or (json_of bytes) Syntax >>= read_nodes_of
 
 -- The names that a document gives the nodes of its plan, each by the number of its node. Those of a document that is a plan are as many as its nodes, and
 -- this is said where they are read.

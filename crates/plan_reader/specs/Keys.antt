@@ -1,5 +1,5 @@
 -- The keys that a node lists, by its kind and its work.
-use Rattle.std.specs.Prelude.{List, [], ◌∷◌}
+use Rattle.std.specs.Prelude.{ℕ, nat_le, if◌then◌else◌, List, [], ◌∷◌}
 use Rattle.beam_values.specs.declared.plan.FnKind.{FnKind}
 use Rattle.beam_values.specs.declared.plan.FnKind.TheVariants as function
 use Rattle.beam_values.specs.declared.plan.NodeKind.{NodeKind}
@@ -31,15 +31,22 @@ state_keys state.BatchUntil = key.Work ∷ key.Number ∷ key.Log ∷ []
 state_keys state.LatestThenEmit = key.Work ∷ key.Number ∷ key.Log ∷ []
 state_keys _ = key.Work ∷ key.Log ∷ []
 
--- the keys of a node beside its name, its kind and its inputs
-abbrev pub further_keys : NodeKind → List PlanKey
-further_keys (Source work args files estimator) = source_keys work
-further_keys (ParDo work args) = function_keys work
-further_keys Flatten = []
-further_keys (WindowInto strategy) = key.Windows ∷ []
-further_keys (Group trigger) = key.Early ∷ key.Late ∷ key.Lateness ∷ key.Mode ∷ []
-further_keys (Stateful work args log) = state_keys work
-further_keys (Write label) = key.Label ∷ []
+-- trees of triggers stand in documents from version 3 on
+abbrev pub group_keys : ℕ → List PlanKey
+group_keys version = key.Early ∷ key.Late ∷ key.Lateness ∷ key.Mode ∷ (if nat_le 3 version then key.EarlyWhen ∷ key.LateWhen ∷ [] else [])
 
-abbrev pub node_keys : NodeKind → List PlanKey
-node_keys kind = key.Name ∷ key.Kind ∷ key.Input ∷ further_keys kind
+-- the keys of a node beside its name, its kind and its inputs
+abbrev pub further_keys : ℕ → NodeKind → List PlanKey
+further_keys version (Source work args files estimator) = source_keys work
+further_keys version (ParDo work args) = function_keys work
+further_keys version Flatten = []
+further_keys version (WindowInto strategy) = key.Windows ∷ []
+further_keys version (Group trigger) = group_keys version
+further_keys version (Stateful work args log) = state_keys work
+further_keys version (Write label) = key.Label ∷ []
+
+abbrev pub node_keys : ℕ → NodeKind → List PlanKey
+node_keys version kind = key.Name ∷ key.Kind ∷ key.Input ∷ further_keys version kind
+
+abbrev pub side_keys : List PlanKey
+side_keys = key.Name ∷ key.Kind ∷ key.Input ∷ key.View ∷ key.Mode ∷ []

@@ -11,3 +11,4 @@ pub mod Settings
 pub mod Texts
 pub mod Vectors
 pub mod Words
+pub mod Trees

@@ -1,23 +1,26 @@
 -- The nodes of a document: first all names, then node after node its kind, its inputs, its further keys, and that it has no others. Numbers of nodes are
 -- those of their places in the document.
-use Rattle.std.specs.Prelude.{ℕ, Bool, List, [], length, nat_le, bytes_eq, position, not, ◌&&◌, if◌then◌else◌, is_some, ok_or, Ok, Err}
+use Rattle.std.specs.Prelude.{ℕ, Bool, List, [], ◌∷◌, length, nat_le, bytes_eq, position, not, ◌&&◌, if◌then◌else◌, Option, Some, None, is_some, ok_or, Ok, Err}
 use Rattle.std.specs.List.{list_any}
 use Rattle.serde_json.specs.Data.{Data}
 use Rattle.serde_json.specs.Find.{as_object}
 use Rattle.beam_values.specs.declared.plan.Node.{Node}
+use Rattle.side_inputs.specs.declared.nodes.ViewMode.{ViewMode}
 use Rattle.plan_reader.specs.declared.placing.DocumentNode.{DocumentNode}
-use Rattle.plan_reader.specs.declared.placing.DocumentNode.TheVariants.{Plain}
+use Rattle.plan_reader.specs.declared.placing.DocumentNode.TheVariants.{Plain, Side}
 use Rattle.plan_reader.specs.declared.refusal.Place.{Place}
 use Rattle.plan_reader.specs.declared.refusal.PlanKey.TheVariants as key
 use Rattle.plan_reader.specs.declared.refusal.PlanRefusal.TheVariants as refusal
+use Rattle.plan_reader.specs.declared.words.DocumentKind.{DocumentKind}
+use Rattle.plan_reader.specs.declared.words.DocumentKind.TheVariants as document
 use Rattle.plan_reader.specs.declared.words.KindWord.{KindWord}
 use Rattle.plan_reader.specs.declared.words.KindWord.TheVariants as kind
 use Rattle.plan_reader.specs.Forms.{◌>>=◌, one_by_one, needed, or_absent, has_only, string_in, word_in, strings_in}
-use Rattle.plan_reader.specs.Keys.{node_keys}
+use Rattle.plan_reader.specs.Keys.{node_keys, side_keys}
 use Rattle.plan_reader.specs.Places.{in_node}
 use Rattle.plan_reader.specs.Refusals.{Meaning}
 use Rattle.plan_reader.specs.Settings.{settings_of}
-use Rattle.plan_reader.specs.Words.{meaning_in, kinds}
+use Rattle.plan_reader.specs.Words.{kind_meaning, meaning_in, view_modes}
 
 -- ---- names
 
@@ -56,25 +59,62 @@ inputs_of _ names node d = needed (in_node node key.Input) d >>= inputs_in names
 
 -- ---- nodes
 
-abbrev pub kind_of : ℕ → Data → Meaning KindWord
-kind_of node d = needed (in_node node key.Kind) d >>= word_in (meaning_in kinds) (in_node node key.Kind)
+abbrev pub kind_of : ℕ → ℕ → Data → Meaning DocumentKind
+kind_of version node d = needed (in_node node key.Kind) d >>= word_in (kind_meaning version) (in_node node key.Kind)
 
 -- a node that has no other keys than its kind and its work list
-abbrev pub closed : ℕ → Data → Node → Meaning Node
-closed node d read = if has_only (node_keys read.kind) d then Ok read else Err (refusal.Field (in_node node key.Other))
+abbrev pub closed : ℕ → ℕ → Data → Node → Meaning Node
+closed version node d read = if has_only (node_keys version read.kind) d then Ok read else Err (refusal.Field (in_node node key.Other))
 
 -- a node of this kind that is one node of the plan
-abbrev pub plain_of : KindWord → List (List ℕ) → ℕ → Data → Meaning Node
-plain_of word names node d = do
+abbrev pub plain_of : KindWord → ℕ → List (List ℕ) → ℕ → Data → Meaning Node
+plain_of word version names node d = do
   inputs ← inputs_of word names node d
-  settings ← settings_of word node d
-  closed node d (record { kind = settings; inputs = inputs })
+  settings ← settings_of word version node d
+  closed version node d (record { kind = settings; inputs = inputs })
 
-abbrev pub node_of : List (List ℕ) → ℕ → Data → Meaning DocumentNode
-node_of names node d = do
-  word ← kind_of node d
-  plain ← plain_of word names node d
+-- ---- side inputs
+
+abbrev pub one_of : List (List ℕ) → Option (List ℕ)
+one_of (name ∷ []) = Some name
+one_of _ = None
+
+-- the main collection, of which there is one
+abbrev pub main_of : List (List ℕ) → ℕ → Data → Meaning ℕ
+main_of names node d = do
+  value ← needed (in_node node key.Input) d
+  inputs ← strings_in (in_node node key.Input) value
+  name ← ok_or (one_of inputs) (refusal.Field (in_node node key.Input))
+  number_of names (in_node node key.Input) name
+
+abbrev pub view_of : List (List ℕ) → ℕ → Data → Meaning ℕ
+view_of names node d = do
+  value ← needed (in_node node key.View) d
+  name ← string_in (in_node node key.View) value
+  number_of names (in_node node key.View) name
+
+abbrev pub view_mode_of : ℕ → Data → Meaning ViewMode
+view_mode_of node d = needed (in_node node key.Mode) d >>= word_in (meaning_in view_modes) (in_node node key.Mode)
+
+abbrev pub side_of : List (List ℕ) → ℕ → Data → Meaning DocumentNode
+side_of names node d = do
+  main ← main_of names node d
+  view ← view_of names node d
+  mode ← view_mode_of node d
+  if has_only side_keys d then Ok (Side main view mode) else Err (refusal.Field (in_node node key.Other))
+
+-- ---- both
+
+abbrev pub node_of_kind : DocumentKind → ℕ → List (List ℕ) → ℕ → Data → Meaning DocumentNode
+node_of_kind (document.Plain word) version names node d = do
+  plain ← plain_of word version names node d
   Ok (Plain plain)
+node_of_kind document.Side version names node d = side_of names node d
 
-abbrev pub nodes_of : List (List ℕ) → List Data → Meaning (List DocumentNode)
-nodes_of names nodes = one_by_one (λ before d. node_of names (length before) d) [] nodes
+abbrev pub node_of : ℕ → List (List ℕ) → ℕ → Data → Meaning DocumentNode
+node_of version names node d = do
+  kind ← kind_of version node d
+  node_of_kind kind version names node d
+
+abbrev pub nodes_of : ℕ → List (List ℕ) → List Data → Meaning (List DocumentNode)
+nodes_of version names nodes = one_by_one (λ before d. node_of version names (length before) d) [] nodes

@@ -2,7 +2,7 @@
 use Rattle.std.specs.Prelude.{ℕ, List, codes, Some, None}
 use Rattle.plan_reader.specs.declared.refusal.Place.{Place}
 use Rattle.plan_reader.specs.declared.refusal.PlanKey.{PlanKey}
-use Rattle.plan_reader.specs.declared.refusal.PlanKey.TheVariants.{Beam, Nodes, Name, Kind, Input, Work, Files, Count, Number, Estimator, Text, Windows, Early, Late, Lateness, Mode, Log, Label, Other}
+use Rattle.plan_reader.specs.declared.refusal.PlanKey.TheVariants.{Beam, Nodes, Name, Kind, Input, Work, Files, Count, Number, Estimator, Text, Windows, Early, EarlyWhen, Late, LateWhen, Lateness, Mode, View, Log, Label, Other}
 
 -- the word of a key in a document and in a refusal's text
 abbrev pub key_word : PlanKey → List ℕ
@@ -19,9 +19,12 @@ key_word Estimator = codes "estimator"
 key_word Text = codes "text"
 key_word Windows = codes "windows"
 key_word Early = codes "early"
+key_word EarlyWhen = codes "early_when"
 key_word Late = codes "late"
+key_word LateWhen = codes "late_when"
 key_word Lateness = codes "lateness"
 key_word Mode = codes "mode"
+key_word View = codes "view"
 key_word Log = codes "log"
 key_word Label = codes "label"
 key_word Other = codes "other"

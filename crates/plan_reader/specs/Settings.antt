@@ -1,11 +1,12 @@
 -- The settings of a node: its keys in the order in which they are read, each with its form and its limits, and what its absence
 -- means. Times are in milliseconds (Beam Programming Guide, Windowing, Triggers; the limits are this profile's).
-use Rattle.std.specs.Prelude.{ℕ, Bool, pos, false, List, [], codes, bytes_eq, if◌then◌else◌, Option, Some, None, ok_or, option_and_then, unwrap_or, Ok, Err}
+use Rattle.std.specs.Prelude.{ℕ, nat_le, Bool, pos, negsuc, ◌-ℤ◌, false, ◌&&◌, List, [], codes, bytes_eq, if◌then◌else◌, Option, Some, None, is_some, ok_or, option_and_then, unwrap_or, Ok, Err}
 use Rattle.std.specs.Option.{option_map_or}
 use Rattle.serde_json.specs.Data.{Data}
 use Rattle.serde_json.specs.Find.{as_str}
 use Rattle.beam_values.specs.Checked.{is_file_name}
 use Rattle.beam_values.specs.Strategies.{is_allowed, greatest_length}
+use Rattle.beam_values.specs.declared.plan.Bar.{Bar}
 use Rattle.beam_values.specs.declared.plan.Args.{Args}
 use Rattle.beam_values.specs.declared.plan.Args.TheVariants.{Nothing, Text, Number, Two}
 use Rattle.beam_values.specs.declared.plan.Estimator.{Estimator}
@@ -31,6 +32,7 @@ use Rattle.plan_reader.specs.declared.words.KindWord.TheVariants as kind
 use Rattle.plan_reader.specs.Forms.{◌>>=◌, one_by_one, value_of, needed, or_absent, only_member, text_in, word_in, strings_in, pair_in, any_number_in, within, number_in, bool_in}
 use Rattle.plan_reader.specs.Places.{in_node}
 use Rattle.plan_reader.specs.Refusals.{Meaning}
+use Rattle.plan_reader.specs.Trees.{bars_in}
 use Rattle.plan_reader.specs.Words.{meaning_in, sources, functions, stateful_functions, estimators, modes}
 use Rattle.beam_values.specs.Windows.{or_zero}
 
@@ -214,13 +216,39 @@ early_at node d = or_absent None early_in (in_node node key.Early) d
 abbrev pub mode_at : ℕ → Data → Meaning Mode
 mode_at node d = or_absent Discarding (word_in (meaning_in modes)) (in_node node key.Mode) d
 
-abbrev pub group_of : ℕ → Data → Meaning NodeKind
-group_of node d = do
-  early ← early_at node d
-  late ← number_or 1 key.Late 1 greatest_count node d
+-- the value of a key that stands without the other one
+abbrev pub needed_alone : PlanKey → Place → Data → Meaning Data
+needed_alone sibling place d = if is_some (value_of sibling d) then Err (refusal.Field place) else needed place d
+
+-- When early panes fire: by a count, or by a tree, which documents have from version 3 on. Both at once are refused before either is read.
+abbrev pub early_of : ℕ → ℕ → Data → Meaning (Option ℕ × List Bar)
+early_of version node d =
+    if nat_le 3 version && is_some (value_of key.EarlyWhen d) then (do
+      value ← needed_alone key.Early (in_node node key.EarlyWhen) d
+      bars ← bars_in (pos 0 -ℤ greatest_length) (negsuc 0) (in_node node key.EarlyWhen) value
+      Ok (None, bars))
+    else (do
+      early ← early_at node d
+      Ok (early, []))
+
+-- when late panes fire
+abbrev pub late_of : ℕ → ℕ → Data → Meaning (ℕ × List Bar)
+late_of version node d =
+    if nat_le 3 version && is_some (value_of key.LateWhen d) then (do
+      value ← needed_alone key.Late (in_node node key.LateWhen) d
+      bars ← bars_in (pos 0) greatest_length (in_node node key.LateWhen) value
+      Ok (1, bars))
+    else (do
+      late ← number_or 1 key.Late 1 greatest_count node d
+      Ok (late, []))
+
+abbrev pub group_of : ℕ → ℕ → Data → Meaning NodeKind
+group_of version node d = do
+  early ← early_of version node d
+  late ← late_of version node d
   lateness ← number_or 0 key.Lateness 0 longest node d
   mode ← mode_at node d
-  Ok (Group (record { early = early; late = late; lateness = pos lateness; mode = mode; early_bars = []; late_bars = [] }))
+  Ok (Group (record { early = early.0; late = late.0; lateness = pos lateness; mode = mode; early_bars = early.1; late_bars = late.1 }))
 
 -- ---- writes
 
@@ -239,11 +267,11 @@ write_of node d = do
 
 -- ---- all kinds
 
-abbrev pub settings_of : KindWord → ℕ → Data → Meaning NodeKind
-settings_of kind.Source node d = source_of node d
-settings_of kind.ParDo node d = pardo_of node d
-settings_of kind.Flatten node d = Ok Flatten
-settings_of kind.Window node d = window_of node d
-settings_of kind.Group node d = group_of node d
-settings_of kind.Stateful node d = stateful_of node d
-settings_of kind.Write node d = write_of node d
+abbrev pub settings_of : KindWord → ℕ → ℕ → Data → Meaning NodeKind
+settings_of kind.Source version node d = source_of node d
+settings_of kind.ParDo version node d = pardo_of node d
+settings_of kind.Flatten version node d = Ok Flatten
+settings_of kind.Window version node d = window_of node d
+settings_of kind.Group version node d = group_of version node d
+settings_of kind.Stateful version node d = stateful_of node d
+settings_of kind.Write version node d = write_of node d

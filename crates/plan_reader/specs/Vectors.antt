@@ -1,6 +1,6 @@
 -- Documents and what they mean, computed: first refusals by their texts, in the order in which the rules are tested, and a plan that is
 -- read.
-use Rattle.std.specs.Prelude.{◌≡◌, ℕ, List, [], ◌∷◌, codes, map, Some, Ok, Err, fold, refl}
+use Rattle.std.specs.Prelude.{◌≡◌, ℕ, List, [], ◌∷◌, ◌++◌, codes, map, Some, Ok, Err, fold, refl}
 use Rattle.std.specs.Fmt.{digits}
 use Rattle.serde_json.specs.Data.{Data, null, number, unsigned, string, array, object, Items, no_items, item, Members, no_members, put}
 use Rattle.beam_values.specs.declared.plan.Args.TheVariants.{Two}
@@ -10,6 +10,9 @@ use Rattle.beam_values.specs.declared.plan.NodeKind.TheVariants.{Source, Write}
 use Rattle.beam_values.specs.declared.plan.Plan.{Plan}
 use Rattle.beam_values.specs.declared.plan.SourceKind.TheVariants.{Made}
 use Rattle.plan_reader.specs.declared.refusal.PlanRefusal.TheVariants.{Length}
+use Rattle.side_inputs.specs.Nodes.{side_nodes}
+use Rattle.side_inputs.specs.declared.nodes.ViewMode.TheVariants as mode
+use Rattle.trigger_algebra.specs.declared.when.When.TheFolds.{fold-roll-When}
 use Rattle.plan_reader.specs.Documents.{length_refusal, plan_of}
 use Rattle.plan_reader.specs.Refusals.{Meaning}
 use Rattle.plan_reader.specs.Texts.{refusal_text}
@@ -83,9 +86,13 @@ of_version_2 : refused (document_at 2 []) ≡ codes "5 graph 1 empty"
 unfolding digits
 of_version_2 = refl
 
-of_version_3 : refused (document_at 3 []) ≡ codes "6 version"
+of_version_3 : refused (document_at 3 []) ≡ codes "5 graph 1 empty"
 unfolding digits
 of_version_3 = refl
+
+of_version_4 : refused (document_at 4 []) ≡ codes "6 version"
+unfolding digits
+of_version_4 = refl
 
 unknown_kind : refused (document (node (codes "a") (codes "sort") [] ∷ [])) ≡ codes "3 name node 0 kind"
 unfolding digits
@@ -174,3 +181,67 @@ read = refl
 
 read_at_2 : plan_of (document_at 2 (source ∷ write ∷ [])) ≡ Ok (record { version = 2; nodes = read_source ∷ read_write ∷ [] })
 read_at_2 = refl
+
+-- ---- side inputs
+
+-- {"name":NAME,"kind":"side","input":INPUTS,"view":"s","mode":"list"}
+abbrev side : List ℕ → List (List ℕ) → Data
+side name inputs = below name (codes "side") inputs ((codes "view", string (codes "s")) ∷ (codes "mode", string (codes "list")) ∷ [])
+
+-- {"name":"w","kind":"write","input":["j"]}
+abbrev write_joined : Data
+write_joined = below (codes "w") (codes "write") (codes "j" ∷ []) []
+
+one_main_input : refused (document_at 3 (source ∷ side (codes "j") (codes "s" ∷ codes "s" ∷ []) ∷ write_joined ∷ [])) ≡ codes "2 field node 1 input"
+unfolding digits
+one_main_input = refl
+
+no_side_in_version_2 : refused (document_at 2 (source ∷ side (codes "j") (codes "s" ∷ []) ∷ write_joined ∷ [])) ≡ codes "3 name node 1 kind"
+unfolding digits
+no_side_in_version_2 = refl
+
+-- the five nodes are 1 to 5, and the Write is 6 and takes from the last of them
+read_with_a_side : plan_of (document_at 3 (source ∷ side (codes "j") (codes "s" ∷ []) ∷ write_joined ∷ []))
+    ≡ Ok (record { version = 2; nodes = read_source ∷ side_nodes 0 0 1 mode.List ++ record { kind = Write (codes "w"); inputs = 5 ∷ [] } ∷ [] })
+read_with_a_side = refl
+
+-- {"name":"j","kind":"side","input":["z"],"view":"z","mode":"list"}
+abbrev side_of_sessions : Data
+side_of_sessions =
+    below (codes "j") (codes "side") (codes "z" ∷ []) ((codes "view", string (codes "z")) ∷ (codes "mode", string (codes "list")) ∷ [])
+
+-- the windows of the side input merge, and the document's number of it is told
+merging_side : refused (document_at 3 (source ∷ sessions ∷ side_of_sessions ∷ write_joined ∷ [])) ≡ codes "3 name node 2 view"
+unfolding digits
+merging_side = refl
+
+-- ---- trees of triggers
+
+-- {WORD:VALUE}
+abbrev tree : List ℕ → Data → Data
+tree word value = object (members ((word, value) ∷ []))
+
+-- a Group whose early panes fire by a tree, and its further members
+abbrev group_by : Data → List (List ℕ × Data) → Data
+group_by when further = below (codes "g") (codes "group") (codes "s" ∷ []) ((codes "early_when", when) ∷ further)
+
+-- {"first":[{"count":0},{"never":1}]}
+abbrev malformed_tree : Data
+malformed_tree = tree (codes "first") (array (items (tree (codes "count") (whole 0) ∷ tree (codes "never") (whole 1) ∷ [])))
+
+form_before_number : refused (document_at 3 (source ∷ group_by malformed_tree [] ∷ [])) ≡ codes "2 field node 1 early_when"
+unfolding digits
+form_before_number = refl
+
+both_keys : refused (document_at 3 (source ∷ group_by (whole 7) ((codes "early", string (codes "x")) ∷ []) ∷ [])) ≡ codes "2 field node 1 early_when"
+unfolding digits
+both_keys = refl
+
+no_tree_in_version_2 : refused (document_at 2 (source ∷ group_by (tree (codes "count") (whole 2)) [] ∷ [])) ≡ codes "2 field node 1 other"
+unfolding digits
+no_tree_in_version_2 = refl
+
+-- {"mark":0}
+mark_not_before_the_end : refused (document_at 3 (source ∷ group_by (tree (codes "mark") (whole 0)) [] ∷ [])) ≡ codes "4 number node 1 early_when"
+unfolding digits
+mark_not_before_the_end = simp fold-roll-When refl

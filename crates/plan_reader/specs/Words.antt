@@ -1,5 +1,6 @@
 -- The words of a document, as they are spelled there.
-use Rattle.std.specs.Prelude.{ℕ, List, [], ◌∷◌, codes, bytes_eq, if◌then◌else◌, Option, Some, None}
+use Rattle.std.specs.Prelude.{ℕ, ◌&&◌, nat_le, List, [], ◌∷◌, codes, bytes_eq, if◌then◌else◌, Option, Some, None}
+use Rattle.std.specs.Option.{option_map}
 use Rattle.beam_values.specs.declared.plan.Estimator.{Estimator}
 use Rattle.beam_values.specs.declared.plan.Estimator.TheVariants as estimator
 use Rattle.beam_values.specs.declared.plan.FnKind.{FnKind}
@@ -10,6 +11,10 @@ use Rattle.beam_values.specs.declared.plan.SourceKind.{SourceKind}
 use Rattle.beam_values.specs.declared.plan.SourceKind.TheVariants.{Lines, TimedLines, Count, Made}
 use Rattle.beam_values.specs.declared.plan.StateKind.{StateKind}
 use Rattle.beam_values.specs.declared.plan.StateKind.TheVariants.{Dedupe, RunningSum, BatchUntil, LatestThenEmit}
+use Rattle.side_inputs.specs.declared.nodes.ViewMode.{ViewMode}
+use Rattle.side_inputs.specs.declared.nodes.ViewMode.TheVariants as view
+use Rattle.plan_reader.specs.declared.words.DocumentKind.{DocumentKind}
+use Rattle.plan_reader.specs.declared.words.DocumentKind.TheVariants.{Plain, Side}
 use Rattle.plan_reader.specs.declared.words.KindWord.{KindWord}
 use Rattle.plan_reader.specs.declared.words.KindWord.TheVariants as kind
 
@@ -22,6 +27,13 @@ abbrev pub kinds : List (List ℕ × KindWord)
 kinds =
     (codes "source", kind.Source) ∷ (codes "pardo", kind.ParDo) ∷ (codes "flatten", kind.Flatten) ∷ (codes "window", kind.Window)
     ∷ (codes "group", kind.Group) ∷ (codes "stateful", kind.Stateful) ∷ (codes "write", kind.Write) ∷ []
+
+-- A node is one of the plan's by its word, or a side input, which documents have from version 3 on.
+abbrev pub kind_meaning : ℕ → List ℕ → Option DocumentKind
+kind_meaning version word = if nat_le 3 version && bytes_eq word (codes "side") then Some Side else option_map Plain (meaning_in kinds word)
+
+abbrev pub view_modes : List (List ℕ × ViewMode)
+view_modes = (codes "list", view.List) ∷ (codes "single", view.Single) ∷ (codes "lookup", view.Lookup) ∷ []
 
 abbrev pub sources : List (List ℕ × SourceKind)
 sources = (codes "Lines", Lines) ∷ (codes "TimedLines", TimedLines) ∷ (codes "Count", Count) ∷ (codes "Made", Made) ∷ []

@@ -1,6 +1,8 @@
-ghost use Rattle.std.specs.Prelude.{◌≡◌, ◌≤◌, length, map, ok_or, Ok, IfErr, IfOk};
+ghost use Rattle.std.specs.Prelude.{◌≡◌, ◌≤◌, length, map, ok_or, All, Ok, IfErr, IfOk};
 ghost use Rattle.serde_json.specs.View.{number_view, view};
 ghost use Rattle.plan_reader.specs.Documents.{HasFewNodes, array_names_of, array_of, document_of};
+ghost use Rattle.plan_reader.specs.Documents.{graph_of};
+ghost use Rattle.plan_reader.specs.Placing.{HasInputsWithin};
 ghost use Rattle.plan_reader.specs.Documents.{json_of, length_refusal, longest_document};
 ghost use Rattle.plan_reader.specs.Documents.{node_names_of, plan_of, version_in, version_of};
 ghost use Rattle.plan_reader.specs.Refusals.{Gives, IsFirst, Reads};
@@ -9,7 +11,7 @@ use crate::forms::{any_number_in, needed};
 use crate::keys::has_only;
 use crate::names::names_of;
 use crate::nodes::nodes_of;
-use crate::placing::{plan_names, plan_nodes};
+use crate::placing::{DocumentNode, plan_names, plan_nodes, side_refusal};
 use crate::refusal::{Place, PlanKey, PlanReadRefusal, PlanRefusal};
 use beam_values::{Bytes, List, Plan};
 use pipeline_graph::Graph;
@@ -31,9 +33,13 @@ pub fn length_refusal(len: u64) -> Option<PlanRefusal>
 }
 
 /// The latest version of a document that is read.
-const LATEST_VERSION: u64 = 2;
+const LATEST_VERSION: u64 = 3;
 
-/// A checked pipeline, and the names that its document gives its nodes, each by the number of the node.
+/// The latest version of a plan. What later documents say is read into it.
+const LATEST_PLAN: u32 = 2;
+
+/// A checked pipeline, and the names that its document gives its nodes, each by its number in the plan. The
+/// name of a side input stands five times.
 #[derive(Debug, Drop)]
 pub struct NamedPlan {
     pub names: List<Bytes>,
@@ -88,12 +94,28 @@ fn named_plan_of(alloc: Global, document: &Value) -> Result<NamedPlan, PlanReadR
     let version = version_of(document)?;
     let nodes = array_of(document)?;
     let names = names_of(alloc, nodes)?;
-    let nodes = nodes_of(alloc, &names, nodes)?;
-    let names = plan_names(alloc, &names, nodes.as_slice())?;
-    let nodes = plan_nodes(alloc, nodes)?;
-    let plan = Plan { version, nodes };
-    let graph = Graph::check(alloc, plan)?;
+    let read = nodes_of(alloc, version, &names, nodes)?;
+    let names = plan_names(alloc, &names, read.as_slice())?;
+    let graph = graph_of(alloc, version, read)?;
     Ok(NamedPlan { names, graph })
+}
+
+// The pipeline of these nodes of a document of this version.
+fn graph_of(alloc: Global, version: u32, read: List<DocumentNode>) -> Result<Graph, PlanReadRefusal>
+    requires few { length read ≤ longest_document }
+    requires within { All (HasInputsWithin (length read)) read }
+    ensures { Reads (λ graph. graph) result (graph_of version read) }
+{
+    let nodes = plan_nodes(alloc, read.as_slice())?;
+    let plan = Plan {
+        version: version.min(LATEST_PLAN),
+        nodes,
+    };
+    let graph = Graph::check(alloc, plan)?;
+    match side_refusal(&graph, read.as_slice()) {
+        Some(refusal) => Err(PlanReadRefusal::Bad(refusal)),
+        None => Ok(graph),
+    }
 }
 
 // The version of an object.

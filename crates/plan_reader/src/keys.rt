@@ -3,8 +3,8 @@ ghost use Rattle.std.specs.BTreeMap.{keys};
 ghost use Rattle.std.specs.List.{list_all};
 ghost use Rattle.serde_json.specs.View.{view, members_view};
 ghost use Rattle.plan_reader.specs.Forms.{are_listed, has_only, is_listed};
-ghost use Rattle.plan_reader.specs.Keys.{further_keys, function_keys, node_keys, source_keys};
-ghost use Rattle.plan_reader.specs.Keys.{state_keys};
+ghost use Rattle.plan_reader.specs.Keys.{further_keys, function_keys, group_keys, node_keys};
+ghost use Rattle.plan_reader.specs.Keys.{side_keys, source_keys, state_keys};
 
 use crate::refusal::PlanKey;
 use beam_values::{FnKind, NodeKind, SourceKind, StateKind};
@@ -13,10 +13,17 @@ use serde_json::{Map, Value};
 const COMMON: [PlanKey; 3] = [PlanKey::Name, PlanKey::Kind, PlanKey::Input];
 
 /// Whether an object has only the keys that its kind and its work list.
-pub(crate) fn has_only_keys_of(kind: &NodeKind, object: &Value) -> bool
-    ensures { result ≡ has_only (node_keys kind.now) (view object.now) }
+pub(crate) fn has_only_keys_of(version: u32, kind: &NodeKind, object: &Value) -> bool
+    ensures { result ≡ has_only (node_keys version kind.now) (view object.now) }
 {
-    has_only(&COMMON, further_keys(kind), object)
+    has_only(&COMMON, further_keys(version, kind), object)
+}
+
+/// Whether a side input has no other keys than its own.
+pub(crate) fn has_only_side_keys(object: &Value) -> bool
+    ensures { result ≡ has_only side_keys (view object.now) }
+{
+    has_only(&COMMON, &[PlanKey::View, PlanKey::Mode], object)
 }
 
 /// Whether an object has only listed keys.
@@ -57,23 +64,38 @@ fn is_among(keys: &[PlanKey], word: &str) -> bool
     keys.iter().any(|key| word == key.word())
 }
 
-fn further_keys(kind: &NodeKind) -> &'static [PlanKey]
-    ensures { result.now ≡ further_keys kind.now }
+fn further_keys(version: u32, kind: &NodeKind) -> &'static [PlanKey]
+    ensures { result.now ≡ further_keys version kind.now }
 {
     match kind {
         NodeKind::Source { work, .. } => source_keys(work),
         NodeKind::ParDo { work, .. } => function_keys(work),
         NodeKind::Flatten => &[],
         NodeKind::WindowInto { .. } => &[PlanKey::Windows],
-        NodeKind::Group { .. } => &[
-            PlanKey::Early,
-            PlanKey::Late,
-            PlanKey::Lateness,
-            PlanKey::Mode,
-        ],
+        NodeKind::Group { .. } => group_keys(version),
         NodeKind::Stateful { work, .. } => state_keys(work),
         NodeKind::Write { .. } => &[PlanKey::Label],
     }
+}
+
+fn group_keys(version: u32) -> &'static [PlanKey]
+    ensures { result.now ≡ group_keys version }
+{
+    const PLAIN: [PlanKey; 4] = [
+        PlanKey::Early,
+        PlanKey::Late,
+        PlanKey::Lateness,
+        PlanKey::Mode,
+    ];
+    const WITH_TREES: [PlanKey; 6] = [
+        PlanKey::Early,
+        PlanKey::Late,
+        PlanKey::Lateness,
+        PlanKey::Mode,
+        PlanKey::EarlyWhen,
+        PlanKey::LateWhen,
+    ];
+    if version >= 3 { &WITH_TREES } else { &PLAIN }
 }
 
 fn source_keys(work: &SourceKind) -> &'static [PlanKey]

@@ -7,7 +7,7 @@
 //! layer above relies on [`read_plan`] answering exactly this, but for want of memory, on
 //! [`read_named_plan`] for the names of the nodes as well, and on [`refusal_text`] for the notes. It may
 //! ask [`length_refusal`] before it reads a file. Texts are copied only into the plan. Read `document.rt`
-//! first, then `nodes.rt`, `placing.rt` and `settings.rt`.
+//! first, then `nodes.rt`, `placing.rt`, `settings.rt` and `trees.rt`.
 #![tactic(auto)]
 
 mod document;
@@ -22,6 +22,7 @@ mod refusal;
 mod settings;
 mod sources;
 mod text;
+mod trees;
 mod windows;
 mod words;
 

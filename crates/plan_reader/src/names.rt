@@ -103,8 +103,13 @@ fn numbers_of(
     Ok(List::from_vec(numbers))
 }
 
+/// The number of the node of this name.
 #[tactic(auto, using(crate::proofs::Seen::position_seen))]
-fn number_of(names: &IndexSet<&str>, place: Place, name: &str) -> Result<u32, PlanRefusal>
+pub(crate) fn number_of(
+    names: &IndexSet<&str>,
+    place: Place,
+    name: &str,
+) -> Result<u32, PlanRefusal>
     requires { index_set_len names.now < 2 ^ 32 }
     ensures { result ≡ number_of (names_in names.now) place name.now }
 {

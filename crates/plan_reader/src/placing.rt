@@ -1,15 +1,18 @@
 //! From the nodes of a document to those of its plan.
 
-ghost use Rattle.std.specs.Prelude.{◌≡◌, ◌<◌, ◌≤◌, ◌++◌, length, map, replicate, slice_index_or};
-ghost use Rattle.std.specs.Prelude.{All, IfOk, OnOk};
+ghost use Rattle.std.specs.Prelude.{◌≡◌, ◌+◌, ◌<◌, ◌≤◌, ◌++◌, length, map, replicate, All, IfOk};
+ghost use Rattle.std.specs.Prelude.{OnOk};
 ghost use Rattle.indexmap.specs.IndexSet.{index_set_len};
 ghost use Rattle.plan_reader.specs.Documents.{longest_document};
-ghost use Rattle.plan_reader.specs.Placing.{HasInputsWithin, nodes_at, places_of};
-ghost use Rattle.plan_reader.specs.Placing.{plan_names, plan_nodes, width};
+ghost use Rattle.plan_reader.specs.Placing.{HasInputsWithin, merges, nodes_at, place_at, places_of};
+ghost use Rattle.plan_reader.specs.Placing.{plan_names, plan_nodes, side_refusal, width};
 ghost use Rattle.plan_reader.specs.Seen.{names_in};
 
-use beam_values::{Bytes, List, NoMemory, Node};
+use crate::refusal::{Place, PlanKey, PlanRefusal};
+use beam_values::{Bytes, Duplicate, List, NoMemory, Node, Strategy};
 use indexmap::IndexSet;
+use pipeline_graph::Graph;
+use side_inputs::{ViewMode, side_nodes};
 use std::alloc::Global;
 
 /// A node as its document has it: an input is the number of a node of the document.
@@ -17,6 +20,12 @@ use std::alloc::Global;
 pub(crate) enum DocumentNode {
     /// It is one node of the plan.
     Plain(Node),
+    /// It is the five nodes of a side input.
+    Side {
+        main: u32,
+        view: u32,
+        mode: ViewMode,
+    },
 }
 
 impl DocumentNode {
@@ -26,27 +35,57 @@ impl DocumentNode {
     {
         match self {
             DocumentNode::Plain(_) => 1,
+            DocumentNode::Side { .. } => 5,
         }
     }
 }
 
 /// The nodes of the plan, whose inputs are numbers of the plan.
-#[tactic(auto, using(crate::proofs::Placed::places_counted))]
-pub(crate) fn plan_nodes(alloc: Global, nodes: List<DocumentNode>) -> Result<List<Node>, NoMemory>
-    requires few { length nodes ≤ longest_document }
-    requires within { All (HasInputsWithin (length nodes)) nodes }
-    ensures { IfOk result (λ read. read ≡ plan_nodes nodes) }
+#[tactic(auto, using(crate::proofs::Placed::placing_turns))]
+pub(crate) fn plan_nodes(alloc: Global, nodes: &[DocumentNode]) -> Result<List<Node>, NoMemory>
+    requires few { length nodes.now ≤ longest_document }
+    requires within { All (HasInputsWithin (length nodes.now)) nodes.now }
+    ensures { IfOk result (λ read. read ≡ plan_nodes nodes.now) }
 {
-    let places = places_of(alloc, nodes.as_slice())?;
+    let places = places_of(alloc, nodes)?;
     let mut read = Vec::with_capacity(alloc, nodes.len())?;
-    for node in nodes.into_vec() {
+    for node in nodes {
         push_nodes(alloc, places.as_slice(), node, &mut read)?;
     }
     Ok(List::from_vec(read))
 }
 
+/// The refusal of the first side input whose windows merge, if there is one.
+#[tactic(auto, using(crate::proofs::Merging::merging_turns))]
+pub(crate) fn side_refusal(graph: &Graph, nodes: &[DocumentNode]) -> Option<PlanRefusal>
+    requires few { length nodes.now ≤ longest_document }
+    requires read { graph.now.nodes ≡ plan_nodes nodes.now }
+    ensures { result ≡ side_refusal graph.now 0 0 nodes.now }
+{
+    let mut first = 0;
+    for (number, node) in nodes.iter().enumerate() {
+        if merges(graph, first, node) {
+            let place = Place::in_node(number as u32, PlanKey::View);
+            return Some(PlanRefusal::Name(place));
+        }
+        first += node.width();
+    }
+    None
+}
+
+fn merges(graph: &Graph, first: u32, node: &DocumentNode) -> bool
+    requires few { first ≤ 4294967290 }
+    requires within { first + width node.now ≤ length graph.now.nodes }
+    ensures { result ≡ merges graph.now first node.now }
+{
+    match node {
+        DocumentNode::Plain(_) => false,
+        DocumentNode::Side { .. } => matches!(graph.strategy(first + 3), Strategy::Sessions { .. }),
+    }
+}
+
 // For each node the number in the plan that its name stands for.
-#[tactic(auto, using(crate::proofs::Placed::next_place, crate::proofs::Placed::width_one))]
+#[tactic(auto, using(crate::proofs::Placed::place_turns))]
 fn places_of(alloc: Global, nodes: &[DocumentNode]) -> Result<Vec<u32>, NoMemory>
     requires { length nodes.now ≤ longest_document }
     ensures { IfOk result (λ places. places.items ≡ places_of nodes.now) }
@@ -60,29 +99,47 @@ fn places_of(alloc: Global, nodes: &[DocumentNode]) -> Result<Vec<u32>, NoMemory
     Ok(places)
 }
 
-// Appends what a node is read as.
+// Appends what a node is read as, where so many nodes of the plan stand before it.
 fn push_nodes(
     alloc: Global,
     places: &[u32],
-    node: DocumentNode,
+    node: &DocumentNode,
     read: &mut Vec<Node>,
 ) -> Result<(), NoMemory>
-    requires { HasInputsWithin (length places.now) node }
-    ensures { OnOk result (read.new.items ≡ read.old.items ++ nodes_at places.now node) }
+    requires few { length read.old.items ≤ 4294967290 }
+    requires within { HasInputsWithin (length places.now) node.now }
+    ensures { OnOk result
+        (read.new.items ≡ read.old.items ++ nodes_at places.now (length read.old.items) node.now) }
 {
     match node {
         DocumentNode::Plain(Node { kind, inputs }) => {
+            let kind = kind.duplicate(alloc)?;
             let inputs = placed(alloc, places, inputs.as_slice())?;
             read.push(Node { kind, inputs })?;
             Ok(())
         }
+        DocumentNode::Side { main, view, mode } => {
+            let first = read.len() as u32;
+            let main = places[*main as usize];
+            let view = places[*view as usize];
+            push_all(side_nodes(alloc, main, view, first, *mode)?, read)
+        }
     }
+}
+
+fn push_all(nodes: List<Node>, read: &mut Vec<Node>) -> Result<(), NoMemory>
+    ensures { OnOk result (read.new.items ≡ read.old.items ++ nodes) }
+{
+    for node in nodes.into_vec() {
+        read.push(node)?;
+    }
+    Ok(())
 }
 
 fn placed(alloc: Global, places: &[u32], inputs: &[u32]) -> Result<List<u32>, NoMemory>
     requires { All (λ input. input < length places.now) inputs.now }
     ensures { IfOk result
-        (λ placed. placed ≡ map (λ input. slice_index_or places.now input 0) inputs.now) }
+        (λ placed. placed ≡ map (place_at places.now) inputs.now) }
 {
     let mut placed = Vec::with_capacity(alloc, inputs.len())?;
     for input in inputs {

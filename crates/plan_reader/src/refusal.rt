@@ -22,9 +22,12 @@ pub enum PlanKey {
     Text,
     Windows,
     Early,
+    EarlyWhen,
     Late,
+    LateWhen,
     Lateness,
     Mode,
+    View,
     Log,
     Label,
     /// The whole object, or a key that it doesn't list.
@@ -50,9 +53,12 @@ impl PlanKey {
             PlanKey::Text => "text",
             PlanKey::Windows => "windows",
             PlanKey::Early => "early",
+            PlanKey::EarlyWhen => "early_when",
             PlanKey::Late => "late",
+            PlanKey::LateWhen => "late_when",
             PlanKey::Lateness => "lateness",
             PlanKey::Mode => "mode",
+            PlanKey::View => "view",
             PlanKey::Log => "log",
             PlanKey::Label => "label",
             PlanKey::Other => "other",
@@ -89,15 +95,18 @@ impl Place {
 pub enum PlanRefusal {
     /// The bytes are no JSON text.
     Syntax,
-    /// A needed key is missing, a value isn't of the key's form, or a key isn't listed.
+    /// A needed key is missing, a value isn't of the key's form, a key isn't listed, or two keys stand that
+    /// exclude each other; or a side input doesn't have one input.
     Field(Place),
-    /// A word isn't known, an input names no node, or a string's length isn't allowed.
+    /// A word isn't known, an input or a view names no node, a string's length isn't allowed, or the windows of
+    /// a side input merge.
     Name(Place),
-    /// A number isn't whole or is outside its limits.
+    /// A number isn't whole or is outside its limits, or a tree is too deep, has too many leaves or an empty
+    /// list.
     Number(Place),
     /// The plan is read, and is no pipeline.
     Graph(GraphRefusal),
-    /// The document is of another version than 1 and 2.
+    /// The document is of another version than 1, 2 and 3.
     Version,
     /// The document has this many bytes, which are too many. They aren't read.
     Length(u64),

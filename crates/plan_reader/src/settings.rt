@@ -5,20 +5,23 @@ ghost use Rattle.plan_reader.specs.Settings.{counts_at, early_at, function_args,
 ghost use Rattle.plan_reader.specs.Settings.{group_of, log_at, mode_at, number_args, number_at};
 ghost use Rattle.plan_reader.specs.Settings.{number_or, own_name, pardo_of, settings_of};
 ghost use Rattle.plan_reader.specs.Settings.{source_args, source_files, source_of, state_args};
+ghost use Rattle.plan_reader.specs.Settings.{early_of, late_of, needed_alone};
 ghost use Rattle.plan_reader.specs.Settings.{stateful_of, text_args, window_of, work_at, write_of};
 ghost use Rattle.plan_reader.specs.Words.{functions, sources, stateful_functions};
 
 use crate::forms::{bool_in, needed, number_in, string_in, text_in, value_of};
 use crate::refusal::{Place, PlanKey, PlanReadRefusal, PlanRefusal};
 use crate::sources::{estimator_at, files_at};
+use crate::trees::bars_in;
 use crate::windows::{LONGEST, strategy_in};
 use crate::words::{KindWord, function_word, mode_word, source_word, state_word};
-use beam_values::{Args, Bytes, FnKind, List, Mode, NodeKind, SourceKind, StateKind, Trigger};
+use beam_values::{Args, Bar, Bytes, FnKind, List, Mode, NodeKind, SourceKind, StateKind, Trigger};
 use pipeline_graph::{
     GREATEST_COUNT, GREATEST_FIELD, GREATEST_MADE, GREATEST_STEP, LONGEST_PREFIX,
 };
 use serde_json::Value;
 use std::alloc::Global;
+use windowing::GREATEST_LENGTH;
 
 /// The greatest number of values of a batch.
 const GREATEST_BATCH: u64 = 1_000_000;
@@ -33,17 +36,18 @@ const LONGEST_LABEL: usize = 64;
 pub(crate) fn settings_of(
     alloc: Global,
     kind: KindWord,
+    version: u32,
     node: u32,
     object: &Value,
 ) -> Result<NodeKind, PlanReadRefusal>
-    ensures { Reads (λ kind. kind) result (settings_of kind node (view object.now)) }
+    ensures { Reads (λ kind. kind) result (settings_of kind version node (view object.now)) }
 {
     match kind {
         KindWord::Source => source_of(alloc, node, object),
         KindWord::ParDo => pardo_of(alloc, node, object),
         KindWord::Flatten => Ok(NodeKind::Flatten),
         KindWord::Window => Ok(window_of(node, object)?),
-        KindWord::Group => Ok(group_of(alloc, node, object)?),
+        KindWord::Group => group_of(alloc, version, node, object),
         KindWord::Stateful => Ok(stateful_of(node, object)?),
         KindWord::Write => write_of(alloc, node, object),
     }
@@ -228,24 +232,79 @@ fn window_of(node: u32, object: &Value) -> Result<NodeKind, PlanRefusal>
     Ok(NodeKind::WindowInto { strategy })
 }
 
-// No document names bars of a trigger yet.
-fn group_of(alloc: Global, node: u32, object: &Value) -> Result<NodeKind, PlanRefusal>
-    ensures { result ≡ group_of node (view object.now) }
+fn group_of(
+    alloc: Global,
+    version: u32,
+    node: u32,
+    object: &Value,
+) -> Result<NodeKind, PlanReadRefusal>
+    ensures { Reads (λ kind. kind) result (group_of version node (view object.now)) }
 {
-    let early = early_at(node, object)?;
-    let late = number_or(1, PlanKey::Late, 1, GREATEST_TRIGGER, node, object)?;
+    let (early, early_bars) = early_of(alloc, version, node, object)?;
+    let (late, late_bars) = late_of(alloc, version, node, object)?;
     let lateness = number_or(0, PlanKey::Lateness, 0, LONGEST, node, object)?;
     let mode = mode_at(node, object)?;
     Ok(NodeKind::Group {
         trigger: Trigger {
             early,
-            late: late as u32,
+            late,
             lateness: lateness as i64,
             mode,
-            early_bars: List::new(alloc),
-            late_bars: List::new(alloc),
+            early_bars,
+            late_bars,
         },
     })
+}
+
+// When early panes fire: by a count, or by a tree, which documents have from version 3 on.
+fn early_of(
+    alloc: Global,
+    version: u32,
+    node: u32,
+    object: &Value,
+) -> Result<(Option<u32>, List<Bar>), PlanReadRefusal>
+    ensures { Reads (λ early. early) result (early_of version node (view object.now)) }
+{
+    if version >= 3 && value_of(PlanKey::EarlyWhen, object).is_some() {
+        let place = Place::in_node(node, PlanKey::EarlyWhen);
+        let value = needed_alone(PlanKey::Early, place, object)?;
+        Ok((None, bars_in(alloc, -GREATEST_LENGTH, -1, place, value)?))
+    } else {
+        Ok((early_at(node, object)?, List::new(alloc)))
+    }
+}
+
+// When late panes fire.
+fn late_of(
+    alloc: Global,
+    version: u32,
+    node: u32,
+    object: &Value,
+) -> Result<(u32, List<Bar>), PlanReadRefusal>
+    ensures { Reads (λ late. late) result (late_of version node (view object.now)) }
+{
+    if version >= 3 && value_of(PlanKey::LateWhen, object).is_some() {
+        let place = Place::in_node(node, PlanKey::LateWhen);
+        let value = needed_alone(PlanKey::Late, place, object)?;
+        Ok((1, bars_in(alloc, 0, GREATEST_LENGTH, place, value)?))
+    } else {
+        let late = number_or(1, PlanKey::Late, 1, GREATEST_TRIGGER, node, object)?;
+        Ok((late as u32, List::new(alloc)))
+    }
+}
+
+// The value of a key that stands without the other one.
+fn needed_alone<'v>(
+    sibling: PlanKey,
+    place: Place,
+    object: &'v Value,
+) -> Result<&'v Value, PlanRefusal>
+    ensures { Gives (λ value. view value.now) result (needed_alone sibling place (view object.now)) }
+{
+    if value_of(sibling, object).is_some() {
+        return Err(PlanRefusal::Field(place));
+    }
+    needed(place, object)
 }
 
 fn early_at(node: u32, object: &Value) -> Result<Option<u32>, PlanRefusal>

@@ -1,8 +1,9 @@
 ghost use Rattle.std.specs.Prelude.{◌≡◌};
-ghost use Rattle.plan_reader.specs.Words.{meaning_in, kinds, sources, functions};
-ghost use Rattle.plan_reader.specs.Words.{stateful_functions, estimators, modes};
+ghost use Rattle.plan_reader.specs.Words.{meaning_in, kind_meaning, kinds, sources, functions};
+ghost use Rattle.plan_reader.specs.Words.{stateful_functions, estimators, modes, view_modes};
 
 use beam_values::{Estimator, FnKind, Mode, SourceKind, StateKind};
+use side_inputs::ViewMode;
 
 /// What a node is, before its settings are read.
 #[derive(Clone, Copy, Debug, PartialEq, Eq)]
@@ -16,7 +17,26 @@ pub(crate) enum KindWord {
     Write,
 }
 
-pub(crate) fn kind_word(word: &str) -> Option<KindWord>
+/// What a node of a document is.
+#[derive(Clone, Copy, Debug, PartialEq, Eq)]
+pub(crate) enum DocumentKind {
+    /// One node of the plan.
+    Plain(KindWord),
+    /// A side input, which is five.
+    Side,
+}
+
+/// Documents have side inputs from version 3 on.
+pub(crate) fn document_kind(version: u32, word: &str) -> Option<DocumentKind>
+    ensures { result ≡ kind_meaning version word.now }
+{
+    if version >= 3 && word == "side" {
+        return Some(DocumentKind::Side);
+    }
+    kind_word(word).map(DocumentKind::Plain)
+}
+
+fn kind_word(word: &str) -> Option<KindWord>
     ensures { result ≡ meaning_in kinds word.now }
 {
     match word {
@@ -27,6 +47,17 @@ pub(crate) fn kind_word(word: &str) -> Option<KindWord>
         "group" => Some(KindWord::Group),
         "stateful" => Some(KindWord::Stateful),
         "write" => Some(KindWord::Write),
+        _ => None,
+    }
+}
+
+pub(crate) fn view_mode_word(word: &str) -> Option<ViewMode>
+    ensures { result ≡ meaning_in view_modes word.now }
+{
+    match word {
+        "list" => Some(ViewMode::List),
+        "single" => Some(ViewMode::Single),
+        "lookup" => Some(ViewMode::Lookup),
         _ => None,
     }
 }

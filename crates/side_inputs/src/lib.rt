@@ -3,7 +3,9 @@
 //!
 //! [`side_nodes`] gives the five nodes of a side input, and [`View`] holds the values of a view in one
 //! window. The layer above may rely on this: the nodes are exactly those of `specs/Nodes.antt`, and
-//! what a view answers is what `joined_with` of `beam_model` joins a main value with. Read `view.rt` first.
+//! what a view answers is what `joined_with` of `beam_model` joins a main value with, by keys where all
+//! values are pairs. A run goes by the nodes, and its boxes of `dofn_library` join the panes of their
+//! Group; no command uses a view. Read `nodes.rt` first.
 #![tactic(auto)]
 
 mod laws;

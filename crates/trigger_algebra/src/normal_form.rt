@@ -14,7 +14,8 @@ use crate::{NormalRefusal, When};
 use beam_values::{Bar, List, NoMemory};
 use std::alloc::Global;
 
-/// The staircase of a tree: bars of which one is met exactly where the tree holds.
+/// The staircase of a tree: bars of which, wherever something is unseen, one is met exactly where the tree
+/// holds.
 pub fn normal(alloc: Global, when: &When) -> Result<List<Bar>, NormalRefusal>
     ensures exact { IfOk result (λ bars. bars ≡ normal_of when.now) }
     // Where something is unseen, a bar is met exactly where the tree holds.
