@@ -25,6 +25,10 @@ mod SessionsStay
 mod SessionKeys
 mod SessionsGrouped
 mod Written
+mod SideChains
+mod SidePanes
+mod SidePlace
+mod Sides
 mod Pipeline
 mod OneKeyRun
 mod LateLine

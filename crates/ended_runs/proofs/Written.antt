@@ -1,10 +1,10 @@
--- At the end of a run what was written at a barrier with sound estimators and default triggers above it is what plain grouping brings there.
+-- At the end of a run what a Write has, or a Group took, with sound estimators and default triggers above it, is what plain grouping brings there.
 use Rattle.std.proofs.Common.{◌≡◌, ℕ, ◌-◌, ◌≤◌, ℤ, Bool, true, false, cond, List, [], ◌∷◌, ◌++◌, append-nil, length, get_or, map, refl, sym, ap, ap₂, subst, ◌∙◌, arith}
 use Rattle.std.specs.Prelude.{Option, Some, None, ◌==◌, ◌||◌, ◌≤ℤ◌, slice_get, unwrap_or}
 use Rattle.std.specs.List.{All, filter, flat_map, sum_by}
 use Rattle.std.specs.Option.{option_map}
 use Rattle.std.proofs.lemmas.Bool.{false≢true}
-use Rattle.std.proofs.lemmas.Bool.{eqb-true, ne_eqb}
+use Rattle.std.proofs.lemmas.Bool.{eq-eqb, eqb-true, ne_eqb}
 use Rattle.std.proofs.lemmas.Int.{ints}
 use Rattle.std.proofs.lemmas.List.{map-append}
 use Rattle.std.proofs.lemmas.List.Elements.{All-append, All-filter, All-head, All-map, All-tail, All-weaker, filter-append, filter_passes}
@@ -62,8 +62,9 @@ use Rattle.book_core.proofs.Slotted.{All-flat_map}
 use Rattle.ended_runs.specs.Storable.{ArePanesStorable}
 use Rattle.ended_runs.proofs.Above.{KnownLaws, StartsAbove}
 use Rattle.ended_runs.proofs.Ending.{book_flow, logs_at_nodes}
-use Rattle.ended_runs.proofs.Grouped.{pane_elements, plainly_grouped, sum_alike, taken_elements}
+use Rattle.ended_runs.proofs.Grouped.{lift_node, pane_elements, plainly_grouped, sum_alike, taken_elements}
 use Rattle.ended_runs.proofs.PanesWell.{default_history, marks_rise}
+use Rattle.ended_runs.proofs.Passing.{all_fired, pane_passed}
 use Rattle.ended_runs.proofs.SessionsGrouped.{merged_of, merging, placed, sessions_grouped}
 use Rattle.ended_runs.proofs.SoFar.{IsTakenAbove, IsTakenWell}
 use Rattle.ended_runs.proofs.SoFarAlways.{IsSoFarOf, IsSoundFor, reached_so_far, some_commit}
@@ -118,6 +119,10 @@ write_ends plan n write = by (slice_get plan.nodes n) write
     by : (found : Option Node) → unwrap_or (option_map (λ x. is_write_kind x.kind) found) false ≡ true → unwrap_or (option_map (λ x. is_barrier_kind x.kind) found) false ≡ true
     by None w = absurd (cc)
     by (Some node) w = of_kind node.kind w
+
+refuted : (t : Bool) → (t ≡ true → ⊥) → t ≡ false
+refuted true none = absurd (none refl)
+refuted false none = refl
 
 never : (t : Bool) → t ≡ true → t ≡ false → ⊥
 never true e f = absurd (cc)
@@ -195,11 +200,32 @@ sum_zero : {X : Type 0} (f : X → ℕ) (P : X → Type 0) → ((x : X) → P x 
 sum_zero f P none [] all = refl
 sum_zero f P none (x ∷ xs) all = omega (arith, sum_by-cons f x xs, none x (All-head P x xs all), sum_zero f P none xs (All-tail P x xs all))
 
+-- ---- barriers
+
+-- A barrier, and a node `below` that tells what is sound: the barrier and all that is above it are this node or above it. A Write is its own such node. A Group
+-- is above the node that takes its panes, so that node tells of the Group itself too.
+pub record IsSoundFrom (laws : KnownLaws) (told : List FileText) (plan : Plan) (to below : ℕ) : Type 0 where
+  pub ends : has_kind is_barrier_kind plan to ≡ true
+  pub no_state : is_stateful plan to ≡ false
+  pub stateless : HasNoStatefulAbove plan to
+  pub no_group_below : is_group plan below ≡ false
+  pub reaches : (n : ℕ) → (n == to || is_above plan n to) ≡ true → (n == below || is_above plan n below) ≡ true
+  pub sound : IsSoundFor laws told below plan
+
+write_sound : (laws : KnownLaws) (told : List FileText) (plan : Plan) (to : ℕ) → is_write plan to ≡ true → IsSoundFor laws told to plan → IsSoundFrom laws told plan to to
+write_sound laws told plan to write sound = record {
+  ends = write_ends plan to write;
+  no_state = refuted (is_stateful plan to) (λ is. stateful_or_write plan to is write);
+  stateless = sound.stateless;
+  no_group_below = refuted (is_group plan to) (λ is. group_or_write plan to is write);
+  reaches = λ n is. is;
+  sound = sound;
+}
+
 -- ---- a book that is through
 
 module _ (laws : KnownLaws) (told : List FileText) (b : SeenBook) (reached : Reached (Some told) b) (lengths : AreTold told b) (through : IsThrough b)
-    (storable : All (λ p. IsStorable p.element.value) b.panes) (to : ℕ) (write : is_write b.plan to ≡ true) (stateless : HasNoStatefulAbove b.plan to)
-    (sound : IsSoundFor laws told to b.plan) where
+    (storable : All (λ p. IsStorable p.element.value) b.panes) (to below : ℕ) (from : IsSoundFrom laws told b.plan to below) where
   abbrev is_met_at : Arrival → Bool
   is_met_at a = a.node == to || is_above b.plan a.node to
 
@@ -213,8 +239,8 @@ module _ (laws : KnownLaws) (told : List FileText) (b : SeenBook) (reached : Rea
   abbrev fired : List Arrival
   fired = filter (λ a. is_above b.plan a.node to) (map pane_as_arrival b.panes)
 
-  so_far : IsSoFarOf laws told to b.plan b.commits b.cells b.dropped b.panes b.written (held b)
-  so_far = reached_so_far laws told to b reached sound
+  so_far : IsSoFarOf laws told below b.plan b.commits b.cells b.dropped b.panes b.written (held b)
+  so_far = reached_so_far laws told below b reached from.sound
 
   taken_groups : All (λ t. is_group b.plan t.node ≡ true) (taken_by b.cells)
   taken_groups =
@@ -222,8 +248,12 @@ module _ (laws : KnownLaws) (told : List FileText) (b : SeenBook) (reached : Rea
       (λ k d inside. All-map (λ (t : Taken). is_group b.plan t.node ≡ true) (taken_entry (get_or b.cells k d).node) (get_or b.cells k d).entries
       (λ j e within. (reached_kept_with laws.strategies laws.settings laws.windows (Some told) b reached).kept.cells.legal.cells_at k d inside))
 
-  not_write : (n : ℕ) → is_group b.plan n ≡ true → (n == to) ≡ false
-  not_write n group = ne_eqb n to (λ same. group_or_write b.plan to (subst (λ (m : ℕ). is_group b.plan m ≡ true) same group) write)
+  no_group_at : (at n : ℕ) → is_group b.plan at ≡ false → is_group b.plan n ≡ true → (n == at) ≡ false
+  no_group_at at n none group = ne_eqb n at (λ same. false≢true (sym none ∙ subst (λ (m : ℕ). is_group b.plan m ≡ true) same group))
+
+  -- a Group that is met is above the node that tells of it
+  told_groups : (n : ℕ) → is_group b.plan n ≡ true → (n == to || is_above b.plan n to) ≡ true → is_above b.plan n below ≡ true
+  told_groups n group is = subst (λ (t : Bool). (t || is_above b.plan n below) ≡ true) (no_group_at below n from.no_group_below group) (from.reaches n is)
 
   logs_stateful : All (λ log. is_stateful b.plan log.node ≡ true) (logs_of b.keys)
   logs_stateful = logs_at_nodes b (reached_sane (Some told) b reached).keys
@@ -273,19 +303,17 @@ module _ (laws : KnownLaws) (told : List FileText) (b : SeenBook) (reached : Rea
         sum_by-map arrival_weight dropped_arrival b.dropped
         ∙ sum_zero (λ (d : Dropped). arrival_weight (dropped_arrival d)) (λ d. (d.node == to || is_above b.plan d.node to) ≡ false)
         (λ d away. ap (λ (t : Bool). cond t (w (Arrives (dropped_arrival d))) 0) away) b.dropped
-        (λ k d inside. neither ((get_or b.dropped k d).node == to) (is_above b.plan (get_or b.dropped k d).node to)
-        (not_write (get_or b.dropped k d).node ((reached_kept_with laws.strategies laws.settings laws.windows (Some told) b reached).kept.cells.legal.dropped_at k d inside)) (so_far.none_dropped k d inside))
-      where
-        neither : (t u : Bool) → t ≡ false → u ≡ false → (t || u) ≡ false
-        neither true u e f = absurd (cc)
-        neither false u e f = f
+        (λ k d inside. refuted ((get_or b.dropped k d).node == to || is_above b.plan (get_or b.dropped k d).node to)
+        (λ is. never (is_above b.plan (get_or b.dropped k d).node below)
+        (told_groups (get_or b.dropped k d).node ((reached_kept_with laws.strategies laws.settings laws.windows (Some told) b reached).kept.cells.legal.dropped_at k d inside) is)
+        (so_far.none_dropped k d inside)))
 
     -- what comes of Stateful nodes isn't met
     log_beside : (log : KeyLog) → is_stateful b.plan log.node ≡ true → is_above b.plan log.node to ≡ false
     log_beside log is = by (is_above b.plan log.node to) refl
       where
         by : (t : Bool) → is_above b.plan log.node to ≡ t → t ≡ false
-        by true above = absurd (false≢true (sym (stateless log.node above) ∙ is))
+        by true above = absurd (false≢true (sym (from.stateless log.node above) ∙ is))
         by false away = refl
 
     outputs_weigh : (n : ℕ) → is_above b.plan n to ≡ false → (entry : LogEntry) → sum_by met_weight (flat_map (chain b.plan n) entry.outputs) ≡ 0
@@ -316,7 +344,7 @@ module _ (laws : KnownLaws) (told : List FileText) (b : SeenBook) (reached : Rea
     log_away : (log : KeyLog) → is_stateful b.plan log.node ≡ true → (log.node == to || is_above b.plan log.node to) ≡ false
     log_away log is =
         neither_of (log.node == to) (is_above b.plan log.node to)
-        (ne_eqb log.node to (λ same. stateful_or_write b.plan to (subst (λ (m : ℕ). is_stateful b.plan m ≡ true) same is) write)) (log_beside log is)
+        (ne_eqb log.node to (λ same. false≢true (sym from.no_state ∙ subst (λ (m : ℕ). is_stateful b.plan m ≡ true) same is))) (log_beside log is)
       where
         neither_of : (t u : Bool) → t ≡ false → u ≡ false → (t || u) ≡ false
         neither_of true u e f = absurd (cc)
@@ -358,11 +386,11 @@ module _ (laws : KnownLaws) (told : List FileText) (b : SeenBook) (reached : Rea
 
   -- ---- at the nodes
 
-  met_groups : (g : ℕ) → IsGroupAbove b.plan to g → elements_at g met ≡ taken_elements g (taken_by b.cells)
-  met_groups g above =
+  met_groups : (g : ℕ) → is_group b.plan g ≡ true → (g == to || is_above b.plan g to) ≡ true → elements_at g met ≡ taken_elements g (taken_by b.cells)
+  met_groups g group is =
       ap (map (λ (a : Arrival). a.element))
       (filter_twice (is_at g) is_met_at
-      (λ a at. or_second (a.node == to) (is_above b.plan a.node to) (subst (λ (n : ℕ). is_above b.plan n to ≡ true) (sym (eqb-true a.node g at)) above.1)) all_arrivals
+      (λ a at. subst (λ (n : ℕ). (n == to || is_above b.plan n to) ≡ true) (sym (eqb-true a.node g at)) is) all_arrivals
       ∙ filter-append (is_at g) (map taken_as (taken_by b.cells)) b.written
       ∙ ap (λ (l : List Arrival). filter (is_at g) (map taken_as (taken_by b.cells)) ++ l) (filter_none (is_at g) b.written none_written)
       ∙ append-nil (filter (is_at g) (map taken_as (taken_by b.cells))))
@@ -371,7 +399,7 @@ module _ (laws : KnownLaws) (told : List FileText) (b : SeenBook) (reached : Rea
       none_written : All (λ a. is_at g a ≡ false) b.written
       none_written k d inside =
           ne_eqb (get_or b.written k d).node g
-          (λ same. group_or_write b.plan g above.0 (subst (λ (n : ℕ). is_write b.plan n ≡ true) same ((reached_sane (Some told) b reached).writes.written k d inside)))
+          (λ same. group_or_write b.plan g group (subst (λ (n : ℕ). is_write b.plan n ≡ true) same ((reached_sane (Some told) b reached).writes.written k d inside)))
 
   fired_groups : (g : ℕ) → IsGroupAbove b.plan to g → elements_at g fired ≡ pane_elements g b.panes
   fired_groups g above =
@@ -379,15 +407,15 @@ module _ (laws : KnownLaws) (told : List FileText) (b : SeenBook) (reached : Rea
       (filter_twice (is_at g) (λ a. is_above b.plan a.node to) (λ a at. subst (λ (n : ℕ). is_above b.plan n to ≡ true) (sym (eqb-true a.node g at)) above.1) (map pane_as_arrival b.panes))
       ∙ panes_at_node g b.panes
 
-  met_here : elements_at to met ≡ elements_at to b.written
+  met_here : is_group b.plan to ≡ false → elements_at to met ≡ elements_at to b.written
   unfolding taken_as
-  met_here =
+  met_here none =
       ap (map (λ (a : Arrival). a.element))
       (filter_twice (is_at to) is_met_at (λ a at. or_first (a.node == to) (is_above b.plan a.node to) at) all_arrivals
       ∙ filter-append (is_at to) (map taken_as (taken_by b.cells)) b.written
       ∙ ap (λ (l : List Arrival). l ++ filter (is_at to) b.written)
       (filter_none (is_at to) (map taken_as (taken_by b.cells))
-      (All-map (λ a. is_at to a ≡ false) taken_as (taken_by b.cells) (λ k d inside. not_write (get_or (taken_by b.cells) k d).node (taken_groups k d inside)))))
+      (All-map (λ a. is_at to a ≡ false) taken_as (taken_by b.cells) (λ k d inside. no_group_at to (get_or (taken_by b.cells) k d).node none (taken_groups k d inside)))))
 
   -- ---- what each Group put out
 
@@ -410,9 +438,9 @@ module _ (laws : KnownLaws) (told : List FileText) (b : SeenBook) (reached : Rea
   ends_early =
       All-weaker EndsEarly (λ t. t.element.span.end ≤ℤ final_mark) (λ t early. omega (arith, ints, early)) (taken_by b.cells) (reached_kept_with laws.strategies laws.settings laws.windows (Some told) b reached).early.taken
 
-  module _ (g : ℕ) (above : IsGroupAbove b.plan to g) where
-    taken_of : (t : Taken) → IsTakenAbove to b.plan b.commits t → (t.node == g) ≡ true → IsTakenWell to b.plan b.commits t
-    taken_of t well at = well (subst (λ (n : ℕ). is_above b.plan n to ≡ true) (sym (eqb-true t.node g at)) above.1)
+  module _ (g : ℕ) (above : IsGroupAbove b.plan below g) where
+    taken_of : (t : Taken) → IsTakenAbove below b.plan b.commits t → (t.node == g) ≡ true → IsTakenWell below b.plan b.commits t
+    taken_of t well at = well (subst (λ (n : ℕ). is_above b.plan n below ≡ true) (sym (eqb-true t.node g at)) above.1)
 
     history : (s : Strategy) → strategy_of b.plan g ≡ s → (key : Value)
         → IsLegalHistory (record { merges = is_sessions s; trigger = default_trigger }) g key (mark_after b.commits g) (length b.commits - 1)
@@ -420,14 +448,24 @@ module _ (laws : KnownLaws) (told : List FileText) (b : SeenBook) (reached : Rea
     history s is key =
         subst (λ (r : Strategy). IsLegalHistory (record { merges = is_sessions r; trigger = default_trigger }) g key (mark_after b.commits g) (length b.commits - 1)
         (taken_at g key (taken_by b.cells)) (taken_at g key (map taken_drop b.dropped)) (panes_at g key b.panes)) is
-        (default_history b.plan to sound.triggers b.commits b.cells b.dropped b.panes (reached_kept_with laws.strategies laws.settings laws.windows (Some told) b reached).kept.cells.legal g key above.0 above.1)
+        (default_history b.plan below from.sound.triggers b.commits b.cells b.dropped b.panes (reached_kept_with laws.strategies laws.settings laws.windows (Some told) b reached).kept.cells.legal g key above.0 above.1)
 
-    plain : (s : Strategy) → strategy_of b.plan g ≡ s → is_sessions s ≡ false → IsPlainGrouping (taken_elements g (taken_by b.cells)) (pane_elements g b.panes)
+    pub plain : (s : Strategy) → strategy_of b.plan g ≡ s → is_sessions s ≡ false → IsPlainGrouping (taken_elements g (taken_by b.cells)) (pane_elements g b.panes)
     plain s is none =
         plainly_grouped g (mark_after b.commits g) (length b.commits - 1) (taken_by b.cells) (map taken_drop b.dropped) b.panes
         (λ key. subst (λ (m : Bool). IsLegalHistory (record { merges = m; trigger = default_trigger }) g key (mark_after b.commits g) (length b.commits - 1)
         (taken_at g key (taken_by b.cells)) (taken_at g key (map taken_drop b.dropped)) (panes_at g key b.panes)) none (history s is key))
         (rises g) (final g) ends_early
+
+    -- each pane fired when the mark had passed its window
+    pub waited : All (λ p. p.element.span.end ≤ℤ mark_after b.commits g p.commit) (filter (λ p. p.node == g) b.panes)
+    waited =
+        lift_node g b.panes (λ (p : Pane). p.element.span.end ≤ℤ mark_after b.commits g p.commit)
+        (λ key k d inside.
+        pane_passed (is_sessions (strategy_of b.plan g)) g key (mark_after b.commits g) (length b.commits - 1) (taken_at g key (taken_by b.cells)) (taken_at g key (map taken_drop b.dropped))
+        (panes_at g key b.panes) (history (strategy_of b.plan g) refl key) (rises g) (get_or (panes_at g key b.panes) k d)
+        (all_fired (is_sessions (strategy_of b.plan g)) g key (mark_after b.commits g) (length b.commits - 1) (taken_at g key (taken_by b.cells)) (taken_at g key (map taken_drop b.dropped))
+        (panes_at g key b.panes) (history (strategy_of b.plan g) refl key) (rises g) k d inside))
 
     grouped_as : (s : Strategy) → strategy_of b.plan g ≡ s → IsGroupedBy s (taken_elements g (taken_by b.cells)) (pane_elements g b.panes)
     grouped_as strategy.Global is = plain strategy.Global is refl
@@ -461,17 +499,14 @@ module _ (laws : KnownLaws) (told : List FileText) (b : SeenBook) (reached : Rea
       All-filter is_met_at (λ a. is_met_at a ≡ true → IsNonEmpty a.element.span) all_arrivals
       (All-append (λ a. is_met_at a ≡ true → IsNonEmpty a.element.span) (map taken_as (taken_by b.cells)) b.written
       (All-map (λ a. is_met_at a ≡ true → IsNonEmpty a.element.span) taken_as (taken_by b.cells)
-      (λ j e within is. (so_far.taken j e within (not_here (get_or (taken_by b.cells) j e).node (taken_groups j e within) is)).some))
-      so_far.some_written) k d inside (filter_passes is_met_at all_arrivals k d inside)
-    where
-      not_here : (n : ℕ) → is_group b.plan n ≡ true → (n == to || is_above b.plan n to) ≡ true → is_above b.plan n to ≡ true
-      not_here n group is = subst (λ (t : Bool). (t || is_above b.plan n to) ≡ true) (not_write n group) is
+      (λ j e within is. (so_far.taken j e within (told_groups (get_or (taken_by b.cells) j e).node (taken_groups j e within) is)).some))
+      (λ j e within is. so_far.some_written j e within (from.reaches (get_or b.written j e).node is))) k d inside (filter_passes is_met_at all_arrivals k d inside)
 
   plain_run : IsPlainRun b.plan (items_without b.dead (items told b.plan)) to met fired
   unfolding pane_as_arrival
   plain_run = record {
-    ends_here = write_ends b.plan to write;
-    stateless = stateless;
+    ends_here = from.ends;
+    stateless = from.stateless;
     clean = record { weighs = met_weighs };
     from_groups = λ k d inside. (
       All-filter (λ a. is_above b.plan a.node to) (λ a. is_group b.plan a.node ≡ true) (map pane_as_arrival b.panes)
@@ -479,43 +514,52 @@ module _ (laws : KnownLaws) (told : List FileText) (b : SeenBook) (reached : Rea
       filter_passes (λ a. is_above b.plan a.node to) (map pane_as_arrival b.panes) k d inside,
     );
     grouped = λ g above.
-        subst (λ (l : List Element). IsGroupedBy (strategy_of b.plan g) l (elements_at g fired)) (sym (met_groups g above))
-        (subst (λ (l : List Element). IsGroupedBy (strategy_of b.plan g) (taken_elements g (taken_by b.cells)) l) (sym (fired_groups g above)) (grouped_as g above (strategy_of b.plan g) refl));
+        let is = or_second (g == to) (is_above b.plan g to) above.1 in
+        subst (λ (l : List Element). IsGroupedBy (strategy_of b.plan g) l (elements_at g fired)) (sym (met_groups g above.0 is))
+        (subst (λ (l : List Element). IsGroupedBy (strategy_of b.plan g) (taken_elements g (taken_by b.cells)) l) (sym (fired_groups g above))
+        (grouped_as g (above.0, told_groups g above.0 is) (strategy_of b.plan g) refl));
     storable = All-filter (λ a. is_above b.plan a.node to) (λ a. IsStorable a.element.value) (map pane_as_arrival b.panes)
         (All-map (λ a. IsStorable a.element.value) pane_as_arrival b.panes storable);
     held = met_some;
   }
 
-  pub book_plain : IsPlainAt b.plan (items_without b.dead (items told b.plan)) to (elements_at to b.written) × NothingIsDroppedAbove b.plan to b.dropped
-  book_plain = ((met, fired, plain_run, bag_from_same (elements_at to b.written) (elements_at to met) (sym met_here)), so_far.none_dropped)
+  -- what a Write has, and what a Group took
+  written_plain : is_group b.plan to ≡ false → IsPlainAt b.plan (items_without b.dead (items told b.plan)) to (elements_at to b.written)
+  written_plain none = (met, fired, plain_run, bag_from_same (elements_at to b.written) (elements_at to met) (sym (met_here none)))
+
+  pub taken_plain : is_group b.plan to ≡ true → IsPlainAt b.plan (items_without b.dead (items told b.plan)) to (taken_elements to (taken_by b.cells))
+  taken_plain group = (met, fired, plain_run, bag_from_same (taken_elements to (taken_by b.cells)) (elements_at to met) (sym (met_groups to group (or_first (to == to) (is_above b.plan to to) (eq-eqb to to refl)))))
+
+-- ---- outcomes
+
+-- what is known of an outcome's plan is known of its book's
+sound_for : (laws : KnownLaws) (told : List FileText) (b : SeenBook) (o : Outcome) (to : ℕ) → IsOutcomeOf b o → HasNoStatefulAbove o.plan to → HasDefaultTriggersAbove o.plan to
+    → AreSoundAbove o.plan (items told b.plan) to → IsSoundFor laws told to b.plan
+sound_for laws told b o to of stateless triggers sound = record {
+  sound = subst (λ (p : Plan). AreSoundAbove p (items told b.plan) to) of.plan sound;
+  triggers = subst (λ (p : Plan). HasDefaultTriggersAbove p to) of.plan triggers;
+  stateless = subst (λ (p : Plan). HasNoStatefulAbove p to) of.plan stateless;
+}
+
+-- where nothing is asked of the end of a run: nothing is dropped
+pub outcome_undropped : KnownLaws → (told : List FileText) (b : SeenBook) (o : Outcome) (to : ℕ) → Reached (Some told) b → IsOutcomeOf b o → HasNoStatefulAbove o.plan to → HasDefaultTriggersAbove o.plan to
+    → AreSoundAbove o.plan (items told b.plan) to → NothingIsDroppedAbove o.plan to o.dropped
+outcome_undropped laws told b o to reached of stateless triggers sound =
+    let kept = reached_so_far laws told to b reached (sound_for laws told b o to of stateless triggers sound) in
+    subst (λ (p : Plan). NothingIsDroppedAbove p to o.dropped) (sym of.plan) (subst (NothingIsDroppedAbove b.plan to) (sym of.dropped) kept.none_dropped)
 
 -- what an outcome has written
 pub outcome_plain : KnownLaws → (told : List FileText) (b : SeenBook) (o : Outcome) → Reached (Some told) b → AreTold told b → IsThrough b → IsOutcomeOf b o → ArePanesStorable o
     → ArePlainlyWrittenWhere (items told b.plan) o
 outcome_plain laws told b o reached lengths through of storable to write stateless triggers sound =
     let same = of.plan in
-    let found = book_plain laws told b reached lengths through (subst (λ (l : List Pane). All (λ p. IsStorable p.element.value) l) of.panes storable) to
-    (subst (λ (p : Plan). is_write p to ≡ true) same write) (subst (λ (p : Plan). HasNoStatefulAbove p to) same stateless)
-    (record {
-      sound = subst (λ (p : Plan). AreSoundAbove p (items told b.plan) to) same sound;
-      triggers = subst (λ (p : Plan). HasDefaultTriggersAbove p to) same triggers;
-      stateless = subst (λ (p : Plan). HasNoStatefulAbove p to) same stateless;
-    }) in
+    let here = subst (λ (p : Plan). is_write p to ≡ true) same write in
+    let found = written_plain laws told b reached lengths through (subst (λ (l : List Pane). All (λ p. IsStorable p.element.value) l) of.panes storable) to to
+    (write_sound laws told b.plan to here (sound_for laws told b o to of stateless triggers sound))
+    (refuted (is_group b.plan to) (λ is. group_or_write b.plan to is here)) in
     record {
       plain = subst (λ (d : List Dead). IsPlainAt o.plan (items_without d (items told b.plan)) to (elements_at to o.written)) (sym of.dead)
           (subst (λ (p : Plan). IsPlainAt p (items_without b.dead (items told b.plan)) to (elements_at to o.written)) (sym same)
-          (subst (λ (l : List Arrival). IsPlainAt b.plan (items_without b.dead (items told b.plan)) to (elements_at to l)) (sym of.written) found.0));
-      undropped = subst (λ (p : Plan). NothingIsDroppedAbove p to o.dropped) (sym same) (subst (NothingIsDroppedAbove b.plan to) (sym of.dropped) found.1);
+          (subst (λ (l : List Arrival). IsPlainAt b.plan (items_without b.dead (items told b.plan)) to (elements_at to l)) (sym of.written) found));
+      undropped = outcome_undropped laws told b o to reached of stateless triggers sound;
     }
-
--- where nothing is asked of the end of a run: nothing is dropped
-pub outcome_undropped : KnownLaws → (told : List FileText) (b : SeenBook) (o : Outcome) (to : ℕ) → Reached (Some told) b → IsOutcomeOf b o → HasNoStatefulAbove o.plan to → HasDefaultTriggersAbove o.plan to
-    → AreSoundAbove o.plan (items told b.plan) to → NothingIsDroppedAbove o.plan to o.dropped
-outcome_undropped laws told b o to reached of stateless triggers sound =
-    let same = of.plan in
-    let kept = reached_so_far laws told to b reached (record {
-      sound = subst (λ (p : Plan). AreSoundAbove p (items told b.plan) to) same sound;
-      triggers = subst (λ (p : Plan). HasDefaultTriggersAbove p to) same triggers;
-      stateless = subst (λ (p : Plan). HasNoStatefulAbove p to) same stateless;
-    }) in
-    subst (λ (p : Plan). NothingIsDroppedAbove p to o.dropped) (sym same) (subst (NothingIsDroppedAbove b.plan to) (sym of.dropped) kept.none_dropped)

@@ -3,3 +3,4 @@ pub mod Storable
 pub mod Unpoisoned
 pub mod DeadLetters
 pub mod EndedRuns
+pub mod Sides

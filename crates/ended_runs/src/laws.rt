@@ -29,6 +29,7 @@ ghost use Rattle.book_core.specs.Work.{Surroundings};
 ghost use Rattle.ended_runs.specs.DeadLetters.{AreDeadNoted, AreDeadPoison, ArePoisonDead};
 ghost use Rattle.ended_runs.specs.DeadLetters.{HasNoPoisonPosition, IsPoisonDead, IsStoppedByRead};
 ghost use Rattle.ended_runs.specs.EndedRuns.{IsEndedRun};
+ghost use Rattle.ended_runs.specs.Sides.{AreSidesGivenWhere};
 ghost use Rattle.ended_runs.specs.Stops.{IsHonestStop};
 ghost use Rattle.ended_runs.specs.Storable.{ArePanesStorable};
 ghost use Rattle.ended_runs.specs.Unpoisoned.{TakesNoPoison, TakesNoPoisonBeside};
@@ -142,6 +143,23 @@ pub fn outcomes_are_plainly_written()
     ensures { (told : List FileText) (b : SeenBook) (o : Outcome)
         → Reached (Some told) b → AreTold told b → IsThrough b → IsOutcomeOf b o
         → ArePanesStorable o → ArePlainlyWrittenWhere (items told b.plan) o }
+{
+    stateful_nodes_have_no_sessions();
+    nodes_have_inputs_and_settings_of_their_kind();
+    nodes_take_elements_of_their_strategy();
+    strategies_follow_kinds();
+    allowed_functions_go_forward();
+    windows_hold_their_time();
+}
+
+/// Where the files are told: at each side input with no Stateful node above it, whose windows aren't sessions,
+/// where every Group above has the default trigger and every estimator above is sound, each main element was
+/// joined once, by its mode, with the whole view of its window and with nothing else, when that window had
+/// passed. Both collections are those of plain grouping of the whole input without its dead positions.
+pub fn joins_are_plain_side_inputs()
+    ensures { (told : List FileText) (b : SeenBook) (o : Outcome)
+        → Reached (Some told) b → AreTold told b → IsThrough b → IsOutcomeOf b o
+        → ArePanesStorable o → AreSidesGivenWhere (items told b.plan) o }
 {
     stateful_nodes_have_no_sessions();
     nodes_have_inputs_and_settings_of_their_kind();
