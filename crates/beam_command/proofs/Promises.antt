@@ -9,8 +9,7 @@ use Rattle.beam_model.specs.Account.{IsAccounted}
 use Rattle.beam_model.specs.Covers.{IsCovered}
 use Rattle.beam_model.specs.Logs.{AreLogsLegal}
 use Rattle.beam_model.specs.Panes.{ArePanesLegal}
-use Rattle.beam_model.specs.Plain.{ArePlainlyWrittenWhere}
-use Rattle.beam_model.specs.Positions.{items, item_len}
+use Rattle.beam_model.specs.Positions.{SourceItem, items, item_len}
 use Rattle.beam_ports.specs.Observed.{WhereTold}
 use Rattle.book_core.specs.Book.{SeenBook, sets_aside}
 use Rattle.book_core.specs.Calls.{IsOutcomeOf}
@@ -113,8 +112,9 @@ module _ (asked : Option Asked) (observed : Observed) (own : Asked) (options : O
         subst (λ (p : Plan). IsAccounted (items told p) o) (sym run.3.of_book.plan)
         (law told run.3.book o (reached_told told tells) (run.3.lengths told tells) run.3.is.ended.through run.3.of_book)
 
-    pub plainly : ((told : List FileText) (b : SeenBook) (o : Outcome) → Reached (Some told) b → AreTold told b → IsThrough b → IsOutcomeOf b o → ArePanesStorable o
-        → ArePlainlyWrittenWhere (items told b.plan) o) → WhereTold observed.kits.store.files (λ told. ArePlainlyWrittenWhere (items told o.plan) o)
-    plainly law = λ told tells.
-        subst (λ (p : Plan). ArePlainlyWrittenWhere (items told p) o) (sym run.3.of_book.plan)
+    -- what follows for the outcomes of told files
+    pub where_told : (P : List SourceItem → Outcome → Type 0) → ((told : List FileText) (b : SeenBook) (o : Outcome) → Reached (Some told) b → AreTold told b → IsThrough b → IsOutcomeOf b o
+        → ArePanesStorable o → P (items told b.plan) o) → WhereTold observed.kits.store.files (λ told. P (items told o.plan) o)
+    where_told P law = λ told tells.
+        subst (λ (p : Plan). P (items told p) o) (sym run.3.of_book.plan)
         (law told run.3.book o (reached_told told tells) (run.3.lengths told tells) run.3.is.ended.through run.3.of_book run.3.storable)

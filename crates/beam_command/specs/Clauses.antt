@@ -21,6 +21,7 @@ use Rattle.run_engine.specs.declared.run_end.RunEnd.{RunEnd}
 use Rattle.command_ends.specs.Writing.{IsWritten}
 use Rattle.command_ends.specs.declared.status.Status.{Status}
 use Rattle.command_ends.specs.declared.status.Status.TheVariants as status
+use Rattle.ended_runs.specs.Sides.{AreSidesGivenWhere}
 use Rattle.beam_command.specs.Asking.{WhereDrill, WherePipeline}
 use Rattle.beam_command.specs.Drilling.{IsDrillText}
 use Rattle.beam_command.specs.Observing.{Observed, AreFound}
@@ -114,6 +115,10 @@ IsAccountedFor asking o = WhereTold asking.files (λ told. IsAccounted (items to
 pub record IsPlain (asking : Asking) (o : Outcome) : Type 0 where
   pub where_sound : WhereTold asking.files (λ told. ArePlainlyWrittenWhere (items told o.plan) o)
   pub always : AsksPlainPlan asking.asked → WhereTold asking.files (λ told. ArePlainlyWritten (items told o.plan) o)
+
+-- where the files are told: what each side input without sessions gave, with default triggers and sound estimators above it
+abbrev pub GivesSides : Asking → Outcome → Type 0
+GivesSides asking o = WhereTold asking.files (λ told. AreSidesGivenWhere (items told o.plan) o)
 
 -- ---- what they say of what was printed
 

@@ -18,7 +18,7 @@ ghost use Rattle.beam_command.specs.Kits.{IsOutcomeOfOpened, KeepsShelf, TriesUn
 ghost use Rattle.beam_command.specs.Kits.{in_use, observed_at, observed_for, observed_in_use};
 ghost use Rattle.beam_command.specs.Completeness.{EndsWhereFewFail, IsDecided};
 ghost use Rattle.beam_command.specs.Clauses.{asked_by, asking, attempts_of, observed_by, EndsAsAsked};
-ghost use Rattle.beam_command.specs.Clauses.{EndsWithOpened, IsAccountedFor, IsOfAsked};
+ghost use Rattle.beam_command.specs.Clauses.{EndsWithOpened, GivesSides, IsAccountedFor, IsOfAsked};
 ghost use Rattle.beam_command.specs.Clauses.{IsPartitioned, IsPlain, LeavesKits, LeavesNothing};
 ghost use Rattle.beam_command.specs.Clauses.{PrintsDrill, SetsAside, TriesInUse};
 
@@ -35,11 +35,11 @@ use command_words::laws::words_ask_by_the_rules;
 use command_words::{Command, Usage, help_text, read_words};
 use dofn_traits::Shelf;
 use ended_runs::laws::{
-    dead_positions_are_poison, nothing_is_set_aside, outcomes_are_accounted, outcomes_are_covered,
-    outcomes_are_plainly_written, outcomes_have_legal_logs, outcomes_have_legal_panes,
-    outcomes_have_their_dead_letters, runs_that_set_aside_are_stopped_by_reads,
-    runs_without_poison_fail_by_reads, runs_without_poison_positions_fail_by_reads,
-    stops_are_honest,
+    dead_positions_are_poison, joins_are_plain_side_inputs, nothing_is_set_aside,
+    outcomes_are_accounted, outcomes_are_covered, outcomes_are_plainly_written,
+    outcomes_have_legal_logs, outcomes_have_legal_panes, outcomes_have_their_dead_letters,
+    runs_that_set_aside_are_stopped_by_reads, runs_without_poison_fail_by_reads,
+    runs_without_poison_positions_fail_by_reads, stops_are_honest,
 };
 use run_engine::{Kit, RunEnd, Status};
 use std::alloc::Global;
@@ -103,6 +103,11 @@ pub fn beam_main<R: Threads + Wait + Sync, F: Shelf, S: Store, W: Sink, N: Sink,
     // `panes` and for `drill`.
     ensures plain { IsRun (asked_by words.now) result (IsPlain (asking S.Store words.now kits.old)) }
 
+    // Of each side input without sessions, with no Stateful node and with the default trigger and sound estimators
+    // above it: each main element was joined once, by its mode, with the whole view of its window and with nothing
+    // else, after that window had passed.
+    ensures sides { IsRun (asked_by words.now) result (GivesSides (asking S.Store words.now kits.old)) }
+
     // What a drill prints is the summary of plain grouping of its made lines.
     ensures drilled { PrintsDrill (asked_by words.now)
         (observed_sink W.faults W.taken out.old out.new) result }
@@ -142,6 +147,7 @@ pub fn beam_main<R: Threads + Wait + Sync, F: Shelf, S: Store, W: Sink, N: Sink,
     outcomes_have_legal_logs();
     outcomes_have_legal_panes();
     outcomes_are_plainly_written();
+    joins_are_plain_side_inputs();
     words_ask_by_the_rules();
     reached_books_are_kept();
     cells_are_kept();

@@ -4,16 +4,18 @@ use Rattle.bundle_work.specs.declared.kit.Kit.{Kit}
 use Rattle.beam_values.specs.declared.options.Options.{Options}
 use Rattle.beam_values.specs.declared.outcome.Outcome.{Outcome}
 use Rattle.beam_model.specs.Account.{IsAccounted}
+use Rattle.beam_model.specs.Plain.{ArePlainlyWrittenWhere}
 use Rattle.beam_model.specs.Positions.{items}
 use Rattle.beam_ports.specs.Observed.{WhereTold}
 use Rattle.book_core.specs.Book.{sets_aside}
 use Rattle.command_words.specs.Commands.{Asked, words_of}
+use Rattle.ended_runs.specs.Sides.{AreSidesGivenWhere}
 use Rattle.run_engine.specs.Kits.{ObservedKits, observed_kits}
 use Rattle.run_engine.specs.PlanRun.{IsEndedBy, surroundings_of}
 use Rattle.run_engine.specs.SetAside.{HasDeadLetters}
 use Rattle.run_engine.specs.declared.run_end.RunEnd.{RunEnd}
 use Rattle.beam_command.specs.Asking.{WherePipeline}
-use Rattle.beam_command.specs.Clauses.{Asking, CountsOnward, IsOfAsked, IsPartitioned, IsPlain, asked_by, asking, attempts_of}
+use Rattle.beam_command.specs.Clauses.{Asking, CountsOnward, GivesSides, IsOfAsked, IsPartitioned, IsPlain, asked_by, asking, attempts_of}
 use Rattle.beam_command.specs.Ends.{HasRun, IsEndOf, IsOutcomeOfAsked, IsRun}
 use Rattle.beam_command.specs.Kits.{AreKitsLeft, IsOutcomeOfKits, TriesUnbegun, in_use, observed_in_use, told_for}
 use Rattle.beam_command.specs.Observing.{Observed}
@@ -27,7 +29,7 @@ use Rattle.beam_command.proofs.InUse.{all_written, written_back}
 use Rattle.beam_command.proofs.Kept.{become_length, left_before_note, still_some}
 use Rattle.beam_command.proofs.PanesEnds.{HasAttempts, absent, clean, not_ok, poison, some_attempts}
 use Rattle.beam_command.proofs.PlainPlans.{always_plainly}
-use Rattle.beam_command.proofs.Promises.{accounted, covered, files_found, legal, legally_logged, lengths_kept, no_dead, plainly, plan_kept, promised, set_aside}
+use Rattle.beam_command.proofs.Promises.{accounted, covered, files_found, legal, legally_logged, lengths_kept, no_dead, plan_kept, promised, set_aside, where_told}
 use Rattle.beam_command.proofs.ReplayDecided.{few_reads, replay, replay_accepted}
 use Rattle.beam_command.proofs.Stores.{AreOfOne, are_of_one, seen_of_one}
 use Rattle.beam_command.proofs.Tried.{at_no_memory, counts_onward, tries_before_note, writes_before_note}
@@ -140,13 +142,18 @@ returns-clause-legal_logs g c =
 pub returns-clause-plain : goal.returns-clause-plain
 returns-clause-plain g c =
     run g c (IsPlain (asks g c)) (λ own options o is was.
-    let plain = plainly (asked g c) (seen g c) own options o is was c.honest_runs_are_runs.ensures c.outcomes_are_plainly_written.ensures in
+    let plain = where_told (asked g c) (seen g c) own options o is was c.honest_runs_are_runs.ensures ArePlainlyWrittenWhere c.outcomes_are_plainly_written.ensures in
     record {
       where_sound = plain;
       always = λ asks.
           always_plainly (asked g c) (seen g c).kits.store.files o (checked_of (surroundings_of (seen g c).kits) was.0 options (IsEndedBy (seen g c).kits) o was.3) asks
           (plan_kept (asked g c) (seen g c) own options o is was) plain;
     })
+
+pub returns-clause-sides : goal.returns-clause-sides
+returns-clause-sides g c =
+    run g c (GivesSides (asks g c)) (λ own options o is was.
+    where_told (asked g c) (seen g c) own options o is was c.honest_runs_are_runs.ensures AreSidesGivenWhere c.joins_are_plain_side_inputs.ensures)
 
 pub returns-clause-drilled : goal.returns-clause-drilled
 returns-clause-drilled g c =
