@@ -186,9 +186,11 @@ def script(name):
     return [sys.executable, str(RECIPES / name)]
 
 
-# Files with bad lines: line ends of both kinds, an empty line, bytes that are no UTF-8, a last line without its end, and one file twice.
+# Files with bad lines: line ends of both kinds, an empty line, bytes that are no UTF-8, a last line without its end, and one file twice. Behind a node `side`
+# the numbers of nodes are four higher.
 DEAD_PLAN = {"beam": 2, "nodes": [
-    {"name": "in", "files": ["FOLDER/a", "FOLDER/b", "FOLDER/a"]}, {"name": "n", "work": "Count"}, {"name": "\u00e9", "input": ["in"]}]}
+    {"name": "in", "files": ["FOLDER/a", "FOLDER/b", "FOLDER/a"]}, {"name": "n", "work": "Count"}, {"name": "\u00e9", "input": ["in"]},
+    {"name": "s", "kind": "side"}, {"name": "later", "files": ["FOLDER/b"]}]}
 DEAD_FILES = {"a": b"1\ta\tx\r\nbad\r\n\n2\ta\ty\n\xffz", "b": b"x\n"}
 # A text, what list and take print of it, the status, and a part of standard error.
 DEAD_CASES = [
@@ -199,6 +201,7 @@ DEAD_CASES = [
     # offsets inside a line and behind the end, and a source without files
     ("dead\t0\t0\t8\t0\ndead\t0\t0\t9\t0\ndead\t0\t0\t12\t0\ndead\t0\t0\t21\t0\n", "FOLDER/a:3: in: \n", "\n", 1, "a: no line begins at 9\n"),
     ("dead\t0\t1\t0\t0\ndead\t1\t0\t4\t2\ndead\t1\t0\t7\t2\n", "FOLDER/b:1: in: x\n", "x\n", 1, "n: has no file, its positions are 4, 7\n"),
+    ("dead\t8\t0\t0\t8\n", "FOLDER/b:1: later: x\n", "x\n", 0, ""),
     # a replay's own lines, and a text that was cut, are none of these
     ("dead 0 0 7\n--\ndead\t0\t0\t7\n", "", "", 0, ""),
     ("dead\t0\t0\t7\t0\ndead\t0\t0\t1", "", "", 1, "the text was cut: its last line has no end\n"),

@@ -37,12 +37,18 @@ def lines_at(name, offsets):
         wanted = next(offsets, None)
 
 
+def nodes_of(plan):
+    """The nodes by the numbers that a run prints. A node `side` has five of them."""
+    nodes = json.load(open(plan, encoding="utf-8"))["nodes"]
+    return [node for node in nodes for _ in range(5 if node.get("kind") == "side" else 1)]
+
+
 def main():
     words = sys.argv[1:]
     if len(words) != 3 or words[0] not in ("list", "take"):
         sys.exit(__doc__)
     command, plan, text = words
-    nodes = json.load(open(plan, encoding="utf-8"))["nodes"]
+    nodes = nodes_of(plan)
     with sys.stdin.buffer if text == "-" else open(text, "rb") as file:
         dead = list(positions_of(file))
     if any(max(node, at) >= len(nodes) or item >= len(nodes[node].get("files", [0])) for node, item, _, at in dead):
