@@ -31,12 +31,13 @@ def shape(size, sorts=False):
     return add
 
 
-def timed(times, key=lambda at: "k", part=lambda at: "v"):
-    with open("lines", "w") as file:
+def timed(times, key=lambda at: "k", part=lambda at: "v", name="lines"):
+    with open(name, "w") as file:
         file.writelines(f"{moment}\t{key(at)}\t{part(at)}\n" for at, moment in enumerate(times))
 
 
 def plan(*nodes, source=None, version=1):
+    """Each node takes what the one before it gives, where it doesn't say what it takes."""
     made = [{"name": "in", "kind": "source", "work": "TimedLines", "files": ["lines"], **(source or {})}]
     for number, node in enumerate([*nodes, {"kind": "write"}]):
         made.append({"name": f"n{number}", "input": [made[-1]["name"]], **node})
@@ -45,7 +46,7 @@ def plan(*nodes, source=None, version=1):
     return ["run", "plan"]
 
 
-def counted(windows, source=None, **group):
+def counted(windows, source=None, version=1, **group):
     """Counts of each key and window."""
     return plan(
         {"kind": "pardo", "work": "KeyField"},
@@ -53,6 +54,7 @@ def counted(windows, source=None, **group):
         {"kind": "group", **group},
         {"kind": "pardo", "work": "CountSeq"},
         source=source,
+        version=version,
     )
 
 
@@ -122,6 +124,66 @@ def late_lines(n):
 def early_panes(n):
     timed(range(n), key=lambda at: f"k{at % 10}")
     return counted({"fixed": 10**9}, early=1)
+
+
+@shape(40_000)
+def early_panes_by_trees(n):
+    """A pane a line: the tree asks for a line, or 32 of them at a mark that is never reached before the end."""
+    timed(range(n), key=lambda at: f"k{at % 10}")
+    never = {"all": [{"count": 32}, {"mark": -1}]}
+    return counted({"fixed": 10**9}, version=3, early_when={"first": [{"count": 1}, *[never] * 15]})
+
+
+@shape(20_000)
+def early_marks(n):
+    """Each window fires at a mark before its end, and then at its end."""
+    timed(at * 1000 for at in range(n))
+    words = counted({"fixed": 2000}, source={"estimator": "monotonic"}, version=3, early_when={"first": [{"mark": -1500}, {"count": 1000}]})
+    return [*words, "--chunk", "1000000000", "--bundle", "1"]
+
+
+def with_side_input(n, views, mode, windows, view_key=lambda at: f"k{at}"):
+    """So many lines, each with what a view of so many lines has for it."""
+    timed((at * 10 for at in range(n)), key=lambda at: f"k{at % views}")
+    timed((at * 10 * n // views for at in range(views)), key=view_key, part=lambda at: f"p{at}", name="views")
+    return plan(
+        {"kind": "pardo", "work": "KeyField"},
+        {"kind": "window", "windows": windows},
+        {"kind": "source", "work": "TimedLines", "files": ["views"], "input": []},
+        {"kind": "pardo", "work": "KeyField"},
+        {"kind": "window", "windows": windows},
+        {"kind": "side", "input": ["n1"], "view": "n4", "mode": mode},
+        version=3,
+    )
+
+
+@shape(25_000, sorts=True)
+def a_view_looked_up(n):
+    """One window of many lines, and a view that has one value for each key: a hundredth of the lines."""
+    return with_side_input(n, n // 100, "lookup", "global")
+
+
+@shape(10_000, sorts=True)
+def a_large_view_looked_up(n):
+    """As many values as lines, each asked for once."""
+    return with_side_input(n, n, "lookup", "global")
+
+
+@shape(10_000, sorts=True)
+def a_view_of_other_keys(n):
+    """No line finds a value."""
+    return with_side_input(n, n, "lookup", "global", view_key=lambda at: f"other{at}")
+
+
+@shape(25_000, sorts=True)
+def one_value_for_all_lines(n):
+    return with_side_input(n, 1, "single", "global")
+
+
+@shape(20_000, sorts=True)
+def a_view_in_each_window(n):
+    """Each window of ten lines has ten values, which each line lists."""
+    return with_side_input(n, n, "list", {"fixed": 100})
 
 
 def set_aside(n, every):

@@ -61,6 +61,20 @@ def stateful(work, line, *before, **node):
     return words
 
 
+def joined(count, folder):
+    """A side input of so many main elements, each of which has one value in the view."""
+    paths = [folder / "lines.tsv", folder / "view.tsv"]
+    for path, number in zip(paths, (count, 10)):
+        with open(path, "w") as file:
+            file.writelines(f"{at}\tk{at % 10}\t{at}\n" for at in range(number))
+    nodes = [{"name": path.name, "kind": "source", "work": "TimedLines", "files": [str(path)]} for path in paths]
+    nodes += [{"name": f"key of {path.name}", "kind": "pardo", "work": "KeyField", "input": [path.name]} for path in paths]
+    nodes.append({"name": "side", "kind": "side", "input": [nodes[2]["name"]], "view": nodes[3]["name"], "mode": "lookup"})
+    nodes.append({"name": "out", "kind": "write", "input": ["side"]})
+    (folder / "plan.json").write_text(json.dumps({"beam": 3, "nodes": nodes}))
+    return ["run", str(folder / "plan.json"), "--workers", "1"]
+
+
 def combined(line):
     """A sum of each key by `combine`, over so many lines."""
 
@@ -108,6 +122,7 @@ TRIED = {
     "each key and window of a stateful node": (
         stateful("Dedupe", lambda at: f"{at}\tk{at}\tx\n"), ("each call of a stateful node", "what such a call gives"),
     ),
+    "each element that comes to a `side`": (joined, ()),
     "each key and window that is combined": (combined(lambda at: f"{at}\tk{at}\t1\n"), ()),
 }
 UNITS = {"each byte of a part above 22": 250}

@@ -1,7 +1,7 @@
 #!/usr/bin/env python3
 """Runs random small plans with several workers, and compares each run with the one of a single worker.
 
-    tests/random_runs.py ./beam_run [--runs N] [--seed S] [--seconds N] [--load] [--dead] [--combine]
+    tests/random_runs.py ./beam_run [--runs N] [--seed S] [--seconds N] [--load] [--dead] [--three] [--combine]
 
 Run number i is made from the seed S + i alone, so `--runs 1 --seed` with the seed of a difference repeats it; what it ran is kept
 in a folder that is named then. `--load` keeps all processors busy meanwhile. A run that takes more than `--seconds` counts as one that
@@ -10,9 +10,11 @@ doesn't end. The status is 1 where there was any difference.
 How two runs are compared (the plan decides it):
 
 text    With no estimator or a sound one, and no early panes, each window of a Group fires once with all its parts, and all that
-        is written stands in ascending order. So the rules determine the whole text.
+        is written stands in ascending order. So the rules determine the whole text. A side input waits for its window, so below one
+        that takes early panes apart they do too.
 cells   Early panes depend on which bundles were committed first, but each part is shown exactly once. So the plan takes its
         panes apart, and the windows and values that were written are compared as a bag, whatever the panes' timings and indexes.
+        Late panes of a Group that drops nothing are like them.
 values  The same in sessions, where the window of an early pane isn't determined either: only the values are compared.
 status  An estimator that isn't sound may drop lines, and which ones depends on the order of the commits. The text is not compared.
 note    A line is poison: nothing is written, and as it is the only one, the note says the same of it.
@@ -28,6 +30,8 @@ settled The same, and what is put out at the end doesn't depend on the order of 
 Some plans are of version 2, over files with bad lines, or with functions that don't take all that comes; with `--dead` all are. They are compared in
 the same ways, and each run has its own `--attempts`. Whatever else is compared, what each run sets aside has to be the positions that run_model.py
 finds to fail whenever they are worked, with their nodes.
+
+Some plans are of version 3, with side inputs and with trees that say when panes fire; with `--three` all are. Some of their files have bad lines too.
 
 With `--combine` it runs `combine` by several workers on random plans that can be combined, or just can't:
 
@@ -53,7 +57,10 @@ import run_model
 
 KEYS = ["a", "b", "c", "dd", "key", ""]
 STRATEGIES = ["fixed", "sliding", "sessions", "global"]
+MOVING = ["fixed", "fixed", "fixed", "sliding", "sliding", "sessions", "global"]  # mostly windows that end while lines are read
 APART = ["fixed", "sliding", "global"]  # windows that don't merge
+MODES = ["list", "single", "lookup"]
+NODES_OF_A_SIDE, MOST_NODES = 5, 64
 WORKERS = [1, 2, 3, 4, 4, 8, 16]
 STATEFUL = ["inputs", "alone", "settled"]  # how plans with stateful nodes are compared
 TEXT, NUMBER, DIGITS = "text", "number", "digits"
@@ -89,6 +96,18 @@ class Plan:
     def document(self):
         return json.dumps({"beam": self.version, "nodes": self.nodes})
 
+    def numbered(self):
+        """Each node with the number by which a run tells it, which goes by the nodes as which those of the document are read."""
+        number = -1
+        for node in self.nodes:
+            number += NODES_OF_A_SIDE if node["kind"] == "side" else 1
+            yield number, node
+
+    def has_room(self):
+        """Whether one more side input leaves room for what a plan has below it."""
+        *_, (last, _) = self.numbered()
+        return last + NODES_OF_A_SIDE + 25 <= MOST_NODES
+
     def read(self, name):
         return self.files[name].encode()
 
@@ -117,8 +136,8 @@ def timed_lines(choose, ordered):
     return times, late
 
 
-def line_text(choose):
-    return f"{choose.choice(KEYS)}\t{choose.randrange(-20, 100)}"
+def line_text(choose, keys=KEYS):
+    return f"{choose.choice(keys)}\t{choose.randrange(-20, 100)}"
 
 
 def file_of_timed_lines(plan, declares, ordered):
@@ -252,16 +271,81 @@ def add_window(plan, end, strategies=STRATEGIES):
 
 
 def add_group(plan, end, **keys):
-    choose = plan.choose
-    # Nothing is late, so these change nothing.
+    choose, cuts = plan.choose, keys.keys() & {"early", "early_when", "late_when", "mode"}
+    # Where nothing is late, these change nothing.
     if choose.random() < 0.2:
-        keys["lateness"] = choose.randrange(100_000)
-    if choose.random() < 0.2:
-        keys["late"] = choose.randrange(1, 5)
-    if choose.random() < 0.2 and "early" not in keys:
+        keys.setdefault("lateness", choose.randrange(100_000))
+    if choose.random() < 0.2 and "late_when" not in keys:
+        keys.update({"late_when": tree(choose, LATE_MARKS)} if plan.version == 3 and choose.random() < 0.5 else {"late": choose.randrange(1, 5)})
+    if choose.random() < 0.2 and not cuts:
         keys["mode"] = choose.choice(["discarding", "accumulating"])
     windows = "kept" if "sessions" in end.windows else end.windows
     return End(plan.add("group", [end.name], **keys), form_of_panes(end.form), windows, True)
+
+
+EARLY_MARKS = [-1, -500, -1000, -5000, -30_000, -60_000, -1_000_000, -31_536_000_000_000]
+LATE_MARKS = [0, 1, 500, 5000, 60_000, 1_000_000, 31_536_000_000_000]
+
+
+def tree(choose, marks, depth=None):
+    """When panes of a trigger fire, so deep at most."""
+    depth = depth or choose.choice([1, 2, 2, 3])
+    if depth == 1:
+        return choose.choice([{"count": choose.choice([1, 2, 3, 5, 20])}, {"mark": choose.choice(marks)}])
+    return {choose.choice(["first", "all"]): [tree(choose, marks, choose.randrange(1, depth)) for _ in range(choose.choice([1, 2, 2, 3]))]}
+
+
+def is_read_apart(end):
+    """Whether lookup takes these values: a key and a part."""
+    return isinstance(end.form, tuple)
+
+
+def add_side(plan, main, view, mode):
+    """Each main value with the values of the view in its window, or with the only one, or with those of its key."""
+    name = plan.add("side", [main.name], view=view.name, mode=mode)
+    if mode == "single":
+        form = pair(main.form, view.form)
+    else:
+        form = pane(main.form, view.form if mode == "list" else key_and_part(view.form)[1])
+    return End(name, form, main.windows, True)
+
+
+def add_single(plan, main):
+    """A side input of how many values there are in the window, which is one number wherever there is a main value."""
+    view = main
+    while isinstance(view.form, tuple):
+        form = view.form[2] if view.form[0] == "pair" else "parts"
+        view = End(plan.add("pardo", [view.name], work="Values"), form, main.windows, True)
+    counts = plan.add("pardo", [plan.add("group", [view.name])], work="CountSeq")
+    return add_side(plan, main, End(counts, pair("no key", NUMBER)), "single")
+
+
+def add_any_side(plan, main, ends):
+    """A side input of these, where the plan has room for it, and what it gives isn't too much."""
+    choose = plan.choose
+    if "sessions" in main.windows or not plan.has_room():
+        return main
+    if plan.compared == "text" and choose.random() < 0.25:
+        return add_single(plan, main)
+    view = choose.choice([end for end in ends if end.windows == main.windows])
+    mode = choose.choice(["list", "lookup", "lookup"] if is_read_apart(main) and is_read_apart(view) else ["list"])
+    mains, values = most_of(plan, main.name)[0], most_of(plan, view.name)[1]
+    return add_side(plan, main, view, mode) if mains * values <= 30_000 else main
+
+
+def most_of(plan, name):
+    """How many values a node gives at most, and how many leaves they have, roughly."""
+    node = next(node for node in plan.nodes if node["name"] == name)
+    if node["kind"] == "source":
+        lines = sum(plan.files[file].count("\n") + 1 for file in node["files"]) if "files" in node else node["count"]
+        return lines, 2 * lines
+    above = [most_of(plan, it) for it in node["input"]]
+    values, leaves = map(sum, zip(*above))
+    if node["kind"] == "side":
+        return values, leaves + values * most_of(plan, node["view"])[1]
+    if node["kind"] == "window" and "sliding" in node["windows"]:
+        return 3 * values, 3 * leaves
+    return (leaves, 2 * leaves) if node.get("work") in ("Unseq", "Words") else (values, leaves)
 
 
 def add_stateful(plan, end, works=None):
@@ -307,7 +391,9 @@ def add_node(plan, ends):
         return ends + [add_flatten(plan, ends)]
     at = choose.randrange(len(ends))
     end = ends[at]
-    if step < 0.6:
+    if plan.version == 3 and choose.random() < 0.3:
+        grown = add_any_side(plan, end, ends)
+    elif step < 0.6:
         grown = add_function(plan, end) if changes(end) else add_window(plan, end)
     elif step < 0.8:
         grown = add_window(plan, end)
@@ -540,7 +626,145 @@ def bad_numbers_plan(plan):
 
 
 DEAD_KINDS = [dead_plan] * 7 + [bad_parts_plan, bad_parts_plan, bad_fields_plan, bad_numbers_plan]
-KINDS = FIRST_KINDS + DEAD_KINDS
+
+
+# ---- plans of version 3
+
+
+def of_version_3(grow):
+    """The same as a plan of version 3, with bad lines in some files where the plan has an end."""
+
+    def plan_of_version_3(plan):
+        plan.version = 3
+        grow(plan)
+        if plan.choose.random() < 0.3 and plan.compared != "fault":
+            change_timed_lines(plan, lambda lines: with_bad_lines(plan.choose, lines))
+
+    return plan_of_version_3
+
+
+def keyed(plan, end, as_numbers):
+    """Pairs, where values are lines: with parts that are numbers, if wanted."""
+    end = add_key(plan, end)
+    if not as_numbers or end.form != pair(TEXT, DIGITS):
+        return end
+    return End(plan.add("pardo", [end.name], work="FieldInt"), pair(TEXT, NUMBER), end.windows, end.grouped)
+
+
+def sides_plan(plan):
+    """Lines, and one or two views of the same windows."""
+    choose = plan.choose
+    ends = [keyed(plan, any_source(plan), choose.random() < 0.5) for _ in range(choose.choice([1, 2, 2, 3]))]
+    ends[0] = add_window(plan, ends[0], APART)
+    windows = plan.nodes[-1]["windows"]
+    ends[1:] = [End(plan.add("window", [end.name], windows=windows), end.form, ends[0].windows) for end in ends[1:]]
+    if choose.random() < 0.3:
+        ends[0] = End(add_group(plan, ends[0]).name, form_of_panes(ends[0].form), ends[0].windows, True)
+    for _ in range(choose.choice([1, 1, 2, 3])):
+        ends[0] = add_any_side(plan, ends[0], ends[1:] if len(ends) > 1 and choose.random() < 0.8 else ends)
+    for _ in range(choose.choice([0, 0, 1, 2])):
+        ends[0] = add_function(plan, ends[0]) if changes(ends[0]) and choose.random() < 0.7 else add_group(plan, ends[0])
+    add_writes(plan, ends if choose.random() < 0.2 else ends[:1])
+
+
+def prices_plan(plan):
+    """Made lines, and one value for each second of them. Behind them a second may have several values, or none."""
+    choose = plan.choose
+    main = keyed(plan, made_source(plan), choose.random() < 0.5)
+    times = [1000 * second + choose.randrange(1000) for second in range(16)] + [choose.randrange(20_000, 30_000) for _ in range(10)]
+    lines = [f"{time}\t{line_text(choose)}" for time in times]
+    choose.shuffle(lines)
+    values = End(plan.add("source", [], work="TimedLines", files=[write_lines(plan, lines)]), LINE)
+    windows = {"fixed": 1000}
+    main, values = (End(plan.add("window", [end.name], windows=windows), end.form, json.dumps(windows)) for end in (main, values))
+    add_writes(plan, [add_side(plan, main, values, "single")])
+
+
+def cut_views_plan(plan):
+    """Early panes that are taken apart again, as a main input, a view or both: a side input waits for all of them."""
+    choose = plan.choose
+    end = add_window(plan, keyed(plan, moving_source(plan, True), choose.random() < 0.5), APART)
+    cut = add_group(plan, end, early_when=tree(choose, EARLY_MARKS))
+    cut = End(plan.add("pardo", [cut.name], work="Unseq"), end.form, end.windows, True)
+    main, view = choose.choice([(cut, cut), (end, cut), (cut, end)])
+    end = add_any_side(plan, main, [view])
+    add_writes(plan, [end] if end is not cut else [add_group(plan, end)])
+
+
+def moving_source(plan, sound):
+    """One file of lines that ascend, or step back now and then: its mark moves while it is read."""
+    choose = plan.choose
+    if choose.random() < 0.2:
+        return timed_source(plan, sound)
+    stretch, back = choose.choice([20_000, 100_000, 400_000]), choose.choice([0, 500, 5000, 60_000] if sound else [5000, 60_000, 60_000])
+    times = sorted(choose.randrange(stretch) for _ in range(choose.choice([10, 80, 80, 150])))
+    # Many stand at the end of a window, or at a mark before or behind it.
+    step = choose.choice([1, 500, 500])
+    times = [(time - choose.randrange(back + 1) * choose.choice([0, 1])) // step * step for time in times]
+    late = max(0, *(max(times[:at]) - time for at, time in enumerate(times) if at))
+    lag = late if sound else choose.choice([0, 0, late // 3])
+    own_keys = KEYS[: choose.choice([1, 1, 1, 2, len(KEYS)])]
+    lines = [f"{time}\t{line_text(choose, own_keys)}" for time in times]
+    keys = {"files": [write_lines(plan, lines)], "estimator": {"lag": lag} if lag else "monotonic"}
+    return End(plan.add("source", [], work="TimedLines", **keys), LINE)
+
+
+def trees_plan(plan):
+    """Panes that fire when a tree is met. Where estimators aren't sound nothing is dropped, by so great a lateness."""
+    choose = plan.choose
+    sound = choose.random() < 0.4
+    end = add_window(plan, keyed(plan, moving_source(plan, sound), False), MOVING)
+    plan.compared = "values" if "sessions" in end.windows else "cells"
+    keys = {"early_when": tree(choose, EARLY_MARKS)} if choose.random() < 0.8 else {"mode": "discarding"}
+    if not sound:
+        keys |= {"lateness": 31_536_000_000_000, "late_when": tree(choose, LATE_MARKS)}
+    end = add_group(plan, end, **keys)
+    add_writes(plan, [End(plan.add("pardo", [end.name], work="Unseq"), pair(TEXT, DIGITS))])
+
+
+def any_panes_plan(plan):
+    """Trees, lateness and modes of any kind, and side inputs of what they give."""
+    choose = plan.choose
+    plan.compared = "status"
+    sources = [moving_source(plan, choose.random() < 0.2) for _ in range(choose.choice([1, 1, 1, 2]))]
+    end = sources[0] if len(sources) == 1 else add_flatten(plan, sources)
+    end = add_window(plan, add_key(plan, end), MOVING)
+    keys = {"mode": choose.choice(["discarding", "accumulating"]), "lateness": choose.choice([0, 500, 5000, 60_000, 1_000_000])}
+    if choose.random() < 0.8:
+        keys |= {"early_when": tree(choose, EARLY_MARKS)}
+    if choose.random() < 0.8:
+        keys |= {"late_when": tree(choose, LATE_MARKS)}
+    ends = [end, add_group(plan, end, **keys)]
+    for _ in range(choose.choice([0, 0, 1, 2])):
+        at = choose.randrange(len(ends))
+        ends[at] = add_any_side(plan, ends[at], ends)
+    add_writes(plan, ends[1:] if choose.random() < 0.7 else ends)
+
+
+def poison_side_plan(plan):
+    """A side input that doesn't take its values: no single one, or values without a key, looked up."""
+    choose = plan.choose
+    plan.compared = "fault"
+    lines = add_window(plan, full_source(plan), APART)
+    pairs = add_key(plan, lines)
+    if choose.random() < 0.3:
+        nothing = plan.add("source", [], work="Count", count=0, number=1)
+        view = End(plan.add("window", [nothing], windows=plan.nodes[1]["windows"]), NUMBER, lines.windows)
+    else:
+        view = choose.choice([lines, pairs])
+    main = choose.choice([lines, pairs])
+    is_taken = is_read_apart(main) and (is_read_apart(view) or view.form == NUMBER)
+    end = add_side(plan, main, view, "single" if is_taken else choose.choice(["single", "lookup"]))
+    add_writes(plan, [add_group(plan, end) if choose.random() < 0.3 else end])
+
+
+def other_plan(plan):
+    plan.choose.choice([prices_plan, poison_side_plan, inputs_plan])(plan)
+
+
+GROWN = [text_plan, sides_plan, sides_plan, cut_views_plan, trees_plan, trees_plan, any_panes_plan, any_panes_plan, other_plan]
+THIRD_KINDS = [of_version_3(grow) for grow in GROWN]
+KINDS = FIRST_KINDS + DEAD_KINDS + THIRD_KINDS
 
 
 # ---- plans for combine
@@ -650,7 +874,7 @@ def other_shape_plan(plan):
     rules = ["version", "trigger", "sessions", "stateful", "past", "follower", "function", "second", "none"]
     end, broken = before_group(plan), choose.choice(rules)
     if broken == "version":
-        plan.version = 2
+        plan.version = choose.choice([2, 3])
     if broken == "sessions":
         end = add_window(plan, end, ["sessions"])
     if broken == "past":
@@ -674,6 +898,11 @@ def other_shape_plan(plan):
 
 
 COMBINE_KINDS = [combined_plan] * 10 + [poison_line_plan, poison_sum_plan, part_plan, sum_plan, other_shape_plan, other_shape_plan]
+
+
+def kinds_of(words):
+    """The kinds of plans that these words of a command ask for."""
+    return COMBINE_KINDS if words.combine else DEAD_KINDS if words.dead else THIRD_KINDS if words.three else KINDS
 
 
 def random_plan(choose, kinds=KINDS):
@@ -723,12 +952,12 @@ def dead_as_wanted(plan, out):
 
 def reads_sources_alone(plan, node):
     above = [other for other in plan.nodes if other["name"] in node.get("input", [])]
-    return all(other["kind"] not in ("group", "stateful") and reads_sources_alone(plan, other) for other in above)
+    return all(other["kind"] not in ("group", "stateful", "side") and reads_sources_alone(plan, other) for other in above)
 
 
 def inputs_of(plan, out):
     """The lines of the elements that came to stateful nodes which read sources alone."""
-    nodes = [b"%d" % at for at, node in enumerate(plan.nodes) if node["kind"] == "stateful" and reads_sources_alone(plan, node)]
+    nodes = [b"%d" % at for at, node in plan.numbered() if node["kind"] == "stateful" and reads_sources_alone(plan, node)]
     lines = [line.split(b"\t") for line in out.splitlines()]
     return sorted(line for line in lines if line[0] == b"log" and line[1] in nodes and line[5] == b"element")
 
@@ -775,11 +1004,16 @@ def write_plan(plan, folder):
         (folder / name).write_bytes(text.encode())
 
 
+def any_chunk(choose, plan):
+    """How long pieces are. A mark moves while the last piece of a source is read, and trees of triggers ask for marks that move."""
+    return choose.choice([7, 64, 1000, 65536] if plan.version < 3 else [64, 1000, 65536, 65536, 65536])
+
+
 def random_options(choose, plan, workers):
     bundle = choose.choice([1, 2, 7, 64])
     # Some fifty pieces of all files together at most, since each piece costs several turns at the lock.
     chunk = max(choose.choice([1, 5, 64, 1000, 4096]), sum(map(len, plan.files.values())) // 50)
-    attempts = ["--attempts", str(choose.choice([1, 2, 3, 7]))] if plan.version == 2 else []
+    attempts = ["--attempts", str(choose.choice([1, 2, 3, 7]))] if plan.version > 1 else []
     return ["--workers", str(workers), "--bundle", str(bundle), "--chunk", str(chunk), *attempts]
 
 
@@ -857,10 +1091,11 @@ def main():
     words.add_argument("--seconds", type=float, default=120)
     words.add_argument("--load", action="store_true", help="keeps all processors busy meanwhile")
     words.add_argument("--dead", action="store_true", help="plans of version 2 alone")
+    words.add_argument("--three", action="store_true", help="plans of version 3 alone")
     words.add_argument("--combine", action="store_true", help="compares combine with run")
     words = words.parse_args()
     program = Program(words.program, words.seconds)
-    kinds = COMBINE_KINDS if words.combine else DEAD_KINDS if words.dead else KINDS
+    kinds = kinds_of(words)
     busy = busy_processes() if words.load else []
     counts, differences = {}, 0
     for seed in range(words.seed, words.seed + words.runs):

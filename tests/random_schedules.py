@@ -1,17 +1,17 @@
 #!/usr/bin/env python3
 """Runs random small plans under random schedules, and compares what `replay` prints with what it should.
 
-    tests/random_schedules.py ./beam_run [--runs N] [--seed S] [--seconds N] [--dead]
+    tests/random_schedules.py ./beam_run [--runs N] [--seed S] [--seconds N] [--dead] [--three]
 
 A schedule is random lines that are allowed where they stand, by up to four slots: takes, claims, runs, splits, commits, tries that fail. Then
 each slot gives up or commits what it has, and the rest is drained. Each schedule is run twice, the second time with the drain spelled out in
 single lines. Compared are
 - both texts, line by line, with those of tests/replay_model.py, which also says what is allowed and what a drain does;
 - the two texts behind their first `--`: the ranges and what is written are the same;
-- where the rules determine the whole text of a plan (random_runs.py: `text`), what is written with what `run` prints; of a plan of version 2
+- where the rules determine the whole text of a plan (random_runs.py: `text`), what is written with what `run` prints; from version 2 on
   only if the schedule sets aside what a run does, since a line `fail` may set aside a good position too.
 
-With `--dead` all plans are of version 2.
+With `--dead` all plans are of version 2, and with `--three` of version 3.
 
 Run number i is made from the seed S + i alone, so `--runs 1 --seed` with the seed of a difference repeats it; the plan, both schedules and what
 was wanted stay in a folder that is named then. The status is 1 where there was any difference.
@@ -97,7 +97,7 @@ class Case:
         self.options = {
             "workers": choose.choice([1, 2, 3, 4]), "bundle": choose.choice([1, 2, 7, 64]),
             # A drain works each bad line twice as often.
-            "chunk": choose.choice([7, 64, 1000, 65536]), "attempts": choose.choice([1, 2, 3, 1000 if self.plan.version == 1 else 10]),
+            "chunk": random_runs.any_chunk(choose, self.plan), "attempts": choose.choice([1, 2, 3, 1000 if self.plan.version == 1 else 10]),
         }
         schedule = random_schedule(choose, replay_model.Replay(self.model(), **self.options))
         self.with_drain, self.with_lines = schedule.with_drain(), schedule.with_lines()
@@ -184,8 +184,10 @@ def main():
     words.add_argument("--seed", type=int, default=1)
     words.add_argument("--seconds", type=float, default=120)
     words.add_argument("--dead", action="store_true", help="plans of version 2 alone")
+    words.add_argument("--three", action="store_true", help="plans of version 3 alone")
+    words.set_defaults(combine=False)
     words = words.parse_args()
-    kinds = random_runs.DEAD_KINDS if words.dead else random_runs.KINDS
+    kinds = random_runs.kinds_of(words)
     program, counts = Program(words.program, words.seconds), {"lines": 0, "whole": 0}
     differences = sum(not try_seed(program, seed, kinds, counts) for seed in range(words.seed, words.seed + words.runs))
     print(f"{words.runs} schedules of {counts['lines']} lines replayed twice, {counts['whole']} to the end of the run, {differences} differ")

@@ -5,8 +5,8 @@
     tests/replay_model.py --cases FILE [FILE ..]       compares it with the commands `replay`, `make` and `drill` of files of cases
 
 A run under a schedule is the one of run_model.py but for what takes jobs and works them: here slots do, as the lines say. Elements, windows,
-marks, panes and texts are those of run_model.py, and so is how a range of a plan of version 2 is broken. The plan has to be one that the program
-accepts. Where something differs the status is 1.
+marks, panes, side inputs, triggers and texts are those of run_model.py, and so is how a range of a plan from version 2 on is broken. The plan has to
+be one that the program accepts. Where something differs the status is 1.
 """
 import argparse
 import pathlib
@@ -285,7 +285,7 @@ class Replay(run_model.Run):
         work, self.works[slot] = self.works[slot], None
         if isinstance(work, RangeWork):
             attempts = work.piece.attempts = work.piece.attempts + 1
-            if attempts >= self.limit and self.plan.version == 2:
+            if attempts >= self.limit and self.plan.version > 1:
                 self.pieces += work.piece.broken(work.attempted, work.fault.at if work.fault else work.node)
                 return f"fail {slot} retry"
             self.pieces.append(work.piece)

@@ -4,13 +4,16 @@
     tests/run_model.py plan.json [--bundle N] [--chunk N] [--attempts N]     prints it, and ends with its status
     tests/run_model.py --combine plan.json [the same]       prints what `combine` does
     tests/run_model.py --cases FILE [FILE ..]       compares it with the commands `run` and `combine` of files of cases
-    tests/run_model.py --beside ./beam_run [--runs N] [--seed S] [--stateful] [--dead]      and with runs of random plans of random_runs.py
+    tests/run_model.py --beside ./beam_run [--runs N] [--seed S] [--stateful] [--dead] [--three]
+                                                            and with runs of random plans of random_runs.py
     tests/run_model.py --beside ./beam_run --combine [--runs N] [--seed S]      and with `combine` of random plans by several workers
 
 One worker takes batches of panes first, then jobs of keys, then pieces, each in their order, so the rules determine the whole text,
 whatever the estimators and triggers are. The model is as plain as it can be, and slow: after each commit it looks at all cells.
 A plan of version 2 goes on without a position whose work fails `--attempts` times: the range that failed is broken around it, and it is tried
 alone as often again, and then set aside. Its line stands at the end of the text.
+A plan of version 3 does so too. Each of its side inputs is read as five nodes, and whether a tree of a trigger holds is asked of the tree itself.
+Where early panes are cut depends on the commits: these are those of one worker.
 What `combine` prints, it works out without watermarks and tables: it lists the parts of each key and window, and folds them at the end. Of two things
 that are wrong several workers may tell another one.
 The plan has to be one that the program accepts. Where something differs the status is 1.
@@ -244,6 +247,10 @@ def outputs(node, value):
             return [value] if isinstance(value, bytes) and value.startswith(node["text"].encode()) else []
         case "Shift":
             return [value]
+        case "Tag":
+            return [(None, (node["number"], value))]
+        case "JoinList" | "JoinSingle" | "JoinLookup":
+            return joined(node["work"], value)
     key, part = the(tuple, value)
     match node["work"]:
         case "FieldInt":
@@ -264,6 +271,30 @@ def outputs(node, value):
         case "Unseq":
             return [(key, item) for item in the(list, part)]
     raise AssertionError(node["work"])
+
+
+def joined(join, value):
+    """What a join gives of the tagged values of a window: one pair for each main value."""
+    key, parts = the(tuple, value)
+    if key is not None or not all(map(is_tagged, the(list, parts))):
+        raise Poison
+    mains, views = ([value for tag, value in parts if tag == wanted] for wanted in (1, 0))
+    if join == "JoinList":
+        return [(main, ascending(views)) for main in mains]
+    if join == "JoinSingle":
+        if mains and len(views) != 1:
+            raise Poison
+        return [(main, views[0]) for main in mains]
+    if not all(isinstance(value, tuple) for value in mains + views):
+        raise Poison
+    found = {}
+    for key, part in views:
+        found.setdefault(spelled(key), []).append(part)
+    return [(main, ascending(found.get(spelled(main[0]), []))) for main in mains]
+
+
+def is_tagged(part):
+    return isinstance(part, tuple) and is_number(part[0]) and part[0] in (0, 1)
 
 
 # ---- state: what a call does to the state and the timer of a key cell, and what it puts out. Only timer 0 is ever set.
@@ -336,13 +367,48 @@ def merged(spans):
     return made
 
 
+# ---- triggers
+
+
+def holds(tree, unseen, past):
+    """Whether a tree of a trigger is met by so many entries that no pane has shown, so long after the end of the window."""
+    (word, of), = tree.items()
+    match word:
+        case "count":
+            return unseen >= of
+        case "mark":
+            return past >= of
+        case "first":
+            return any(holds(it, unseen, past) for it in of)
+        case "all":
+            return all(holds(it, unseen, past) for it in of)
+    raise AssertionError(word)
+
+
 # ---- the plan
+
+JOINS = {"list": "JoinList", "single": "JoinSingle", "lookup": "JoinLookup"}
+
+
+def read_as(node):
+    """The nodes as which a node of a document is read. The last one has its name, and the others names that no document gives."""
+    if node["kind"] != "side":
+        return [node]
+    name = node["name"]
+    main, view, both, group = ((name, part) for part in ("main", "view", "both", "group"))
+    return [
+        {"name": main, "kind": "pardo", "work": "Tag", "number": 1, "input": node["input"]},
+        {"name": view, "kind": "pardo", "work": "Tag", "number": 0, "input": [node["view"]]},
+        {"name": both, "kind": "flatten", "input": [main, view]},
+        {"name": group, "kind": "group", "input": [both]},
+        {"name": name, "kind": "pardo", "work": JOINS[node["mode"]], "input": [group]},
+    ]
 
 
 class Plan:
     def __init__(self, document, read):
         document = json.loads(document)
-        self.version, self.nodes = document["beam"], document["nodes"]
+        self.version, self.nodes = document["beam"], [made for node in document["nodes"] for made in read_as(node)]
         names = {node["name"]: at for at, node in enumerate(self.nodes)}
         self.inputs = [[names[name] for name in node.get("input", [])] for node in self.nodes]
         self.followers = [[to for to, inputs in enumerate(self.inputs) for it in inputs if it == at] for at in range(len(self.nodes))]
@@ -658,14 +724,15 @@ class Run:
         return [hold for cell in mine for _, hold in cell.waiting] + [cell.timer_hold for cell in mine if cell.timer_hold is not None]
 
     def fire(self, at, mark_before):
+        is_merging = merges(self.plan.strategies[self.plan.inputs[at][0]])
         for (node, _), group in sorted(self.groups.items()):
             if node != at:
                 continue
-            fired, shown = [], []
+            fired, shown, alike = [], [], {}
+            for entry in group.entries:
+                alike.setdefault(entry.element.span, []).append(entry)
             for span in sorted(group.spans):
-                belong = [entry for entry in group.entries if entry.belongs(span)] if merges(self.plan.strategies[self.plan.inputs[at][0]]) else [
-                    entry for entry in group.entries if entry.element.span == span
-                ]
+                belong = [entry for entry in group.entries if entry.belongs(span)] if is_merging else alike[span]
                 unseen = [entry for entry in belong if not entry.shown]
                 timing = self.timing(at, span, span in group.on_time, len(unseen))
                 if timing is None:
@@ -686,13 +753,22 @@ class Run:
 
     def timing(self, at, span, was_on_time, unseen):
         node, mark = self.plan.nodes[at], self.mark_in[at]
-        if not was_on_time and mark >= span[1]:
-            return ON_TIME
-        if not was_on_time and "early" in node and unseen >= node["early"]:
-            return EARLY
-        if was_on_time and unseen >= 1 and (unseen >= node.get("late", 1) or mark >= span[1] + self.lateness(at)):
+        past = mark - span[1]
+        if not was_on_time:
+            return ON_TIME if past >= 0 else EARLY if self.is_early(node, unseen, past) else None
+        if unseen >= 1 and (self.is_late(node, unseen, past) or past >= self.lateness(at)):
             return LATE
         return None
+
+    @staticmethod
+    def is_early(node, unseen, past):
+        if "early_when" in node:
+            return unseen >= 1 and holds(node["early_when"], unseen, past)
+        return "early" in node and unseen >= node["early"]
+
+    @staticmethod
+    def is_late(node, unseen, past):
+        return holds(node["late_when"], unseen, past) if "late_when" in node else unseen >= node.get("late", 1)
 
     # -- the text
 
@@ -849,7 +925,7 @@ def log_fault(document, read, out):
 
 
 def dead_lines(document, read):
-    """The lines of the positions whose work fails whenever it is done: those that a whole run of a plan of version 2 sets aside."""
+    """The lines of the positions whose work fails whenever it is done: those that a whole run of a plan sets aside, from version 2 on."""
     plan, lines = Plan(document, read), []
     for at, number, item in all_items(plan):
         for position in positions(item):
@@ -955,18 +1031,17 @@ def compare_cases(paths):
 # ---- beside the program
 
 
-def compare(program, runs, seed, stateful, dead, combine):
+def compare(words):
     import random_runs
 
-    program = random_runs.Program(program, 120)
-    kinds = random_runs.STATEFUL_KINDS if stateful else random_runs.DEAD_KINDS if dead else random_runs.KINDS
-    kinds = random_runs.COMBINE_KINDS if combine else kinds
+    program, runs, seed, combine = random_runs.Program(words.beside, 120), words.runs, words.seed, words.combine
+    kinds = random_runs.STATEFUL_KINDS if words.stateful else random_runs.kinds_of(words)
     differences = 0
     for number in range(seed, seed + runs):
         choose = random.Random(number)
         plan = random_runs.Plan(choose)
         choose.choice(kinds)(plan)
-        bundle, chunk, attempts = choose.choice([1, 2, 7, 64]), choose.choice([7, 64, 1000, 65536]), choose.choice([1, 2, 3])
+        bundle, chunk, attempts = choose.choice([1, 2, 7, 64]), random_runs.any_chunk(choose, plan), choose.choice([1, 2, 3])
         workers = choose.choice(random_runs.WORKERS) if combine else 1
         wanted = (combined if combine else answer)(plan.document(), plan.read, bundle, chunk, attempts)
         words = ["--workers", str(workers), "--bundle", str(bundle), "--chunk", str(chunk), "--attempts", str(attempts)]
@@ -995,12 +1070,13 @@ def main():
     words.add_argument("--seed", type=int, default=1)
     words.add_argument("--stateful", action="store_true", help="plans with stateful nodes alone")
     words.add_argument("--dead", action="store_true", help="plans of version 2 alone")
+    words.add_argument("--three", action="store_true", help="plans of version 3 alone")
     words.add_argument("--combine", action="store_true", help="combine in place of run")
     words = words.parse_args()
     if words.cases:
         return compare_cases(words.cases)
     if words.beside:
-        return compare(words.beside, words.runs, words.seed, words.stateful, words.dead, words.combine)
+        return compare(words)
     if not words.plan:
         sys.exit(__doc__)
     read = lambda name: pathlib.Path(name).read_bytes()
