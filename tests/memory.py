@@ -3,7 +3,8 @@
 
 Each row of the rule's table is tried on growing inputs by one worker. What a run takes beyond the row `the run itself`, for each
 line, window, byte or bundle, may be at most what the row says, at every size, and at the largest one at least half of it: so the
-rule stays near. The sizes are such that a run takes more memory than this script, whose own the system counts as well.
+rule stays near. The sizes are such that a run takes more memory than this script, whose own the system counts as well: what takes
+little is tried on more lines.
 """
 import json
 import os
@@ -17,9 +18,9 @@ ROOT = pathlib.Path(__file__).resolve().parent.parent
 SIZES = (140_000, 270_000, 500_000)
 
 
-def plan(files, *nodes, version=1):
+def plan(files, *nodes, version=1, **source):
     """A plan of timed lines and nodes that each take from the one before."""
-    made = [{"name": "in", "kind": "source", "work": "TimedLines", "files": files}]
+    made = [{"name": "in", "kind": "source", "work": "TimedLines", "files": files, **source}]
     for number, node in enumerate([*nodes, {"kind": "write"}]):
         made.append({"name": f"n{number}", "input": [made[-1]["name"]], **node})
     return json.dumps({"beam": version, "nodes": made})
@@ -89,13 +90,18 @@ def combined(line):
     return words
 
 
-def filtered(count, folder):
-    """A run that keeps nothing, each of whose lines is a bundle."""
-    path = folder / "lines.tsv"
-    with open(path, "w") as file:
-        file.writelines(f"{at}\ta\tx\n" for at in range(count))
-    (folder / "plan.json").write_text(plan([str(path)], {"kind": "pardo", "work": "KeepPrefix", "text": "no"}))
-    return ["run", str(folder / "plan.json"), "--workers", "1", "--bundle", "1"]
+def filtered(*words, **source):
+    """A run of six nodes that keeps nothing, each of whose lines is a bundle."""
+
+    def made(count, folder):
+        path = folder / "lines.tsv"
+        with open(path, "w") as file:
+            file.writelines(f"{at}\ta\tx\n" for at in range(count))
+        filters = [{"kind": "pardo", "work": "KeepPrefix", "text": "no"}] * 4
+        (folder / "plan.json").write_text(plan([str(path)], *filters, **source))
+        return ["run", str(folder / "plan.json"), "--workers", "1", "--bundle", "1", *words]
+
+    return made
 
 
 def set_aside(count, folder):
@@ -115,7 +121,8 @@ TRIED = {
     "each byte of a part above 22": (
         grouped(lambda at: f"{at % 60000}\tkey\t{at:0272}\n"), ("each line grouped", "each part of more than 22 bytes"),
     ),
-    "each bundle": (filtered, ()),
+    "each bundle": (filtered(), ()),
+    "what a bundle adds that moves a watermark": (filtered("--chunk", "1000000000", estimator="monotonic"), ("each bundle",)),
     "each position that is set aside": (set_aside, ()),
     "each call of a stateful node": (stateful("LatestThenEmit", lambda at: f"{at}\tkey\t{at}\n", number=1000), ()),
     "what such a call gives": (stateful("RunningSum", lambda at: f"{at}\tkey\t1\n", "FieldInt"), ("each call of a stateful node",)),
@@ -126,6 +133,7 @@ TRIED = {
     "each key and window that is combined": (combined(lambda at: f"{at}\tk{at}\t1\n"), ()),
 }
 UNITS = {"each byte of a part above 22": 250}
+LITTLE = {"each bundle": 4}
 
 
 def rule():
@@ -142,10 +150,11 @@ def main():
     with tempfile.TemporaryDirectory() as path:
         folder = pathlib.Path(path)
         for name, (words, beside) in TRIED.items():
-            for size in SIZES:
+            sizes = [LITTLE.get(name, 1) * size for size in SIZES]
+            for size in sizes:
                 taken = (most_memory(program, words(size, folder)) - most["the run itself"]) / size - sum(most[other] for other in beside)
                 taken /= UNITS.get(name, 1)
-                is_near = taken <= most[name] and (size != SIZES[-1] or taken >= most[name] / 2)
+                is_near = taken <= most[name] and (size != sizes[-1] or taken >= most[name] / 2)
                 wrong += not is_near
                 print(f"memory: {name}: {taken:.1f} of {most[name]} at {size}{'' if is_near else '  WRONG'}")
     print(f"memory: {wrong} wrong")

@@ -97,8 +97,20 @@ KeyLog-send = declared_send KeyLog.the_type (search (Value-send, LogEntry-send, 
 pub StageMarks-send : IsSend StageMarks.the_row
 StageMarks-send = declared_send StageMarks.the_type (search (as_row_send, sendable) depth 40)
 
+StageMarks-sync : IsSync StageMarks.the_row
+StageMarks-sync = declared_sync StageMarks.the_type (search (as_row_sync, sendable) depth 40)
+
+marks-send : IsSend (List.the_row StageMarks.the_row)
+marks-send = List-send StageMarks.the_row StageMarks-send
+
+marks-sync : IsSync (List.the_row StageMarks.the_row)
+marks-sync = List-sync StageMarks.the_row StageMarks-sync
+
+boxed_marks-send : IsSend (Boxed.the_row (List.the_row StageMarks.the_row))
+boxed_marks-send = Boxed-send (List.the_row StageMarks.the_row) marks-send marks-sync
+
 pub CommitMarks-send : IsSend CommitMarks.the_row
-CommitMarks-send = declared_send CommitMarks.the_type (search (StageMarks-send, List-send, as_row_send, sendable) depth 40)
+CommitMarks-send = declared_send CommitMarks.the_type (search (boxed_marks-send, as_row_send, sendable) depth 40)
 
 pub Args-send : IsSend Args.the_row
 Args-send = variants_send Args.enum (search (Bytes-send, as_row_send, sendable) depth 40)

@@ -2,7 +2,7 @@
 use Rattle.std.specs.Prelude.{◌≡◌, ℕ, ℤ, pos, negsuc, true, false, List, [], ◌∷◌, replicate, Option, Some, None, codes, refl}
 use Rattle.beam_values.specs.Checked.{graph_refusal, is_function_allowed, is_trigger_allowed}
 use Rattle.beam_values.specs.Cover.{times_dead}
-use Rattle.beam_values.specs.Firing.{firing, is_expired, met}
+use Rattle.beam_values.specs.Firing.{firing, is_expired}
 use Rattle.beam_values.specs.Marks.{seen_after, mark_of}
 use Rattle.beam_values.specs.Nodes.{nodes_below, strategy_of}
 use Rattle.beam_values.specs.Times.{least_time, final_mark}

@@ -1,5 +1,5 @@
 use crate::Mark;
-use beam_containers::{Duplicate, List, NoMemory};
+use beam_containers::{Boxed, Duplicate, List, NoMemory};
 use std::alloc::Global;
 
 /// The watermarks of a node: before it and after it.
@@ -15,16 +15,16 @@ impl Duplicate for StageMarks {
     }
 }
 
-/// The watermarks of all nodes after a commit.
+/// The watermarks of all nodes after a commit. Commits that follow one another and change no mark share them.
 #[derive(Debug, Drop)]
 pub struct CommitMarks {
-    pub marks: List<StageMarks>,
+    pub marks: Boxed<List<StageMarks>>,
 }
 
 impl Duplicate for CommitMarks {
-    fn duplicate(&self, alloc: Global) -> Result<CommitMarks, NoMemory> {
+    fn duplicate(&self, _alloc: Global) -> Result<CommitMarks, NoMemory> {
         Ok(CommitMarks {
-            marks: self.marks.duplicate(alloc)?,
+            marks: self.marks.share()?,
         })
     }
 }

@@ -11,6 +11,7 @@ pub mod Facts
 pub mod Sane
 pub mod Indexes
 pub mod Queues
+pub mod Commits
 pub mod Committing
 pub mod Inside
 pub mod NextFor

@@ -109,7 +109,7 @@ impl Book {
         let marks = mark_nodes(alloc, plan, &held)?;
         let queues = empty_queues(alloc, plan.nodes.as_slice())?;
         let groups = Groups::new(alloc, plan)?;
-        let results = Results::new(alloc, marks)?;
+        let results = Results::new(alloc, marks);
         Ok(Book {
             graph,
             files,
@@ -277,7 +277,7 @@ impl Book {
         ensures err { OnErr result (self.new ≡ self.old) }
     {
         let bundle = self.options.bundle;
-        let marks = self.results.last_marks();
+        let marks = self.results.commits.last_marks();
         let Some(turn) = self.keys.next_job(marks, bundle)? else {
             return self.take_piece(slot);
         };
@@ -412,7 +412,7 @@ impl Book {
         let number = self.results.commits.len() as u32;
         let done = key_done(&job, logged, number);
         let first = self.results.panes.len() as u32;
-        let before = self.results.last_marks();
+        let before = self.results.commits.last_marks();
         let fired = fire(
             self.alloc,
             plan,
@@ -535,7 +535,7 @@ impl Book {
             dropped,
             logs: logs_in_order(keys.into_logs()?)?,
             written: written.into_list(),
-            commits: commits.into_list(),
+            commits: commits.into_list()?,
             stopped,
         })
     }

@@ -10,6 +10,7 @@
 
 mod book;
 mod breaking;
+mod commits;
 mod committing;
 mod due;
 mod failing;

@@ -1,16 +1,13 @@
-ghost use Rattle.std.specs.Prelude.{◌≡◌, ◌+◌, ◌-◌, ◌<◌, ◌≤◌, [], ◌∷◌, ◌++◌, length, slice_get};
-ghost use Rattle.std.specs.Prelude.{insert, unwrap_or, IfOk, OnOk};
+ghost use Rattle.std.specs.Prelude.{◌≡◌, ◌+◌, ◌<◌, ◌≤◌, [], ◌∷◌, ◌++◌, length, insert, OnOk};
 ghost use Rattle.std.specs.List.{filter};
 ghost use Rattle.std.specs.List.Sorted.{IsSorted};
-ghost use Rattle.std.specs.Option.{option_map};
 ghost use Rattle.beam_values.specs.Nodes.{is_write};
 ghost use Rattle.group_cells.specs.Commits.{as_commit};
 ghost use Rattle.book_core.specs.Changes.{dead_cmp, done_cmp, with_dead, with_done};
 ghost use Rattle.book_core.specs.Committing.{with_dead_in, with_done_in, HasRoomFor};
 
-use beam_values::{
-    Arrival, CommitMarks, Dead, Done, List, NoMemory, Pane, Plan, RoomyList, StageMarks,
-};
+use crate::commits::Commits;
+use beam_values::{Arrival, Dead, Done, List, NoMemory, Pane, Plan, RoomyList, StageMarks};
 use std::alloc::Global;
 use std::cmp::Ordering;
 
@@ -22,37 +19,25 @@ pub struct Results {
     pub done: RoomyList<Done>,
     pub dead: RoomyList<Dead>,
     pub written: RoomyList<Arrival>,
-    pub commits: RoomyList<CommitMarks>,
+    pub commits: Commits,
 }
 
 impl Results {
     /// Those of the opening, which has these marks.
-    pub fn new(alloc: Global, marks: List<StageMarks>) -> Result<Results, NoMemory>
-        ensures panes { IfOk result (λ r. r.panes.items ≡ []) }
-        ensures done { IfOk result (λ r. r.done.items ≡ []) }
-        ensures dead { IfOk result (λ r. r.dead.items ≡ []) }
-        ensures written { IfOk result (λ r. r.written.items ≡ []) }
-        ensures commits { IfOk result (λ r. r.commits.items ≡ as_commit marks ∷ []) }
+    pub fn new(alloc: Global, marks: List<StageMarks>) -> Results
+        ensures panes { result.panes.items ≡ [] }
+        ensures done { result.done.items ≡ [] }
+        ensures dead { result.dead.items ≡ [] }
+        ensures written { result.written.items ≡ [] }
+        ensures commits { result.commits.items ≡ as_commit marks ∷ [] }
     {
-        let mut commits = RoomyList::new(alloc);
-        commits.push(CommitMarks { marks })?;
-        Ok(Results {
+        Results {
             panes: RoomyList::new(alloc),
             done: RoomyList::new(alloc),
             dead: RoomyList::new(alloc),
             written: RoomyList::new(alloc),
-            commits,
-        })
-    }
-
-    /// The marks after the last commit.
-    pub fn last_marks(&self) -> &[StageMarks]
-        requires { 0 < length self.now.commits.items }
-        ensures { result.now ≡ unwrap_or (option_map (λ commit. commit.marks)
-            (slice_get self.now.commits.items (length self.now.commits.items - 1))) [] }
-    {
-        let commits = self.commits.as_slice();
-        commits[commits.len() - 1].marks.as_slice()
+            commits: Commits::new(alloc, marks),
+        }
     }
 
     /// Keeps the room that a commit of so many arrivals needs, which fires so many panes at most.
@@ -68,7 +53,7 @@ impl Results {
         self.done.reserve(1)?;
         self.dead.reserve(1)?;
         self.written.reserve(arrivals)?;
-        self.commits.reserve(1)
+        self.commits.keep_room()
     }
 
     /// Adds the results of a commit. Of the arrivals that are left those at Writes are written.
@@ -95,7 +80,7 @@ impl Results {
         put_dead(&mut self.dead, dead);
         put_panes(&mut self.panes, fired);
         put_written(plan, &mut self.written, left);
-        put_last(&mut self.commits, CommitMarks { marks });
+        self.commits.add_kept(marks);
     }
 }
 

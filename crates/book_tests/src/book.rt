@@ -276,7 +276,7 @@ fn two_minutes_of_a_file_are_grouped_and_written(rt: HostRuntime) -> Result<(), 
         (4, i64::MAX, i64::MAX),
     ] {
         let commit = outcome.commits.get(at).ok_or("no commit")?;
-        let group = commit.marks.get(2).ok_or("no Group")?;
+        let group = commit.marks.get().get(2).ok_or("no Group")?;
         assert_eq!(rt;
             (group.mark_in.ms(), group.mark_out.ms()),
             (mark_in, mark_out)

@@ -6,7 +6,7 @@ use Rattle.std.proofs.Crossing.{crosses}
 use Rattle.turn_desk.proofs.desk.Desk.TheSendSync as desk
 use Rattle.turn_desk.proofs.desk.Pass.TheSendSync as pass
 use Rattle.std.proofs.MapsCrossing.{crosses as maps}
-use Rattle.beam_values.proofs.Crossing.{Arrival-send, Boxed-send, Boxed-sync, Bytes-send, Bytes-sync, Cell-send, CommitMarks-send, Dropped-send, Element-send, Entry-send, List-send, List-sync, LogEntry-send, LogInput-send, Pane-send, Plan-send, Plan-sync, Trigger-send, Value-send, Value-sync}
+use Rattle.beam_values.proofs.Crossing.{Arrival-send, Boxed-send, Boxed-sync, Bytes-send, Bytes-sync, Cell-send, CommitMarks-send, Dropped-send, Element-send, Entry-send, List-send, List-sync, LogEntry-send, LogInput-send, Pane-send, Plan-send, Plan-sync, StageMarks-send, Trigger-send, Value-send, Value-sync}
 use Rattle.beam_containers.specs.contracts.roomy.RoomyList as RoomyList
 use Rattle.beam_values.specs.contracts.element.Element as Element
 use Rattle.beam_values.specs.contracts.log.LogInput as LogInput
@@ -66,6 +66,8 @@ use Rattle.stateful_core.specs.contracts.timer_holds.TimerHolds as TimerHolds
 use Rattle.stateful_core.specs.contracts.waiting.Waiting as Waiting
 use Rattle.book_core.specs.contracts.book.Book as Book
 use Rattle.book_core.specs.contracts.book.Book.TheInside as BookInside
+use Rattle.book_core.specs.contracts.commits.Commits as Commits
+use Rattle.book_core.specs.contracts.commits.Commits.TheInside as CommitsInside
 use Rattle.book_core.specs.contracts.held.NodeHolds as NodeHolds
 use Rattle.book_core.specs.contracts.live.Batch as Batch
 use Rattle.book_core.specs.contracts.live.Live as Live
@@ -252,8 +254,11 @@ Done-send = search sendable depth 40
 Dead-send : IsSend Dead.the_row
 Dead-send = search (sendable, crosses) depth 40
 
+Commits-send : IsSend Commits.the_row
+Commits-send = view_send _ _ _ _ _ (declared_send CommitsInside.the_type (search (CommitMarks-send, StageMarks-send, List-send, as_row_send, sendable, crosses) depth 40))
+
 Results-send : IsSend Results.the_row
-Results-send = declared_send Results.the_type (search (RoomyList-send, Pane-send, Done-send, Dead-send, Arrival-send, CommitMarks-send, as_row_send) depth 40)
+Results-send = declared_send Results.the_type (search (RoomyList-send, Pane-send, Done-send, Dead-send, Arrival-send, Commits-send, as_row_send) depth 40)
 
 pub Book-send : IsSend Book.the_row
 Book-send =

@@ -33,14 +33,14 @@ invariant_of-result c =
     } in
     record {
       indexed =
-          subst (λ (b : SeenBook). IsIndexed b c.in_ok-held.held c.in_ok-pieces.pieces.room c.new-4.result.room)
-          (opened_as c.args.graph c.args.files c.args.options c.in_ok-marks.marks _ refl refl refl found.pending_is c.new-3.ensures.items
+          subst (λ (b : SeenBook). IsIndexed b c.in_ok-held.held c.in_ok-pieces.pieces.room c.new-3.result.room)
+          (opened_as c.args.graph c.args.files c.args.options c.in_ok-marks.marks _ refl refl refl found.pending_is c.new-2.ensures.items
           (c.in_ok-queues.ensures ∙ ap (map (λ (node : Node). [])) c.as_slice-2.ensures ∙ ap (λ (plan : Plan). map (λ (node : Node). []) plan.nodes) c.plan-plan.ensures.value)
-          (ap (λ r. r.items) c.new-4.ensures) (ap (λ g. g.cells) c.in_ok-groups.ensures) (ap (λ g. g.dropped) c.in_ok-groups.ensures) c.new-5.ensures c.in_ok-results.ensures.panes c.in_ok-results.ensures.done c.in_ok-results.ensures.dead c.in_ok-results.ensures.written c.in_ok-results.ensures.commits
-          (ap (λ f. f.calls) c.new-6.ensures) (ap (λ f. f.reads) c.new-6.ensures) refl)
-          (is_indexed c.args.graph c.args.files c.args.options c.in_ok-held.held c.in_ok-pieces.pieces.pending c.pending.result.now c.in_ok-marks.marks found c.in_ok-pieces.pieces.room c.new-4.result.room);
+          (ap (λ r. r.items) c.new-3.ensures) (ap (λ g. g.cells) c.in_ok-groups.ensures) (ap (λ g. g.dropped) c.in_ok-groups.ensures) c.new-4.ensures c.new-results.ensures.panes c.new-results.ensures.done c.new-results.ensures.dead c.new-results.ensures.written c.new-results.ensures.commits
+          (ap (λ f. f.calls) c.new-5.ensures) (ap (λ f. f.reads) c.new-5.ensures) refl)
+          (is_indexed c.args.graph c.args.files c.args.options c.in_ok-held.held c.in_ok-pieces.pieces.pending c.pending.result.now c.in_ok-marks.marks found c.in_ok-pieces.pieces.room c.new-3.result.room);
       grouped = ap (λ g. g.plan) c.in_ok-groups.ensures ∙ c.plan-plan.ensures.value;
-      counted = sym (ap waiting_in c.new-5.ensures);
+      counted = sym (ap waiting_in c.new-4.ensures);
     }
 
 pub returns : goal.returns
@@ -58,8 +58,8 @@ returns c =
       marked = subst (λ (plan : Plan). AreMarks plan (least_in c.in_ok-held.held) c.in_ok-marks.marks) c.plan-plan.ensures.value c.in_ok-marks.ensures;
     } in
     subst (λ (b : SeenBook). IsOpening c.args.graph c.args.files c.args.options b)
-    (opened_as c.args.graph c.args.files c.args.options c.in_ok-marks.marks _ refl refl refl found.pending_is c.new-3.ensures.items
+    (opened_as c.args.graph c.args.files c.args.options c.in_ok-marks.marks _ refl refl refl found.pending_is c.new-2.ensures.items
     (c.in_ok-queues.ensures ∙ ap (map (λ (node : Node). [])) c.as_slice-2.ensures ∙ ap (λ (plan : Plan). map (λ (node : Node). []) plan.nodes) c.plan-plan.ensures.value)
-    (ap (λ r. r.items) c.new-4.ensures) (ap (λ g. g.cells) c.in_ok-groups.ensures) (ap (λ g. g.dropped) c.in_ok-groups.ensures) c.new-5.ensures c.in_ok-results.ensures.panes c.in_ok-results.ensures.done c.in_ok-results.ensures.dead c.in_ok-results.ensures.written c.in_ok-results.ensures.commits
-    (ap (λ f. f.calls) c.new-6.ensures) (ap (λ f. f.reads) c.new-6.ensures) refl)
+    (ap (λ r. r.items) c.new-3.ensures) (ap (λ g. g.cells) c.in_ok-groups.ensures) (ap (λ g. g.dropped) c.in_ok-groups.ensures) c.new-4.ensures c.new-results.ensures.panes c.new-results.ensures.done c.new-results.ensures.dead c.new-results.ensures.written c.new-results.ensures.commits
+    (ap (λ f. f.calls) c.new-5.ensures) (ap (λ f. f.reads) c.new-5.ensures) refl)
     (is_opening c.args.graph c.args.files c.args.options c.in_ok-held.held c.in_ok-pieces.pieces.pending c.pending.result.now c.in_ok-marks.marks found)
