@@ -13,11 +13,12 @@ use Rattle.book_core.specs.Sane.{AreKeptWith, IsSane}
 use Rattle.book_core.specs.Steps.{Action, Answer, IsIdle, Step}
 use Rattle.book_core.specs.Work.{Surroundings}
 use Rattle.book_core.proofs.BalancedAlways.{keeps_balanced}
-use Rattle.book_core.proofs.Cases.{AreAlways, Both, always_reached, step_keeps}
+use Rattle.book_core.proofs.Cases.{AreAlways, Both, always_reached, kept_with, step_keeps}
 use Rattle.book_core.proofs.CellsAlways.{StrategiesOfPlans, keeps_celled}
 use Rattle.book_core.proofs.EarlyAlways.{keeps_early}
 use Rattle.book_core.proofs.EarlyEnds.{WindowsOfKind}
 use Rattle.book_core.proofs.Ended.{SettingsOfPlans, kept_through}
+use Rattle.book_core.proofs.KeysLogged.{AreKeysLogged, keeps_logged}
 use Rattle.book_core.proofs.SaneAlways.{sane_always, step_sane}
 use Rattle.book_core.proofs.SeenAlways.{AreWithin, keeps_seen}
 use Rattle.book_core.proofs.SetAside.{aside_kept, opening_aside}
@@ -53,6 +54,12 @@ aside_always told = record {
 pub reached_aside : (told : Option (List FileText)) (b : SeenBook) → Reached told b → AreSetAside b
 reached_aside told b reached = (always_reached told (Both IsSane AreSetAside) (aside_always told) b reached).1
 
+logged_always : (told : Option (List FileText)) → AreAlways told (Both IsSane AreKeysLogged)
+logged_always told = kept_with told IsSane AreKeysLogged (sane_always told) (keeps_logged told)
+
+pub reached_logged : (told : Option (List FileText)) (b : SeenBook) → Reached told b → AreKeysLogged b
+reached_logged told b reached = (always_reached told (Both IsSane AreKeysLogged) (logged_always told) b reached).1
+
 module _ (strategies : StrategiesOfPlans) (settings : SettingsOfPlans) (windows : WindowsOfKind) where
   pub kept_always : (told : Option (List FileText)) → AreAlways told AreKeptWith
   kept_always told = record {
@@ -61,6 +68,7 @@ module _ (strategies : StrategiesOfPlans) (settings : SettingsOfPlans) (windows 
         record {
           sane = sane;
           kept = kept_from first sane ((keeps_celled strategies told).opens b first opening) (opening_aside b first opening);
+          keys = (keeps_logged told).opens b first opening;
           early = (keeps_early strategies windows settings told).opens b first opening;
         };
     steps = λ b new slot action answer step h.
@@ -69,7 +77,9 @@ module _ (strategies : StrategiesOfPlans) (settings : SettingsOfPlans) (windows 
           sane = sane;
           kept = kept_from new sane (step_keeps told IsSane AreCellsKept (keeps_celled strategies told) b new slot action answer step h.sane h.kept.cells)
               (aside_step told b new slot action answer step h.sane h.kept.aside);
-          early = step_keeps told (Both IsSane AreCellsKept) IsEarlyBook (keeps_early strategies windows settings told) b new slot action answer step (h.sane, h.kept.cells) h.early;
+          keys = step_keeps told IsSane AreKeysLogged (keeps_logged told) b new slot action answer step h.sane h.keys;
+          early = step_keeps told (Both (Both IsSane AreCellsKept) AreKeysLogged) IsEarlyBook (keeps_early strategies windows settings told) b new slot action answer step
+              ((h.sane, h.kept.cells), h.keys) h.early;
         };
   }
 

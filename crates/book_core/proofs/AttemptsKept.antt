@@ -1,12 +1,11 @@
 -- No job fails more often than it may, and none more often than jobs failed at all: every step keeps it.
-use Rattle.std.proofs.Common.{◌≡◌, inl, inr, ℕ, ◌+◌, ◌<◌, ◌≤◌, Bool, true, false, cond, List, [], ◌∷◌, ◌++◌, length, refl, sym, ap, subst, ◌∙◌, arith}
+use Rattle.std.proofs.Common.{ℤ, ◌≡◌, inl, inr, ℕ, ◌+◌, ◌<◌, ◌≤◌, Bool, true, false, cond, List, [], ◌∷◌, ◌++◌, length, refl, sym, ap, subst, ◌∙◌, arith}
 use Rattle.std.specs.Prelude.{Option, Some, None, nat_le, nat_lt, not, ◌&&◌, slice_get, slice_set, unwrap_or}
 use Rattle.std.specs.Option.{option_map}
 use Rattle.std.specs.List.{All}
 use Rattle.std.proofs.lemmas.Bool.Decides.{nat_tests}
 use Rattle.std.proofs.lemmas.List.Elements.{All-nil, All-cons, All-head, All-weaker}
 use Rattle.beam_values.specs.Nodes.{has_kind, is_group_kind, is_source_kind}
-use Rattle.beam_values.specs.States.{KeptState}
 use Rattle.beam_values.specs.declared.fault.Cause.{Cause}
 use Rattle.beam_values.specs.declared.fault.Cause.TheVariants.{Call, Read}
 use Rattle.beam_values.specs.declared.fault.FaultNote.{FaultNote}
@@ -15,19 +14,17 @@ use Rattle.beam_values.specs.declared.outcome.StopCause.{StopCause}
 use Rattle.beam_values.specs.declared.outcome.StopCause.TheVariants as stop
 use Rattle.beam_values.specs.declared.piece.Piece.{Piece}
 use Rattle.beam_ports.specs.Counts.{raised, greatest_count}
-use Rattle.beam_values.specs.declared.log.KeyLog.{KeyLog}
-use Rattle.beam_values.specs.declared.marks.CommitMarks.{CommitMarks}
 use Rattle.beam_values.specs.declared.marks.StageMarks.{StageMarks}
 use Rattle.beam_values.specs.declared.plan.Node.{Node}
 use Rattle.beam_values.specs.declared.plan.NodeKind.{NodeKind}
 use Rattle.beam_values.specs.declared.plan.NodeKind.TheVariants.{Source, ParDo, WindowInto, Flatten, Group, Stateful, Write}
 use Rattle.beam_values.specs.declared.plan.Plan.{Plan}
 use Rattle.beam_values.specs.declared.arrival.Arrival.{Arrival}
-use Rattle.beam_model.specs.Logs.{LeadsAt, LeadsIn}
 use Rattle.bundle_commit.specs.declared.job.Receipt.{Receipt}
 use Rattle.split_core.specs.Order.{with_piece}
 use Rattle.stateful_core.specs.Cells.{KeyCell}
-use Rattle.stateful_core.specs.Facts.{IsCellKept}
+use Rattle.stateful_core.specs.Facts.{IsCellSane}
+use Rattle.stateful_core.specs.Timers.{AreTimersAt, AreTimersIn}
 use Rattle.stateful_core.specs.Placing.{Done, place}
 use Rattle.stateful_core.specs.Taking.{change, is_some, tried}
 use Rattle.stateful_core.specs.declared.key_job.KeyTurn.{KeyTurn}
@@ -69,12 +66,11 @@ no_source_group (Some node) e = by node.kind e
     by (Stateful work args log) k = refl
     by (Write label) k = refl
 
-no_source_log : (commits : List CommitMarks) (found : Option Node) (log : KeyLog) (end : KeptState) → LeadsIn commits found log end
-    → unwrap_or (option_map (λ (n : Node). is_source_kind n.kind) found) false ≡ false
-no_source_log commits None log end leads = refl
-no_source_log commits (Some node) log end leads = by node.kind leads
+no_source_timers : (found : Option Node) (timers : List (Option ℤ)) → AreTimersIn found timers → unwrap_or (option_map (λ (n : Node). is_source_kind n.kind) found) false ≡ false
+no_source_timers None timers h = refl
+no_source_timers (Some node) timers h = by node.kind h
   where
-    by : (kind : NodeKind) → LeadsAt commits kind log end → is_source_kind kind ≡ false
+    by : (kind : NodeKind) → AreTimersAt kind timers → is_source_kind kind ≡ false
     by (Source work args files estimator) k = absurd k
     by (ParDo work args) k = absurd k
     by (WindowInto strategy) k = absurd k
@@ -236,9 +232,9 @@ module _ (b : SeenBook) (slot at : ℕ) (sane : IsSane b) (h : IsCounted b) wher
 
   turn_no_source : (turn : KeyTurn) → IsTurnOf b.keys turn → has_kind is_source_kind b.plan turn.node ≡ false
   turn_no_source turn own =
-      let kept = All-slice_get (IsCellKept b.plan b.commits) b.keys turn.cell own.cell own.is_at sane.keys.each in
+      let kept = All-slice_get (IsCellSane b.plan b.commits) b.keys turn.cell own.cell own.is_at sane.keys.each in
       subst (λ (n : ℕ). has_kind is_source_kind b.plan n ≡ false) (sym (ap (λ (t : KeyTurn). t.node) own.is))
-      (no_source_log b.commits (slice_get b.plan.nodes own.cell.log.node) own.cell.log own.cell.kept kept.leads)
+      (no_source_timers (slice_get b.plan.nodes own.cell.log.node) own.cell.kept.timers kept.timers)
 
   failed_to : (job : Live) (cause : Cause) → IsWorking b slot job → IsFresh job → is_broken b job cause ≡ false → (spent : Bool) → is_at_limit b job ≡ spent
       → IsFailedTo spent (counted (given_back (with_slot b slot None) job at cause) cause) (note_of job at cause)

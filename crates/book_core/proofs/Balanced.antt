@@ -52,7 +52,7 @@ use Rattle.book_core.specs.Changes.{key_done, key_done_of, keys_after}
 use Rattle.book_core.specs.Facts.{AreTurnsKept}
 use Rattle.book_core.specs.Work.{folded_by}
 use Rattle.book_core.proofs.Ends.{IsEnd, IsEnded, arrivals_added, entries_ended, panes_ended, spread_ended}
-use Rattle.book_core.proofs.KeysKept.{KeysKept}
+use Rattle.book_core.proofs.KeysKept.{KeysSane}
 use Rattle.book_core.proofs.Turns.{commit_done, turn_committed}
 use Rattle.book_core.proofs.HeldMoves.{fired_held}
 use Rattle.book_core.proofs.HeldOnce.{commit_bag, get_at_end, get_front}
@@ -162,7 +162,7 @@ pub record IsReceiptBalanced (told : List FileText) (b : SeenBook) (job : Live) 
       + sum_by w (log_chains b.plan (logs_of (keys_after b job receipt)))
       ≡ sum_by w (spread_dones b.plan (items told b.plan) b.done) + sum_by w (log_chains b.plan (logs_of b.keys)) + sum_by w (map Arrives receipt.arrivals)
 
-module _ (told : List FileText) (b : SeenBook) (slot : ℕ) (receipt : Receipt) (once : AreHeldOnce b) (kept : KeysKept b) (turns : AreTurnsKept b) where
+module _ (told : List FileText) (b : SeenBook) (slot : ℕ) (receipt : Receipt) (once : AreHeldOnce b) (kept : KeysSane b) (turns : AreTurnsKept b) where
   -- the logs stay where no key job is done
   same_chains : (w : Output → ℕ) → sum_by w (log_chains b.plan (logs_of (place b.plan (last_marks b) None receipt.arrivals b.keys))) ≡ sum_by w (log_chains b.plan (logs_of b.keys))
   same_chains w = ap (sum_by w) (other_chains b.plan (last_marks b) receipt.arrivals b.keys)
@@ -264,7 +264,7 @@ module _ (told : List FileText) (b : SeenBook) (slot : ℕ) (receipt : Receipt) 
       batch_balanced batch (batch_held b slot once batch works) given.0
 
 module _ (told : List FileText) (b : SeenBook) (slot : ℕ) (job : Live) (receipt : Receipt) (cells : List Cell) (fired : List Pane) (marks : List StageMarks)
-    (formed : IsWellFormed b) (once : AreHeldOnce b) (kept : KeysKept b) (turns : AreTurnsKept b) (legal : LegalIn b) (made : Commits (Some told) b slot job receipt cells fired marks) (was : IsBalanced told b) where
+    (formed : IsWellFormed b) (once : AreHeldOnce b) (kept : KeysSane b) (turns : AreTurnsKept b) (legal : LegalIn b) (made : Commits (Some told) b slot job receipt cells fired marks) (was : IsBalanced told b) where
   abbrev after : SeenBook
   after = committed b slot job receipt cells fired marks
 

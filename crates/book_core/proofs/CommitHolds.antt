@@ -26,7 +26,7 @@ use Rattle.book_core.specs.Committing.{job_holds, residual_in, residual_holds, r
 use Rattle.stateful_core.specs.Cells.{key_holds}
 use Rattle.book_core.specs.Indexes.{all_holds, own_holds}
 use Rattle.book_core.proofs.HoldBags.{all_of}
-use Rattle.book_core.proofs.KeysKept.{KeysKept, keys_within}
+use Rattle.book_core.proofs.KeysKept.{KeysSane, keys_within}
 use Rattle.book_core.specs.Jobs.{job_of, attempted_of}
 use Rattle.book_core.specs.Steps.{IsWorking}
 use Rattle.book_core.specs.Work.{IsGiven, worked_to, is_known}
@@ -171,7 +171,7 @@ module _ (plan : Plan) (before : List StageMarks) where
       by false = All-nil (IsHoldUp plan before)
 
 -- nor does what waits at key cells and comes to them
-pub kept_rise : (told : Option (List FileText)) (b : SeenBook) (slot : ℕ) (job : Live) (receipt : Receipt) → IsChecked b.plan → KeysKept b → IsWorking b slot job
+pub kept_rise : (told : Option (List FileText)) (b : SeenBook) (slot : ℕ) (job : Live) (receipt : Receipt) → IsChecked b.plan → KeysSane b → IsWorking b slot job
     → IsGiven told b.plan (job_of b.panes job) (attempted_of job) receipt → AreMarksOfBook b (last_marks b)
     → RisesFrom b.plan (least_hold (kept_holds b slot job receipt ++ key_holds (keys_after b job receipt))) (last_marks b)
 unfolding IsHoldUp

@@ -20,7 +20,7 @@ use Rattle.beam_values.specs.declared.plan.Plan.{Plan}
 use Rattle.bundle_commit.specs.declared.job.Receipt.{Receipt}
 use Rattle.group_cells.proofs.Counting.{count-append}
 use Rattle.stateful_core.specs.Cells.{KeyCell}
-use Rattle.stateful_core.specs.Facts.{IsCellKept}
+use Rattle.stateful_core.specs.Facts.{IsCellSane}
 use Rattle.stateful_core.specs.Lasting.{left_of}
 use Rattle.stateful_core.specs.Placing.{Done, fresh_cell, place, waits, with_done, with_waiting}
 use Rattle.stateful_core.specs.declared.key_job.KeyTurn.{KeyTurn}
@@ -315,7 +315,7 @@ commit_lowers told b slot (live.Key turn) receipt cells fired marks sane made go
     let own = turn_at b slot turn sane.turns made.works in
     let same : own.cell ≡ cell = same_Some own.cell cell (sym own.is_at ∙ ap (slice_get b.keys) (sym placed.cell_is) ∙ placed.made.is_at) in
     let node : turn.node ≡ cell.log.node = ap (λ (t : KeyTurn). t.node) own.is ∙ ap (λ (c : KeyCell). c.log.node) same in
-    let kept = All-slice_get (IsCellKept b.plan b.commits) b.keys placed.done.cell cell placed.made.is_at sane.keys.each in
+    let kept = All-slice_get (IsCellSane b.plan b.commits) b.keys placed.done.cell cell placed.made.is_at sane.keys.each in
     let less = done_lowers b.plan b.commits (last_marks b) cell placed.done (length b.commits) placed.made.count kept placed.made.works placed.made.folds in
     let at = λ (m : ℕ) (upto : m ≤ turn.node).
     key_left b slot turn receipt cells fired marks made.works placed m

@@ -45,6 +45,7 @@ use Rattle.book_core.specs.Work.{IsGiven, IsWorkOnItem, IsWorkOnRange, is_known,
 use Rattle.book_core.specs.declared.live.Live.{Live}
 use Rattle.book_core.specs.declared.live.Live.TheVariants as live
 use Rattle.book_core.specs.declared.live.WaitingPane.{WaitingPane}
+use Rattle.book_core.proofs.KeysLogged.{AreKeysLogged}
 use Rattle.book_core.proofs.Cases.{Keeps, Commits, LegalIn, Both}
 use Rattle.book_core.proofs.CellsAlways.{StrategiesOfPlans, commit_entries, commit_legal}
 use Rattle.book_core.proofs.CellsKept.{found_has}
@@ -159,16 +160,16 @@ module _ (strategies : StrategiesOfPlans) (windows : WindowsOfKind) (settings : 
   range_early plan piece upto receipt checked true work = item_early plan piece upto receipt checked (item_at (items_told told plan) piece.node piece.item) refl work
   range_early plan piece upto receipt checked false work = λ k d inside. (work.times k d inside, work.ends k d inside)
 
-  given_early : (b : SeenBook) (slot : ℕ) (job : Live) (receipt : Receipt) → IsSane b → IsEarlyBook b → IsWorking b slot job
+  given_early : (b : SeenBook) (slot : ℕ) (job : Live) (receipt : Receipt) → IsSane b → AreKeysLogged b → IsEarlyBook b → IsWorking b slot job
       → IsGiven told b.plan (job_of b.panes job) (attempted_of job) receipt → All IsEarlyArrival receipt.arrivals
-  given_early b slot (live.Span piece attempted) receipt sane h works given =
+  given_early b slot (live.Span piece attempted) receipt sane keys h works given =
       range_early b.plan piece (worked_to piece attempted) receipt sane.formed.checked (is_known told b.plan piece.node) given.0
-  given_early b slot (live.Key turn) receipt sane h works given =
+  given_early b slot (live.Key turn) receipt sane keys h works given =
       let kept : KeptState = record { cells = turn.state; timers = turn.timers } in
       arrivals_early receipt.arrivals (key_outputs b.plan turn.node turn.key turn.span turn.inputs kept) given.arrives
       (calls_early windows b.plan (λ n node here. settings b.plan n node sane.formed.checked here) turn.node turn.key turn.span turn.inputs
-      (turn_early b.plan b.commits b.keys turn sane.keys h.keys (turn_at b slot turn sane.turns works)) kept)
-  given_early b slot (live.Batch batch) receipt sane h works given =
+      (turn_early b.plan b.commits b.keys turn keys h.keys (turn_at b slot turn sane.turns works)) kept)
+  given_early b slot (live.Batch batch) receipt sane keys h works given =
       arrivals_early receipt.arrivals (batch_outputs b.plan batch.node (panes_of b.panes batch.panes)) given.0
       (batch_early windows b.plan (λ n node here. settings b.plan n node sane.formed.checked here) batch.node (panes_of b.panes batch.panes) (panes_of_early b.panes h.panes batch.panes))
 
@@ -233,11 +234,11 @@ module _ (strategies : StrategiesOfPlans) (windows : WindowsOfKind) (settings : 
       (All-of_bag is_early both (taken_by new) (bag_sym (taken_by new) both entries)
       (All-weaker EndsEarly (λ t. is_early t ≡ true) (λ t h. early_test t.element.span.end h) both joined))
 
-  commit_early : (b : SeenBook) (slot : ℕ) (job : Live) (receipt : Receipt) (cells : List Cell) (fired : List Pane) (marks : List StageMarks) → IsSane b → AreCellsKept b → IsEarlyBook b
+  commit_early : (b : SeenBook) (slot : ℕ) (job : Live) (receipt : Receipt) (cells : List Cell) (fired : List Pane) (marks : List StageMarks) → IsSane b → AreCellsKept b → AreKeysLogged b → IsEarlyBook b
       → Commits told b slot job receipt cells fired marks → IsEarlyBook (committed b slot job receipt cells fired marks)
-  commit_early b slot job receipt cells fired marks sane celled h made =
+  commit_early b slot job receipt cells fired marks sane celled keys h made =
       let entries = commit_entries told b slot job receipt cells fired marks celled.legal made in
-      let came = given_early b slot job receipt sane h made.works made.given in
+      let came = given_early b slot job receipt sane keys h made.works made.given in
       let taken = commit_taken (length b.commits) receipt.arrivals (is_taken b.plan (last_marks b)) b.cells cells entries h.taken came in
       record {
         taken = taken;
@@ -245,14 +246,14 @@ module _ (strategies : StrategiesOfPlans) (windows : WindowsOfKind) (settings : 
         panes = legal_early (committed b slot job receipt cells fired marks) (commit_legal strategies told b slot job receipt cells fired marks sane celled made) taken;
       }
 
-  pub keeps_early : Keeps told (Both IsSane AreCellsKept) IsEarlyBook
+  pub keeps_early : Keeps told (Both (Both IsSane AreCellsKept) AreKeysLogged) IsEarlyBook
   keeps_early = record {
     opens = λ b first opening. subst IsEarlyBook (sym opening.is) (record { taken = All-nil EndsEarly; panes = All-nil IsEarlyPane; keys = All-nil IsEarlyCell });
     enrolls = λ b known h within. record { taken = h.taken; panes = h.panes; keys = h.keys };
     takes = λ b slot next known h running free is within. early_onward b (with_slot next.rest slot (Some next.job)) (take_stays b slot next is) (take_keys b slot next is h.keys) h;
     claims = λ b slot p piece attempted known h works may. record { taken = h.taken; panes = h.panes; keys = h.keys };
     splits = λ b slot at piece attempted known h works inside behind within. record { taken = h.taken; panes = h.panes; keys = h.keys };
-    commits = λ b slot job receipt cells fired marks known h made. commit_early b slot job receipt cells fired marks known.0 known.1 h made;
+    commits = λ b slot job receipt cells fired marks known h made. commit_early b slot job receipt cells fired marks known.0.0 known.0.1 known.1 h made;
     fails = λ b slot at job cause known h works fresh unbroken. early_onward b (tried_again b slot job at cause) (fail_stays b slot at job cause) (fail_keys b slot at job cause h.keys) h;
     breaks = λ b slot at piece attempted known h works fresh is. record { taken = h.taken; panes = h.panes; keys = h.keys };
     stops = λ b known h. record { taken = h.taken; panes = h.panes; keys = h.keys };

@@ -29,16 +29,16 @@ use Rattle.beam_model.specs.Steps.{Stepped, bag, collected, holds_value, last_ba
 use Rattle.beam_model.specs.Values.{as_int, int, pair, seq}
 use Rattle.pipeline_graph.specs.Rules.{HasSettings}
 use Rattle.stateful_core.specs.Cells.{KeyCell, belongs}
-use Rattle.stateful_core.specs.Facts.{AreKeysKept, IsCellKept}
+use Rattle.stateful_core.specs.Facts.{AreKeysKept, IsCellKept, IsCellSane}
 use Rattle.stateful_core.specs.KeyWork.{key_outputs}
 use Rattle.stateful_core.specs.Placing.{Done, finish, fresh_cell, place, place_all, place_in, place_one, set_done, waits, with_done, with_waiting}
 use Rattle.stateful_core.specs.Taking.{first_timer, inputs_of, timer_inputs}
 use Rattle.stateful_core.specs.Timers.{AreTimersOf, IsAllowed}
 use Rattle.stateful_core.specs.declared.key_job.KeyTurn.{KeyTurn}
 use Rattle.stateful_core.specs.declared.waiting.Waiting.{Waiting}
+use Rattle.stateful_core.proofs.OfSane.{cell_timers}
 use Rattle.book_core.specs.Facts.{IsEarly, IsEarlyCell, IsTurnOf, greatest_end}
 use Rattle.book_core.proofs.EarlyEnds.{IsEarlyOutput, WindowsOfKind, outputs_early}
-use Rattle.book_core.proofs.FewTimers.{cell_timers}
 use Rattle.book_core.proofs.KeyOutputs.{GivesAll, given_all}
 use Rattle.book_core.proofs.Slots.{All-slice_get}
 
@@ -112,11 +112,11 @@ timers_early work span timers end h =
     by None allowed = All-nil (IsEarlyInput span)
     by (Some time) allowed = All-cons (IsEarlyInput span) (Fired (record { name = 0; time = time })) [] (allowed_time work time allowed, end) (All-nil (IsEarlyInput span))
 
-inputs_early : (plan : Plan) (commits : List CommitMarks) (cell : KeyCell) (count : ℕ) → IsCellKept plan commits cell → IsEarlyCell cell
+inputs_early : (plan : Plan) (commits : List CommitMarks) (cell : KeyCell) (count : ℕ) → IsCellSane plan commits cell → IsCellKept plan commits cell → IsEarlyCell cell
     → All (IsEarlyInput cell.log.span) (inputs_of cell count)
-inputs_early plan commits cell zero kept early =
-    let timers = cell_timers plan commits cell kept in timers_early timers.0 cell.log.span cell.kept.timers early.span timers.1
-inputs_early plan commits cell (suc n) kept early =
+inputs_early plan commits cell zero sane kept early =
+    let timers = cell_timers plan commits cell sane in timers_early timers.0 cell.log.span cell.kept.timers early.span timers.1
+inputs_early plan commits cell (suc n) sane kept early =
     All-map (IsEarlyInput cell.log.span) (λ (w : Waiting). Arrived w.element) (take (suc n) cell.waiting)
     (All-take (λ (w : Waiting). IsEarly w.element) (suc n) cell.waiting
     (λ k d inside. (early.waiting k d inside, subst (λ (s : Interval). s.end ≤ℤ greatest_end) (sym (kept.elements k d inside).1) early.span)))
@@ -125,7 +125,8 @@ pub turn_early : (plan : Plan) (commits : List CommitMarks) (cells : List KeyCel
     → All (IsEarlyInput turn.span) turn.inputs
 turn_early plan commits cells turn kept early own =
     subst (λ (t : KeyTurn). All (IsEarlyInput t.span) t.inputs) (sym own.is)
-    (inputs_early plan commits own.cell own.count (All-slice_get (IsCellKept plan commits) cells turn.cell own.cell own.is_at kept.each)
+    (inputs_early plan commits own.cell own.count (All-slice_get (IsCellSane plan commits) cells turn.cell own.cell own.is_at kept.sane.each)
+    (All-slice_get (IsCellKept plan commits) cells turn.cell own.cell own.is_at kept.each)
     (All-slice_get IsEarlyCell cells turn.cell own.cell own.is_at early))
 
 -- ---- what a commit leaves

@@ -1,6 +1,6 @@
 -- A job fails: what is kept of the book's indexes.
 use Rattle.std.proofs.Common.{◌≡◌, ℕ, ◌+◌, ◌≤◌, ◌<◌, Bool, true, false, List, [], ◌∷◌, length, refl, sym, ap, subst, ◌∙◌, arith}
-use Rattle.std.specs.Prelude.{slice_get, slice_set, cond, nat_le, nat_lt, ◌&&◌, not, ◌++◌, ℤ, map, Contains, Option, Some, None}
+use Rattle.std.specs.Prelude.{slice_get, slice_set, cond, nat_le, nat_lt, ◌&&◌, not, ◌++◌, map, Contains, Option, Some, None}
 use Rattle.std.proofs.lemmas.List.{length-map}
 use Rattle.std.proofs.Common.{length-append}
 use Rattle.std.proofs.lemmas.Bool.Decides.{nat_tests}

@@ -17,7 +17,7 @@ use Rattle.beam_values.specs.declared.marks.StageMarks.{StageMarks}
 use Rattle.bundle_commit.specs.declared.job.Logged.{Logged}
 use Rattle.bundle_commit.specs.declared.job.Receipt.{Receipt}
 use Rattle.stateful_core.specs.Cells.{KeyCell}
-use Rattle.stateful_core.specs.Facts.{Folded, IsCellKept, IsLiveAs, folded_in}
+use Rattle.stateful_core.specs.Facts.{Folded, IsCellSane, IsLiveAs, folded_in}
 use Rattle.stateful_core.specs.KeyWork.{numbered, numbered_entry}
 use Rattle.stateful_core.specs.Placing.{Done, finish, set_done, with_done}
 use Rattle.stateful_core.specs.Taking.{element_inputs, first_timer, inputs_of, timer_inputs}
@@ -33,7 +33,7 @@ use Rattle.book_core.specs.Steps.{IsWorking}
 use Rattle.book_core.specs.Work.{IsGiven, folded_by}
 use Rattle.book_core.specs.declared.live.Live.{Live}
 use Rattle.book_core.specs.declared.live.Live.TheVariants as live
-use Rattle.book_core.proofs.KeysKept.{KeysKept}
+use Rattle.book_core.proofs.KeysKept.{KeysSane}
 use Rattle.book_core.proofs.Slots.{All-slice_get, set_weighs}
 use Rattle.book_core.proofs.Turns.{placed_job, turn_at}
 
@@ -77,7 +77,7 @@ few_live commits cell zero h = omega arith
 few_live commits cell (suc n) h = h
 
 -- the elements of a job wait no more once it is done
-pub job_waits : (told : Option (List FileText)) (b : SeenBook) (slot : ℕ) (job : Live) (receipt : Receipt) → KeysKept b → AreTurnsKept b → IsWorking b slot job
+pub job_waits : (told : Option (List FileText)) (b : SeenBook) (slot : ℕ) (job : Live) (receipt : Receipt) → KeysSane b → AreTurnsKept b → IsWorking b slot job
     → IsGiven told b.plan (job_of b.panes job) (attempted_of job) receipt
     → waiting_in (finish (last_marks b) (key_done (length b.commits) job receipt.logged) b.keys) + elements_of job ≡ waiting_in b.keys
 job_waits told b slot (live.Span piece attempted) receipt kept turns works given = omega arith
@@ -85,7 +85,7 @@ job_waits told b slot (live.Batch batch) receipt kept turns works given = omega 
 job_waits told b slot (live.Key turn) receipt kept turns works given =
     let placed = placed_job told b slot turn receipt kept turns works given in
     let own = turn_at b slot turn turns works in
-    let worked : IsLiveAs b.commits own.cell (Some own.count) = subst (IsLiveAs b.commits own.cell) own.works (All-slice_get (IsCellKept b.plan b.commits) b.keys turn.cell own.cell own.is_at kept.each).works in
+    let worked : IsLiveAs b.commits own.cell (Some own.count) = subst (IsLiveAs b.commits own.cell) own.works (All-slice_get (IsCellSane b.plan b.commits) b.keys turn.cell own.cell own.is_at kept.each).works in
     let few = few_live b.commits own.cell own.count worked in
     let inputs : elements_of (live.Key turn) ≡ own.count = ap (λ (t : KeyTurn). count_by is_arrived t.inputs) own.is ∙ inputs_many own.cell own.count few in
     let left = finish_exact (last_marks b) placed.done b.keys own.cell own.count (ap (slice_get b.keys) placed.cell_is ∙ own.is_at) own.works few in

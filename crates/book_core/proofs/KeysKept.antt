@@ -1,50 +1,38 @@
 -- What is known of a book's key cells: their nodes lie in the plan, and how many cells and elements a commit leaves.
 use Rattle.std.proofs.Common.{◌≡◌, ℕ, suc, ◌+◌, ◌≤◌, ◌<◌, ℤ, Bool, true, false, cond, List, [], ◌∷◌, ◌++◌, length, map, refl, sym, ◌∙◌, length-append, arith}
-use Rattle.std.specs.Prelude.{Option, Some, None, ◌==◌, count_by, slice_get, unwrap_or}
+use Rattle.std.specs.Prelude.{Option, Some, None, ◌==◌, count_by}
 use Rattle.std.specs.List.{All, filter, flat_map}
 use Rattle.std.proofs.lemmas.Bool.Decides.{nat_tests}
 use Rattle.std.proofs.lemmas.List.Elements.{All-nil, All-cons, All-head, All-tail, All-append, All-filter, All-map, All-weaker}
 use Rattle.std.proofs.lemmas.List.Sums.{sum_by-cons}
-use Rattle.std.proofs.lemmas.Option.{slice_get_within}
-use Rattle.std.specs.Option.{option_map}
-use Rattle.beam_values.specs.Nodes.{is_stateful, is_stateful_kind}
-use Rattle.beam_values.specs.States.{KeptState}
-use Rattle.beam_values.specs.declared.log.KeyLog.{KeyLog}
-use Rattle.beam_values.specs.declared.plan.NodeKind.{NodeKind}
-use Rattle.beam_values.specs.declared.plan.NodeKind.TheVariants.{Stateful}
+use Rattle.beam_values.specs.Nodes.{is_stateful}
 use Rattle.beam_values.specs.declared.arrival.Arrival.{Arrival}
 use Rattle.beam_values.specs.declared.marks.CommitMarks.{CommitMarks}
 use Rattle.beam_values.specs.declared.marks.StageMarks.{StageMarks}
-use Rattle.beam_values.specs.declared.plan.Node.{Node}
 use Rattle.beam_values.specs.declared.plan.Plan.{Plan}
 use Rattle.beam_values.proofs.Bags.{bag_swap, bag_trans}
 use Rattle.beam_model.specs.Holds.{Hold, arrival_hold, least_hold}
-use Rattle.beam_model.specs.Logs.{LeadsAt, LeadsIn}
 use Rattle.stateful_core.specs.Cells.{KeyCell, belongs, cell_holds, element_hold, key_holds, timer_hold}
-use Rattle.stateful_core.specs.Facts.{AreKeysKept, IsCellKept}
+use Rattle.stateful_core.specs.Facts.{AreKeysSane, IsCellSane}
 use Rattle.stateful_core.specs.Placing.{fresh_cell, place_all, place_in, place_one, waits, with_waiting}
 use Rattle.stateful_core.specs.declared.waiting.Waiting.{Waiting}
 use Rattle.stateful_core.specs.Lasting.{arrival_holds}
 use Rattle.stateful_core.proofs.HoldsKept.{place_holds_bag}
+use Rattle.stateful_core.proofs.OfSane.{cell_stateful, cell_within}
 use Rattle.book_core.specs.Book.{SeenBook, waiting_in}
 use Rattle.book_core.proofs.HoldBags.{least_of_bag}
 use Rattle.book_core.proofs.LeastHolds.{least_without}
 
-abbrev pub KeysKept : SeenBook → Type 0
-KeysKept b = AreKeysKept b.plan b.commits b.keys
+abbrev pub KeysSane : SeenBook → Type 0
+KeysSane b = AreKeysSane b.plan b.commits b.keys
 
 -- ---- nodes
 
-leads_within : (plan : Plan) (commits : List CommitMarks) (cell : KeyCell) (found : Option Node) → slice_get plan.nodes cell.log.node ≡ found
-    → LeadsIn commits found cell.log cell.kept → cell.log.node < length plan.nodes
-leads_within plan commits cell None at leads = absurd leads
-leads_within plan commits cell (Some node) at leads = slice_get_within plan.nodes cell.log.node node at
-
-pub cells_within : (plan : Plan) (commits : List CommitMarks) (cells : List KeyCell) → AreKeysKept plan commits cells → All (λ cell. cell.log.node < length plan.nodes) cells
+pub cells_within : (plan : Plan) (commits : List CommitMarks) (cells : List KeyCell) → AreKeysSane plan commits cells → All (λ cell. cell.log.node < length plan.nodes) cells
 cells_within plan commits cells h =
-    All-weaker (IsCellKept plan commits) (λ cell. cell.log.node < length plan.nodes) (λ cell k. leads_within plan commits cell (slice_get plan.nodes cell.log.node) refl k.leads) cells h.each
+    All-weaker (IsCellSane plan commits) (λ cell. cell.log.node < length plan.nodes) (λ cell k. cell_within plan commits cell k) cells h.each
 
-pub keys_within : (b : SeenBook) → KeysKept b → All (λ cell. cell.log.node < length b.plan.nodes) b.keys
+pub keys_within : (b : SeenBook) → KeysSane b → All (λ cell. cell.log.node < length b.plan.nodes) b.keys
 keys_within b h = cells_within b.plan b.commits b.keys h
 
 -- what holds of the nodes of cells holds of the nodes that they hold back
@@ -70,24 +58,11 @@ module _ (P : ℕ → Type 0) where
 pub holds_within : (many : ℕ) (cells : List KeyCell) → All (λ cell. cell.log.node < many) cells → All (λ hold. hold.node < many) (key_holds cells)
 holds_within many cells h = holds_at (λ node. node < many) cells h
 
--- a cell's node is a Stateful one
-stateful_at : (commits : List CommitMarks) (kind : NodeKind) (log : KeyLog) (end : KeptState) → LeadsAt commits kind log end → is_stateful_kind kind ≡ true
-stateful_at commits (Stateful work args logged) log end leads = refl
-stateful_at commits _ log end leads = absurd leads
-
-stateful_in : (commits : List CommitMarks) (found : Option Node) (log : KeyLog) (end : KeptState) → LeadsIn commits found log end
-    → unwrap_or (option_map (λ (n : Node). is_stateful_kind n.kind) found) false ≡ true
-stateful_in commits (Some node) log end leads = stateful_at commits node.kind log end leads
-stateful_in commits None log end leads = absurd leads
-
-pub cell_stateful : (plan : Plan) (commits : List CommitMarks) (cell : KeyCell) → IsCellKept plan commits cell → is_stateful plan cell.log.node ≡ true
-cell_stateful plan commits cell kept = stateful_in commits (slice_get plan.nodes cell.log.node) cell.log cell.kept kept.leads
-
 -- a plan without Stateful nodes has no key cells
-pub none_keyed : (plan : Plan) (commits : List CommitMarks) (cells : List KeyCell) → ((n : ℕ) → is_stateful plan n ≡ false) → AreKeysKept plan commits cells → cells ≡ []
+pub none_keyed : (plan : Plan) (commits : List CommitMarks) (cells : List KeyCell) → ((n : ℕ) → is_stateful plan n ≡ false) → AreKeysSane plan commits cells → cells ≡ []
 none_keyed plan commits [] none h = refl
 none_keyed plan commits (cell ∷ cells) none h =
-    let kept = All-head (IsCellKept plan commits) cell cells h.each in
+    let kept = All-head (IsCellSane plan commits) cell cells h.each in
     let no : true ≡ false = sym (cell_stateful plan commits cell kept) ∙ none cell.log.node in
     absurd (cc)
 

@@ -22,6 +22,7 @@ pub mod LeastHolds
 pub mod HoldBags
 pub mod Seen
 pub mod KeysKept
+pub mod KeysLogged
 pub mod MarksKept
 pub mod RisingMarks
 pub mod Turns

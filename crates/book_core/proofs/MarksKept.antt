@@ -37,7 +37,7 @@ use Rattle.beam_values.specs.declared.arrival.Arrival.{Arrival}
 use Rattle.stateful_core.specs.Cells.{KeyCell, key_holds}
 use Rattle.stateful_core.specs.Placing.{place, Done as KeyDone}
 use Rattle.stateful_core.proofs.HoldsKept.{place_above}
-use Rattle.book_core.proofs.KeysKept.{KeysKept, holds_within, keys_within}
+use Rattle.book_core.proofs.KeysKept.{KeysSane, holds_within, keys_within}
 use Rattle.book_core.specs.Indexes.{all_holds}
 use Rattle.book_core.proofs.Queues.{held_fired}
 use Rattle.book_core.proofs.Seen.{receipt_rises}
@@ -217,7 +217,7 @@ unmapped P f [] h = All-nil (λ x. P (f x))
 unmapped P f (x ∷ xs) h = All-cons (λ y. P (f y)) x xs (All-head P (f x) (map f xs) h) (unmapped P f xs (All-tail P (f x) (map f xs) h))
 
 module _ (told : Option (List FileText)) (b : SeenBook) (slot : ℕ) (job : Live) (receipt : Receipt) (cells : List Cell) (fired : List Pane) (marks : List StageMarks)
-    (formed : IsWellFormed b) (once : AreHeldOnce b) (keys : KeysKept b) (made : Commits told b slot job receipt cells fired marks) (was : AreMarksOfBook b (last_marks b)) where
+    (formed : IsWellFormed b) (once : AreHeldOnce b) (keys : KeysSane b) (made : Commits told b slot job receipt cells fired marks) (was : AreMarksOfBook b (last_marks b)) where
   abbrev after : SeenBook
   after = committed b slot job receipt cells fired marks
 

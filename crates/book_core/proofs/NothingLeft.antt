@@ -30,7 +30,7 @@ use Rattle.book_core.proofs.HeldOnce.{group_within}
 use Rattle.beam_values.specs.declared.marks.CommitMarks.{CommitMarks}
 use Rattle.beam_values.specs.declared.plan.Plan.{Plan}
 use Rattle.stateful_core.specs.Cells.{KeyCell, key_holds}
-use Rattle.stateful_core.specs.Facts.{AreKeysKept, IsCellKept, IsCellThrough}
+use Rattle.stateful_core.specs.Facts.{AreKeysSane, IsCellSane, IsCellThrough}
 use Rattle.stateful_core.specs.Taking.{is_free, is_some}
 use Rattle.stateful_core.specs.Working.{is_live, is_live_at, is_number}
 use Rattle.stateful_core.specs.declared.place.Place.{Place}
@@ -218,24 +218,24 @@ module _ (b : SeenBook) (formed : IsWellFormed b) (once : AreHeldOnce b) (groups
         of_cell cell at = free cell.live (sym (ap is_live at) ∙ not_live (is_live_at b.keys k) (turns.once.once k))
 
     -- so nothing waits there, and no timer is set
-    pub all_through : AreTurnsKept b → AreKeysKept b.plan b.commits b.keys → AreMarksOfBook b (last_marks b) → All IsCellThrough b.keys
+    pub all_through : AreTurnsKept b → AreKeysSane b.plan b.commits b.keys → AreMarksOfBook b (last_marks b) → All IsCellThrough b.keys
     all_through turns keys marked =
         nothing_left b.plan b.commits (last_marks b) b.keys keys (λ n node at. inputs_lower b.plan n node formed.checked at)
         (subst (λ (l : List Hold). AreMarks b.plan (least_hold l) (last_marks b)) keys_alone marked) (all_free turns) no_cell
 
-    none_hold : (plan : Plan) (commits : List CommitMarks) (cells : List KeyCell) → All (IsCellKept plan commits) cells → All IsCellThrough cells → key_holds cells ≡ []
+    none_hold : (plan : Plan) (commits : List CommitMarks) (cells : List KeyCell) → All (IsCellSane plan commits) cells → All IsCellThrough cells → key_holds cells ≡ []
     none_hold plan commits [] kept through = refl
     none_hold plan commits (cell ∷ cells) kept through =
-        ap (λ (l : List Hold). l ++ key_holds cells) (no_holds cell (All-head (IsCellKept plan commits) cell cells kept).holds (All-head IsCellThrough cell cells through))
-        ∙ none_hold plan commits cells (All-tail (IsCellKept plan commits) cell cells kept) (All-tail IsCellThrough cell cells through)
+        ap (λ (l : List Hold). l ++ key_holds cells) (no_holds cell (All-head (IsCellSane plan commits) cell cells kept).holds (All-head IsCellThrough cell cells through))
+        ∙ none_hold plan commits cells (All-tail (IsCellSane plan commits) cell cells kept) (All-tail IsCellThrough cell cells through)
 
-    pub all_marks_final : AreTurnsKept b → AreKeysKept b.plan b.commits b.keys → AreMarksOfBook b (last_marks b) → (n : ℕ) → marks_at (last_marks b) n ≡ final_stage
+    pub all_marks_final : AreTurnsKept b → AreKeysSane b.plan b.commits b.keys → AreMarksOfBook b (last_marks b) → (n : ℕ) → marks_at (last_marks b) n ≡ final_stage
     all_marks_final turns keys marked n =
         all_final b.plan (least_hold []) (last_marks b) formed.checked
         (subst (λ (l : List Hold). AreMarks b.plan (least_hold l) (last_marks b)) (keys_alone ∙ none_hold b.plan b.commits b.keys keys.each (all_through turns keys marked)) marked)
         (λ k less. refl) n
 
-    pub each_final : AreTurnsKept b → AreKeysKept b.plan b.commits b.keys → AreMarksOfBook b (last_marks b)
+    pub each_final : AreTurnsKept b → AreKeysSane b.plan b.commits b.keys → AreMarksOfBook b (last_marks b)
         → All (λ marks. (marks.mark_in ≡ final_mark) × (marks.mark_out ≡ final_mark)) (last_marks b)
     each_final turns keys marked k d within =
         let is : get_or (last_marks b) k d ≡ final_stage =

@@ -30,7 +30,7 @@ use Rattle.book_core.specs.declared.live.Live.{Live}
 use Rattle.book_core.specs.declared.live.Live.TheVariants as live
 use Rattle.book_core.proofs.Cases.{Keeps, Commits, Both, enrolled}
 use Rattle.stateful_core.specs.Cells.{key_holds}
-use Rattle.book_core.proofs.KeysKept.{KeysKept}
+use Rattle.book_core.proofs.KeysKept.{KeysSane}
 use Rattle.book_core.proofs.HoldBags.{least_as, least_of_bag, marks_of_least, enroll_holds, take_holds, claim_holds, back_holds, split_least, broken_least}
 use Rattle.book_core.specs.Indexes.{all_holds, own_holds}
 use Rattle.book_core.proofs.MarksKept.{none_falls}
@@ -114,7 +114,7 @@ stop_where_marked true b note h = stop_marked b (or_stopped b.stopped (stop.Spen
 stop_where_marked false b note h = h
 
 commit_marked : (told : Option (List FileText)) (b : SeenBook) (slot : ℕ) (job : Live) (receipt : Receipt) (cells : List Cell) (fired : List Pane) (marks : List StageMarks)
-    → IsWellFormed b → AreHeldOnce b → KeysKept b → IsMarked b → Commits told b slot job receipt cells fired marks → IsMarked (committed b slot job receipt cells fired marks)
+    → IsWellFormed b → AreHeldOnce b → KeysSane b → IsMarked b → Commits told b slot job receipt cells fired marks → IsMarked (committed b slot job receipt cells fired marks)
 commit_marked told b slot job receipt cells fired marks formed once keys h made =
     let was : AreMarksOfBook b (last_marks b) = subst (AreMarksOfBook b) (sym (last_is b h)) h.marked in
     let rise = none_falls told b slot job receipt cells fired marks formed once keys made was in
@@ -145,7 +145,7 @@ opening_marked b first opening = subst IsMarked (sym opening.is) (record {
     one_only : (c : ℕ) (only new : CommitMarks) → slice_get (only ∷ []) (suc c) ≡ Some new → ⊥
     one_only c only new e = cc
 
-pub keeps_marked : (told : Option (List FileText)) → Keeps told (Both (Both IsWellFormed AreHeldOnce) KeysKept) IsMarked
+pub keeps_marked : (told : Option (List FileText)) → Keeps told (Both (Both IsWellFormed AreHeldOnce) KeysSane) IsMarked
 keeps_marked told = record {
   opens = opening_marked;
   enrolls = λ b known h within. marked_onward b (enrolled b) (record { plan = refl; commits = refl; least = least_as b (enrolled b) refl (least_of_bag (own_holds (enrolled b)) (own_holds b) (enroll_holds b)) }) h;

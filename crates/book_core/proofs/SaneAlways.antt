@@ -20,8 +20,8 @@ use Rattle.book_core.proofs.Cases.{AreAlways, Anything, Both, always_reached, st
 use Rattle.book_core.proofs.Formed.{keeps_formed}
 use Rattle.book_core.proofs.HeldOnce.{keeps_held}
 use Rattle.book_core.proofs.Partitioned.{keeps_within, opening_partitioned, partition_kept}
-use Rattle.book_core.proofs.KeysAlways.{AreKeysSane, keeps_keys}
-use Rattle.book_core.proofs.KeysKept.{KeysKept}
+use Rattle.book_core.proofs.KeysAlways.{AreKeysWorked, keeps_keys}
+use Rattle.book_core.proofs.KeysKept.{KeysSane}
 use Rattle.book_core.proofs.PiecesListed.{at_most, keeps_listed}
 use Rattle.book_core.proofs.RisingMarks.{IsMarked, kept_marks, keeps_marked, marked_of}
 use Rattle.book_core.proofs.SaneResults.{AreSaneResults, keeps_results}
@@ -117,10 +117,10 @@ step_sane told b new slot action answer step h =
     let now_counted = step_keeps told IsSane IsCounted (keeps_counted told) b new slot action answer step h counted in
     let sound : AreLiveSound b = record { attempted = h.attempted; below = h.attempts.worked_pieces } in
     let source = source_step told b new slot action answer step sound in
-    let now_marked = step_keeps told (Both (Both IsWellFormed AreHeldOnce) KeysKept) IsMarked (keeps_marked told) b new slot action answer step ((h.formed, h.held), h.keys) marked in
-    let now_keyed = step_keeps told (Both (Both IsWellFormed AreHeldOnce) IsMarked) AreKeysSane (keeps_keys told) b new slot action answer step ((h.formed, h.held), marked) (h.keys, h.turns) in
+    let now_marked = step_keeps told (Both (Both IsWellFormed AreHeldOnce) KeysSane) IsMarked (keeps_marked told) b new slot action answer step ((h.formed, h.held), h.keys) marked in
+    let now_keyed = step_keeps told (Both (Both IsWellFormed AreHeldOnce) IsMarked) AreKeysWorked (keeps_keys told) b new slot action answer step ((h.formed, h.held), marked) (h.keys, h.turns) in
     let now_left =
-    step_keeps told (Both (Both (Both IsWellFormed AreHeldOnce) KeysKept) IsMarked) AreSaneResults (keeps_results told) b new slot action answer step (((h.formed, h.held), h.keys), marked)
+    step_keeps told (Both (Both (Both IsWellFormed AreHeldOnce) KeysSane) IsMarked) AreSaneResults (keeps_results told) b new slot action answer step (((h.formed, h.held), h.keys), marked)
     (record { cells = h.cells; panes = h.panes; dropped = h.dropped; writes = h.writes }) in
     record {
       formed = step_keeps told Anything IsWellFormed (keeps_formed told) b new slot action answer step tt h.formed;

@@ -35,7 +35,7 @@ use Rattle.book_core.specs.declared.live.Live.{Live}
 use Rattle.book_core.specs.declared.live.Live.TheVariants as live
 use Rattle.book_core.proofs.Cases.{Keeps, Commits, Both}
 use Rattle.book_core.proofs.HeldOnce.{get_at_end}
-use Rattle.book_core.proofs.KeysKept.{KeysKept}
+use Rattle.book_core.proofs.KeysKept.{KeysSane}
 use Rattle.book_core.proofs.MarksKept.{none_falls}
 use Rattle.book_core.proofs.RisingMarks.{IsMarked, last_is}
 use Rattle.book_core.proofs.Taking.{take_cases}
@@ -142,7 +142,7 @@ dropped_there plan before c arrivals =
     (filter_passes (is_dropped plan before) arrivals))
 
 commit_results : (told : Option (List FileText)) (b : SeenBook) (slot : ℕ) (job : Live) (receipt : Receipt) (cells : List Cell) (fired : List Pane) (marks : List StageMarks)
-    → IsWellFormed b → AreHeldOnce b → KeysKept b → IsMarked b → AreSaneResults b → Commits told b slot job receipt cells fired marks → AreSaneResults (committed b slot job receipt cells fired marks)
+    → IsWellFormed b → AreHeldOnce b → KeysSane b → IsMarked b → AreSaneResults b → Commits told b slot job receipt cells fired marks → AreSaneResults (committed b slot job receipt cells fired marks)
 commit_results told b slot job receipt cells fired marks formed once keys marked h made =
     let c = length b.commits in
     let later : length (b.commits ++ as_commit marks ∷ []) ≡ c + 1 = length-append b.commits (as_commit marks ∷ []) in
@@ -175,7 +175,7 @@ commit_results told b slot job receipt cells fired marks formed once keys marked
 sorted_none : IsSorted pane_cmp []
 sorted_none k d from within = absurd (omega (arith, within))
 
-pub keeps_results : (told : Option (List FileText)) → Keeps told (Both (Both (Both IsWellFormed AreHeldOnce) KeysKept) IsMarked) AreSaneResults
+pub keeps_results : (told : Option (List FileText)) → Keeps told (Both (Both (Both IsWellFormed AreHeldOnce) KeysSane) IsMarked) AreSaneResults
 keeps_results told = record {
   opens = λ b first opening. subst AreSaneResults (sym opening.is) (record {
     cells = record { cells = none_sane b.plan (opening.marks); indices = All-nil (λ (cell : Cell). cell.next_index ≤ 0) };

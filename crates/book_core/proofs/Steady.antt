@@ -9,7 +9,7 @@ use Rattle.beam_values.specs.declared.outcome.StopCause.{StopCause}
 use Rattle.beam_values.specs.declared.outcome.StopCause.TheVariants as stop
 use Rattle.beam_values.specs.declared.piece.Piece.{Piece}
 use Rattle.watermarks.specs.Holds.{SeenHolds}
-use Rattle.book_core.specs.Book.{SeenBook, live_pieces, most_parts, places_kept, tracker_of}
+use Rattle.book_core.specs.Book.{SeenBook, most_parts, places_kept, tracker_of}
 use Rattle.book_core.specs.Calls.{CanClaim, Makes}
 use Rattle.book_core.specs.Changes.{with_slot, or_stopped}
 use Rattle.book_core.specs.Facts.{IsAttemptedWithin}

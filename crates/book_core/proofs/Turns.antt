@@ -14,7 +14,7 @@ use Rattle.beam_values.specs.declared.plan.Plan.{Plan}
 use Rattle.bundle_commit.specs.declared.job.Logged.{Logged}
 use Rattle.bundle_commit.specs.declared.job.Receipt.{Receipt}
 use Rattle.stateful_core.specs.Cells.{KeyCell}
-use Rattle.stateful_core.specs.Facts.{AreKeysKept, AreDoneOf, Folded, IsCellKept, IsDoneOf, IsLiveAs}
+use Rattle.stateful_core.specs.Facts.{AreKeysSane, AreDoneOf, Folded, IsCellSane, IsDoneOf, IsLiveAs}
 use Rattle.stateful_core.specs.KeyWork.{IsGivenOfKey, KeyCommit, numbered}
 use Rattle.stateful_core.specs.Placing.{Done, place}
 use Rattle.stateful_core.specs.Staying.{StaysAt}
@@ -25,6 +25,7 @@ use Rattle.stateful_core.specs.declared.place.Place.{Place}
 use Rattle.stateful_core.proofs.JobStays.{change_stays, place_stays, turn_stays}
 use Rattle.stateful_core.proofs.KeyCommit.{key_commit}
 use Rattle.stateful_core.proofs.NextReady.{next_found}
+use Rattle.stateful_core.proofs.OfSane.{cell_stateful}
 use Rattle.stateful_core.proofs.Found.{set_got}
 use Rattle.stateful_core.proofs.WorkedOnce.{done_once, enroll_once, give_back_once, other_once, take_once}
 use Rattle.book_core.specs.Book.{SeenBook, cell_worked, last_marks}
@@ -35,7 +36,7 @@ use Rattle.book_core.specs.Steps.{IsFree, IsWorking}
 use Rattle.book_core.specs.Work.{IsGiven, folded_by}
 use Rattle.book_core.specs.declared.live.Live.{Live}
 use Rattle.book_core.specs.declared.live.Live.TheVariants as live
-use Rattle.book_core.proofs.KeysKept.{KeysKept, cell_stateful}
+use Rattle.book_core.proofs.KeysKept.{KeysSane}
 use Rattle.book_core.proofs.Slots.{All-slice_get}
 use Rattle.book_core.proofs.Slotted.{flat_set_weighs}
 use Rattle.book_core.proofs.Taking.{IsNextCell}
@@ -45,17 +46,17 @@ pub turn_at : (b : SeenBook) (slot : ℕ) (turn : KeyTurn) → AreTurnsKept b �
 turn_at b slot turn h works = All-slice_get (HasTurn b.keys) b.slots slot (Some (live.Key turn)) works h.turns
 
 -- which is of a Stateful node
-pub turn_stateful : (b : SeenBook) (slot : ℕ) (turn : KeyTurn) → KeysKept b → AreTurnsKept b → IsWorking b slot (live.Key turn) → is_stateful b.plan turn.node ≡ true
+pub turn_stateful : (b : SeenBook) (slot : ℕ) (turn : KeyTurn) → KeysSane b → AreTurnsKept b → IsWorking b slot (live.Key turn) → is_stateful b.plan turn.node ≡ true
 turn_stateful b slot turn kept h works =
     let own = turn_at b slot turn h works in
     ap (λ (t : KeyTurn). is_stateful b.plan t.node) own.is
-    ∙ cell_stateful b.plan b.commits own.cell (All-slice_get (IsCellKept b.plan b.commits) b.keys turn.cell own.cell own.is_at kept.each)
+    ∙ cell_stateful b.plan b.commits own.cell (All-slice_get (IsCellSane b.plan b.commits) b.keys turn.cell own.cell own.is_at kept.each)
 
 -- ---- a job stays
 
-live_as : (plan : Plan) (commits : List CommitMarks) (cells : List KeyCell) (turn : KeyTurn) → AreKeysKept plan commits cells → (h : IsTurnOf cells turn) → IsLiveAs commits h.cell (Some h.count)
+live_as : (plan : Plan) (commits : List CommitMarks) (cells : List KeyCell) (turn : KeyTurn) → AreKeysSane plan commits cells → (h : IsTurnOf cells turn) → IsLiveAs commits h.cell (Some h.count)
 live_as plan commits cells turn kept h =
-    subst (IsLiveAs commits h.cell) h.works (All-slice_get (IsCellKept plan commits) cells turn.cell h.cell h.is_at kept.each).works
+    subst (IsLiveAs commits h.cell) h.works (All-slice_get (IsCellSane plan commits) cells turn.cell h.cell h.is_at kept.each).works
 
 turn_stays_in : (commits : List CommitMarks) (old new : List KeyCell) (turn : KeyTurn) → (h : IsTurnOf old turn) → IsLiveAs commits h.cell (Some h.count) → StaysAt turn.cell h.cell new → IsTurnOf new turn
 turn_stays_in commits old new turn h works s = record {
@@ -67,7 +68,7 @@ turn_stays_in commits old new turn h works s = record {
 }
 
 -- whatever slots there are, where each cell that is worked stays
-pub turns_stay : (plan : Plan) (commits : List CommitMarks) (old new : List KeyCell) (slots : List (Option Live)) → AreKeysKept plan commits old
+pub turns_stay : (plan : Plan) (commits : List CommitMarks) (old new : List KeyCell) (slots : List (Option Live)) → AreKeysSane plan commits old
     → ((k : ℕ) (turn : KeyTurn) (h : IsTurnOf old turn) → slice_get slots k ≡ Some (Some (live.Key turn)) → StaysAt turn.cell h.cell new)
     → All (HasTurn old) slots → All (HasTurn new) slots
 turns_stay plan commits old new slots kept stays all k d inside = by (get_or slots k d) (slice_get-get_or slots k d inside) (all k d inside)
@@ -112,7 +113,7 @@ module _ (b : SeenBook) (slot : ℕ) (place : Place) (cell : KeyCell) (found : I
     is = same_turn (min b.options.bundle (length cell.waiting));
   }
 
-  pub take_turns : IsFree b slot → KeysKept b → AreTurnsKept b → AreTurnsKept (with_slot (with_key b place.at cell).rest slot (Some (with_key b place.at cell).job))
+  pub take_turns : IsFree b slot → KeysSane b → AreTurnsKept b → AreTurnsKept (with_slot (with_key b place.at cell).rest slot (Some (with_key b place.at cell).job))
   take_turns free kept h =
       let job = Some (live.Key (key_turn b place.at cell)) in
       let new = change (with_job b.options.bundle) place.at b.keys in
@@ -170,7 +171,7 @@ abbrev IsGivenOf : Plan → Receipt → KeyTurn → Type 0
 IsGivenOf plan receipt turn =
     IsGivenOfKey plan turn.node turn.key turn.span turn.inputs (record { cells = turn.state; timers = turn.timers }) receipt.arrivals (option_map folded_by receipt.logged)
 
-module _ (b : SeenBook) (slot : ℕ) (turn : KeyTurn) (works : IsWorking b slot (live.Key turn)) (kept : KeysKept b) (h : AreTurnsKept b) where
+module _ (b : SeenBook) (slot : ℕ) (turn : KeyTurn) (works : IsWorking b slot (live.Key turn)) (kept : KeysSane b) (h : AreTurnsKept b) where
   -- where it is given back
   pub back_turns : AreTurnsKept (record (with_slot b slot None) { keys = change tried turn.cell b.keys })
   back_turns =
@@ -201,7 +202,7 @@ pub record IsPlacedJob (b : SeenBook) (turn : KeyTurn) (receipt : Receipt) : Typ
   pub cell_is : done.cell ≡ turn.cell
   pub made : IsDoneOf b.plan (length b.commits) b.keys done
 
-pub placed_job : (told : Option (List FileText)) (b : SeenBook) (slot : ℕ) (turn : KeyTurn) (receipt : Receipt) → KeysKept b → AreTurnsKept b → IsWorking b slot (live.Key turn)
+pub placed_job : (told : Option (List FileText)) (b : SeenBook) (slot : ℕ) (turn : KeyTurn) (receipt : Receipt) → KeysSane b → AreTurnsKept b → IsWorking b slot (live.Key turn)
     → IsGiven told b.plan (job_of b.panes (live.Key turn)) None receipt → IsPlacedJob b turn receipt
 placed_job told b slot turn receipt kept h works given = by receipt.logged refl (turn_committed b slot turn works kept h told receipt (length b.commits) given)
   where
@@ -219,7 +220,7 @@ placed_job told b slot turn receipt kept h works given = by receipt.logged refl 
 -- ---- a commit
 
 -- what is done is what its job gave
-pub commit_done : (told : Option (List FileText)) (b : SeenBook) (slot : ℕ) (job : Live) (receipt : Receipt) → KeysKept b → AreTurnsKept b → IsWorking b slot job
+pub commit_done : (told : Option (List FileText)) (b : SeenBook) (slot : ℕ) (job : Live) (receipt : Receipt) → KeysSane b → AreTurnsKept b → IsWorking b slot job
     → IsGiven told b.plan (job_of b.panes job) (attempted_of job) receipt → AreDoneOf b.plan (length b.commits) b.keys (key_done (length b.commits) job receipt.logged)
 commit_done told b slot (live.Span piece attempted) receipt kept h works given = tt
 commit_done told b slot (live.Batch batch) receipt kept h works given = tt
@@ -227,7 +228,7 @@ commit_done told b slot (live.Key turn) receipt kept h works given =
     let placed = placed_job told b slot turn receipt kept h works given in
     subst (AreDoneOf b.plan (length b.commits) b.keys) (sym placed.is) placed.made
 
-pub commit_turns : (told : Option (List FileText)) (b : SeenBook) (slot : ℕ) (job : Live) (receipt : Receipt) → KeysKept b → AreTurnsKept b → IsWorking b slot job
+pub commit_turns : (told : Option (List FileText)) (b : SeenBook) (slot : ℕ) (job : Live) (receipt : Receipt) → KeysSane b → AreTurnsKept b → IsWorking b slot job
     → IsGiven told b.plan (job_of b.panes job) (attempted_of job) receipt → AreTurnsKept (record (with_slot b slot None) { keys = keys_after b job receipt })
 commit_turns told b slot (live.Span piece attempted) receipt kept h works given = record {
   once = other_once cell_worked b.plan (last_marks b) receipt.arrivals b.slots b.keys slot (Some (live.Span piece attempted)) None h.once works refl;

@@ -10,7 +10,7 @@ use Rattle.beam_values.specs.Cells.{pane_cmp}
 use Rattle.beam_values.specs.Nodes.{is_group}
 use Rattle.group_cells.specs.Sane.{ArePanesCounted, AreSaneCells}
 use Rattle.split_core.specs.Partition.{IsListed}
-use Rattle.stateful_core.specs.Facts.{AreKeysKept}
+use Rattle.stateful_core.specs.Facts.{AreKeysKept, AreKeysSane}
 use Rattle.book_core.specs.Book.{SeenBook, last_marks, live_batches, live_pieces}
 use Rattle.book_core.specs.Facts.{AreAtWrites, AreAttemptsCounted, AreHeldOnce, AreKept, AreMarksKept, ArePartitioned, AreSpentWell, AreTurnsKept, IsAttemptedWithin, IsEarlyBook, IsStopNoted, IsWellFormed}
 use Rattle.book_core.specs.declared.live.WaitingPane.{WaitingPane}
@@ -57,13 +57,15 @@ pub record IsSane (b : SeenBook) : Type 0 where
   pub cells : AreCellsSane b
   pub panes : ArePanesSane b
   pub dropped : AreDroppedAtGroups b
-  -- each key cell's log leads from the fresh state to the cell's, and each key and window has one cell at most
-  pub keys : AreKeysKept b.plan b.commits b.keys
+  -- the timers of each key cell are those that its function sets, and each key and window has one cell at most
+  pub keys : AreKeysSane b.plan b.commits b.keys
   pub turns : AreTurnsKept b
   pub writes : AreAtWrites b
 
--- What holds besides of every book that a run reached, whatever the files are: what came to the Groups is legal, and windows end early.
+-- What holds besides of every book that a run reached, whatever the files are: what came to the Groups is legal, the log of each key cell leads from the fresh
+-- state to the cell's, and windows end early.
 pub record AreKeptWith (b : SeenBook) : Type 0 where
   pub sane : IsSane b
   pub kept : AreKept b
+  pub keys : AreKeysKept b.plan b.commits b.keys
   pub early : IsEarlyBook b

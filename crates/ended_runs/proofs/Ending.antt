@@ -33,11 +33,12 @@ use Rattle.beam_model.proofs.DeadPositions.{covering_without}
 use Rattle.stateful_core.specs.Cells.{KeyCell, key_arrivals, logs_of, waiting_arrival}
 use Rattle.stateful_core.specs.Facts.{IsCellThrough}
 use Rattle.stateful_core.specs.declared.waiting.Waiting.{Waiting}
+use Rattle.stateful_core.proofs.OfSane.{cell_stateful}
 use Rattle.book_core.specs.Book.{SeenBook, HeldPane, panes_of}
 use Rattle.book_core.specs.Calls.{IsOutcomeOf}
 use Rattle.book_core.specs.Facts.{AreAtWrites, AreCellsKept, ArePartitioned, IsBalanced, IsWellFormed, held_chains}
 use Rattle.book_core.specs.Runs.{AreTold, IsThrough}
-use Rattle.book_core.proofs.KeysKept.{KeysKept, cell_stateful}
+use Rattle.book_core.proofs.KeysKept.{KeysSane}
 use Rattle.ended_runs.proofs.Listed.{done_covers}
 
 pub outcome_covered : (b : SeenBook) (o : Outcome) → ArePartitioned b → IsWellFormed b → IsThrough b → IsOutcomeOf b o → IsCovered o
@@ -125,11 +126,11 @@ flow_alike plan sources panes logs more same =
     (bag_flat_map (λ (log : KeyLog). flat_map (λ entry. flat_map (chain plan log.node) entry.outputs) log.entries) logs more same))
 
 -- each log is of a Stateful node
-pub logs_at_nodes : (b : SeenBook) → KeysKept b → All (λ log. is_stateful b.plan log.node ≡ true) (logs_of b.keys)
+pub logs_at_nodes : (b : SeenBook) → KeysSane b → All (λ log. is_stateful b.plan log.node ≡ true) (logs_of b.keys)
 logs_at_nodes b keys =
     All-map (λ log. is_stateful b.plan log.node ≡ true) (λ (cell : KeyCell). cell.log) b.keys (λ k d inside. cell_stateful b.plan b.commits (get_or b.keys k d) (keys.each k d inside))
 
-pub outcome_accounted : (told : List FileText) (b : SeenBook) (o : Outcome) → AreTold told b → ArePartitioned b → IsWellFormed b → AreCellsKept b → AreAtWrites b → KeysKept b
+pub outcome_accounted : (told : List FileText) (b : SeenBook) (o : Outcome) → AreTold told b → ArePartitioned b → IsWellFormed b → AreCellsKept b → AreAtWrites b → KeysSane b
     → IsBalanced told b → IsThrough b → IsOutcomeOf b o → IsAccounted (items told b.plan) o
 outcome_accounted told b o lengths partitioned formed kept writes keys balanced through of = record {
   cells = subst (λ (p : Plan). All (λ cell. is_group p cell.node ≡ true) o.cells) (sym of.plan)

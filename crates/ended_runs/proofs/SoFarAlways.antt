@@ -36,7 +36,8 @@ use Rattle.beam_model.specs.Positions.{items}
 use Rattle.bundle_commit.specs.declared.job.Receipt.{Receipt}
 use Rattle.group_cells.specs.Commits.{as_commit, dropped_arrival, is_at_group, is_dropped, is_taken, taken_arrival}
 use Rattle.watermarks.proofs.Rising.{below_hold}
-use Rattle.stateful_core.specs.Facts.{IsCellKept}
+use Rattle.stateful_core.specs.Facts.{IsCellSane}
+use Rattle.stateful_core.proofs.OfSane.{cell_stateful}
 use Rattle.book_core.specs.Book.{SeenBook, HeldPane, AreMarksOfBook, batch_of, held, held_in, hold_of, holds, last_marks, live_pieces}
 use Rattle.book_core.specs.Changes.{with_slot, broken, cut_to, split_off, committed, tried_again, given_back, counted, stopped_where, ends_run, note_of, written_by}
 use Rattle.book_core.specs.Facts.{AreHeldOnce, IsEarlyPane, IsWellFormed}
@@ -51,7 +52,7 @@ use Rattle.book_core.proofs.HeldMoves.{back_moves, enroll_moves, fired_held, set
 use Rattle.book_core.proofs.HeldOnce.{commit_bag, none_held}
 use Rattle.stateful_core.specs.Cells.{key_holds}
 use Rattle.book_core.specs.Indexes.{all_holds}
-use Rattle.book_core.proofs.KeysKept.{cell_stateful, holds_at}
+use Rattle.book_core.proofs.KeysKept.{holds_at}
 use Rattle.book_core.proofs.Reaching.{reached_more}
 use Rattle.book_core.proofs.SaneAlways.{reached_sane}
 use Rattle.book_core.proofs.SaneResults.{StaysCelled, fail_stays, take_stays}
@@ -243,7 +244,7 @@ module _ (laws : KnownLaws) (told : List FileText) (to : ℕ) where
         (λ h stateful at. absurd (false≢true (sym (sound.stateless m upper) ∙ subst (λ (i : ℕ). is_stateful b.plan i ≡ true) (eqb-true h.node m at) stateful)))
         (key_holds b.keys)
         (holds_at (λ i. is_stateful b.plan i ≡ true) b.keys
-        (All-weaker (IsCellKept b.plan b.commits) (λ cell. is_stateful b.plan cell.log.node ≡ true) (cell_stateful b.plan b.commits) b.keys sane.keys.each))))))
+        (All-weaker (IsCellSane b.plan b.commits) (λ cell. is_stateful b.plan cell.log.node ≡ true) (cell_stateful b.plan b.commits) b.keys sane.keys.each))))))
         (suc n) n (omega arith) above
       where
         of_time : {z : ℤ} → IsTime z → IsMark z

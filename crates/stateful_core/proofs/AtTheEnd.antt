@@ -1,77 +1,28 @@
 -- Where no cell is ready or worked, nothing waits and no timer is set: every timer is due once nothing else holds the marks back.
-use Rattle.std.proofs.Common.{◌≡◌, ℕ, zero, suc, ◌<◌, ◌≤◌, ℤ, ◌≤ℤ◌, Bool, true, false, cond, List, [], ◌∷◌, ◌++◌, length, map, replicate, Option, Some, None, refl, ap, subst, ◌∙◌, inl, inr, arith}
+use Rattle.std.proofs.Common.{◌≡◌, ℕ, zero, suc, ◌<◌, ◌≤◌, ℤ, ◌≤ℤ◌, Bool, true, false, cond, List, [], ◌∷◌, ◌++◌, length, map, Option, Some, None, refl, ap, subst, ◌∙◌, inl, inr, arith}
 use Rattle.std.specs.Prelude.{slice_get, fold, int_le, ◌||◌, ◌==◌}
 use Rattle.std.specs.Int.{int_min}
 use Rattle.std.specs.List.{All, filter, flat_map, slice_index_or}
 use Rattle.std.proofs.lemmas.Bool.{cases_lt, cases_eq, ne_eqb, and_cases, or_parts}
 use Rattle.std.proofs.lemmas.Int.{ints, clamps}
 use Rattle.std.proofs.lemmas.List.Elements.{All-nil, All-cons, All-head, All-tail, filter-append}
-use Rattle.std.proofs.lemmas.Option.{slice_get_within}
 use Rattle.beam_values.specs.Marks.{least_mark, marks_at, mark_into, AreMarks}
-use Rattle.beam_values.specs.States.{KeptState, fresh_state, timer_of}
+use Rattle.beam_values.specs.States.{timer_of}
 use Rattle.beam_values.specs.Times.{greatest_time, final_mark}
-use Rattle.beam_values.specs.declared.log.KeyLog.{KeyLog}
 use Rattle.beam_values.specs.declared.log.Timer.{Timer}
 use Rattle.beam_values.specs.declared.marks.CommitMarks.{CommitMarks}
 use Rattle.beam_values.specs.declared.marks.StageMarks.{StageMarks}
 use Rattle.beam_values.specs.declared.plan.Node.{Node}
-use Rattle.beam_values.specs.declared.plan.NodeKind.{NodeKind}
-use Rattle.beam_values.specs.declared.plan.NodeKind.TheVariants.{Flatten, Stateful}
+use Rattle.beam_values.specs.declared.plan.NodeKind.TheVariants.{Flatten}
 use Rattle.beam_values.specs.declared.plan.Plan.{Plan}
-use Rattle.beam_values.specs.declared.plan.StateKind.{StateKind}
-use Rattle.beam_values.specs.declared.plan.StateKind.TheVariants.{Dedupe, RunningSum, BatchUntil, LatestThenEmit}
 use Rattle.beam_model.specs.Holds.{Hold, least_hold}
-use Rattle.beam_model.specs.Logs.{LeadsAt, LeadsIn}
 use Rattle.stateful_core.specs.Cells.{KeyCell, element_hold, timer_hold, cell_holds, key_holds}
 use Rattle.stateful_core.specs.declared.waiting.Waiting.{Waiting}
-use Rattle.stateful_core.specs.Facts.{IsCellKept, AreKeysKept, IsCellThrough}
+use Rattle.stateful_core.specs.Facts.{AreKeysSane, IsCellThrough}
 use Rattle.stateful_core.specs.Taking.{first_timer, if_due, is_some, is_free, has_waiting, is_ready, next_place}
-use Rattle.stateful_core.specs.Timers.{IsAllowed, AreTimersOf}
 use Rattle.stateful_core.proofs.FirstTimer.{is_first, no_first}
 use Rattle.stateful_core.proofs.NextReady.{next_none}
-use Rattle.stateful_core.proofs.SetTimers.{fresh_timers, leads_timers}
-
--- ---- each timer that is set is a time
-
-allowed_time : (kind : StateKind) (time : ℤ) → IsAllowed kind (Some time) → time ≤ℤ greatest_time
-allowed_time Dedupe time h = absurd h
-allowed_time RunningSum time h = absurd h
-allowed_time BatchUntil time h = h
-allowed_time LatestThenEmit time h = h
-
-first_only : (first : Option ℤ) (name : ℕ) (time : ℤ) → timer_of (first ∷ replicate 7 None) name ≡ Some time → first ≡ Some time
-first_only first zero time e = e
-first_only first (suc name) time e = absurd (none name e)
-  where
-    none : (k : ℕ) → timer_of (replicate 7 None) k ≡ Some time → ⊥
-    none zero f = cc
-    none (suc zero) f = cc
-    none (suc (suc zero)) f = cc
-    none (suc (suc (suc zero))) f = cc
-    none (suc (suc (suc (suc zero)))) f = cc
-    none (suc (suc (suc (suc (suc zero))))) f = cc
-    none (suc (suc (suc (suc (suc (suc zero)))))) f = cc
-    none (suc (suc (suc (suc (suc (suc (suc k))))))) f = cc
-
-kind_time : (kind : StateKind) (timers : List (Option ℤ)) (name : ℕ) (time : ℤ) → AreTimersOf kind timers → timer_of timers name ≡ Some time → time ≤ℤ greatest_time
-kind_time kind timers name time h e =
-    allowed_time kind time
-    (subst (IsAllowed kind) (first_only h.first name time (subst (λ (l : List (Option ℤ)). timer_of l name ≡ Some time) h.is e)) h.allowed)
-
-at_time : (commits : List CommitMarks) (kind : NodeKind) (log : KeyLog) (end : KeptState) (name : ℕ) (time : ℤ) → LeadsAt commits kind log end
-    → timer_of end.timers name ≡ Some time → time ≤ℤ greatest_time
-at_time commits (Stateful work args logged) log end name time h e =
-    kind_time work end.timers name time (leads_timers commits work args log fresh_state 1 log.entries end h (fresh_timers work)) e
-at_time commits _ log end name time h e = absurd h
-
-in_time : (commits : List CommitMarks) (found : Option Node) (log : KeyLog) (end : KeptState) (name : ℕ) (time : ℤ) → LeadsIn commits found log end
-    → timer_of end.timers name ≡ Some time → time ≤ℤ greatest_time
-in_time commits (Some node) log end name time h e = at_time commits node.kind log end name time h e
-in_time commits None log end name time h e = absurd h
-
-in_plan : (plan : Plan) (commits : List CommitMarks) (found : Option Node) (log : KeyLog) (end : KeptState) → slice_get plan.nodes log.node ≡ found → LeadsIn commits found log end → log.node < length plan.nodes
-in_plan plan commits (Some node) log end e h = slice_get_within plan.nodes log.node node e
-in_plan plan commits None log end e h = absurd h
+use Rattle.stateful_core.proofs.OfSane.{cell_time, cell_within}
 
 -- ---- a free cell that isn't ready where the mark is final
 
@@ -166,7 +117,7 @@ all_final (m ∷ marks) h =
     ap (λ (x : ℤ). fold int_min (int_min final_mark x) marks) (All-head (λ (x : ℤ). x ≡ final_mark) m marks h)
     ∙ ap (λ (x : ℤ). fold int_min x marks) min_final ∙ all_final marks (All-tail (λ (x : ℤ). x ≡ final_mark) m marks h)
 
-module _ (plan : Plan) (commits : List CommitMarks) (marks : List StageMarks) (cells : List KeyCell) (kept : AreKeysKept plan commits cells)
+module _ (plan : Plan) (commits : List CommitMarks) (marks : List StageMarks) (cells : List KeyCell) (sane : AreKeysSane plan commits cells)
     (lower : (n : ℕ) (node : Node) → slice_get plan.nodes n ≡ Some node → All (λ input. input < n) node.inputs)
     (are : AreMarks plan (least_hold (key_holds cells)) marks) (free : All (λ c. is_free c ≡ true) cells) (none : next_place marks cells ≡ None) where
   abbrev IsFinal : ℕ → Type 0
@@ -189,12 +140,11 @@ module _ (plan : Plan) (commits : List CommitMarks) (marks : List StageMarks) (c
   at_final : (n : ℕ) → (marks_at marks n).mark_in ≡ final_mark → All (IsDoneAt n) cells
   at_final n final k d less e =
       let cell = slice_index_or cells k d in
-      let h : IsCellKept plan commits cell = kept.each k d less in
       through marks cell (ap (λ i. (marks_at marks i).mark_in) e ∙ final)
-      (λ name time f. in_time commits (slice_get plan.nodes cell.log.node) cell.log cell.kept name time h.leads f) (free k d less) (next_none marks cells none k cell (got cells k d less))
+      (cell_time plan commits cell (sane.each k d less)) (free k d less) (next_none marks cells none k cell (got cells k d less))
 
   no_holds_at : (n : ℕ) → All (IsDoneAt n) cells → All (λ c. c.log.node ≡ n → cell_holds c ≡ []) cells
-  no_holds_at n done k d less e = no_holds (slice_index_or cells k d) (kept.each k d less).holds (done k d less e)
+  no_holds_at n done k d less e = no_holds (slice_index_or cells k d) (sane.each k d less).holds (done k d less e)
 
   step : (n : ℕ) → n < length plan.nodes → ((i : ℕ) → i < n → IsFinal i) → IsFinal n × All (IsDoneAt n) cells
   step n less before =
@@ -218,7 +168,7 @@ module _ (plan : Plan) (commits : List CommitMarks) (marks : List StageMarks) (c
   pub nothing_left : All IsCellThrough cells
   nothing_left k d less =
       let cell = slice_index_or cells k d in
-      let inside = in_plan plan commits (slice_get plan.nodes cell.log.node) cell.log cell.kept refl (kept.each k d less).leads in
+      let inside = cell_within plan commits cell (sane.each k d less) in
       (upto (length plan.nodes) (omega arith) cell.log.node inside).1 k d less refl
 
   pub all_marks_final : (n : ℕ) → n < length plan.nodes → (marks_at marks n).mark_out ≡ final_mark

@@ -1,12 +1,9 @@
--- One cell at a time: what commits, jobs and arrivals leave of it.
-use Rattle.std.proofs.Common.{◌≡◌, ℕ, zero, suc, ◌-◌, ◌<◌, ◌≤◌, ℤ, ◌≤ℤ◌, List, [], ◌++◌, length, take, Option, Some, None, refl, sym, ap, subst, arith}
+-- One cell at a time: how it came about, one commit and one job later.
+use Rattle.std.proofs.Common.{◌≡◌, ℕ, zero, suc, ◌-◌, ◌<◌, ◌≤◌, ℤ, ◌≤ℤ◌, List, [], ◌++◌, length, take, Option, Some, None, sym, subst, arith}
 use Rattle.std.specs.Prelude.{slice_get, unwrap_or}
 use Rattle.std.specs.List.{All}
-use Rattle.std.proofs.lemmas.Int.{ints}
-use Rattle.std.proofs.lemmas.List.{get_or_past}
 use Rattle.std.proofs.lemmas.List.Elements.{All-append, All-drop, All-take, All-weaker}
-use Rattle.beam_values.specs.States.{KeptState, fresh_state, timer_of}
-use Rattle.beam_values.specs.Marks.{marks_at}
+use Rattle.beam_values.specs.States.{KeptState, fresh_state}
 use Rattle.beam_values.specs.declared.log.KeyLog.{KeyLog}
 use Rattle.beam_values.specs.declared.log.LogEntry.{LogEntry}
 use Rattle.beam_values.specs.declared.log.LogInput.{LogInput}
@@ -23,22 +20,12 @@ use Rattle.beam_model.specs.Logs.{Leads, LeadsAt, LeadsIn}
 use Rattle.beam_model.specs.Panes.{mark_after, IsCommit}
 use Rattle.stateful_core.specs.Cells.{KeyCell}
 use Rattle.stateful_core.specs.Facts.{Folded, folded, folded_at, folded_in, IsOfCell, IsLiveAs, IsCellKept, Later}
-use Rattle.stateful_core.specs.Placing.{Done, with_done, timer_hold_after, timer_holds_after}
-use Rattle.stateful_core.specs.Taking.{is_some, inputs_of, timer_inputs}
+use Rattle.stateful_core.specs.Placing.{Done, with_done}
+use Rattle.stateful_core.specs.Taking.{inputs_of, timer_inputs}
 use Rattle.stateful_core.proofs.Leading.{leads_under, leads_append, elements_lead, timer_leads, folded_commits}
-use Rattle.stateful_core.proofs.SetTimers.{fresh_timers, leads_timers}
 use Rattle.stateful_core.proofs.FirstTimer.{first_is}
 
 -- ---- the node of a cell
-
-leads_at_sized : (commits : List CommitMarks) (kind : NodeKind) (log : KeyLog) (end : KeptState) → LeadsAt commits kind log end → length end.timers ≡ 8
-leads_at_sized commits (Stateful work args logged) log end h =
-    let timers = leads_timers commits work args log fresh_state 1 log.entries end h (fresh_timers work) in ap length timers.is
-leads_at_sized commits _ log end h = absurd h
-
-pub leads_sized : (commits : List CommitMarks) (found : Option Node) (log : KeyLog) (end : KeptState) → LeadsIn commits found log end → length end.timers ≡ 8
-leads_sized commits (Some node) log end h = leads_at_sized commits node.kind log end h
-leads_sized commits None log end h = absurd h
 
 module _ (commits others : List CommitMarks) (n : ℕ) (log : KeyLog) (same : (d : ℕ) → d < n → mark_after others log.node d ≡ mark_after commits log.node d)
     (within : All (λ entry. IsCommit n entry.commit) log.entries) where
@@ -75,42 +62,11 @@ pub in_commits : (found : Option Node) (log : KeyLog) (c : ℕ) (kept : KeptStat
 in_commits (Some node) log c kept inputs all e = at_commits node.kind log c kept inputs all e
 in_commits None log c kept inputs all e = absurd (cc)
 
--- ---- timers' holds
-
-abbrev AreSet : List (Option ℤ) → List (Option ℤ) → Type 0
-AreSet holds timers = (name : ℕ) → is_some (timer_of holds name) ≡ is_some (timer_of timers name)
-
-hold_set : (mark : ℤ) (hold old new : Option ℤ) → is_some (timer_hold_after mark hold old new) ≡ is_some new
-hold_set mark hold old None = refl
-hold_set mark hold old (Some time) = refl
-
-past : (timers : List (Option ℤ)) (k : ℕ) → length timers ≡ 8 → timer_of timers (suc (suc (suc (suc (suc (suc (suc (suc k)))))))) ≡ None
-past timers k e = get_or_past timers (suc (suc (suc (suc (suc (suc (suc (suc k)))))))) None (omega (arith, e))
-
-pub holds_set : (mark : ℤ) (holds olds news : List (Option ℤ)) → length news ≡ 8 → AreSet (timer_holds_after mark holds olds news) news
-holds_set mark holds olds news e zero = hold_set mark (timer_of holds 0) (timer_of olds 0) (timer_of news 0)
-holds_set mark holds olds news e (suc zero) = hold_set mark (timer_of holds 1) (timer_of olds 1) (timer_of news 1)
-holds_set mark holds olds news e (suc (suc zero)) = hold_set mark (timer_of holds 2) (timer_of olds 2) (timer_of news 2)
-holds_set mark holds olds news e (suc (suc (suc zero))) = hold_set mark (timer_of holds 3) (timer_of olds 3) (timer_of news 3)
-holds_set mark holds olds news e (suc (suc (suc (suc zero)))) = hold_set mark (timer_of holds 4) (timer_of olds 4) (timer_of news 4)
-holds_set mark holds olds news e (suc (suc (suc (suc (suc zero))))) = hold_set mark (timer_of holds 5) (timer_of olds 5) (timer_of news 5)
-holds_set mark holds olds news e (suc (suc (suc (suc (suc (suc zero)))))) = hold_set mark (timer_of holds 6) (timer_of olds 6) (timer_of news 6)
-holds_set mark holds olds news e (suc (suc (suc (suc (suc (suc (suc zero))))))) = hold_set mark (timer_of holds 7) (timer_of olds 7) (timer_of news 7)
-holds_set mark holds olds news e (suc (suc (suc (suc (suc (suc (suc (suc k)))))))) = ap is_some (sym (past news k e))
-
 -- ---- one commit later
 
 module _ (plan : Plan) (commits others : List CommitMarks) (later : Later commits others) where
   commits_later : (c : ℕ) → IsCommit (length commits - 1) c → IsCommit (length others - 1) c
   commits_later c h = (h.0, omega (arith, h.1, later.sized, later.some))
-
-  live_later : (cell : KeyCell) (live : Option ℕ) → IsLiveAs commits cell live → IsLiveAs others cell live
-  live_later cell None h = tt
-  live_later cell (Some zero) h =
-      let last : length commits ≡ length others - 1 = omega (arith, later.sized, later.some) in
-      let due : h.0.time ≤ℤ mark_after others cell.log.node (length commits) = omega (arith, ints, h.2, later.rises cell.log.node) in
-      (h.0, h.1, subst (λ (n : ℕ). h.0.time ≤ℤ mark_after others cell.log.node n) last due)
-  live_later cell (Some (suc n)) h = h
 
   leads_later : (cell : KeyCell) → IsCellKept plan commits cell → LeadsIn others (slice_get plan.nodes cell.log.node) cell.log cell.kept
   leads_later cell h =
@@ -126,9 +82,6 @@ module _ (plan : Plan) (commits others : List CommitMarks) (later : Later commit
     leads = leads_later cell h;
     of_commits = entries_later cell h;
     elements = h.elements;
-    works = live_later cell cell.live h.works;
-    sized = h.sized;
-    holds = h.holds;
   }
 
   -- a job is done in the new commit
@@ -142,26 +95,21 @@ module _ (plan : Plan) (commits others : List CommitMarks) (later : Later commit
   job_legal cell (suc n) all h works work args e =
       elements_lead others work args cell.log (length commits) (take (suc n) cell.waiting) cell.kept all (All-take (IsOfCell cell) (suc n) cell.waiting h.elements) e
 
-  pub done_kept : (before : List StageMarks) (cell : KeyCell) (done : Done) (count : ℕ) → IsCellKept plan commits cell → cell.live ≡ Some count
+  pub done_kept : (before : List StageMarks) (cell : KeyCell) (done : Done) (count : ℕ) → IsCellKept plan commits cell → IsLiveAs commits cell cell.live → cell.live ≡ Some count
       → folded_in (slice_get plan.nodes cell.log.node) cell.log.key cell.log.span (length commits) cell.kept (inputs_of cell count) ≡ Some (record { kept = done.kept; entries = done.entries })
       → IsCellKept plan others (with_done before done cell)
-  done_kept before cell done count h live e =
+  done_kept before cell done count h worked live e =
       let all : Folded = record { kept = done.kept; entries = done.entries } in
       let found = slice_get plan.nodes cell.log.node in
-      let works : IsLiveAs commits cell (Some count) = subst (IsLiveAs commits cell) live h.works in
-      let leads = in_more others cell.log (length commits) later.some
-      (All-weaker (λ (entry : LogEntry). IsCommit (length commits - 1) entry.commit) (λ (entry : LogEntry). entry.commit ≤ length commits)
-      (λ entry k. omega (arith, k.1)) cell.log.entries h.of_commits)
-      (inputs_of cell count) cell.kept all (job_legal cell count all h works) found e (leads_later cell h) in
-      let now_sized : length done.kept.timers ≡ 8 = leads_sized others found (with_done before done cell).log done.kept leads in
+      let works : IsLiveAs commits cell (Some count) = subst (IsLiveAs commits cell) live worked in
       record {
-        leads = leads;
+        leads = in_more others cell.log (length commits) later.some
+            (All-weaker (λ (entry : LogEntry). IsCommit (length commits - 1) entry.commit) (λ (entry : LogEntry). entry.commit ≤ length commits)
+            (λ entry k. omega (arith, k.1)) cell.log.entries h.of_commits)
+            (inputs_of cell count) cell.kept all (job_legal cell count all h works) found e (leads_later cell h);
         of_commits = All-append (λ (entry : LogEntry). IsCommit (length others - 1) entry.commit) cell.log.entries done.entries (entries_later cell h)
             (All-weaker (λ (entry : LogEntry). entry.commit ≡ length commits) (λ (entry : LogEntry). IsCommit (length others - 1) entry.commit)
             (λ entry k. (omega (arith, k, later.some), omega (arith, k, later.sized))) done.entries
             (in_commits found cell.log (length commits) cell.kept (inputs_of cell count) all e));
         elements = All-drop (IsOfCell cell) (unwrap_or cell.live 0) cell.waiting h.elements;
-        works = tt;
-        sized = refl;
-        holds = holds_set (marks_at before cell.log.node).mark_out cell.timer_holds cell.kept.timers done.kept.timers now_sized;
       }

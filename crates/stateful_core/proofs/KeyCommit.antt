@@ -1,16 +1,14 @@
 -- A commit of a key job from its receipt; and what no commit changes before the job's node.
-use Rattle.std.proofs.Common.{◌≡◌, ℕ, zero, suc, Bool, true, false, cond, List, [], ◌∷◌, ◌++◌, map, Option, Some, None, refl, sym, ap, subst, ◌∙◌}
+use Rattle.std.proofs.Common.{◌≡◌, ℕ, zero, suc, ℤ, Bool, true, false, cond, List, [], ◌∷◌, ◌++◌, map, Option, Some, None, refl, sym, ap, ◌∙◌}
 use Rattle.std.specs.Prelude.{slice_get, slice_set}
 use Rattle.std.specs.List.{All, filter}
 use Rattle.std.proofs.lemmas.Bool.{ne_eqb}
 use Rattle.std.proofs.lemmas.List.{append-nil}
-use Rattle.std.proofs.lemmas.List.Elements.{All-head, All-tail, All-get_or, filter-append}
-use Rattle.std.proofs.lemmas.Option.{get_or_from_slice_get, slice_get_within, same_Some}
+use Rattle.std.proofs.lemmas.List.Elements.{All-head, All-tail, filter-append}
+use Rattle.std.proofs.lemmas.Option.{same_Some}
 use Rattle.beam_values.specs.Marks.{least_mark}
 use Rattle.beam_values.specs.Nodes.{is_stateful}
-use Rattle.beam_values.specs.States.{KeptState}
 use Rattle.beam_values.specs.declared.arrival.Arrival.{Arrival}
-use Rattle.beam_values.specs.declared.log.KeyLog.{KeyLog}
 use Rattle.beam_values.specs.declared.marks.CommitMarks.{CommitMarks}
 use Rattle.beam_values.specs.declared.marks.StageMarks.{StageMarks}
 use Rattle.beam_values.specs.declared.plan.Node.{Node}
@@ -18,44 +16,42 @@ use Rattle.beam_values.specs.declared.plan.NodeKind.{NodeKind}
 use Rattle.beam_values.specs.declared.plan.NodeKind.TheVariants.{Stateful}
 use Rattle.beam_values.specs.declared.plan.Plan.{Plan}
 use Rattle.beam_model.specs.Holds.{Hold, arrival_hold, least_hold}
-use Rattle.beam_model.specs.Logs.{LeadsAt, LeadsIn}
 use Rattle.stateful_core.specs.Cells.{KeyCell, cell_holds, key_holds}
-use Rattle.stateful_core.specs.Facts.{Folded, AreKeysKept, IsCellKept}
+use Rattle.stateful_core.specs.Facts.{Folded, AreKeysSane, IsCellSane}
 use Rattle.stateful_core.specs.KeyWork.{IsGivenOfKey, KeyCommit}
 use Rattle.stateful_core.specs.Lasting.{arrival_holds}
 use Rattle.stateful_core.specs.Placing.{Done, with_done, set_done, finish, place}
 use Rattle.stateful_core.specs.Taking.{inputs_of}
+use Rattle.stateful_core.specs.Timers.{AreTimersAt, AreTimersIn}
 use Rattle.stateful_core.specs.Working.{AreWorkedOnce}
 use Rattle.stateful_core.proofs.AtTheEnd.{at_node, other_holds}
+use Rattle.stateful_core.proofs.EachCell.{cell_at}
 use Rattle.stateful_core.proofs.HoldsKept.{place_holds_bag}
 use Rattle.stateful_core.proofs.KeyGiven.{IsCalled, IsCalledIn, key_given}
 use Rattle.stateful_core.proofs.LeastOf.{least_of_bag}
 use Rattle.stateful_core.proofs.WorkedOnce.{worked_live}
 
-at_called : (commits : List CommitMarks) (kind : NodeKind) (log : KeyLog) (end : KeptState) → LeadsAt commits kind log end → IsCalled kind
-at_called commits (Stateful work args logged) log end h = tt
-at_called commits _ log end h = absurd h
+at_called : (kind : NodeKind) (timers : List (Option ℤ)) → AreTimersAt kind timers → IsCalled kind
+at_called (Stateful work args logged) timers h = tt
+at_called _ timers h = absurd h
 
-in_called : (commits : List CommitMarks) (found : Option Node) (log : KeyLog) (end : KeptState) → LeadsIn commits found log end → IsCalledIn found
-in_called commits (Some node) log end h = at_called commits node.kind log end h
-in_called commits None log end h = absurd h
-
-cell_at : (P : KeyCell → Type 0) (cells : List KeyCell) (at : ℕ) (cell : KeyCell) → slice_get cells at ≡ Some cell → All P cells → P cell
-cell_at P cells at cell e h = subst P (get_or_from_slice_get cells at cell cell e) (All-get_or P cells at cell (slice_get_within cells at cell e) h)
+in_called : (found : Option Node) (timers : List (Option ℤ)) → AreTimersIn found timers → IsCalledIn found
+in_called (Some node) timers h = at_called node.kind timers h
+in_called None timers h = absurd h
 
 pub key_commit : {X : Type 0} (keys : X → List ℕ) (plan : Plan) (commits : List CommitMarks) (cells : List KeyCell) (slots : List X) (slot at c : ℕ) (x : X) (arrivals : List Arrival) (logged : Option Folded)
-    → AreKeysKept plan commits cells → AreWorkedOnce keys slots cells → slice_get slots slot ≡ Some x → keys x ≡ at ∷ []
+    → AreKeysSane plan commits cells → AreWorkedOnce keys slots cells → slice_get slots slot ≡ Some x → keys x ≡ at ∷ []
     → ((cell : KeyCell) (count : ℕ) → slice_get cells at ≡ Some cell → cell.live ≡ Some count
     → IsGivenOfKey plan cell.log.node cell.log.key cell.log.span (inputs_of cell count) cell.kept arrivals logged)
     → KeyCommit plan c cells at arrivals logged
-key_commit keys plan commits cells slots slot at c x arrivals logged kept once e works given =
+key_commit keys plan commits cells slots slot at c x arrivals logged sane once e works given =
     let found = worked_live keys slots cells slot at x once e works in
     let cell = found.0 in
     let count = found.1 in
     let is = given cell count found.2 found.3 in
     let node = slice_get plan.nodes cell.log.node in
-    let own = cell_at (IsCellKept plan commits) cells at cell found.2 kept.each in
-    let placed = key_given plan cell.log.node node cell.log.key cell.log.span (inputs_of cell count) cell.kept c arrivals logged (in_called commits node cell.log cell.kept own.leads) is.arrives is.logs in
+    let own = cell_at (IsCellSane plan commits) cells at cell found.2 sane.each in
+    let placed = key_given plan cell.log.node node cell.log.key cell.log.span (inputs_of cell count) cell.kept c arrivals logged (in_called node cell.kept.timers own.timers) is.arrives is.logs in
     record {
       all = placed.all;
       was = placed.was;

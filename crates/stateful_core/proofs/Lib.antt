@@ -1,12 +1,16 @@
 pub mod Leading
 pub mod SetTimers
+pub mod CallsLeave
 pub mod FirstTimer
+pub mod OfSane
 pub mod Cellwise
 pub mod SameValues
 pub mod Found
 pub mod Numbers
 pub mod Sought
 pub mod OnceOnly
+pub mod EachCell
+pub mod SaneSteps
 pub mod Keeping
 pub mod Came
 pub mod InOrder

@@ -26,7 +26,7 @@ use Rattle.beam_model.specs.Steps.{Stepped, steps, bag, stepped, dedupe, sum_so_
 use Rattle.beam_model.specs.Values.{as_int}
 use Rattle.stateful_core.specs.Timers.{IsAllowed, AreTimersOf}
 
-map_some : {A B P : Type 0} (f : A → B) (o : Option A) (y : B) → option_map f o ≡ Some y → ((x : A) → o ≡ Some x → f x ≡ y → P) → P
+pub map_some : {A B P : Type 0} (f : A → B) (o : Option A) (y : B) → option_map f o ≡ Some y → ((x : A) → o ≡ Some x → f x ≡ y → P) → P
 map_some f None y e k = absurd (cc)
 map_some f (Some x) y e k = k x refl (cc)
 

@@ -1,5 +1,5 @@
 -- A job that is done lowers what is left of its cell, whichever function it calls.
-use Rattle.std.proofs.Common.{◌≡◌, ℕ, zero, suc, ◌-◌, ◌<◌, ◌≤◌, ℤ, true, cond, List, [], ◌∷◌, length, drop, replicate, Option, Some, None, refl, sym, ap, subst, ◌∙◌, arith}
+use Rattle.std.proofs.Common.{◌≡◌, ℕ, zero, suc, ◌-◌, ◌<◌, ◌≤◌, ℤ, true, cond, List, [], ◌∷◌, length, drop, replicate, Option, Some, None, sym, ap, subst, ◌∙◌, arith}
 use Rattle.std.specs.Prelude.{slice_get, slice_set, unwrap_or, ◌==◌}
 use Rattle.std.specs.List.{sum_by}
 use Rattle.std.specs.Option.{option_map}
@@ -7,8 +7,7 @@ use Rattle.std.proofs.lemmas.Bool.{eq-eqb}
 use Rattle.std.proofs.lemmas.List.{length-drop}
 use Rattle.std.proofs.lemmas.Option.{same_Some, option_and_then_some}
 use Rattle.beam_values.specs.Intervals.{Interval}
-use Rattle.beam_values.specs.States.{KeptState, fresh_state, timer_of, IsFirstTimer}
-use Rattle.beam_values.specs.declared.log.LogInput.{LogInput}
+use Rattle.beam_values.specs.States.{KeptState, timer_of, IsFirstTimer}
 use Rattle.beam_values.specs.declared.log.LogInput.TheVariants.{Fired}
 use Rattle.beam_values.specs.declared.log.Timer.{Timer}
 use Rattle.beam_values.specs.declared.marks.CommitMarks.{CommitMarks}
@@ -21,50 +20,19 @@ use Rattle.beam_values.specs.declared.plan.Plan.{Plan}
 use Rattle.beam_values.specs.declared.plan.StateKind.{StateKind}
 use Rattle.beam_values.specs.declared.plan.StateKind.TheVariants.{Dedupe, RunningSum, BatchUntil, LatestThenEmit}
 use Rattle.beam_values.specs.declared.value.Value.{Value}
-use Rattle.beam_model.specs.Logs.{LeadsAt, LeadsIn}
 use Rattle.beam_model.specs.Steps.{Stepped, steps, stepped, bag, cleared_bag, on_first_timer}
 use Rattle.stateful_core.specs.Cells.{KeyCell}
-use Rattle.stateful_core.specs.Facts.{Folded, noted, folded, folded_at, folded_in, IsCellKept, IsLiveAs}
+use Rattle.stateful_core.specs.Facts.{Folded, noted, folded, folded_at, folded_in, IsCellSane, IsLiveAs}
 use Rattle.stateful_core.specs.Lasting.{one_if_set, left_of}
 use Rattle.stateful_core.specs.Placing.{Done, with_done}
 use Rattle.stateful_core.specs.Taking.{timer_inputs, inputs_of}
-use Rattle.stateful_core.specs.Timers.{IsAllowed, AreTimersOf}
+use Rattle.stateful_core.specs.Timers.{IsAllowed, AreTimersOf, AreTimersAt, AreTimersIn}
+use Rattle.stateful_core.proofs.CallsLeave.{folded_timers}
 use Rattle.stateful_core.proofs.FirstTimer.{first_is}
-use Rattle.stateful_core.proofs.SetTimers.{steps_timers, fresh_timers, leads_timers}
-
-map_some : {A B P : Type 0} (f : A → B) (o : Option A) (y : B) → option_map f o ≡ Some y → ((x : A) → o ≡ Some x → f x ≡ y → P) → P
-map_some f None y e k = absurd (cc)
-map_some f (Some x) y e k = k x refl (cc)
-
--- ---- how many timers are set
-
-set_first : (first : Option ℤ) → sum_by one_if_set (first ∷ replicate 7 None) ≡ one_if_set first
-set_first None = refl
-set_first (Some time) = refl
-
-timers_left : (kind : StateKind) (timers : List (Option ℤ)) (h : AreTimersOf kind timers) → sum_by one_if_set timers ≡ one_if_set h.first
-timers_left kind timers h = ap (sum_by one_if_set) h.is ∙ set_first h.first
-
-at_most_one : (o : Option ℤ) → one_if_set o ≤ 1
-at_most_one None = omega arith
-at_most_one (Some time) = omega arith
+use Rattle.stateful_core.proofs.OfSane.{set_name, timers_left, few_left}
+use Rattle.stateful_core.proofs.SetTimers.{map_some}
 
 -- ---- the delivery of a timer clears it
-
--- a timer that is set is timer 0
-set_name : (first : Option ℤ) (name : ℕ) (time : ℤ) → timer_of (first ∷ replicate 7 None) name ≡ Some time → (name ≡ 0) × (first ≡ Some time)
-set_name first zero time e = (refl, e)
-set_name first (suc name) time e = absurd (none name e)
-  where
-    none : (k : ℕ) → timer_of (replicate 7 None) k ≡ Some time → ⊥
-    none zero f = cc
-    none (suc zero) f = cc
-    none (suc (suc zero)) f = cc
-    none (suc (suc (suc zero))) f = cc
-    none (suc (suc (suc (suc zero)))) f = cc
-    none (suc (suc (suc (suc (suc zero))))) f = cc
-    none (suc (suc (suc (suc (suc (suc zero)))))) f = cc
-    none (suc (suc (suc (suc (suc (suc (suc k))))))) f = cc
 
 set_none : (kind : StateKind) (timers : List (Option ℤ)) → AreTimersOf kind timers → slice_set timers 0 None ≡ replicate 8 None
 set_none kind timers h = ap (λ (l : List (Option ℤ)). slice_set l 0 None) h.is
@@ -91,15 +59,6 @@ fired_clears kind args key span timer kept s h first e =
     (first_cleared kind key span timer.time kept h (subst (IsAllowed kind) set.1 h.allowed))
 
 -- ---- over a fold
-
-folded_timers : (kind : StateKind) (args : Args) (key : Value) (span : Interval) (c : ℕ) (inputs : List LogInput) (kept : KeptState) (all : Folded)
-    → folded kind args key span c kept inputs ≡ Some all → AreTimersOf kind kept.timers → AreTimersOf kind all.kept.timers
-folded_timers kind args key span c [] kept all e h = subst (λ (r : Folded). AreTimersOf kind r.kept.timers) (same_Some (record { kept = kept; entries = [] }) all e) h
-folded_timers kind args key span c (input ∷ inputs) kept all e h =
-    option_and_then_some (λ (s : Stepped). option_map (noted c input s.outputs) (folded kind args key span c s.kept inputs)) (steps kind args key span input kept) all e
-    (λ s at f. map_some (noted c input s.outputs) (folded kind args key span c s.kept inputs) all f
-    (λ rest on is. subst (λ (r : Folded). AreTimersOf kind r.kept.timers) is
-    (folded_timers kind args key span c inputs s.kept rest on (steps_timers kind args key span input kept s at h))))
 
 folded_clears : (kind : StateKind) (args : Args) (key : Value) (span : Interval) (c : ℕ) (timer : Timer) (kept : KeptState) (all : Folded)
     → folded kind args key span c kept (Fired timer ∷ []) ≡ Some all → AreTimersOf kind kept.timers → IsFirstTimer kept.timers timer → all.kept.timers ≡ replicate 8 None
@@ -128,25 +87,24 @@ module _ (commits : List CommitMarks) (before : List StageMarks) (cell : KeyCell
       omega (arith, one, none, same)
   of_kind kind args (suc n) h works live e =
       let now = folded_timers kind args cell.log.key cell.log.span c (inputs_of cell (suc n)) cell.kept all e h in
-      let few : sum_by one_if_set done.kept.timers ≤ 1 = omega (arith, timers_left kind done.kept.timers now, at_most_one now.first) in
+      let few : sum_by one_if_set done.kept.timers ≤ 1 = few_left kind done.kept.timers now in
       let fewer : length (with_done before done cell).waiting ≡ length cell.waiting - suc n =
       ap (λ (o : Option ℕ). length (drop (unwrap_or o 0) cell.waiting)) live ∙ length-drop (suc n) cell.waiting in
       omega (arith, few, fewer, works)
 
-  at_kind : (kind : NodeKind) (count : ℕ) → LeadsAt commits kind cell.log cell.kept → IsLiveAs commits cell (Some count) → cell.live ≡ Some count
+  at_kind : (kind : NodeKind) (count : ℕ) → AreTimersAt kind cell.kept.timers → IsLiveAs commits cell (Some count) → cell.live ≡ Some count
       → folded_at kind cell.log.key cell.log.span c cell.kept (inputs_of cell count) ≡ Some all → left_of (with_done before done cell) < left_of cell
-  at_kind (Stateful work args logged) count leads works live e =
-      of_kind work args count (leads_timers commits work args cell.log fresh_state 1 cell.log.entries cell.kept leads (fresh_timers work)) works live e
-  at_kind _ count leads works live e = absurd leads
+  at_kind (Stateful work args logged) count timers works live e = of_kind work args count timers works live e
+  at_kind _ count timers works live e = absurd timers
 
-  at_node : (found : Option Node) (count : ℕ) → LeadsIn commits found cell.log cell.kept → IsLiveAs commits cell (Some count) → cell.live ≡ Some count
+  at_node : (found : Option Node) (count : ℕ) → AreTimersIn found cell.kept.timers → IsLiveAs commits cell (Some count) → cell.live ≡ Some count
       → folded_in found cell.log.key cell.log.span c cell.kept (inputs_of cell count) ≡ Some all → left_of (with_done before done cell) < left_of cell
-  at_node (Some node) count leads works live e = at_kind node.kind count leads works live e
-  at_node None count leads works live e = absurd leads
+  at_node (Some node) count timers works live e = at_kind node.kind count timers works live e
+  at_node None count timers works live e = absurd timers
 
 -- of elements or of a timer
-pub done_lowers : (plan : Plan) (commits : List CommitMarks) (before : List StageMarks) (cell : KeyCell) (done : Done) (c count : ℕ) → IsCellKept plan commits cell → cell.live ≡ Some count
+pub done_lowers : (plan : Plan) (commits : List CommitMarks) (before : List StageMarks) (cell : KeyCell) (done : Done) (c count : ℕ) → IsCellSane plan commits cell → cell.live ≡ Some count
     → folded_in (slice_get plan.nodes cell.log.node) cell.log.key cell.log.span c cell.kept (inputs_of cell count) ≡ Some (record { kept = done.kept; entries = done.entries })
     → left_of (with_done before done cell) < left_of cell
 done_lowers plan commits before cell done c count h live e =
-    at_node commits before cell done c (slice_get plan.nodes cell.log.node) count h.leads (subst (IsLiveAs commits cell) live h.works) live e
+    at_node commits before cell done c (slice_get plan.nodes cell.log.node) count h.timers (subst (IsLiveAs commits cell) live h.works) live e

@@ -26,6 +26,7 @@ use Rattle.stateful_core.specs.Cells.{KeyCell, cell_arrivals, logs_of}
 use Rattle.stateful_core.specs.declared.waiting.Waiting.{Waiting}
 use Rattle.stateful_core.specs.Placing.{Done, fresh_cell}
 use Rattle.stateful_core.specs.Taking.{inputs_of, is_some}
+use Rattle.stateful_core.specs.Timers.{AreTimersIn}
 
 -- ---- The work of a job: the fold of the function over the inputs. Of a function that takes each value once, over "x", "x" and "y" from the fresh state, it
 -- leaves the bag "x", "y" and three entries, of which the second has no output.
@@ -79,19 +80,35 @@ IsLiveAs commits cell (Some zero) =
     (timer : Timer) × IsFirstTimer cell.kept.timers timer × (timer.time ≤ℤ mark_after commits cell.log.node (length commits - 1))
 IsLiveAs commits cell (Some (suc n)) = suc n ≤ length cell.waiting
 
-pub record IsCellKept (plan : Plan) (commits : List CommitMarks) (cell : KeyCell) : Type 0 where
-  -- the log leads from the fresh state to the cell's
-  pub leads : LeadsIn commits (slice_get plan.nodes cell.log.node) cell.log cell.kept
-  pub of_commits : All (λ entry. IsCommit (length commits - 1) entry.commit) cell.log.entries
-  pub elements : All (IsOfCell cell) cell.waiting
+-- What a key cell is, however its book came about: nothing here looks at its log. In the run of `specs/Placing.antt` cell 1 is at node 3 and has its timer 0
+-- set to 3500, which holds the node at 3500; no other timer is set, and none other holds.
+pub record IsCellSane (plan : Plan) (commits : List CommitMarks) (cell : KeyCell) : Type 0 where
+  -- its node is a Stateful one, and the timers are those that its function sets
+  pub timers : AreTimersIn (slice_get plan.nodes cell.log.node) cell.kept.timers
+  pub states : length cell.kept.cells ≡ 8
   pub works : IsLiveAs commits cell cell.live
   pub sized : length cell.timer_holds ≡ 8
   -- just the timers that are set hold
   pub holds : (name : ℕ) → is_some (timer_of cell.timer_holds name) ≡ is_some (timer_of cell.kept.timers name)
 
+-- each node, key and window has one cell at most
+abbrev pub AreOnce : List KeyCell → Type 0
+AreOnce cells = (node : ℕ) (key : Value) (span : Interval) → count_by (is_log_of node key span) (logs_of cells) ≤ 1
+
+pub record AreKeysSane (plan : Plan) (commits : List CommitMarks) (cells : List KeyCell) : Type 0 where
+  pub each : All (IsCellSane plan commits) cells
+  pub once : AreOnce cells
+
+-- how a cell came about, where a run made it
+pub record IsCellKept (plan : Plan) (commits : List CommitMarks) (cell : KeyCell) : Type 0 where
+  -- the log leads from the fresh state to the cell's
+  pub leads : LeadsIn commits (slice_get plan.nodes cell.log.node) cell.log cell.kept
+  pub of_commits : All (λ entry. IsCommit (length commits - 1) entry.commit) cell.log.entries
+  pub elements : All (IsOfCell cell) cell.waiting
+
 pub record AreKeysKept (plan : Plan) (commits : List CommitMarks) (cells : List KeyCell) : Type 0 where
+  pub sane : AreKeysSane plan commits cells
   pub each : All (IsCellKept plan commits) cells
-  pub once : (node : ℕ) (key : Value) (span : Interval) → count_by (is_log_of node key span) (logs_of cells) ≤ 1
 
 -- nothing waits and no timer is set
 abbrev pub IsCellThrough : KeyCell → Type 0

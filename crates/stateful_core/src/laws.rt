@@ -20,8 +20,8 @@ ghost use Rattle.beam_model.specs.Holds.{least_hold};
 ghost use Rattle.beam_model.specs.Logs.{AreLogsLegal, is_log_of};
 ghost use Rattle.beam_model.specs.Panes.{mark_after};
 ghost use Rattle.stateful_core.specs.Cells.{KeyCell, key_arrivals, key_holds, logs_of};
-ghost use Rattle.stateful_core.specs.Facts.{AreDoneOf, AreKeysKept, IsCellThrough, IsDoneOf, IsLiveAs};
-ghost use Rattle.stateful_core.specs.Facts.{IsCellKept, Later, came_to, comes, folded_in};
+ghost use Rattle.stateful_core.specs.Facts.{AreDoneOf, AreKeysKept, AreKeysSane, IsCellThrough, IsDoneOf, IsLiveAs};
+ghost use Rattle.stateful_core.specs.Facts.{IsCellSane, Later, came_to, comes, folded_in};
 ghost use Rattle.stateful_core.specs.Facts.{Folded};
 ghost use Rattle.stateful_core.specs.KeyWork.{IsGivenOfKey, KeyCommit, entry_chains};
 ghost use Rattle.stateful_core.specs.Working.{AreWorkedOnce};
@@ -33,7 +33,24 @@ ghost use Rattle.stateful_core.specs.Staying.{IsStaying, StaysAt};
 ghost use Rattle.stateful_core.specs.Taking.{change, inputs_of, is_free, is_ready, next_place, tried};
 ghost use Rattle.stateful_core.specs.Taking.{turn_of, with_job};
 
-/// Placing a commit, taking a job and giving it back keep what holds of key cells.
+/// Placing a commit, taking a job and giving it back keep what each key cell is, however its book came about.
+pub fn steps_keep_sane_key_cells()
+    ensures place { (plan : Plan) (commits others : List CommitMarks) (before : List StageMarks)
+        (c : ℕ) (done : Option Done) (arrivals : List Arrival) (cells : List KeyCell)
+        → Later commits others → AreDoneOf plan c cells done → AreKeysSane plan commits cells
+        → AreKeysSane plan others (place plan before done arrivals cells) }
+    ensures take { (plan : Plan) (commits : List CommitMarks) (marks : List StageMarks)
+        (bundle at : ℕ) (cells : List KeyCell) (cell : KeyCell) → 1 ≤ bundle
+        → ((node : ℕ) → (marks_at marks node).mark_in ≡ mark_after commits node (length commits - 1))
+        → slice_get cells at ≡ Some cell → is_ready marks cell ≡ true
+        → AreKeysSane plan commits cells
+        → AreKeysSane plan commits (change (with_job bundle) at cells) }
+    ensures give_back { (plan : Plan) (commits : List CommitMarks) (at : ℕ)
+        (cells : List KeyCell) (cell : KeyCell) → slice_get cells at ≡ Some cell
+        → AreKeysSane plan commits cells → AreKeysSane plan commits (change tried at cells) }
+{}
+
+/// The same steps keep how they came about, where a run made them.
 pub fn steps_keep_key_cells()
     ensures place { (plan : Plan) (commits others : List CommitMarks) (before : List StageMarks)
         (done : Option Done) (arrivals : List Arrival) (cells : List KeyCell)
@@ -141,7 +158,7 @@ pub fn holds_and_what_is_left()
         → IsSameBag (key_holds (place plan before done arrivals cells))
         (key_holds (finish before done cells) ++ arrival_holds plan before arrivals) }
     ensures left { (plan : Plan) (commits : List CommitMarks) (before : List StageMarks)
-        (cell : KeyCell) (done : Done) (c count : ℕ) → IsCellKept plan commits cell
+        (cell : KeyCell) (done : Done) (c count : ℕ) → IsCellSane plan commits cell
         → cell.live ≡ Some count
         → folded_in (slice_get plan.nodes cell.log.node) cell.log.key cell.log.span c cell.kept
         (inputs_of cell count) ≡ Some (record { kept = done.kept; entries = done.entries })
@@ -152,13 +169,13 @@ pub fn holds_and_what_is_left()
 /// is set, and no mark but FINAL is left.
 pub fn no_ready_cell_leaves_nothing()
     ensures through { (plan : Plan) (commits : List CommitMarks) (marks : List StageMarks)
-        (cells : List KeyCell) → AreKeysKept plan commits cells
+        (cells : List KeyCell) → AreKeysSane plan commits cells
         → ((n : ℕ) (node : Node) → slice_get plan.nodes n ≡ Some node
         → All (λ input. input < n) node.inputs)
         → AreMarks plan (least_hold (key_holds cells)) marks → All (λ c. is_free c ≡ true) cells
         → next_place marks cells ≡ None → All IsCellThrough cells }
     ensures marks { (plan : Plan) (commits : List CommitMarks) (marks : List StageMarks)
-        (cells : List KeyCell) → AreKeysKept plan commits cells
+        (cells : List KeyCell) → AreKeysSane plan commits cells
         → ((n : ℕ) (node : Node) → slice_get plan.nodes n ≡ Some node
         → All (λ input. input < n) node.inputs)
         → AreMarks plan (least_hold (key_holds cells)) marks → All (λ c. is_free c ≡ true) cells
@@ -186,7 +203,7 @@ pub fn a_live_job_stays()
 pub fn receipts_of_key_jobs_are_placed()
     ensures { (plan : Plan) (commits : List CommitMarks) (cells : List KeyCell)
         (slots : List (List ℕ)) (slot at c : ℕ) (x : List ℕ) (arrivals : List Arrival)
-        (logged : Option Folded) → AreKeysKept plan commits cells
+        (logged : Option Folded) → AreKeysSane plan commits cells
         → AreWorkedOnce (λ keys. keys) slots cells → slice_get slots slot ≡ Some x → x ≡ at ∷ []
         → ((cell : KeyCell) (count : ℕ) → slice_get cells at ≡ Some cell → cell.live ≡ Some count
         → IsGivenOfKey plan cell.log.node cell.log.key cell.log.span (inputs_of cell count)
