@@ -18,7 +18,7 @@ use Rattle.group_cells.specs.Cells.{unseen_in}
 use Rattle.group_cells.specs.Due.{AreMoments, IsCountOf, IsDueOf, KeepsMoments, due_cmp, has_moment, is_due_as, is_key_of, own_moment}
 use Rattle.group_cells.specs.declared.groups.due.DueCells.{DueCells}
 use Rattle.group_cells.specs.declared.groups.due.DueKey.{DueKey}
-use Rattle.group_cells.proofs.Alike.{and_parts}
+use Rattle.group_cells.proofs.Alike.{and_parts, both_true}
 use Rattle.group_cells.proofs.Undoing.{read_written}
 
 and_turned : (n m p : Bool) → (n && (m && p)) ≡ ((n && p) && m)
@@ -220,38 +220,102 @@ beyond p n k off same more = by (cases_lt n k)
     by (inl less) = less
     by (inr le) = let here : p ≡ k = omega arith in absurd (false≢true (sym off ∙ (Decides-eqb p k).1 here))
 
+module _ (plan : Plan) (cells : List Cell) (cell : Cell) (q : DueKey) where
+  none_past : length cells ≤ q.place → is_due_as plan q (slice_get cells q.place) ≡ false
+  none_past more = ap (is_due_as plan q) (slice_get_past cells q.place more)
+
+  due_still : is_due_as plan q (slice_get cells q.place) ≡ true → is_due_as plan q (slice_get (cells ++ cell ∷ []) q.place) ≡ true
+  due_still due = by (cases_lt q.place (length cells))
+    where
+      by : (q.place < length cells) ⊎ (length cells ≤ q.place) → is_due_as plan q (slice_get (cells ++ cell ∷ []) q.place) ≡ true
+      by (inl less) = ap (is_due_as plan q) (read_before cells cell q.place less) ∙ due
+      by (inr more) = absurd (false≢true (sym (none_past more) ∙ due))
+
+  due_before : is_due_as plan q (slice_get (cells ++ cell ∷ []) q.place) ≡ true → q.place < length cells → is_due_as plan q (slice_get cells q.place) ≡ true
+  due_before due less = sym (ap (is_due_as plan q) (read_before cells cell q.place less)) ∙ due
+
+  -- behind the others only the last cell is due
+  due_last : (node place : ℕ) (now : Option ℤ) → place ≡ length cells → now ≡ own_moment plan cell → cell.node ≡ node
+      → is_due_as plan q (slice_get (cells ++ cell ∷ []) q.place) ≡ true → length cells ≤ q.place → is_key_of node place now q ≡ true
+  due_last node place now end are at due more = by (place == q.place) refl
+    where
+      by : (t : Bool) → (place == q.place) ≡ t → is_key_of node place now q ≡ true
+      by true e =
+          let here : place ≡ q.place = eqb-true place q.place e in
+          due_key plan cell node place now q are at here (sym (ap (is_due_as plan q) (ap (slice_get (cells ++ cell ∷ [])) (sym here ∙ end) ∙ read_last cells cell)) ∙ due)
+      by false e =
+          let past : length (cells ++ cell ∷ []) ≤ q.place = omega (arith, length-append cells (cell ∷ []), beyond place (length cells) q.place e end more) in
+          absurd (false≢true (sym (ap (is_due_as plan q) (slice_get_past (cells ++ cell ∷ []) q.place past)) ∙ due))
+
+  -- and it is, at its own moment
+  last_due : (place : ℕ) (now : Option ℤ) → place ≡ length cells → now ≡ own_moment plan cell → is_key_of cell.node place now q ≡ true
+      → is_due_as plan q (slice_get (cells ++ cell ∷ []) q.place) ≡ true
+  last_due place now end are is =
+      let outer = and_parts (cell.node == q.node && place == q.place) (has_moment now q.moment) is in
+      let inner = and_parts (cell.node == q.node) (place == q.place) outer.0 in
+      let here : place ≡ q.place = eqb-true place q.place inner.1 in
+      ap (is_due_as plan q) (ap (slice_get (cells ++ cell ∷ [])) (sym here ∙ end) ∙ read_last cells cell)
+      ∙ both_true (cell.node == q.node) (has_moment (own_moment plan cell) q.moment) inner.0 (ap (λ m. has_moment m q.moment) (sym are) ∙ outer.1)
+
 pub moments_added : (plan : Plan) (old new : DueCells) (cells : List Cell) (node place : ℕ) (cell : Cell) (now : Option ℤ) → KeepsMoments old new → AreMoments plan old cells
     → place ≡ length cells → now ≡ own_moment plan cell → cell.node ≡ node
     → ((q : DueKey) → is_key_of node place now q ≡ true → contains due_cmp new.moments q ≡ true)
     → AreMoments plan new (cells ++ cell ∷ [])
 moments_added plan old new cells node place cell now keeps h end are at entered = record {
   whole = λ q due. whole_by q due (cases_lt q.place (length cells));
-  only = λ q there. only_by q (kept.only q there) (cases_lt q.place (length cells));
+  only = λ q there. only_by q (kept.only q there);
 }
   where
     kept : AreMoments plan new cells
     kept = keeps plan cells h
 
-    none_past : (q : DueKey) → length cells ≤ q.place → is_due_as plan q (slice_get cells q.place) ≡ false
-    none_past q more = ap (is_due_as plan q) (slice_get_past cells q.place more)
+    whole_by : (q : DueKey) → is_due_as plan q (slice_get (cells ++ cell ∷ []) q.place) ≡ true → (q.place < length cells) ⊎ (length cells ≤ q.place) → contains due_cmp new.moments q ≡ true
+    whole_by q due (inl less) = kept.whole q (due_before plan cells cell q due less)
+    whole_by q due (inr more) = entered q (due_last plan cells cell q node place now end are at due more)
 
-    at_end : (q : DueKey) → is_due_as plan q (slice_get (cells ++ cell ∷ []) q.place) ≡ true → length cells ≤ q.place → (t : Bool) → (place == q.place) ≡ t → contains due_cmp new.moments q ≡ true
-    at_end q due more true e =
-        let here : place ≡ q.place = eqb-true place q.place e in
-        entered q (due_key plan cell node place now q are at here (sym (ap (is_due_as plan q) (ap (slice_get (cells ++ cell ∷ [])) (sym here ∙ end) ∙ read_last cells cell)) ∙ due))
-    at_end q due more false e =
-        let past : length (cells ++ cell ∷ []) ≤ q.place = omega (arith, length-append cells (cell ∷ []), beyond place (length cells) q.place e end more) in
-        absurd (false≢true (sym (ap (is_due_as plan q) (slice_get_past (cells ++ cell ∷ []) q.place past)) ∙ due))
+    only_by : (q : DueKey) → (is_due_as plan q (slice_get cells q.place) ≡ true) ⊎ Contains new.moved.items q
+        → (is_due_as plan q (slice_get (cells ++ cell ∷ []) q.place) ≡ true) ⊎ Contains new.moved.items q
+    only_by q (inr moved) = inr moved
+    only_by q (inl due) = inl (due_still plan cells cell q due)
+
+-- the same where no key is noted, and the set has just the key of the new cell more
+pub moments_put : (plan : Plan) (old new : DueCells) (cells : List Cell) (place : ℕ) (cell : Cell) (now : Option ℤ) → AreMoments plan old cells
+    → place ≡ length cells → now ≡ own_moment plan cell → new.moved.items ≡ old.moved.items
+    → ((q : DueKey) → contains due_cmp new.moments q ≡ cond (is_key_of cell.node place now q) true (contains due_cmp old.moments q))
+    → AreMoments plan new (cells ++ cell ∷ [])
+moments_put plan old new cells place cell now h end are moved put = record {
+  whole = λ q due. whole_by q due (cases_lt q.place (length cells));
+  only = λ q there. only_by q there (is_key_of cell.node place now q) refl;
+}
+  where
+    puts : (q : DueKey) (t : Bool) → is_key_of cell.node place now q ≡ t → contains due_cmp new.moments q ≡ cond t true (contains due_cmp old.moments q)
+    puts q t is = put q ∙ ap (λ b. cond b true (contains due_cmp old.moments q)) is
+
+    stays : (q : DueKey) → contains due_cmp old.moments q ≡ true → (t : Bool) → is_key_of cell.node place now q ≡ t → contains due_cmp new.moments q ≡ true
+    stays q there true is = puts q true is
+    stays q there false is = puts q false is ∙ there
 
     whole_by : (q : DueKey) → is_due_as plan q (slice_get (cells ++ cell ∷ []) q.place) ≡ true → (q.place < length cells) ⊎ (length cells ≤ q.place) → contains due_cmp new.moments q ≡ true
-    whole_by q due (inl less) = kept.whole q (sym (ap (is_due_as plan q) (read_before cells cell q.place less)) ∙ due)
-    whole_by q due (inr more) = at_end q due more (place == q.place) refl
+    whole_by q due (inl less) = stays q (h.whole q (due_before plan cells cell q due less)) (is_key_of cell.node place now q) refl
+    whole_by q due (inr more) = puts q true (due_last plan cells cell q cell.node place now end are refl due more)
 
-    only_by : (q : DueKey) → (is_due_as plan q (slice_get cells q.place) ≡ true) ⊎ Contains new.moved.items q → (q.place < length cells) ⊎ (length cells ≤ q.place)
+    before : (q : DueKey) → (is_due_as plan q (slice_get cells q.place) ≡ true) ⊎ Contains old.moved.items q
         → (is_due_as plan q (slice_get (cells ++ cell ∷ []) q.place) ≡ true) ⊎ Contains new.moved.items q
-    only_by q (inr moved) cases = inr moved
-    only_by q (inl due) (inl less) = inl (ap (is_due_as plan q) (read_before cells cell q.place less) ∙ due)
-    only_by q (inl due) (inr more) = absurd (false≢true (sym (none_past q more) ∙ due))
+    before q (inl due) = inl (due_still plan cells cell q due)
+    before q (inr noted) = inr (subst (λ (l : List DueKey). Contains l q) (sym moved) noted)
+
+    only_by : (q : DueKey) → contains due_cmp new.moments q ≡ true → (t : Bool) → is_key_of cell.node place now q ≡ t
+        → (is_due_as plan q (slice_get (cells ++ cell ∷ []) q.place) ≡ true) ⊎ Contains new.moved.items q
+    only_by q there true is = inl (last_due plan cells cell q place now end are is)
+    only_by q there false is = before q (h.only q (sym (puts q false is) ∙ there))
+
+-- a cell that has no moment brings no key
+pub none_put : (node place : ℕ) (moment : Option ℤ) (q : DueKey) (there : Bool) → moment ≡ None → there ≡ cond (is_key_of node place moment q) true there
+none_put node place moment q there none = by (is_key_of node place moment q) refl
+  where
+    by : (t : Bool) → is_key_of node place moment q ≡ t → there ≡ cond t true there
+    by true e = absurd (no_key node place moment q none e)
+    by false e = refl
 
 -- ---- the counts
 

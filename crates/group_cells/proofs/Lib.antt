@@ -52,7 +52,7 @@ mod FiredPlaces
 mod Advancing
 mod StandingPlaces
 mod ListedWindows
-mod MetPlaces
+pub mod MetPlaces
 mod KnownCells
 mod KnownKeys
 mod NearSessions
@@ -74,4 +74,5 @@ mod Unmerged
 mod Writes
 mod SettledMoments
 mod Tracking
+mod Restored
 mod UndonePlaces

@@ -13,13 +13,16 @@
 //! leads each key of that map and is compared before the key itself, and ranks of the panes of a commit,
 //! by which they are sorted before whole keys are compared (`groups/ranks.rt`).
 
-ghost use Rattle.std.specs.Prelude.{◌≡◌, ◌+◌, ◌≤◌, ℕ, ℤ, [], length, All, IfOk, OnOk, OnErr};
+ghost use Rattle.std.specs.Prelude.{◌≡◌, ◌+◌, ◌≤◌, ◌<◌, ◌^◌, ℕ, ℤ, [], length, true, All, IfOk};
+ghost use Rattle.std.specs.Prelude.{OnOk, OnErr};
 ghost use Rattle.beam_values.specs.Checked.{IsChecked};
 ghost use Rattle.beam_values.specs.Marks.{AreMarks};
+ghost use Rattle.beam_values.specs.Nodes.{is_group};
 ghost use Rattle.cell_index.specs.Places.{place_of};
 ghost use Rattle.group_cells.specs.Commits.{AreRounds, HasGap, IsCommitted, KeepsLegal, NoneFalls};
 ghost use Rattle.group_cells.specs.Commits.{RisesFrom};
 ghost use Rattle.group_cells.specs.Looking.{IsNextDue};
+ghost use Rattle.group_cells.specs.Sane.{AreSaneCells};
 ghost use Rattle.watermarks.specs.Holds.{hold_at};
 
 mod advance;
@@ -34,13 +37,14 @@ mod looking;
 mod merging;
 mod placing;
 mod ranks;
+mod restoring;
 mod room;
 mod standing;
 
 use crate::arrivals::leave_others;
 use crate::groups::advance::Next;
 use crate::groups::draft::Tracked;
-use crate::groups::group_plan::GroupPlan;
+pub use crate::groups::group_plan::GroupPlan;
 use crate::groups::keyed::LedKey;
 use crate::groups::looking::{place_among, shared_key};
 use crate::groups::standing::Known;
@@ -94,6 +98,35 @@ impl Groups {
             tracked: Tracked::new(alloc),
             dropped: Vec::new(alloc),
             standing: Some(BTreeMap::new(alloc)),
+            alloc,
+        })
+    }
+
+    /// The cells and the dropped elements of a book that was stored: cells that a commit with these marks
+    /// can leave. What they are found and due by is made anew, and what is known of windows that stand by
+    /// the next commit.
+    pub fn restore(
+        alloc: Global,
+        plan: &Plan,
+        cells: List<Cell>,
+        dropped: List<Dropped>,
+        marks: &[StageMarks],
+    ) -> Result<Groups, NoMemory>
+        requires checked { IsChecked plan.now }
+        requires sane { AreSaneCells plan.now marks.now cells }
+        requires dropped { All (λ lost. is_group plan.now lost.node ≡ true) dropped }
+        requires few { length cells < 2 ^ 32 }
+        ensures { IfOk result
+            (λ groups. groups ≡ record { plan = plan.now; cells = cells; dropped = dropped }) }
+    {
+        let _ = marks;
+        let plan = GroupPlan::new(alloc, plan)?;
+        let tracked = Tracked::of(alloc, &plan, cells)?;
+        Ok(Groups {
+            plan,
+            tracked,
+            dropped: dropped.into_vec(),
+            standing: None,
             alloc,
         })
     }

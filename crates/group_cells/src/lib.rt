@@ -5,6 +5,9 @@
 //! The layer above may rely on these contracts alone: what a commit does to one Group and key is `IsRound`
 //! of `specs/Rounds.antt`, and what commits mean over whole runs are the [`laws`]. Start with that file and
 //! `specs/Commits.antt`, and read `firing.rt`, `plain.rt` and `groups.rt` then.
+//!
+//! [`GroupPlan`] has the [`Rules`] of each Group at hand, by which a layer above may test cells that come
+//! from elsewhere before it gives them to [`Groups::restore`].
 #![tactic(auto)]
 
 mod arrivals;
@@ -16,5 +19,9 @@ mod plain;
 mod rules;
 mod windows;
 
-pub use groups::Groups;
+pub use arrivals::mark_into;
+pub use firing::firing_of;
+pub use groups::{GroupPlan, Groups};
 pub use plain::PlainGroups;
+pub use rules::Rules;
+pub use windows::{is_cell_at_key, is_open};

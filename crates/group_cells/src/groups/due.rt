@@ -514,7 +514,7 @@ fn has_no_early_panes(trigger: &Trigger) -> bool
 }
 
 /// The moment of a cell if so many of its entries were unseen, and it had fired its on-time pane or not.
-fn moment_with(plan: &GroupPlan, cell: &Cell, on_time: bool, count: u64) -> Option<i64>
+pub fn moment_with(plan: &GroupPlan, cell: &Cell, on_time: bool, count: u64) -> Option<i64>
     ensures { (entries : ListOf EntryOf) (next : ℕ) → count ≡ unseen_in entries
         → result ≡ own_moment plan.now (record cell.now {
           entries = entries;
