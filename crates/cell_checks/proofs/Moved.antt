@@ -61,8 +61,13 @@ module _ (rules : GroupRules) (mark : ℤ) (p : Cell → Bool) (xs ys : List Cel
   group_moved : IsSaneGroup rules mark (filter p xs) → IsSaneGroup rules mark (filter p ys)
   group_moved sane = record {
     once = λ w.
-        omega (arith, sane.once w, count_filtered p (λ cell. same_span cell.span w) xs, count_filtered p (λ cell. same_span cell.span w) ys,
-        sum_by-IsPermutation (λ (cell : Cell). cond {A = ℕ} (p cell && same_span cell.span w) 1 0) xs ys moved);
+        omega (
+          arith,
+          sane.once w,
+          count_filtered p (λ cell. same_span cell.span w) xs,
+          count_filtered p (λ cell. same_span cell.span w) ys,
+          sum_by-IsPermutation (λ (cell : Cell). cond {A = ℕ} (p cell && same_span cell.span w) 1 0) xs ys moved,
+        );
     merged = all_of (HasTaker rules (filter p ys)) (filter p ys) (λ cell at. takes cell (All-contains (HasTaker rules (filter p xs)) (filter p xs) cell sane.merged (back cell at)));
     apart = λ merges.
         let windows = sane.apart merges in
