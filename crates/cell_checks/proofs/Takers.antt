@@ -1,8 +1,8 @@
 -- Of the cells of one Group and key by their windows: which of them ends last, and in which one that was merged lies.
-use Rattle.std.proofs.Common.{◌≡◌, ◌⊎◌, inl, inr, ℕ, ◌+◌, ◌<◌, ℤ, ◌≤ℤ◌, ◌<ℤ◌, Bool, true, false, ◌&&◌, List, [], ◌∷◌, ◌++◌, length, get_or, map, take, drop, Option, Some, None, refl, sym, ap, subst, ◌∙◌, arith}
+use Rattle.std.proofs.Common.{◌≡◌, ◌⊎◌, inl, inr, ℕ, ◌+◌, ◌<◌, ℤ, ◌≤ℤ◌, ◌<ℤ◌, Bool, true, false, List, [], ◌∷◌, ◌++◌, length, get_or, take, drop, Option, Some, None, refl, sym, ap, subst, ◌∙◌, arith}
 use Rattle.std.specs.Borrow.{Bor}
 use Rattle.std.specs.Prelude.{Contains, int_lt, is_none}
-use Rattle.std.specs.List.{All, Any, list_any}
+use Rattle.std.specs.List.{All, list_any}
 use Rattle.std.proofs.lemmas.Bool.{and_from, and_parts, false≢true}
 use Rattle.std.proofs.lemmas.Int.{ints}
 use Rattle.std.proofs.lemmas.List.{drop_more, get_or-map, length-map, take_more, take-append-drop}
@@ -16,7 +16,7 @@ use Rattle.session_merge.proofs.Lists.{contains_cases, contains_first, pairs_acr
 use Rattle.group_cells.specs.Placing.{is_standing}
 use Rattle.group_cells.specs.Sane.{HasTaker, IsMerged, stands_round}
 use Rattle.group_cells.proofs.WindowTests.{le_from, lies_from, lies_test, lt_from}
-use Rattle.cell_checks.specs.Listing.{AreInOrder, BeginsWithin, EndsWithin, IsBefore, IsLatest, cells_in}
+use Rattle.cell_checks.specs.Listing.{AreInOrder, EndsWithin, IsBefore, IsLatest, cells_in}
 
 -- ---- one more cell
 

@@ -1,5 +1,5 @@
 -- All cells, and those of each Group and key.
-use Rattle.std.proofs.Common.{◌≡◌, ◌&&◌, Bool, true, false, List, get_or, Option, Some, None, refl, sym, ap, ◌∙◌}
+use Rattle.std.proofs.Common.{◌≡◌, true, List, get_or, Option, Some, None, refl, ap}
 use Rattle.std.specs.Prelude.{is_none}
 use Rattle.std.specs.List.{All, list_all}
 use Rattle.std.specs.List.Sorted.{IsPermutation}

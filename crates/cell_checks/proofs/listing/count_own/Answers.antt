@@ -1,11 +1,9 @@
-use Rattle.std.proofs.Common.{◌≡◌, List, true, take, sym, subst, length, arith, ◌∙◌}
+use Rattle.std.proofs.Common.{◌≡◌, List, true, take, sym, subst, arith, ◌∙◌}
 use Rattle.std.specs.Borrow.{Bor}
 use Rattle.std.specs.List.{All}
-use Rattle.std.proofs.lemmas.Bool.{not-true, not-false}
 use Rattle.std.proofs.lemmas.List.{length-map}
 use Rattle.std.proofs.lemmas.List.Elements.{All-push}
 use Rattle.beam_values.specs.declared.cell.Cell.{Cell}
-use Rattle.beam_model.specs.Panes.{is_cell_at_key}
 use Rattle.cell_checks.specs.Listing.{cells_in}
 use Rattle.cell_checks.proofs.Runs.{is_with, run_ends}
 use Rattle.cell_checks.proofs.Takers.{one_more, place_read}

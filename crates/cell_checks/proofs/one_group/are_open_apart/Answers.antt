@@ -1,4 +1,4 @@
-use Rattle.std.proofs.Common.{◌≡◌, ◌+◌, List, take, true, false, sym, subst, arith, ◌∙◌}
+use Rattle.std.proofs.Common.{List, take, sym, subst, arith, ◌∙◌}
 use Rattle.std.proofs.lemmas.Bool.{false≢true}
 use Rattle.beam_values.specs.declared.cell.Cell.{Cell}
 use Rattle.group_cells.specs.Rounds.{is_open, open_windows}
