@@ -19,4 +19,4 @@ pub use elements::{read_element, write_element};
 pub use laws::{write_and_compare, write_and_read};
 pub use reading::read_value;
 pub use refusal::{CoderRefusal, ReadRefusal};
-pub use writing::write_value;
+pub use writing::{append_blob, append_count, append_int, append_value, write_value};

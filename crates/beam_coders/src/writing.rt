@@ -9,7 +9,8 @@ ghost use Rattle.beam_coders.specs.Kept.{Keeps};
 use crate::varint::append_varint;
 use beam_values::{Bytes, NoMemory, Value, unsigned_bits};
 
-fn append_int(number: i64, out: &mut Bytes) -> Result<(), NoMemory>
+/// Appends the spelling of an `Int`. Where memory fails a part of it may stand at the end.
+pub fn append_int(number: i64, out: &mut Bytes) -> Result<(), NoMemory>
     ensures ok { OnOk result (out.new ≡ out.old ++ 1 ∷ varint (two's_complement number)) }
     ensures words { FitsSigned w64 number }
     ensures kept { Keeps out.old out.new }
@@ -18,7 +19,8 @@ fn append_int(number: i64, out: &mut Bytes) -> Result<(), NoMemory>
     append_varint(unsigned_bits(number), out)
 }
 
-fn append_blob(bytes: &[u8], out: &mut Bytes) -> Result<(), NoMemory>
+/// Appends the spelling of a `Blob`. Where memory fails a part of it may stand at the end.
+pub fn append_blob(bytes: &[u8], out: &mut Bytes) -> Result<(), NoMemory>
     ensures ok { OnOk result (out.new ≡ out.old ++ blob_spelling bytes.now) }
     ensures kept { Keeps out.old out.new }
 {
@@ -28,8 +30,8 @@ fn append_blob(bytes: &[u8], out: &mut Bytes) -> Result<(), NoMemory>
     Ok(())
 }
 
-/// Appends the tag of a sequence and the count of its items.
-fn append_count(count: u64, out: &mut Bytes) -> Result<(), NoMemory>
+/// Appends the tag of a sequence and the count of its items. Where memory fails a part of it may stand at the end.
+pub fn append_count(count: u64, out: &mut Bytes) -> Result<(), NoMemory>
     ensures ok { OnOk result (out.new ≡ out.old ++ 4 ∷ varint count) }
     ensures kept { Keeps out.old out.new }
 {
