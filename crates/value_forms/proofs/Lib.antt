@@ -1,0 +1,9 @@
+pub mod EnumLaws
+pub mod FormLaws
+pub mod Items
+pub mod NumberLaws
+pub mod PartLaws
+pub mod PieceLaws
+pub mod StructLaws
+pub mod WindowLaws
+pub mod Written

@@ -1,0 +1,15 @@
+pub mod Answers
+pub mod Cells
+pub mod Commits
+pub mod Elements
+pub mod Enums
+pub mod Forms
+pub mod Logs
+pub mod Messages
+pub mod Numbers
+pub mod Parts
+pub mod Pieces
+pub mod Plans
+pub mod Structs
+pub mod Windows
+pub mod Writing
