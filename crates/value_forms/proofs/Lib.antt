@@ -1,9 +1,14 @@
+pub mod CellLaws
+pub mod CommitLaws
+pub mod ElementLaws
 pub mod EnumLaws
 pub mod FormLaws
 pub mod Items
+pub mod LogLaws
 pub mod NumberLaws
 pub mod PartLaws
 pub mod PieceLaws
+pub mod PlanLaws
 pub mod StructLaws
 pub mod WindowLaws
 pub mod Written

@@ -1,3 +1,6 @@
+ghost use Rattle.std.specs.Prelude.{◌≡◌};
+ghost use Rattle.value_forms.specs.Plans.{is_within, are_options};
+
 use crate::parts::{append_case, append_seq, case_of, ends, field, items_of};
 use crate::{FormRefusal, Stored};
 use beam_values::{
@@ -6,6 +9,23 @@ use beam_values::{
 };
 use std::alloc::Global;
 
+fn is_within(least: u64, greatest: u64, number: u64) -> bool
+    ensures { result ≡ is_within least greatest number }
+{
+    least <= number && number <= greatest
+}
+
+/// Whether each option lies within its bounds.
+fn are_options(options: &Options) -> bool
+    ensures { result ≡ are_options options.now }
+{
+    is_within(1, 16, u64::from(options.workers))
+        && is_within(1, 1_000_000, u64::from(options.bundle))
+        && is_within(1, 1_099_511_627_776, options.chunk)
+        && is_within(1, 1_000, u64::from(options.attempts))
+}
+
+/// Read only where each lies within its bounds.
 impl Stored for Options {
     ghost use Rattle.value_forms.specs.Plans.{options_form};
 
@@ -27,12 +47,17 @@ impl Stored for Options {
         let chunk = field(alloc, fields, 2)?;
         let attempts = field(alloc, fields, 3)?;
         ends(fields, 4)?;
-        Ok(Options {
+        let options = Options {
             workers,
             bundle,
             chunk,
             attempts,
-        })
+        };
+        if are_options(&options) {
+            Ok(options)
+        } else {
+            Err(FormRefusal::Shape)
+        }
     }
 }
 
