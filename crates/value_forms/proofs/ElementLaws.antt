@@ -1,5 +1,5 @@
 -- What the forms of elements meet.
-use Rattle.std.proofs.Common.{◌≡◌, ℕ, ◌^◌, ◌<◌, Some, refl, arith}
+use Rattle.std.proofs.Common.{◌≡◌, ◌^◌, ◌<◌, Some, refl, arith}
 use Rattle.beam_values.specs.declared.element.Timing.{Timing}
 use Rattle.beam_values.specs.declared.element.Timing.TheVariants.{Early, OnTime, Late, Unknown}
 use Rattle.beam_values.specs.Timings.{timing_number}

@@ -1,15 +1,13 @@
 -- What every form of an enum meets: from its variants, and from the variant of each thing making that thing.
 use Rattle.std.proofs.Common.{◌≡◌, ℕ, pos, ◌+◌, ◌≤◌, ◌<◌, max, Bool, true, false, ◌⊎◌, inl, inr, List, [], ◌∷◌, map, Option, Some, None, cond, refl, sym, ap, ap₂, subst, ◌∙◌, ◌^◌, arith, eqb, eq-eqb, ne_eqb, eqb-true}
 use Rattle.std.specs.List.{AllByRecursion}
-use Rattle.std.specs.Int.{w64}
-use Rattle.std.specs.Int.RustNames.{FitsSigned}
 use Rattle.beam_values.specs.declared.value.Value.{Value}
-use Rattle.beam_values.specs.declared.value.Value.TheVariants.{Int, Pair, Seq}
+use Rattle.beam_values.specs.declared.value.Value.TheVariants.{Int, Seq}
 use Rattle.beam_values.specs.Storable.{IsStorable}
 use Rattle.beam_values.proofs.Storable.{Int-fits, Pair-fits, Seq-fits}
 use Rattle.beam_coders.specs.Readable.{nesting, greatest_of}
 use Rattle.beam_coders.proofs.NestingLaws.{nesting-Int, nesting-Pair, nesting-Seq}
-use Rattle.value_forms.specs.Enums.{case_value, named, names_form, Cases, last_case, or_place, or_fields, OrFits, or_depth, ◌or◌, enum_form}
+use Rattle.value_forms.specs.Enums.{case_value, named, names_form, Cases, last_case, OrFits, ◌or◌, enum_form}
 use Rattle.value_forms.specs.Parts.{◌>>=◌, case_at, ends_at}
 use Rattle.value_forms.specs.Structs.{Row}
 use Rattle.value_forms.proofs.PartLaws.{bind_some, case_at-Pair, case_at-is}

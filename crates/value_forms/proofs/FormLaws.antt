@@ -1,14 +1,14 @@
 -- What every form meets, and how it follows from what a form is made of.
-use Rattle.std.proofs.Common.{◌≡◌, ℕ, ◌+◌, ◌≤◌, max, Bool, true, false, List, [], ◌∷◌, map, cond, Option, Some, None, refl, sym, ap, ap₂, subst, ◌∙◌, arith}
+use Rattle.std.proofs.Common.{◌≡◌, ℕ, ◌+◌, ◌≤◌, Bool, true, false, List, [], ◌∷◌, map, cond, Option, Some, None, refl, sym, ap, ap₂, ◌∙◌, arith}
 use Rattle.std.specs.List.{AllByRecursion}
 use Rattle.beam_values.specs.declared.value.Value.{Value}
-use Rattle.beam_values.specs.declared.value.Value.TheVariants.{Blob, Seq}
+use Rattle.beam_values.specs.declared.value.Value.TheVariants.{Seq}
 use Rattle.beam_values.specs.Storable.{IsStorable}
 use Rattle.beam_values.proofs.Storable.{Blob-fits, Seq-fits}
 use Rattle.beam_coders.specs.Readable.{nesting, greatest_of}
 use Rattle.beam_coders.proofs.NestingLaws.{nesting-Blob, nesting-Seq}
 use Rattle.value_forms.specs.Forms.{Form, value_form, bytes_form, list_form, option_items, option_of, OptionFits, option_depth, option_form, passing, tested_form}
-use Rattle.value_forms.specs.Parts.{◌>>=◌, items_at, all_of}
+use Rattle.value_forms.specs.Parts.{items_at, all_of}
 use Rattle.value_forms.proofs.PartLaws.{bind_some, blob_at-Blob, blob_at-is, items_at-Seq, items_at-is}
 
 -- of a form, where `P` says which things can be stored, and `deep` how deep they are nested beside the values that they hold

@@ -1,5 +1,5 @@
 -- What the forms of what stateful functions keep and were called on meet.
-use Rattle.std.proofs.Common.{◌≡◌, ◌^◌, ◌≤◌, inl, inr, refl, arith}
+use Rattle.std.proofs.Common.{◌≡◌, inl, inr, refl, arith}
 use Rattle.beam_values.specs.declared.log.LogInput.{LogInput}
 use Rattle.beam_values.specs.declared.log.LogInput.TheVariants.{Arrived, Fired}
 use Rattle.beam_values.specs.declared.state_cell.StateCell.{StateCell}

@@ -1,6 +1,6 @@
 -- What every form of a number meets.
-use Rattle.std.proofs.Common.{◌≡◌, ℕ, ◌+◌, ◌-◌, ◌^◌, ◌<◌, ◌≤◌, ℤ, pos, negsuc, ◌<ℤ◌, FitsSigned, w64, Bool, true, false, ◌||◌, cond, nat_lt, Option, Some, None, refl, sym, ap, ◌∙◌, arith, eqb, eqb-true, lt-ltb, le-ltb, ltb-true, inl, inr}
-use Rattle.std.proofs.lemmas.Bool.{cases_lt, cases_Bool, and_from, and_parts, or_cases, or_left, or_right}
+use Rattle.std.proofs.Common.{◌≡◌, ℕ, ◌+◌, ◌-◌, ◌^◌, ◌<◌, ◌≤◌, ℤ, pos, negsuc, ◌<ℤ◌, FitsSigned, w64, Bool, true, false, ◌||◌, cond, nat_lt, Some, None, refl, sym, ap, ◌∙◌, arith, eqb, eqb-true, lt-ltb, le-ltb, ltb-true, inl, inr}
+use Rattle.std.proofs.lemmas.Bool.{cases_lt, cases_Bool, and_from, or_left, or_right}
 use Rattle.std.proofs.lemmas.Int.{ints}
 use Rattle.std.proofs.lemmas.Option.{cond_some}
 use Rattle.std.specs.Ordering.{int_eq}

@@ -1,5 +1,5 @@
 -- The parts of each form of value, and that only a value of that form has them.
-use Rattle.std.proofs.Common.{◌≡◌, ℕ, ℤ, pos, negsuc, List, [], ◌∷◌, Option, Some, None, refl, sym, ap, ap₂, ◌∙◌}
+use Rattle.std.proofs.Common.{◌≡◌, ℕ, ℤ, pos, negsuc, List, Option, Some, None, refl, sym, ap, ap₂, ◌∙◌}
 use Rattle.beam_values.specs.declared.value.Value.{Value}
 use Rattle.beam_values.specs.declared.value.Value.TheVariants.{Null, Int, Blob, Pair, Seq, rolls-Null, rolls-Int, rolls-Blob, rolls-Pair, rolls-Seq}
 use Rattle.beam_values.specs.declared.value.Value.TheOpen as layer

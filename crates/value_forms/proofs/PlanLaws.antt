@@ -1,6 +1,5 @@
 -- What the forms of plans and of the options of a run meet.
-use Rattle.std.proofs.Common.{◌≡◌, ℕ, ◌^◌, ◌<◌, ◌≤◌, true, Some, inl, inr, refl, arith}
-use Rattle.beam_values.specs.declared.options.Options.{Options}
+use Rattle.std.proofs.Common.{◌≡◌, ◌^◌, ◌<◌, true, Some, inl, inr, refl, arith}
 use Rattle.beam_values.specs.declared.plan.Args.{Args}
 use Rattle.beam_values.specs.declared.plan.Args.TheVariants.{Nothing, Text, Number, Two}
 use Rattle.beam_values.specs.declared.plan.Estimator.{Estimator}

@@ -1,8 +1,8 @@
 -- What the forms of windows and of restrictions meet.
-use Rattle.std.proofs.Common.{◌≡◌, ℕ, ◌^◌, ◌<◌, ◌≤◌, ℤ, ◌<ℤ◌, FitsSigned, w64, true, refl, arith, le-leb}
+use Rattle.std.proofs.Common.{◌≡◌, ◌≤◌, ◌<ℤ◌, true, refl, arith, le-leb}
 use Rattle.std.proofs.lemmas.Int.{ints}
 use Rattle.std.specs.Prelude.{int_lt, nat_le}
-use Rattle.beam_values.specs.Intervals.{Interval, Offsets}
+use Rattle.beam_values.specs.Intervals.{Interval}
 use Rattle.value_forms.specs.Windows.{span_fields, span_of, span_form, range_fields, range_of, range_form}
 use Rattle.value_forms.proofs.FormLaws.{IsForm, tested_is_form}
 use Rattle.value_forms.proofs.NumberLaws.{signed_is_form, bits_is_form}

@@ -1,5 +1,5 @@
 -- The forms of plans and of the options of a run.
-use Rattle.std.specs.Prelude.{ℕ, ◌^◌, ◌≤◌, ℤ, Bool, ◌&&◌, nat_le, ◌⊎◌, List, [], ◌∷◌, Option}
+use Rattle.std.specs.Prelude.{ℕ, ℤ, Bool, ◌&&◌, nat_le, ◌⊎◌, List, [], ◌∷◌, Option}
 use Rattle.std.proofs.Common.{inl, inr}
 use Rattle.beam_values.specs.declared.options.Options.{Options}
 use Rattle.beam_values.specs.declared.plan.Args.{Args}

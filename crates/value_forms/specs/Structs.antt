@@ -1,5 +1,5 @@
 -- The forms of structs: the Seq of the fields, in the order in which the struct declares them.
-use Rattle.std.specs.Prelude.{ℕ, ◌+◌, max, List, [], ◌∷◌, Option, Some, None}
+use Rattle.std.specs.Prelude.{ℕ, ◌+◌, max, List, [], ◌∷◌, Option, Some}
 use Rattle.beam_values.specs.declared.value.Value.{Value}
 use Rattle.beam_values.specs.declared.value.Value.TheVariants.{Seq}
 use Rattle.value_forms.specs.Forms.{Form}

@@ -21,6 +21,9 @@ mod stored;
 mod values;
 mod windows;
 
-pub use parts::{append_case, append_seq, blob_of, case_of, ends, field, int_of, items_of};
+pub use parts::{append_case, append_seq, case_of, ends, field, items_of};
 pub use refusal::FormRefusal;
 pub use stored::Stored;
+
+#[cfg(test)]
+mod tests;

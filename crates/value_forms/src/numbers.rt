@@ -2,7 +2,7 @@ ghost use Rattle.std.specs.Prelude.{◌≡◌, Some};
 ghost use Rattle.beam_coders.specs.Reading.{signed};
 ghost use Rattle.value_forms.specs.Numbers.{bits_at};
 
-use crate::parts::{int_of, write_int};
+use crate::parts::{append_number, int_of};
 use crate::{FormRefusal, Stored};
 use beam_values::{Bytes, Mark, NoMemory, Time, Value, unsigned_bits};
 use std::alloc::Global;
@@ -33,7 +33,7 @@ impl Stored for u8 {
     ghost form = { u8_form };
 
     fn write(&self, out: &mut Bytes) -> Result<(), NoMemory> {
-        write_int(i64::from(*self), out)
+        append_number(i64::from(*self), out)
     }
 
     fn read(_alloc: Global, value: &Value) -> Result<u8, FormRefusal> {
@@ -48,7 +48,7 @@ impl Stored for u32 {
     ghost form = { u32_form };
 
     fn write(&self, out: &mut Bytes) -> Result<(), NoMemory> {
-        write_int(i64::from(*self), out)
+        append_number(i64::from(*self), out)
     }
 
     fn read(_alloc: Global, value: &Value) -> Result<u32, FormRefusal> {
@@ -67,7 +67,7 @@ impl Stored for u64 {
     ghost form = { bits_form };
 
     fn write(&self, out: &mut Bytes) -> Result<(), NoMemory> {
-        write_int(signed_of(*self), out)
+        append_number(signed_of(*self), out)
     }
 
     fn read(_alloc: Global, value: &Value) -> Result<u64, FormRefusal> {
@@ -81,7 +81,7 @@ impl Stored for i64 {
     ghost form = { signed_form };
 
     fn write(&self, out: &mut Bytes) -> Result<(), NoMemory> {
-        write_int(*self, out)
+        append_number(*self, out)
     }
 
     fn read(_alloc: Global, value: &Value) -> Result<i64, FormRefusal> {
@@ -97,7 +97,7 @@ impl Stored for bool {
 
     fn write(&self, out: &mut Bytes) -> Result<(), NoMemory> {
         let number = if *self { 1 } else { 0 };
-        write_int(number, out)
+        append_number(number, out)
     }
 
     fn read(_alloc: Global, value: &Value) -> Result<bool, FormRefusal> {
@@ -115,7 +115,7 @@ impl Stored for Time {
     ghost form = { time_form };
 
     fn write(&self, out: &mut Bytes) -> Result<(), NoMemory> {
-        write_int(self.ms(), out)
+        append_number(self.ms(), out)
     }
 
     fn read(_alloc: Global, value: &Value) -> Result<Time, FormRefusal> {
@@ -130,7 +130,7 @@ impl Stored for Mark {
     ghost form = { mark_form };
 
     fn write(&self, out: &mut Bytes) -> Result<(), NoMemory> {
-        write_int(self.ms(), out)
+        append_number(self.ms(), out)
     }
 
     fn read(_alloc: Global, value: &Value) -> Result<Mark, FormRefusal> {

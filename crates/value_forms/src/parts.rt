@@ -86,7 +86,7 @@ pub fn ends(fields: &[Value], count: usize) -> Result<(), FormRefusal>
 
 /// Appends an `Int`.
 #[tactic(auto, using(crate::proofs::Written::int_written))]
-pub fn write_int(number: i64, out: &mut Bytes) -> Result<(), NoMemory>
+pub fn append_number(number: i64, out: &mut Bytes) -> Result<(), NoMemory>
     ensures ok { OnOk result (out.new ≡ out.old ++ spelling (Value.Int number)) }
     ensures words { FitsSigned w64 number }
     ensures kept { Keeps out.old out.new }
