@@ -4,7 +4,7 @@ use Rattle.std.specs.List.{AllByRecursion}
 use Rattle.beam_values.specs.declared.value.Value.{Value}
 use Rattle.beam_values.specs.declared.value.Value.TheVariants.{Int, Seq}
 use Rattle.beam_values.specs.Storable.{IsStorable}
-use Rattle.beam_values.proofs.Storable.{Int-fits, Pair-fits, Seq-fits}
+use Rattle.beam_values.proofs.Storable.{Int-fits, Pair-fits, Seq-fits, fits-Pair, fits-Seq}
 use Rattle.beam_coders.specs.Readable.{nesting, greatest_of}
 use Rattle.beam_coders.proofs.NestingLaws.{nesting-Int, nesting-Pair, nesting-Seq}
 use Rattle.value_forms.specs.Enums.{case_value, named, names_form, Cases, last_case, OrFits, ◌or◌, enum_form}
@@ -16,6 +16,10 @@ use Rattle.value_forms.proofs.StructLaws.{IsRow, row_alone, row_whole, no_more_i
 
 case_words : (place : ℕ) (fields : List Value) → place < 2 ^ 63 → AllByRecursion IsStorable fields → IsStorable (case_value place fields)
 case_words place fields small h = Pair-fits (Int (pos place)) (Seq fields) (Int-fits (pos place) record { sfits = omega arith }) (Seq-fits fields h)
+
+-- the fields of a variant that can be stored
+fields_fit : (v : Value) (c : ℕ × List Value) → IsStorable v → case_at v ≡ Some c → AllByRecursion IsStorable c.1
+fields_fit v c s e = fits-Seq c.1 (fits-Pair (Int (pos c.0)) (Seq c.1) (subst IsStorable (sym (case_at-is v c e)) s)).1
 
 case_shallow : (place : ℕ) (fields : List Value) (most : ℕ) → greatest_of (map nesting fields) ≤ most → nesting (case_value place fields) ≤ 2 + most
 case_shallow place fields most h = rw (nesting-Pair, nesting-Int, nesting-Seq) (omega arith)
@@ -51,6 +55,7 @@ module _ {A : Type 0} (names : List A) (place : A → ℕ) (ordered : map place 
     exact = names_exact;
     shallow = λ x. case_shallow (place x) [] 0 (omega arith);
     words = λ x _. case_words (place x) [] (small x) tt;
+    fits = λ v x s e. tt;
   }
 
 -- ---- variants with fields
@@ -63,6 +68,7 @@ pub record IsCases {A : Type 0} (cases : Cases A) (P : A → Type 0) (deep count
   pub last : (from : ℕ) (x : A) → cases.place from x < from + count
   pub shallow : (x : A) → greatest_of (map nesting (cases.fields x)) ≤ deep + cases.depth x
   pub words : (x : A) → P x → AllByRecursion IsStorable (cases.fields x)
+  pub fits : (from n : ℕ) (vs : List Value) (x : A) → AllByRecursion IsStorable vs → cases.of from n vs ≡ Some x → P x
 
 chosen : {A : Type 0} (n from : ℕ) (x y : Option A) (z : A) (b : Bool) → eqb n from ≡ b → cond b x y ≡ Some z → ((from ≡ n) × (x ≡ Some z)) ⊎ (y ≡ Some z)
 chosen n from x y z true t e = inl (sym (eqb-true n from t), e)
@@ -76,6 +82,13 @@ module _ {A : Type 0} {row : Row A} {P : A → Type 0} {deep : ℕ} (is : IsRow 
         | inr h ↦ absurd cc
       ]
 
+  last_fits : (from n : ℕ) (vs : List Value) (x : A) → AllByRecursion IsStorable vs → (last_case row).of from n vs ≡ Some x → P x
+  last_fits from n vs x s e =
+      elim (chosen n from (row.of 0 vs) None x (eqb n from) refl e) [
+        | inl h ↦ is.fits 0 vs x s h.1
+        | inr h ↦ absurd cc
+      ]
+
   pub last_is_cases : IsCases (last_case row) P deep 1
   last_is_cases = record {
     again = λ from x h. rw (eq-eqb from from refl) (row_alone is x h);
@@ -84,6 +97,7 @@ module _ {A : Type 0} {row : Row A} {P : A → Type 0} {deep : ℕ} (is : IsRow 
     last = λ from x. omega arith;
     shallow = is.shallow;
     words = is.words;
+    fits = last_fits;
   }
 
   module _ {B : Type 0} {others : Cases B} {Q : B → Type 0} {more count : ℕ} (rest : IsCases others Q more count) where
@@ -113,6 +127,17 @@ module _ {A : Type 0} {row : Row A} {P : A → Type 0} {deep : ℕ} (is : IsRow 
           | inr h ↦ or_there from n vs x h
         ]
 
+    or_fits : (from n : ℕ) (vs : List Value) (x : A ⊎ B) → AllByRecursion IsStorable vs → (row or others).of from n vs ≡ Some x → OrFits P Q x
+    or_fits from n vs x s e =
+        elim (chosen n from (row.of 0 vs >>= λ y. Some (inl y)) (others.of (from + 1) n vs >>= λ y. Some (inr y)) x (eqb n from) refl e) [
+          | inl h ↦
+              let read = bind_some (row.of 0 vs) _ x h.1 in
+              subst (OrFits P Q) (some_is (inl read.0) x read.2) (is.fits 0 vs read.0 s read.1)
+          | inr h ↦
+              let read = bind_some (others.of (from + 1) n vs) _ x h in
+              subst (OrFits P Q) (some_is (inr read.0) x read.2) (rest.fits (from + 1) n vs read.0 s read.1)
+        ]
+
     or_first : (from : ℕ) (x : A ⊎ B) → from ≤ (row or others).place from x
     or_first from (inl x) = omega arith
     or_first from (inr y) = omega (arith, rest.first (from + 1) y)
@@ -130,7 +155,7 @@ module _ {A : Type 0} {row : Row A} {P : A → Type 0} {deep : ℕ} (is : IsRow 
     or_words (inr y) h = rest.words y h
 
     pub or_is_cases : IsCases (row or others) (OrFits P Q) (max deep more) (1 + count)
-    or_is_cases = record { again = or_again; exact = or_exact; first = or_first; last = or_last; shallow = or_shallow; words = or_words }
+    or_is_cases = record { again = or_again; exact = or_exact; first = or_first; last = or_last; shallow = or_shallow; words = or_words; fits = or_fits }
 
 module _ {S A : Type 0} {cases : Cases A} {P : A → Type 0} {deep count : ℕ} (parts : S → A) (whole : A → S) (is : IsCases cases P deep count)
     (few : count ≤ 2 ^ 63) (back : (s : S) → whole (parts s) ≡ s) (forth : (x : A) → parts (whole x) ≡ x) where
@@ -145,10 +170,18 @@ module _ {S A : Type 0} {cases : Cases A} {P : A → Type 0} {deep count : ℕ} 
       let right = is.exact 0 c.0.0 c.0.1 read.0 read.1 in
       ap (λ (x : A). case_value (cases.place 0 x) (cases.fields x)) same ∙ ap₂ case_value right.0 right.1 ∙ case_at-is v c.0 c.1
 
+  enum_fits : (v : Value) (s : S) → IsStorable v → (enum_form cases parts whole).of v ≡ Some s → P (parts s)
+  enum_fits v s stored e =
+      let c = bind_some (case_at v) _ s e in
+      let read = bind_some (cases.of 0 c.0.0 c.0.1) _ s c.2 in
+      let same : read.0 ≡ parts s = sym (forth read.0) ∙ ap parts (some_is (whole read.0) s read.2) in
+      subst P same (is.fits 0 c.0.0 c.0.1 read.0 (fields_fit v c.0 stored c.1) read.1)
+
   pub enum_is_form : IsForm (enum_form cases parts whole) (λ s. P (parts s)) (2 + deep)
   enum_is_form = record {
     again = enum_again;
     exact = enum_exact;
     shallow = λ s. let within = case_shallow (cases.place 0 (parts s)) (cases.fields (parts s)) (deep + cases.depth (parts s)) (is.shallow (parts s)) in omega arith;
     words = λ s h. case_words (cases.place 0 (parts s)) (cases.fields (parts s)) (omega (arith, is.last 0 (parts s))) (is.words (parts s) h);
+    fits = enum_fits;
   }

@@ -1,6 +1,6 @@
 -- What every form of a number meets.
-use Rattle.std.proofs.Common.{◌≡◌, ℕ, ◌+◌, ◌-◌, ◌^◌, ◌<◌, ◌≤◌, ℤ, pos, negsuc, ◌<ℤ◌, FitsSigned, w64, Bool, true, false, ◌||◌, cond, nat_lt, Some, None, refl, sym, ap, ◌∙◌, arith, eqb, eqb-true, lt-ltb, le-ltb, ltb-true, inl, inr}
-use Rattle.std.proofs.lemmas.Bool.{cases_lt, cases_Bool, and_from, or_left, or_right}
+use Rattle.std.proofs.Common.{◌≡◌, ℕ, ◌+◌, ◌-◌, ◌^◌, ◌<◌, ◌≤◌, ℤ, pos, negsuc, ◌<ℤ◌, FitsSigned, w64, Bool, true, false, ◌||◌, cond, nat_lt, Some, None, refl, sym, ap, subst, ◌∙◌, arith, eqb, eqb-true, lt-ltb, le-ltb, ltb-true, inl, inr}
+use Rattle.std.proofs.lemmas.Bool.{cases_lt, cases_Bool, and_from, and_parts, or_cases, or_left, or_right}
 use Rattle.std.proofs.lemmas.Int.{ints}
 use Rattle.std.proofs.lemmas.Option.{cond_some}
 use Rattle.std.specs.Ordering.{int_eq}
@@ -8,37 +8,36 @@ use Rattle.std.specs.Prelude.{int_le}
 use Rattle.beam_values.specs.declared.value.Value.{Value}
 use Rattle.beam_values.specs.declared.value.Value.TheVariants.{Int}
 use Rattle.beam_values.specs.Times.{least_time, greatest_time, final_mark, IsTime, IsMark}
-use Rattle.beam_values.proofs.Storable.{Int-fits}
+use Rattle.beam_values.specs.Storable.{IsStorable}
+use Rattle.beam_values.proofs.Storable.{Int-fits, fits-Int}
 use Rattle.beam_coders.specs.Readable.{nesting}
 use Rattle.beam_coders.specs.Reading.{signed}
 use Rattle.beam_coders.proofs.NestingLaws.{nesting-Int}
 use Rattle.value_forms.specs.Forms.{passing}
 use Rattle.value_forms.specs.Numbers.{int_form, signed_form, is_time, time_form, mark_form, below, nat_form, u8_form, u32_form, bits_at, bits_form, flag_number, flag_at, flag_form}
 use Rattle.value_forms.specs.Parts.{◌>>=◌, int_at}
-use Rattle.value_forms.proofs.FormLaws.{IsForm, some_is}
+use Rattle.value_forms.proofs.FormLaws.{IsForm, some_is, passed}
 use Rattle.value_forms.proofs.PartLaws.{bind_some, int_at-Int, int_at-is}
 
 int_shallow : (n : ℤ) → nesting (Int n) ≤ 1 + 0
 int_shallow n = rw nesting-Int (omega arith)
 
-passed : {A : Type 0} (test : A → Bool) (x y : A) → passing test x ≡ Some y → x ≡ y
-passed test x y e = step (test x) e
-  where
-    step : (b : Bool) → cond b (Some x) None ≡ Some y → x ≡ y
-    step true e = some_is x y e
-    step false e = absurd cc
+-- the number of a value that can be stored
+int_fits : (v : Value) (n : ℤ) → IsStorable v → int_at v ≡ Some n → FitsSigned w64 n
+int_fits v n s e = fits-Int n (subst IsStorable (sym (int_at-is v n e)) s)
 
-module _ (test : ℤ → Bool) (P : ℤ → Type 0) (passes : (n : ℤ) → P n → test n ≡ true) (small : (n : ℤ) → P n → FitsSigned w64 n) where
+module _ (test : ℤ → Bool) (P : ℤ → Type 0) (passes : (n : ℤ) → P n → test n ≡ true) (small : (n : ℤ) → P n → FitsSigned w64 n) (meant : (n : ℤ) → FitsSigned w64 n → test n ≡ true → P n) where
   pub int_is_form : IsForm (int_form test P) P 1
   int_is_form = record {
     again = λ n h. rw (int_at-Int n, passes n h) refl;
-    exact = λ v n e. let read = bind_some (int_at v) (passing test) n e in int_at-is v n (read.1 ∙ ap Some (passed test read.0 n read.2));
+    exact = λ v n e. let read = bind_some (int_at v) (passing test) n e in int_at-is v n (read.1 ∙ ap Some (passed test read.0 n read.2).0);
     shallow = int_shallow;
     words = λ n h. Int-fits n (small n h);
+    fits = λ v n s e. let read = bind_some (int_at v) (passing test) n e in let p = passed test read.0 n read.2 in meant n (int_fits v n s (read.1 ∙ ap Some p.0)) p.1;
   }
 
 pub signed_is_form : IsForm signed_form (FitsSigned w64) 1
-signed_is_form = int_is_form (λ _. true) (FitsSigned w64) (λ n h. refl) (λ n h. h)
+signed_is_form = int_is_form (λ _. true) (FitsSigned w64) (λ n h. refl) (λ n h. h) (λ n h t. h)
 
 time_passes : (t : ℤ) → IsTime t → is_time t ≡ true
 time_passes t h = and_from (int_le least_time t) (int_le t greatest_time) (grind (arith, ints, h.0)) (grind (arith, ints, h.1))
@@ -47,8 +46,13 @@ time_small : (t : ℤ) → IsTime t → FitsSigned w64 t
 time_small (pos n) h = record { sfits = omega (arith, ints, h.1) }
 time_small (negsuc n) h = record { sfits = omega (arith, ints, h.0) }
 
+time_meant : (t : ℤ) → FitsSigned w64 t → is_time t ≡ true → IsTime t
+time_meant t f e =
+    let p = and_parts (int_le least_time t) (int_le t greatest_time) e in
+    (grind (arith, ints, p.0), grind (arith, ints, p.1))
+
 pub time_is_form : IsForm time_form IsTime 1
-time_is_form = int_is_form is_time IsTime time_passes time_small
+time_is_form = int_is_form is_time IsTime time_passes time_small time_meant
 
 mark_passes : (m : ℤ) → IsMark m → (is_time m || int_eq m final_mark) ≡ true
 mark_passes m h =
@@ -70,12 +74,33 @@ mark_small (pos n) h =
     ]
 mark_small (negsuc n) h = record { sfits = omega (arith, ints, h.0) }
 
+final_is_mark : IsMark final_mark
+final_is_mark = (grind (arith, ints), λ _. refl)
+
+time_is_mark : (t : ℤ) → IsTime t → IsMark t
+time_is_mark t h = (h.0, λ late. absurd (grind (arith, ints, h.1, late)))
+
+mark_meant : (m : ℤ) → FitsSigned w64 m → (is_time m || int_eq m final_mark) ≡ true → IsMark m
+mark_meant m f e =
+    elim (or_cases (is_time m) (int_eq m final_mark) e) [
+      | inl t ↦ time_is_mark m (time_meant m f t)
+      | inr same ↦
+          let final : m ≡ final_mark = grind (arith, ints, same) in
+          subst IsMark (sym final) final_is_mark
+    ]
+
 pub mark_is_form : IsForm mark_form IsMark 1
-mark_is_form = int_is_form (λ m. is_time m || int_eq m final_mark) IsMark mark_passes mark_small
+mark_is_form = int_is_form (λ m. is_time m || int_eq m final_mark) IsMark mark_passes mark_small mark_meant
 
 below_is : (bound : ℕ) (n : ℤ) (k : ℕ) → below bound n ≡ Some k → pos k ≡ n
-below_is bound (pos m) k e = ap pos (sym (passed (λ j. nat_lt j bound) m k e))
+below_is bound (pos m) k e = ap pos (sym (passed (λ j. nat_lt j bound) m k e).0)
 below_is bound (negsuc m) k e = absurd cc
+
+below_fits : (bound : ℕ) (n : ℤ) (k : ℕ) → below bound n ≡ Some k → k < bound
+below_fits bound (pos m) k e =
+    let same = cond_some (nat_lt m bound) m k e in
+    subst (λ (j : ℕ). j < bound) same.1 (ltb-true m bound same.0)
+below_fits bound (negsuc m) k e = absurd cc
 
 pub nat_is_form : (bound : ℕ) → bound ≤ 2 ^ 63 → IsForm (nat_form bound) (λ n. n < bound) 1
 nat_is_form bound few = record {
@@ -83,6 +108,7 @@ nat_is_form bound few = record {
   exact = λ v n e. let read = bind_some (int_at v) (below bound) n e in ap Int (below_is bound read.0 n read.2) ∙ int_at-is v read.0 read.1;
   shallow = λ n. int_shallow (pos n);
   words = λ n h. Int-fits (pos n) record { sfits = omega arith };
+  fits = λ v n s e. let read = bind_some (int_at v) (below bound) n e in below_fits bound read.0 n read.2;
 }
 
 pub u8_is_form : IsForm u8_form (λ n. n < 2 ^ 8) 1
@@ -117,12 +143,22 @@ bits_is (negsuc m) k e =
     let back : 2 ^ 64 - 1 - (2 ^ 64 - 1 - m) ≡ m = omega arith in
     rw (← same.1, le-ltb (2 ^ 64 - 1 - m) (2 ^ 63) (omega arith)) (ap negsuc back)
 
+bits_fit : (n : ℤ) (k : ℕ) → bits_at n ≡ Some k → k < 2 ^ 64
+bits_fit (pos m) k e =
+    let same = cond_some (nat_lt m (2 ^ 63)) m k e in
+    let low : m < 2 ^ 63 = ltb-true m (2 ^ 63) same.0 in
+    subst (λ (j : ℕ). j < 2 ^ 64) same.1 (omega arith)
+bits_fit (negsuc m) k e =
+    let same = cond_some (nat_lt m (2 ^ 63)) (2 ^ 64 - 1 - m) k e in
+    subst (λ (j : ℕ). j < 2 ^ 64) same.1 (omega arith)
+
 pub bits_is_form : IsForm bits_form (λ n. n < 2 ^ 64) 1
 bits_is_form = record {
   again = λ n h. rw (int_at-Int (signed n)) (bits_again n h);
   exact = λ v n e. let read = bind_some (int_at v) bits_at n e in ap Int (bits_is read.0 n read.2) ∙ int_at-is v read.0 read.1;
   shallow = λ n. int_shallow (signed n);
   words = λ n h. Int-fits (signed n) (bits_small n h);
+  fits = λ v n s e. let read = bind_some (int_at v) bits_at n e in bits_fit read.0 n read.2;
 }
 
 -- ---- truth values
@@ -155,4 +191,5 @@ flag_is_form = record {
   exact = flag_exact;
   shallow = λ b. int_shallow (pos (flag_number b));
   words = λ b _. Int-fits (pos (flag_number b)) record { sfits = omega (arith, flag_small b) };
+  fits = λ v b s e. tt;
 }

@@ -28,7 +28,7 @@ use Rattle.value_forms.proofs.StructLaws.{no_more_is_row, and_is_row, struct_is_
 -- of options within their bounds; the others are written too, and not read again
 pub options_is_form : IsForm options_form (λ o. ((o.workers < 2 ^ 32) × ((o.bundle < 2 ^ 32) × ((o.chunk < 2 ^ 64) × ((o.attempts < 2 ^ 32) × Unit {0})))) × (are_options o ≡ true)) 2
 options_is_form =
-    tested_is_form (struct_is_form options_fields options_of (and_is_row u32_is_form (and_is_row u32_is_form (and_is_row bits_is_form (and_is_row u32_is_form no_more_is_row)))) (λ o. refl) (λ x. refl)) are_options (λ _. Unit {0}) (λ o. are_options o ≡ true) (λ o h. h)
+    tested_is_form (struct_is_form options_fields options_of (and_is_row u32_is_form (and_is_row u32_is_form (and_is_row bits_is_form (and_is_row u32_is_form no_more_is_row)))) (λ o. refl) (λ x. refl)) are_options (λ _. Unit {0}) (λ o. are_options o ≡ true) (λ o h. h) (λ o h. h)
 
 -- ---- windows and triggers
 

@@ -1,5 +1,5 @@
 -- What every form of a struct meets: from its fields, and from the fields of each thing making that thing.
-use Rattle.std.proofs.Common.{◌≡◌, ℕ, ◌+◌, ◌≤◌, max, List, [], ◌∷◌, ◌++◌, length, drop, map, eqb, Some, slice_get, refl, sym, ap, ap₂, subst, ◌∙◌, append_assoc, add-one, drop-cons, arith}
+use Rattle.std.proofs.Common.{◌≡◌, ℕ, zero, suc, ◌+◌, ◌≤◌, max, List, [], ◌∷◌, ◌++◌, length, drop, map, eqb, Some, slice_get, refl, sym, ap, ap₂, subst, ◌∙◌, append_assoc, add-one, drop-cons, arith}
 use Rattle.std.proofs.lemmas.Bool.{eqb-true, eq-eqb}
 use Rattle.std.proofs.lemmas.List.{append-nil, length-append, drop_all}
 use Rattle.std.proofs.lemmas.Option.{cond_some, slice_get_within, get_or_from_slice_get}
@@ -14,7 +14,7 @@ use Rattle.value_forms.specs.Forms.{Form}
 use Rattle.value_forms.specs.Parts.{◌>>=◌, items_at, field_at, ends_at}
 use Rattle.value_forms.specs.Structs.{Row, no_more, ◌&◌, struct_form}
 use Rattle.value_forms.proofs.PartLaws.{bind_some, items_at-Seq, items_at-is}
-use Rattle.value_forms.proofs.FormLaws.{IsForm, some_is}
+use Rattle.value_forms.proofs.FormLaws.{IsForm, some_is, items_fit}
 
 -- of fields, as `IsForm` of one form
 pub record IsRow {A : Type 0} (row : Row A) (P : A → Type 0) (deep : ℕ) : Type 0 where
@@ -22,6 +22,7 @@ pub record IsRow {A : Type 0} (row : Row A) (P : A → Type 0) (deep : ℕ) : Ty
   pub exact : (from : ℕ) (vs : List Value) (x : A) → row.of from vs ≡ Some x → row.to x ≡ drop from vs
   pub shallow : (x : A) → greatest_of (map nesting (row.to x)) ≤ deep + row.depth x
   pub words : (x : A) → P x → AllByRecursion IsStorable (row.to x)
+  pub fits : (from : ℕ) (vs : List Value) (x : A) → AllByRecursion IsStorable vs → row.of from vs ≡ Some x → P x
 
 module _ {A : Type 0} {row : Row A} {P : A → Type 0} {deep : ℕ} (is : IsRow row P deep) where
   -- the fields that are all of the items
@@ -49,11 +50,17 @@ no_more_is_row = record {
   exact = ends_exact;
   shallow = λ x. omega arith;
   words = λ x _. tt;
+  fits = λ from vs x s e. tt;
 }
 
 slice_get_after : (front : List Value) (v : Value) (vs : List Value) → slice_get (front ++ v ∷ vs) (length front) ≡ Some v
 slice_get_after [] v vs = refl
 slice_get_after (w ∷ front) v vs = slice_get_after front v vs
+
+field_fits : (vs : List Value) (place : ℕ) (v : Value) → AllByRecursion IsStorable vs → slice_get vs place ≡ Some v → IsStorable v
+field_fits [] place v s e = absurd cc
+field_fits (w ∷ vs) zero v s e = subst IsStorable (some_is w v e) s.0
+field_fits (w ∷ vs) (suc place) v s e = field_fits vs place v s.1 e
 
 drop_at : (from : ℕ) (vs : List Value) (v : Value) → slice_get vs from ≡ Some v → drop from vs ≡ v ∷ drop (from + 1) vs
 drop_at from vs v e = rw (drop-cons vs from v (slice_get_within vs from v e), get_or_from_slice_get vs from v v e, add-one) refl
@@ -76,6 +83,14 @@ module _ {A B : Type 0} {form : Form A} {row : Row B} {P : A → Type 0} {Q : B 
       let same = some_is (first.0, rest.0) x rest.2 in
       ap (λ (p : A × B). form.to p.0 ∷ row.to p.1) (sym same) ∙ ap₂ (λ (w : Value) (ws : List Value). w ∷ ws) (is.exact v.0 first.0 v.2) (others.exact (from + 1) vs rest.0 rest.1) ∙ sym (drop_at from vs v.0 v.1)
 
+  row_fits : (from : ℕ) (vs : List Value) (x : A × B) → AllByRecursion IsStorable vs → (form & row).of from vs ≡ Some x → P x.0 × Q x.1
+  unfolding field_at
+  row_fits from vs x s e =
+      let first = bind_some (field_at form.of vs from) _ x e in
+      let v = bind_some (slice_get vs from) form.of first.0 first.1 in
+      let rest = bind_some (row.of (from + 1) vs) _ x first.2 in
+      subst (λ (p : A × B). P p.0 × Q p.1) (some_is (first.0, rest.0) x rest.2) (is.fits v.0 first.0 (field_fits vs from v.0 s v.1) v.2, others.fits (from + 1) vs rest.0 s rest.1)
+
   row_shallow : (x : A × B) → greatest_of (map nesting ((form & row).to x)) ≤ max deep more + (form & row).depth x
   row_shallow x = omega (arith, is.shallow x.0, others.shallow x.1)
 
@@ -85,6 +100,7 @@ module _ {A B : Type 0} {form : Form A} {row : Row B} {P : A → Type 0} {Q : B 
     exact = row_exact;
     shallow = row_shallow;
     words = λ x h. (is.words x.0 h.0, others.words x.1 h.1);
+    fits = row_fits;
   }
 
 module _ {S A : Type 0} {row : Row A} {P : A → Type 0} {deep : ℕ} (fields : S → A) (whole : A → S) (is : IsRow row P deep)
@@ -99,10 +115,18 @@ module _ {S A : Type 0} {row : Row A} {P : A → Type 0} {deep : ℕ} (fields : 
       let same : fields s ≡ read.0 = ap fields (sym (some_is (whole read.0) s read.2)) ∙ forth read.0 in
       ap (λ (x : A). Seq (row.to x)) same ∙ ap Seq (row_whole is items.0 read.0 items.2) ∙ items_at-is v items.0 items.1
 
+  struct_fits : (v : Value) (s : S) → IsStorable v → (struct_form row fields whole).of v ≡ Some s → P (fields s)
+  struct_fits v s stored e =
+      let read = bind_some (items_at v >>= row.of 0) _ s e in
+      let items = bind_some (items_at v) (row.of 0) read.0 read.1 in
+      let same : read.0 ≡ fields s = sym (forth read.0) ∙ ap fields (some_is (whole read.0) s read.2) in
+      subst P same (is.fits 0 items.0 read.0 (items_fit v items.0 stored items.1) items.2)
+
   pub struct_is_form : IsForm (struct_form row fields whole) (λ s. P (fields s)) (1 + deep)
   struct_is_form = record {
     again = struct_again;
     exact = struct_exact;
     shallow = λ s. rw nesting-Seq (omega (arith, is.shallow (fields s)));
     words = λ s h. Seq-fits (row.to (fields s)) (is.words (fields s) h);
+    fits = struct_fits;
   }
