@@ -2,9 +2,9 @@
 //!
 //! A form, in `specs/Forms.antt`, says the value as which a thing is written and the thing that a value
 //! is read as. [`Stored`] writes the bytes of that value without making it, and reads a value. The layer
-//! above may rely on this: what was written is read again as the same, each value is read as at most one
-//! thing, and nothing else is written as that value (`proofs/FormLaws.antt`). Types of crates above have
-//! forms made of the same combinators. Read `stored.rt` first.
+//! above may rely on this: what was written is read again as the same, and a value that is read is the one
+//! as which that thing is written (`proofs/FormLaws.antt`). Types of crates above have forms made of the
+//! same parts. Read `stored.rt` first.
 #![tactic(auto)]
 
 mod cells;
