@@ -50,6 +50,15 @@ impl Bag {
         })
     }
 
+    /// The same, in order, so that none is sought through all.
+    pub fn sorted_of(alloc: Global, values: &[Value]) -> Result<Bag, NoMemory>
+        ensures { IfOk result (λ bag. bag ≡ values.now) }
+    {
+        let mut bag = Bag::of(alloc, values)?;
+        bag.settle(alloc)?;
+        Ok(bag)
+    }
+
     pub fn len(&self) -> usize
         ensures { result ≡ length self.now }
     {

@@ -5,7 +5,7 @@ ghost use Rattle.beam_values.specs.declared.state_cell.StateCell.TheVariants as 
 ghost use Rattle.keyed_state.specs.Bags.{holds_value};
 
 use crate::bag::{Bag, holds_value};
-use beam_values::{Bytes, Duplicate, List, NoMemory, Value};
+use beam_values::{Bytes, Duplicate, List, NoMemory, StateCell, Value};
 use std::alloc::Global;
 use std::marker::Model;
 
@@ -101,6 +101,43 @@ impl Cell {
             Form::Text(bytes) => Some(bytes.as_slice()),
             _ => None,
         }
+    }
+
+    /// What the cell holds. Long byte strings are shared.
+    pub fn held(&self, alloc: Global) -> Result<StateCell, NoMemory>
+        ensures { IfOk result (λ held. held ≡ self.now) }
+    {
+        match &self.form {
+            Form::Unset => Ok(StateCell::Unset),
+            Form::Number(n) => Ok(StateCell::Number(*n)),
+            Form::Text(bytes) => Ok(StateCell::Text(bytes.duplicate(alloc)?)),
+            Form::Few(values) => Ok(StateCell::Bag(values.duplicate(alloc)?)),
+            Form::Many(bag) => Ok(StateCell::Bag(bag.values(alloc)?)),
+        }
+    }
+
+    /// A cell that holds this.
+    pub fn restore(alloc: Global, held: StateCell) -> Result<Cell, NoMemory>
+        ensures { IfOk result (λ cell. cell ≡ held) }
+    {
+        match held {
+            StateCell::Unset => Ok(Cell::unset()),
+            StateCell::Number(n) => Ok(Cell::of_number(n)),
+            StateCell::Text(bytes) => Ok(Cell::of_bytes(bytes)),
+            StateCell::Bag(values) => Cell::of_values(alloc, values),
+        }
+    }
+
+    fn of_values(alloc: Global, values: List<Value>) -> Result<Cell, NoMemory>
+        ensures { IfOk result (λ cell. cell ≡ seen.Bag values) }
+    {
+        if values.len() <= FEW {
+            return Ok(Cell {
+                form: Form::Few(values),
+            });
+        }
+        let bag = Bag::sorted_of(alloc, values.as_slice())?;
+        Ok(Cell::of_bag(Box::new(alloc, bag)?))
     }
 
     /// The values of a bag.

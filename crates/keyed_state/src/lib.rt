@@ -11,4 +11,4 @@ mod cell;
 mod run;
 mod state;
 
-pub use state::KeyState;
+pub use state::{CELLS, KeyState};

@@ -7,7 +7,7 @@ ghost use Rattle.beam_values.specs.States.{cell_of, number_in, bytes_in, bag_in,
 ghost use Rattle.keyed_state.specs.Bags.{holds_value};
 
 use crate::cell::Cell;
-use beam_values::{Bytes, List, NoMemory, Value};
+use beam_values::{Bytes, List, NoMemory, StateCell, Value};
 use std::alloc::Global;
 use std::marker::Model;
 
@@ -122,6 +122,34 @@ impl KeyState {
         ensures err { OnErr result (self.new ≡ self.old) }
     {
         self.cells[name as usize].add(self.alloc, value)
+    }
+
+    /// What each of the eight cells holds. Long byte strings are shared.
+    pub fn cells(&self) -> Result<List<StateCell>, NoMemory>
+        ensures { IfOk result (λ cells. cells ≡ self.now) }
+    {
+        let mut cells = List::from_vec(Vec::with_capacity(self.alloc, CELLS)?);
+        for name in 0..CELLS {
+            cells.push(self.cells[name].held(self.alloc)?)?;
+        }
+        Ok(cells)
+    }
+
+    /// The state whose cells hold these.
+    pub fn restore(alloc: Global, cells: List<StateCell>) -> Result<KeyState, NoMemory>
+        requires { length cells ≡ 8 }
+        ensures { IfOk result (λ s. s ≡ cells) }
+    {
+        let mut restored = no_cells();
+        let mut name = 0;
+        for cell in cells.into_vec() {
+            restored[name] = Cell::restore(alloc, cell)?;
+            name += 1;
+        }
+        Ok(KeyState {
+            cells: restored,
+            alloc,
+        })
     }
 
     /// All eight cells, set or not. Their bags and long byte strings share their memory.
