@@ -24,6 +24,3 @@ mod windows;
 pub use parts::{append_case, append_seq, case_of, ends, field, items_of};
 pub use refusal::FormRefusal;
 pub use stored::Stored;
-
-#[cfg(test)]
-mod tests;

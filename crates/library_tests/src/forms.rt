@@ -1,10 +1,10 @@
 //! A piece and a strategy as bytes, worked out by hand, and values that aren't of their forms.
 
-use crate::{FormRefusal, Stored};
 use beam_coders::read_value;
 use beam_values::{Bytes, Piece, Range, Strategy, Time};
 use std::alloc::Global;
 use std::test::Fail;
+use value_forms::{FormRefusal, Stored};
 
 // What the spelling of a value is read as.
 fn read<T: Stored>(alloc: Global, spelling: &[u8]) -> Result<Result<T, FormRefusal>, Fail> {
