@@ -16,7 +16,7 @@ pub record AreHeldOnce (panes : List Pane) (held : List HeldPlace) : Type 0 wher
   pub at_panes : All (IsHeldAt panes) held
   pub once : (place : ℕ) → count_by (is_at place) held ≤ 1
 
--- places rise
+-- Places rise. So do 0, 2 and 5, and not 2 and 2.
 abbrev pub Ascend : List ℕ → Type 0
 Ascend [] = Unit {0}
 Ascend (place ∷ places) = All (λ later. place < later) places × Ascend places
