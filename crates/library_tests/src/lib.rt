@@ -1,7 +1,8 @@
 //! Tests of the libraries of plans and functions, which stand here so that those libraries are proved once.
 //!
 //! Each file tests one of them through what it hands out: checked pipelines, plan documents, shelves of
-//! functions, the functions, the sources, the forms of data, and the words of a command line. Expected values are counted by hand.
+//! functions, the functions, the sources, the forms of data, and the words of a command line. Expected values
+//! are counted by hand.
 #![tactic(auto)]
 
 #[cfg(test)]
