@@ -83,7 +83,7 @@ found_unchanged old new names same h = record {
 }
 
 -- one name more, which no other is
-found_more : (old new : BTreeMap CellKey ℕ) (x : CellKey) (number : ℕ) (names : List CellKey) → tree.Updates cell_key_cmp old new x (Some number) → number ≡ length names
+pub found_more : (old new : BTreeMap CellKey ℕ) (x : CellKey) (number : ℕ) (names : List CellKey) → tree.Updates cell_key_cmp old new x (Some number) → number ≡ length names
     → ((at : ℕ) (name : CellKey) → slice_get names at ≡ Some name → is_name x name ≡ false) → AreFound old names → AreFound new (names ++ x ∷ [])
 found_more old new x number names updates behind apart h = record {
   finds = λ wanted at name e same. elim (got_cases names x name at e) [

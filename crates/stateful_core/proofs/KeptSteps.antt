@@ -26,7 +26,7 @@ places_kept trees after first n cells same keeps h = record {
   each = λ k cell e. subst (λ (m : ℕ). HasPlace after cell.log.node (m + k)) (sym same) (keeps cell.log.node (first + k) (h.each k cell e));
 }
 
-no_places : (trees : List NodeTree) (n : ℕ) → HavePlaces trees n []
+pub no_places : (trees : List NodeTree) (n : ℕ) → HavePlaces trees n []
 no_places trees n = record { each = λ k cell e. absurd (none k cell e) }
   where
     none : (k : ℕ) (cell : KeyCell) → slice_get [] k ≡ Some cell → ⊥

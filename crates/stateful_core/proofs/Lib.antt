@@ -44,3 +44,7 @@ pub mod FirstOfTrees
 pub mod TreeSteps
 pub mod KeptSteps
 pub mod BesideHolds
+pub mod KeyFormLaws
+pub mod Distinct
+pub mod FormedTimers
+pub mod DataSteps

@@ -82,7 +82,7 @@ not_of_arrival node key span arrival cell off on = by (is_log_of node key span c
 
 -- ---- counts
 
-counted : {X : Type 0} (p : X → Bool) (x : X) (xs : List X) → count_by p (x ∷ xs) ≡ cond (p x) 1 0 + count_by p xs
+pub counted : {X : Type 0} (p : X → Bool) (x : X) (xs : List X) → count_by p (x ∷ xs) ≡ cond (p x) 1 0 + count_by p xs
 counted p x xs = sum_by-cons (λ y. cond (p y) 1 0) x xs
 
 one_or_none : (b : Bool) → cond b 1 0 ≤ 1

@@ -17,3 +17,7 @@ pub mod Least
 pub mod Staying
 pub mod Leaving
 pub mod Working
+pub mod Data
+pub mod KeyForms
+pub mod Restoring
+pub mod SaneData

@@ -1,6 +1,7 @@
-ghost use Rattle.std.specs.Prelude.{◌≡◌, IfSome, OnErr, OnOk, Some};
+ghost use Rattle.std.specs.Prelude.{◌≡◌, IfSome, OnErr, OnOk, None, Some};
 ghost use Rattle.std.specs.BTreeMap as tree;
 ghost use Rattle.cell_index.specs.Indexes.{cell_key_cmp};
+ghost use Rattle.cell_index.specs.declared.index_key.CellKey.{CellKey as CellKeyOf};
 
 use beam_values::{NoMemory, Span, Value};
 use cell_index::{CellIndex, Guess, IndexKey};
@@ -15,7 +16,10 @@ pub struct KeyIndex {
 
 impl KeyIndex {
     /// Takes no memory.
-    pub fn new(alloc: Global) -> KeyIndex {
+    pub fn new(alloc: Global) -> KeyIndex
+        ensures { (wanted : CellKeyOf)
+            → tree.get cell_key_cmp result.numbers.places wanted ≡ None }
+    {
         KeyIndex {
             numbers: CellIndex::new(alloc),
         }

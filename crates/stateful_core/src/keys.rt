@@ -1,4 +1,4 @@
-ghost use Rattle.std.specs.Prelude.{◌≡◌, ℕ, ◌≤◌, ◌<◌, ◌+◌, ◌-◌, [], ◌∷◌, ◌++◌, true, not, IfOk, OnOk, OnErr, length, slice_get, Some};
+ghost use Rattle.std.specs.Prelude.{◌≡◌, ℕ, ◌≤◌, ◌<◌, ◌+◌, ◌-◌, [], ◌∷◌, ◌++◌, true, not, IfOk, OnOk, OnErr, length, map, slice_get, Some};
 ghost use Rattle.std.specs.List.{filter};
 ghost use Rattle.std.specs.Option.{option_map, option_copied};
 ghost use Rattle.beam_values.specs.Nodes.{is_stateful};
@@ -8,6 +8,8 @@ ghost use Rattle.stateful_core.specs.Opening.{put_all};
 ghost use Rattle.stateful_core.specs.Least.{AreLeast};
 ghost use Rattle.stateful_core.specs.Placing.{finish, place};
 ghost use Rattle.stateful_core.specs.Cells.{KeyCell, calls_of, key_holds, logs_of};
+ghost use Rattle.stateful_core.specs.Data.{AreKeysFormed, cells_of_data, key_data_of};
+ghost use Rattle.stateful_core.specs.Facts.{AreOnce};
 ghost use Rattle.stateful_core.specs.Seen.{cell_of, cells_of};
 ghost use Rattle.stateful_core.specs.Trees.{AreTrees, HasPlace};
 ghost use Rattle.stateful_core.specs.Taking.{IsFirstReady, IsTaken, IsTakenOrNone, change, next_place, tried};
@@ -16,13 +18,15 @@ ghost use Rattle.stateful_core.specs.declared.slot.Slot.{Slot};
 ghost use Rattle.std.specs.Prelude.{List as ListOf, vec_capacity, vec_len};
 
 use crate::finding::number_of;
+use crate::giving_out::all_data;
 use crate::holding::least_holds;
 use crate::opening::{keep_all, let_all_go};
 use crate::putting::{finish, put_all};
+use crate::restoring::restore_all;
 use crate::routing::route_all;
 use crate::taking::{give_back, start, turn_of};
 use crate::trees::{grow_all, next_place, renew_at};
-use crate::{KeyDone, KeyIndex, KeyTurn, NodeTree, Place, Routed, Slot};
+use crate::{KeyData, KeyDone, KeyIndex, KeyTurn, NodeTree, Place, Restored, Routed, Slot};
 use beam_values::{Arrival, KeyLog, List, LogEntry, Mark, NoMemory, Plan, Span, StageMarks, Value};
 use std::alloc::Global;
 use std::collections::VecDeque;
@@ -174,6 +178,34 @@ impl Keys {
         Ok(logs)
     }
 
+    /// What all cells hold, by number. A cell whose job is worked is given out as one whose elements wait.
+    pub fn key_data(&self) -> Result<List<KeyData>, NoMemory>
+        ensures { IfOk result (λ keys. keys ≡ map key_data_of self.now.cells) }
+    {
+        all_data(self.alloc, self.slots.as_slice())
+    }
+
+    /// The cells that this data stands for, by number.
+    pub fn restore(alloc: Global, keys: List<KeyData>) -> Result<Keys, NoMemory>
+        requires formed { AreKeysFormed keys }
+        requires once { AreOnce (cells_of_data keys) }
+        ensures { IfOk result (λ restored. restored.cells ≡ cells_of_data keys) }
+    {
+        let Restored {
+            slots,
+            index,
+            trees,
+        } = restore_all(alloc, keys)?;
+        Ok(Keys {
+            slots,
+            index,
+            trees,
+            fresh: Vec::new(alloc),
+            routes: VecDeque::new(alloc),
+            alloc,
+        })
+    }
+
     /// Makes all room that placing this commit needs, in the place of what was prepared before. No cell
     /// changes. Answers the least hold of each node after that, or FINAL.
     pub fn prepare(
@@ -255,7 +287,7 @@ impl Keys {
 }
 
 /// Refuses so many new cells where not all cells would have numbers of 32 bits.
-fn has_numbers(cells: usize, fresh: usize) -> Result<(), NoMemory>
+pub fn has_numbers(cells: usize, fresh: usize) -> Result<(), NoMemory>
     ensures { OnOk result (cells + fresh < 4294967296) }
 {
     if cells.saturating_add(fresh) > u32::MAX as usize {

@@ -20,6 +20,7 @@ ghost use Rattle.beam_model.specs.Holds.{least_hold};
 ghost use Rattle.beam_model.specs.Logs.{AreLogsLegal, is_log_of};
 ghost use Rattle.beam_model.specs.Panes.{mark_after};
 ghost use Rattle.stateful_core.specs.Cells.{KeyCell, key_arrivals, key_holds, logs_of};
+ghost use Rattle.stateful_core.specs.Data.{IsKeyFormed, cell_of_data, key_data_of};
 ghost use Rattle.stateful_core.specs.Facts.{AreDoneOf, AreKeysKept, AreKeysSane, IsCellThrough, IsDoneOf, IsLiveAs};
 ghost use Rattle.stateful_core.specs.Facts.{IsCellSane, Later, came_to, comes, folded_in};
 ghost use Rattle.stateful_core.specs.Facts.{Folded};
@@ -230,4 +231,13 @@ pub fn logs_bring_the_chains_of_their_entries()
         (cells : List KeyCell) (cell : KeyCell) → slice_get cells done.cell ≡ Some cell
         → IsSameBag (log_chains plan (logs_of (place plan before (Some done) arrivals cells)))
         (log_chains plan (logs_of cells) ++ entry_chains plan cell.log.node done.entries) }
+{}
+
+/// The data of a sane cell, of which no job is worked, stands for that cell.
+pub fn data_stands_for_its_cell()
+    ensures formed { (plan : Plan) (commits : List CommitMarks) (cell : KeyCell)
+        → IsCellSane plan commits cell → IsKeyFormed (key_data_of cell) }
+    ensures back { (plan : Plan) (commits : List CommitMarks) (cell : KeyCell)
+        → IsCellSane plan commits cell → cell.live ≡ None
+        → cell_of_data (key_data_of cell) ≡ cell }
 {}

@@ -14,13 +14,18 @@
 //! is due, and the least mark at which it holds the node back (`specs/Trees.antt`). A cell tells that without a
 //! look at all that waits there (`specs/Minima.antt`).
 //!
+//! Cells are given out as plain data and made again of it (`specs/Data.antt`): [`Keys::key_data`], and
+//! [`Keys::restore`] where [`are_sane_keys`] holds.
+//!
 //! What each step does stands in `specs/Taking.antt` and `specs/Placing.antt`. [`laws`] has what every list of
 //! steps keeps: the logs are those of calls in one legal order, and what came stands in a log or waits, once
 //! and in order. Read `keys.rt` first.
 #![tactic(auto)]
 
 mod cell_hold;
+mod data;
 mod finding;
+mod giving_out;
 mod holding;
 mod key_index;
 mod key_job;
@@ -32,20 +37,26 @@ mod opening;
 mod place;
 mod putting;
 mod queue;
+mod restoring;
 mod routing;
+mod sane_data;
 mod slot;
+mod stored_keys;
 mod taking;
 mod timer_holds;
 mod trees;
 mod waiting;
 
+pub use data::{KeyData, SetTimer};
 pub use key_index::KeyIndex;
 pub use key_job::{KeyDone, KeyTurn};
 pub use keys::Keys;
 pub use node_tree::NodeTree;
 pub use place::Place;
 pub use queue::Queue;
+pub use restoring::Restored;
 pub use routing::Routed;
+pub use sane_data::are_sane_keys;
 pub use slot::Slot;
 pub use timer_holds::TimerHolds;
 pub use waiting::Waiting;

@@ -1,4 +1,4 @@
-ghost use Rattle.std.specs.Prelude.{◌≡◌, ◌<◌, replicate, None, length};
+ghost use Rattle.std.specs.Prelude.{◌≡◌, ◌<◌, replicate, slice_set, None, Some, length};
 ghost use Rattle.beam_values.specs.States.{timer_of};
 ghost use Rattle.stateful_core.specs.Placing.{held_timer, timer_hold_after, timer_holds_after};
 ghost use Rattle.beam_model.specs.Holds.{hold_of_timer};
@@ -43,6 +43,14 @@ impl TimerHolds {
         ensures sized { length self.now ≡ 8 }
     {
         self.marks[name as usize]
+    }
+
+    /// A timer that is set holds its node back at this mark.
+    pub fn set(&mut self, name: u8, mark: Mark)
+        requires { name < 8 }
+        ensures { self.new ≡ slice_set self.old name (Some mark) }
+    {
+        self.marks[name as usize] = Some(mark);
     }
 
     /// The holds after a commit, where these timers were set before it and those after it, and the node's

@@ -183,7 +183,8 @@ pub fn grow_all(
     Ok(())
 }
 
-fn grow(alloc: Global, trees: &mut Vec<NodeTree>, node: u32, at: usize) -> Result<(), NoMemory>
+/// Makes a place for the entry of a cell of a node with this number.
+pub fn grow(alloc: Global, trees: &mut Vec<NodeTree>, node: u32, at: usize) -> Result<(), NoMemory>
     ensures kept { (hole : OptionOf ℕ) (cells : ListOf KeyCell)
         → AreTreesBut hole trees.old.items cells → AreTreesBut hole trees.new.items cells }
     ensures others { (n i : ℕ) → HasPlace trees.old.items n i → HasPlace trees.new.items n i }
