@@ -87,3 +87,8 @@ pub mod SaneResults
 pub mod SaneAlways
 pub mod AllKept
 pub mod NoGroups
+pub mod BookFormLaws
+pub mod FieldLaws
+pub mod StoredWaiting
+pub mod StoredBook
+pub mod RestoredWaits

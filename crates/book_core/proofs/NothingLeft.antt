@@ -150,7 +150,7 @@ module _ (b : SeenBook) (formed : IsWellFormed b) (once : AreHeldOnce b) (groups
       (group_within b.plan x.node (nonempty_held b x.node x.panes (All-head IsNonempty x xs some) (All-head (λ (batch : Batch). All (IsHeldPane b) (held_in batch)) x xs all) groups))
       (within_nodes xs (All-tail IsNonempty x xs some) (All-tail (λ (batch : Batch). All (IsHeldPane b) (held_in batch)) x xs all))
 
-  returned_within : All (λ batch. batch.node < length b.plan.nodes) b.returned
+  pub returned_within : All (λ batch. batch.node < length b.plan.nodes) b.returned
   returned_within =
       within_nodes b.returned (All-append_left IsNonempty b.returned (live_batches b) once.batches)
       (All-of_flat_map (IsHeldPane b) held_in b.returned

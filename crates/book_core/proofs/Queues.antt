@@ -20,7 +20,7 @@ module _ (w : HeldPane → ℕ) where
   abbrev at : ℕ → List WaitingPane → ℕ
   at node panes = sum_by w (held_at node panes)
 
-  at_append : (node : ℕ) (xs ys : List WaitingPane) → at node (xs ++ ys) ≡ at node xs + at node ys
+  pub at_append : (node : ℕ) (xs ys : List WaitingPane) → at node (xs ++ ys) ≡ at node xs + at node ys
   at_append node xs ys =
       omega (
         arith,

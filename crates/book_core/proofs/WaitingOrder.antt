@@ -99,7 +99,7 @@ queues_up before most n fired (q ∷ qs) up low =
     (All-head (All (λ (w : WaitingPane). w.pane < most)) q qs low) (fired_high before n most fired))
     (queues_up before most (n + 1) fired qs (All-tail AscendByPane q qs up) (All-tail (All (λ (w : WaitingPane). w.pane < most)) q qs low))
 
-waiting_low : (b : SeenBook) → AreHeldOnce b → All (All (λ w. w.pane < length b.panes)) b.queues
+pub waiting_low : (b : SeenBook) → AreHeldOnce b → All (All (λ w. w.pane < length b.panes)) b.queues
 waiting_low b once =
     queues_low (length b.panes) 0 b.queues
     (All-append_left (λ (h : HeldPane). h.waiting.pane < length b.panes) (queued b) (flat_map held_in b.returned ++ flat_map held_in (live_batches b))

@@ -16,3 +16,6 @@ pub mod Committing
 pub mod Inside
 pub mod NextFor
 pub mod DueAt
+pub mod Restoring
+pub mod Stored
+pub mod BookForms

@@ -1,4 +1,4 @@
-ghost use Rattle.std.specs.Prelude.{◌≡◌, ℕ, ◌≤◌, ◌<◌, [], reverse, length, List, Option, Some};
+ghost use Rattle.std.specs.Prelude.{◌≡◌, ℕ, ◌≤◌, ◌<◌, [], ◌∷◌, reverse, length, List, Option, Some};
 ghost use Rattle.std.specs.Prelude.{None, IfOk, IfErr, OnOk, OnErr};
 ghost use Rattle.std.specs.List.{All};
 ghost use Rattle.beam_values.specs.Storable.{IsStorable};
@@ -14,12 +14,15 @@ ghost use Rattle.book_core.specs.Sane.{IsSane};
 ghost use Rattle.book_core.specs.Steps.{Enroll, Take, Claim, Split, Fail, Stop, Enrolled, Claimed};
 ghost use Rattle.book_core.specs.Steps.{SplitAt, Noted, IsFree, IsRunning, IsNextFor, CanCommit};
 ghost use Rattle.book_core.specs.Steps.{IsCommitting, IsWithinLimits};
+ghost use Rattle.book_core.specs.Stored.{book_of, IsDataOf, IsSaneData};
 
 use crate::breaking::{break_range, broken_range, keep_parts, most_parts};
+use crate::commits::Commits;
 use crate::committing::{
     Fired, GREATEST_COUNT, dead_of, done_of, fire, free_job, free_residual, has_numbers, hold_job,
     hold_residual, keep_room, own_in, put_back, residual_of, wait_all,
 };
+use crate::data::BookData;
 use crate::due::{DueAt, batch_job, first_due, piece_job, started};
 use crate::failing::{attempts_of, failure_of, give_back, note_of, stopped_after, take_out};
 use crate::held::{NodeHolds, mark_of_piece};
@@ -29,8 +32,13 @@ use crate::live::{Batch, Failure, Live, Taken, Unplaced};
 use crate::opening::{cut_files, empty_queues, hold_pieces, mark_nodes};
 use crate::outcome::{in_order, logs_in_order};
 use crate::queue::Queue;
+use crate::restoring::{CellTables, Restored, count_waiting, restore, restore_cells};
 use crate::results::Results;
 use crate::storable::look_at_panes;
+use crate::storing::{
+    Committed, Given, HeldCells, Uncommitted, copy_cells, copy_given, copy_results,
+    copy_uncommitted,
+};
 use crate::working::{
     count_batches, count_pieces, idle_answer, most_left, piece_at, span_at, tracker_of,
 };
@@ -169,6 +177,13 @@ impl Book {
         ensures { result ≡ live_piece self.now slot }
     {
         piece_at(self.slots.as_slice(), slot)
+    }
+
+    /// How many commits there were, the opening counted in.
+    pub fn commits(&self) -> u32
+        ensures { result ≡ length self.now.commits }
+    {
+        self.results.commits.len() as u32
     }
 
     /// How many panes have fired.
@@ -502,6 +517,116 @@ impl Book {
         ensures { (slot : ℕ) → Makes self.old slot Stop Noted self.new }
     {
         self.stopped = self.stopped.or(Some(StopCause::NoMemory));
+    }
+
+    /// What the book holds. It has one slot, which works nothing, and isn't stopped.
+    pub fn book_data(&self) -> Result<BookData, NoMemory>
+        requires slot { self.now.slots ≡ None ∷ [] }
+        requires running { IsRunning self.now }
+        ensures { IfOk result (λ stored. IsDataOf stored self.now) }
+    {
+        let Given { plan, files } = copy_given(
+            self.alloc,
+            self.graph.plan(),
+            self.files.as_slice(),
+        )?;
+        let Uncommitted {
+            pending,
+            waiting,
+            returned,
+        } = copy_uncommitted(
+            self.alloc,
+            &self.pieces,
+            self.queues.as_slice(),
+            self.returned.as_slice(),
+        )?;
+        let HeldCells {
+            cells,
+            dropped,
+            keys,
+        } = copy_cells(self.alloc, &self.groups, &self.keys)?;
+        let Committed {
+            panes,
+            done,
+            dead,
+            written,
+            commits,
+        } = copy_results(self.alloc, &self.results)?;
+        Ok(BookData {
+            plan,
+            files,
+            options: self.options,
+            pending,
+            waiting,
+            returned,
+            cells,
+            dropped,
+            keys,
+            panes,
+            done,
+            dead,
+            written,
+            commits,
+            calls: self.faults.calls,
+            reads: self.faults.reads,
+        })
+    }
+
+    /// The book that this data stands for.
+    pub fn of_data(alloc: Global, graph: Graph, stored: BookData) -> Result<Book, NoMemory>
+        requires { IsSaneData graph stored }
+        ensures { IfOk result (λ book. book ≡ book_of stored) }
+    {
+        let plan = graph.plan();
+        let Restored {
+            pieces,
+            slots,
+            queues,
+            held,
+        } = restore(alloc, plan, &stored)?;
+        let waiting = count_waiting(stored.keys.as_slice());
+        let BookData {
+            files,
+            options,
+            returned,
+            cells,
+            dropped,
+            keys,
+            panes,
+            done,
+            dead,
+            written,
+            commits,
+            calls,
+            reads,
+            ..
+        } = stored;
+        let results = Results {
+            panes: RoomyList::from_list(panes),
+            done: RoomyList::from_list(done),
+            dead: RoomyList::from_list(dead),
+            written: RoomyList::from_list(written),
+            commits: Commits::from_list(alloc, commits),
+        };
+        let marks = results.commits.last_marks();
+        let CellTables { groups, keys } = restore_cells(alloc, plan, cells, dropped, keys, marks)?;
+        Ok(Book {
+            graph,
+            files,
+            options,
+            pieces,
+            slots,
+            queues,
+            returned: RoomyList::from_list(returned),
+            groups,
+            keys,
+            waiting,
+            results,
+            faults: FaultShare { calls, reads },
+            stopped: None,
+            held,
+            alloc,
+        })
     }
 
     /// The book's own data, with its cells, and the logs of its key cells, by node, key bytes and window.

@@ -3,7 +3,7 @@ ghost use Rattle.std.specs.Prelude.{IfOk, OnOk};
 ghost use Rattle.std.specs.Option.{option_map};
 ghost use Rattle.group_cells.specs.Commits.{as_commit};
 
-use beam_values::{Boxed, CommitMarks, List, NoMemory, StageMarks};
+use beam_values::{Boxed, CommitMarks, Duplicate, List, NoMemory, StageMarks};
 use std::alloc::Global;
 use std::marker::Model;
 
@@ -39,6 +39,29 @@ impl Commits {
             newest: Some(marks),
             alloc,
         }
+    }
+
+    /// Those of a list. Takes no memory.
+    pub fn from_list(alloc: Global, commits: List<CommitMarks>) -> Commits
+        ensures { result.items ≡ commits }
+    {
+        Commits {
+            shared: commits,
+            newest: None,
+            alloc,
+        }
+    }
+
+    /// A copy of the list of them, which shares the marks.
+    pub fn copies(&self) -> Result<List<CommitMarks>, NoMemory>
+        ensures { IfOk result (λ commits. commits ≡ self.now.items) }
+    {
+        let mut commits = self.shared.duplicate(self.alloc)?;
+        if let Some(newest) = &self.newest {
+            let marks = shared_marks(self.alloc, self.shared.as_slice(), newest.as_slice())?;
+            commits.push(CommitMarks { marks })?;
+        }
+        Ok(commits)
     }
 
     /// How many commits there were.

@@ -279,7 +279,8 @@ pub fn hold_job(held: &mut NodeHolds, plan: &Plan, job: &Live)
     }
 }
 
-fn hold_panes(held: &mut NodeHolds, node: u32, panes: &[WaitingPane])
+/// Adds the marks at which panes hold their node back, where room is kept.
+pub fn hold_panes(held: &mut NodeHolds, node: u32, panes: &[WaitingPane])
     requires within { node < length held.old }
     requires room { length panes.now ≤ room_in held.old node }
     ensures held { (holds : List Hold) → AreHeldIn held.old holds

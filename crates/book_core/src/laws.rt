@@ -20,7 +20,9 @@ ghost use Rattle.book_core.specs.Runs.{HonestlyReached, IsOpening, IsThrough, Re
 ghost use Rattle.book_core.specs.Sane.{AreKeptWith, IsSane};
 ghost use Rattle.book_core.specs.Steps.{Action, Answer, Commit, Committed, IsClaiming, IsFailing};
 ghost use Rattle.book_core.specs.Steps.{IsIdle, IsTaking, Step};
+ghost use Rattle.book_core.specs.Stored.{IsDataOf, IsSaneData};
 ghost use Rattle.book_core.specs.Work.{Surroundings};
+ghost use Rattle.book_core.specs.declared.data.BookData.{BookData};
 
 use pipeline_graph::laws::{
     nodes_have_inputs_and_settings_of_their_kind, nodes_take_elements_of_their_strategy,
@@ -77,6 +79,13 @@ pub fn told_books_are_kept()
     nodes_have_inputs_and_settings_of_their_kind();
     windows_hold_their_time();
 }
+
+/// What holds of books holds of the data of one, so a book is had from it again, and that is the book which the
+/// data was taken from: `book_of` of data of a book is the book.
+pub fn data_of_books_is_sane()
+    ensures { (b : SeenBook) (stored : BookData) → IsSane b → IsDataOf stored b
+        → IsSaneData b.plan stored }
+{}
 
 /// Each offset of each item lies in exactly one pending, live or done range, or is one dead position and lies in
 /// none, whatever is split, fails or is broken.

@@ -1,6 +1,7 @@
-use beam_values::{FaultNote, List, Mark, Piece};
+use beam_values::{Duplicate, FaultNote, List, Mark, NoMemory, Piece};
 use bundle_commit::{Job, Receipt};
 use stateful_core::KeyTurn;
+use std::alloc::Global;
 
 /// A pane that waits to go on, by its place in the run's list of panes, and the mark at which it holds
 /// its Group back.
@@ -10,12 +11,28 @@ pub struct WaitingPane {
     pub hold: Mark,
 }
 
+impl Duplicate for WaitingPane {
+    fn duplicate(&self, _alloc: Global) -> Result<WaitingPane, NoMemory> {
+        Ok(*self)
+    }
+}
+
 /// Panes of a Group that go on together, and how often their work has failed. There is at least one.
 #[derive(Debug, Drop)]
 pub struct Batch {
     pub node: u32,
     pub panes: List<WaitingPane>,
     pub attempts: u32,
+}
+
+impl Duplicate for Batch {
+    fn duplicate(&self, alloc: Global) -> Result<Batch, NoMemory> {
+        Ok(Batch {
+            node: self.node,
+            panes: self.panes.duplicate(alloc)?,
+            attempts: self.attempts,
+        })
+    }
 }
 
 /// What a slot is working.

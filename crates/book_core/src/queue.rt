@@ -50,6 +50,16 @@ impl Queue {
         Ok(oldest)
     }
 
+    /// Adds copies of all panes to a list.
+    pub fn copy_to(&self, into: &mut Vec<WaitingPane>) -> Result<(), NoMemory>
+        ensures { OnOk result (into.new.items ≡ into.old.items ++ self.now.panes) }
+    {
+        for place in 0..self.panes.len() {
+            into.push(self.panes[place])?;
+        }
+        Ok(())
+    }
+
     /// Takes the oldest panes out, at most so many.
     pub fn remove_oldest(&mut self, most: usize)
         ensures { self.new.panes ≡ drop most self.old.panes }
@@ -66,6 +76,14 @@ impl Queue {
         ensures kept { self.old.room ≤ self.new.room }
     {
         self.panes.reserve(places)?;
+        Ok(())
+    }
+
+    /// A pane waits behind the others.
+    pub fn add(&mut self, pane: WaitingPane) -> Result<(), NoMemory>
+        ensures { OnOk result (self.new.panes ≡ self.old.panes ++ pane ∷ []) }
+    {
+        self.panes.push_back(pane)?;
         Ok(())
     }
 
