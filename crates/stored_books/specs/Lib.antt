@@ -1,0 +1,4 @@
+pub mod Facts
+pub mod Held
+pub mod Lengths
+pub mod Messages
