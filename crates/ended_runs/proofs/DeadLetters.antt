@@ -140,7 +140,7 @@ module _ (told : List FileText) (b : SeenBook) (lengths : AreTold told b) (parti
   position_dead : (item : SourceItem) (p : ℕ) → IsPositionOf told b.plan item p → list_any is_poison (outputs_at b.plan item p) ≡ true → 1 ≤ times_dead b.dead (place_of item p)
   position_dead item p is poison = omega (
     arith,
-    done_covers b partitioned formed through (place_of item p),
+    done_covers b partitioned formed through.pending through.idle (place_of item p),
     ap (λ (l : List FileLen). times_listed l (place_of item p)) lengths,
     own_listed (items told b.plan) item p is.0 is.1,
     all_away b.plan (items told b.plan) item p is.0 poison b.done done_clean,

@@ -38,13 +38,14 @@ use Rattle.book_core.specs.Book.{SeenBook, HeldPane, panes_of}
 use Rattle.book_core.specs.Calls.{IsOutcomeOf}
 use Rattle.book_core.specs.Facts.{AreAtWrites, AreCellsKept, ArePartitioned, IsBalanced, IsWellFormed, held_chains}
 use Rattle.book_core.specs.Runs.{AreTold, IsThrough}
+use Rattle.book_core.specs.Steps.{IsIdle}
 use Rattle.book_core.proofs.KeysKept.{KeysSane}
 use Rattle.ended_runs.proofs.Listed.{done_covers}
 
-pub outcome_covered : (b : SeenBook) (o : Outcome) → ArePartitioned b → IsWellFormed b → IsThrough b → IsOutcomeOf b o → IsCovered o
-outcome_covered b o partitioned formed through of place =
+pub outcome_covered : (b : SeenBook) (o : Outcome) → ArePartitioned b → IsWellFormed b → b.pending ≡ [] → IsIdle b → IsOutcomeOf b o → IsCovered o
+outcome_covered b o partitioned formed pending idle of place =
     ap₂ (λ (d : List Done) (x : List Dead). times_done d place + times_dead x place) of.done of.dead
-    ∙ done_covers b partitioned formed through place
+    ∙ done_covers b partitioned formed pending idle place
     ∙ ap (λ (f : List FileLen). min 1 (times_listed f place)) (sym of.files)
 
 -- ---- logs
@@ -84,7 +85,7 @@ module _ (told : List FileText) (b : SeenBook) (lengths : AreTold told b) (parti
   all_done : IsSameBag (spread_dones b.plan (items told b.plan) b.done) (spread_all b.plan (items_without b.dead (items told b.plan)))
   all_done =
       covering_without b.plan (items told b.plan) b.done b.dead (plan_distinct told b.plan)
-      (λ place. done_covers b partitioned formed through place ∙ ap (λ (f : List FileLen). min 1 (times_listed f place)) lengths)
+      (λ place. done_covers b partitioned formed through.pending through.idle place ∙ ap (λ (f : List FileLen). min 1 (times_listed f place)) lengths)
 
   -- all that came to key cells is in their logs
   pub book_flow : IsSameBag (flow b.plan (items_without b.dead (items told b.plan)) b.panes (logs_of b.keys)) (map Arrives (arrivals_of b.cells b.dropped (logs_of b.keys) b.written))

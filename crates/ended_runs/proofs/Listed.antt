@@ -13,7 +13,8 @@ use Rattle.beam_model.specs.Positions.{SourceItem, items}
 use Rattle.beam_model.proofs.Coverings.{plan_distinct}
 use Rattle.book_core.specs.Book.{SeenBook, live_pieces}
 use Rattle.book_core.specs.Facts.{ArePartitioned, IsWellFormed}
-use Rattle.book_core.specs.Runs.{AreLengthsOf, IsThrough}
+use Rattle.book_core.specs.Runs.{AreLengthsOf}
+use Rattle.book_core.specs.Steps.{IsIdle}
 use Rattle.book_core.proofs.NothingLeft.{idle_pieces}
 
 held_once : (range : Offsets) (p : ℕ) → times_in range p ≤ 1
@@ -69,10 +70,10 @@ module _ (place : Place) where
 least_one : (n : ℕ) → n ≤ 1 → n ≡ min 1 n
 least_one n low = grind (arith, nat_tests)
 
--- what a book that is through has done or set aside covers its items
-pub done_covers : (b : SeenBook) → ArePartitioned b → IsWellFormed b → IsThrough b → (place : Place)
+-- what a book with nothing pending or worked has done or set aside covers its items
+pub done_covers : (b : SeenBook) → ArePartitioned b → IsWellFormed b → b.pending ≡ [] → IsIdle b → (place : Place)
     → times_done b.done place + times_dead b.dead place ≡ min 1 (times_listed b.files place)
-done_covers b partitioned formed through place =
-    let none : times_pending (b.pending ++ live_pieces b) place ≡ 0 = ap₂ (λ (ps qs : List Piece). times_pending (ps ++ qs) place) through.pending (idle_pieces b through.idle) in
+done_covers b partitioned formed pending idle place =
+    let none : times_pending (b.pending ++ live_pieces b) place ≡ 0 = ap₂ (λ (ps qs : List Piece). times_pending (ps ++ qs) place) pending (idle_pieces b idle) in
     let all : times_done b.done place + times_dead b.dead place ≡ times_listed b.files place = omega (arith, partitioned.times place, none) in
     all ∙ least_one (times_listed b.files place) (listed_once place (items [] b.plan) b.files formed.lengths (plan_distinct [] b.plan))

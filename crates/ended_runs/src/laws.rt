@@ -25,6 +25,8 @@ ghost use Rattle.book_core.specs.Book.{SeenBook, sets_aside};
 ghost use Rattle.book_core.specs.Calls.{IsOutcomeOf};
 ghost use Rattle.book_core.specs.Changes.{dead_cmp, done_cmp};
 ghost use Rattle.book_core.specs.Runs.{AreTold, HonestlyReached, IsThrough, Reached};
+ghost use Rattle.book_core.specs.Sane.{IsSane};
+ghost use Rattle.book_core.specs.Steps.{IsIdle};
 ghost use Rattle.book_core.specs.Work.{Surroundings};
 ghost use Rattle.ended_runs.specs.DeadLetters.{AreDeadNoted, AreDeadPoison, ArePoisonDead};
 ghost use Rattle.ended_runs.specs.DeadLetters.{HasNoPoisonPosition, IsPoisonDead, IsStoppedByRead};
@@ -54,6 +56,12 @@ pub fn outcomes_are_covered()
     reached_books_are_partitioned();
     reached_books_are_well_formed();
 }
+
+/// So it is of every sane book with nothing pending or worked, also of one that no run reached.
+pub fn sane_books_are_covered()
+    ensures { (b : SeenBook) (o : Outcome)
+        → IsSane b → b.pending ≡ [] → IsIdle b → IsOutcomeOf b o → IsCovered o }
+{}
 
 /// A plan that sets no position aside has no dead one, so nothing is left out of the cover, the account and
 /// the plain writing of its outcomes.
