@@ -1,5 +1,5 @@
 -- Runs of honest steps follow on one another, and claims are such a run, which changes nothing but what the slot has attempted.
-use Rattle.std.proofs.Common.{◌≡◌, ℕ, Bool, List, [], ◌∷◌, ◌++◌, refl, sym, ap, subst, ◌∙◌}
+use Rattle.std.proofs.Common.{◌≡◌, ℕ, Bool, List, [], ◌∷◌, ◌++◌, length, refl, sym, ap, subst, ◌∙◌}
 use Rattle.std.specs.Prelude.{Some}
 use Rattle.book_core.specs.Book.{SeenBook}
 use Rattle.book_core.specs.Left.{rounds_left}
@@ -11,7 +11,7 @@ use Rattle.book_core.proofs.Reaching.{HasSamePlan, step_same}
 use Rattle.known_jobs.specs.Jobs.{Setting}
 use Rattle.lone_worker.specs.Alone.{IsBookIn, IsIdleBut, IsRunOn}
 use Rattle.lone_worker.specs.Claims.{AreClaims, ClaimsLead, MadeClaim}
-use Rattle.lone_worker.proofs.Slots.{still_but}
+use Rattle.lone_worker.proofs.Slots.{same_slots, still_but}
 
 -- ---- runs
 
@@ -50,6 +50,8 @@ in_after setting known b new run is = run_same setting known run.steps b new run
 pub record KeepsRound (setting : Setting) (slot : ℕ) (b new : SeenBook) : Type 0 where
   pub run : IsRunOn setting.known b new
   pub stopped : new.stopped ≡ b.stopped
+  pub slots : length new.slots ≡ length b.slots
+  pub commits : new.commits ≡ b.commits
   pub calls : new.calls ≡ b.calls
   pub reads : new.reads ≡ b.reads
   pub rounds : rounds_left new ≡ rounds_left b
@@ -57,7 +59,7 @@ pub record KeepsRound (setting : Setting) (slot : ℕ) (b new : SeenBook) : Type
 
 keeps_where : (setting : Setting) (slot : ℕ) (b new : SeenBook) → new ≡ b → KeepsRound setting slot b new
 keeps_where setting slot b new is =
-    subst (KeepsRound setting slot b) (sym is) (record { run = run_none setting.known b; stopped = refl; calls = refl; reads = refl; rounds = refl; others = λ others. others })
+    subst (KeepsRound setting slot b) (sym is) (record { run = run_none setting.known b; stopped = refl; slots = refl; commits = refl; calls = refl; reads = refl; rounds = refl; others = λ others. others })
 
 module _ (setting : Setting) (slot : ℕ) (bounded : (b new : SeenBook) (slot p : ℕ) (granted : Bool) → IsClaiming b slot p granted new → rounds_left new ≡ rounds_left b) where
   leads_keep : (claims : List MadeClaim) (b new : SeenBook) → ClaimsLead slot b claims new → KeepsRound setting slot b new
@@ -69,6 +71,8 @@ module _ (setting : Setting) (slot : ℕ) (bounded : (b new : SeenBook) (slot p 
       record {
         run = run_onward setting.known b next new (run_one setting.known b next slot (Claim claim.p) (Claimed claim.granted) step tt) later.run;
         stopped = later.stopped ∙ ap (λ (x : SeenBook). x.stopped) step.is;
+        slots = later.slots ∙ same_slots b next slot (Some (live.Span step.piece (Some claim.p))) (ap (λ (x : SeenBook). x.slots) step.is);
+        commits = later.commits ∙ ap (λ (x : SeenBook). x.commits) step.is;
         calls = later.calls ∙ ap (λ (x : SeenBook). x.calls) step.is;
         reads = later.reads ∙ ap (λ (x : SeenBook). x.reads) step.is;
         rounds = later.rounds ∙ bounded b next slot claim.p claim.granted step;

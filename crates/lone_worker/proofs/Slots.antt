@@ -1,7 +1,8 @@
 -- One slot of a book is set, and the others are free.
-use Rattle.std.proofs.Common.{◌≡◌, ℕ, zero, suc, List, [], ◌∷◌, refl, sym, ap, subst, ◌∙◌}
+use Rattle.std.proofs.Common.{◌≡◌, ℕ, zero, suc, List, [], ◌∷◌, length, refl, sym, ap, subst, ◌∙◌}
 use Rattle.std.specs.Prelude.{Option, Some, None, slice_get, slice_set}
 use Rattle.std.specs.List.{All}
+use Rattle.std.proofs.lemmas.List.{length-set}
 use Rattle.std.proofs.lemmas.Option.{slice_get_within}
 use Rattle.book_core.specs.Book.{SeenBook}
 use Rattle.book_core.specs.Steps.{IsFree, IsIdle, IsWorking}
@@ -15,6 +16,10 @@ pub set_twice : {X : Type 0} (xs : List X) (i : ℕ) (x y : X) → slice_set (sl
 set_twice [] i x y = refl
 set_twice (z ∷ zs) zero x y = refl
 set_twice (z ∷ zs) (suc i) x y = ap (λ (l : List _). z ∷ l) (set_twice zs i x y)
+
+-- as many slots are left
+pub same_slots : (b new : SeenBook) (slot : ℕ) (job : Option Live) → new.slots ≡ slice_set b.slots slot job → length new.slots ≡ length b.slots
+same_slots b new slot job set = ap length set ∙ length-set b.slots slot job
 
 -- a slot of an idle book takes a job
 pub taken_but : (b new : SeenBook) (slot : ℕ) (job : Live) → IsFree b slot → IsIdle b → new.slots ≡ slice_set b.slots slot (Some job) → IsIdleBut new slot

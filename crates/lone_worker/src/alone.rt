@@ -1,17 +1,17 @@
 //! The rounds of one worker at a book.
-ghost use Rattle.std.specs.Prelude.{◌≡◌, ◌≤◌, map, None, Some, true};
+ghost use Rattle.std.specs.Prelude.{◌≡◌, map, None, Some, true, false};
 ghost use Rattle.beam_ports.specs.Observed.{observed_store};
-ghost use Rattle.book_core.specs.Steps.{Fail, IsFree, IsIdle, IsRunning};
+ghost use Rattle.book_core.specs.Steps.{IsFree, IsIdle, IsRunning};
 ghost use Rattle.book_core.specs.Work.{Surroundings};
 ghost use Rattle.chain_exec.specs.Causes.{observed_shelf};
 ghost use Rattle.known_jobs.specs.Calls.{CanCommitAs, CanFailAs, FailsInside, HasAttempted, IsJobIn};
-ghost use Rattle.known_jobs.specs.Calls.{calls_after, reads_after};
 ghost use Rattle.known_jobs.specs.Jobs.{Setting, known_at, setting_for};
 ghost use Rattle.bundle_work.specs.Kits.{IsKitFor};
 ghost use Rattle.bundle_work.specs.Outside.{IsKitKept};
 ghost use Rattle.bundle_work.specs.Reading.{IsReading, length_in};
-ghost use Rattle.lone_worker.specs.Alone.{AreFailsCounted, FailsOnce, GoesOnOrEnds, IsAloneEnd};
-ghost use Rattle.lone_worker.specs.Alone.{IsBookIn, IsIdleBut, IsRunOn};
+ghost use Rattle.lone_worker.specs.Alone.{AreFailsCounted, CountsFail, CountsNone, FailsOnce};
+ghost use Rattle.lone_worker.specs.Alone.{GoesOnOrEnds, HasAsMany, IsAloneEnd, IsBookIn, IsIdleBut};
+ghost use Rattle.lone_worker.specs.Alone.{IsRunOn, IsShort};
 
 use crate::at_slot::AtSlot;
 use beam_ports::Store;
@@ -31,6 +31,8 @@ use std::alloc::Global;
 pub enum AloneEnd {
     /// No job was left.
     Finished,
+    /// The book has as many commits as were asked for.
+    Paused,
     /// The book was stopped before, and stays as it was.
     Stopped,
     /// A job failed as often as it may, and stopped the book.
@@ -39,14 +41,15 @@ pub enum AloneEnd {
     NoMemory,
 }
 
-/// Works jobs of a book whose other slots work none, until none is left or the book is stopped. The proof of the call picks
-/// what is known outside the book.
+/// Works jobs of a book whose other slots work none, until none is left, the book has as many commits as are asked for, the
+/// opening counted in, or it is stopped. The proof of the call picks what is known outside the book.
 pub fn work_alone<F: Shelf, S: Store>(
     alloc: Global,
     book: &mut Book,
     slot: u32,
     graph: &Graph,
     kit: &mut Kit<F, S>,
+    most: Option<u32>,
 ) -> AloneEnd
     ghost known: { Surroundings }
     requires free { IsFree book.old slot }
@@ -54,9 +57,9 @@ pub fn work_alone<F: Shelf, S: Store>(
     requires plan { graph.now ≡ book.old.plan }
     requires kit { IsKitFor F.strict S.files S.opened (setting_for known book.old) kit.old }
     ensures run { IsRunOn known book.old book.new }
-    ensures ended { IsAloneEnd result book.old book.new }
+    ensures ended { IsAloneEnd most result book.old book.new }
     ensures counted { AreFailsCounted (observed_shelf F.strict F.faults kit.old.shelf kit.new.shelf)
-        (observed_store S.files S.faults kit.old.store kit.new.store) book.old book.new }
+        (observed_store S.files S.faults kit.old.store kit.new.store) book.old book.new result }
     ensures kept { IsKitKept F.faults F.strict S.faults S.files S.opened
         kit.old.shelf kit.new.shelf kit.old.store kit.new.store }
     ensures files { kit.new.files ≡ kit.old.files }
@@ -68,11 +71,25 @@ pub fn work_alone<F: Shelf, S: Store>(
     };
     let at = AtSlot { slot };
     'rounds: loop {
+        if has_as_many(book, most) {
+            return AloneEnd::Paused;
+        }
         let end = at.round(book, graph, kit, &mut worker);
         book.is_sane();
         if let Some(end) = end {
             return end;
         }
+    }
+}
+
+// The book has as many commits as are asked for.
+fn has_as_many(book: &Book, most: Option<u32>) -> bool
+    ensures many { result ≡ true → HasAsMany most book.now }
+    ensures short { result ≡ false → IsShort most book.now }
+{
+    match most {
+        Some(most) => book.commits() >= most,
+        None => false,
     }
 }
 
@@ -97,7 +114,8 @@ impl AtSlot {
         ensures run { IsRunOn setting.known book.old book.new }
         ensures end { GoesOnOrEnds self.now.slot book.old result book.new }
         ensures fails { FailsOnce (observed_shelf F.strict F.faults kit.old.shelf kit.new.shelf)
-            (observed_store S.files S.faults kit.old.store kit.new.store) book.old book.new }
+            (observed_store S.files S.faults kit.old.store kit.new.store)
+            book.old book.new result }
         ensures reading { IsReading setting.known.told (S.opened kit.new.store) graph.now
             worker.new.readers.items worker.new.place worker.new.bench.pager }
         ensures readers { worker.new.readers.items ≡ worker.old.readers.items }
@@ -142,7 +160,8 @@ impl AtSlot {
         ensures run { IsRunOn setting.known book.old book.new }
         ensures end { GoesOnOrEnds self.now.slot book.old result book.new }
         ensures fails { FailsOnce (observed_shelf F.strict F.faults kit.old.shelf kit.new.shelf)
-            (observed_store S.files S.faults kit.old.store kit.new.store) book.old book.new }
+            (observed_store S.files S.faults kit.old.store kit.new.store)
+            book.old book.new result }
         ensures reading { IsReading setting.known.told (S.opened kit.new.store) graph.now
             worker.new.readers.items worker.new.place worker.new.bench.pager }
         ensures readers { worker.new.readers.items ≡ worker.old.readers.items }
@@ -167,8 +186,7 @@ impl AtSlot {
         requires others { IsIdleBut book.old self.now.slot }
         ensures run { IsRunOn setting.known book.old book.new }
         ensures end { GoesOnOrEnds self.now.slot book.old result book.new }
-        ensures calls { book.new.calls ≡ book.old.calls }
-        ensures reads { book.new.reads ≡ book.old.reads }
+        ensures counts { CountsNone book.old book.new result }
     {
         book.is_sane();
         rounds_are_bounded();
@@ -188,8 +206,7 @@ impl AtSlot {
         requires others { IsIdleBut book.old self.now.slot }
         ensures run { IsRunOn setting.known book.old book.new }
         ensures end { GoesOnOrEnds self.now.slot book.old result book.new }
-        ensures calls { book.new.calls ≤ calls_after (Fail at cause) book.old.calls }
-        ensures reads { book.new.reads ≤ reads_after (Fail at cause) book.old.reads }
+        ensures counts { CountsFail at cause book.old book.new result }
     {
         book.is_sane();
         rounds_are_bounded();

@@ -1,5 +1,7 @@
 use Rattle.std.proofs.Common.{inl, inr, List, map, refl, rules, sym, ap, subst, ◌∙◌, arith}
-use Rattle.std.specs.Prelude.{Option}
+use Rattle.std.specs.Prelude.{Option, Some}
+use Rattle.beam_ports.specs.Observed.{observed_store}
+use Rattle.chain_exec.specs.Causes.{observed_shelf}
 use Rattle.beam_values.specs.declared.plan.Plan.{Plan}
 use Rattle.beam_ports.specs.declared.store.Opened.{Opened}
 use Rattle.known_jobs.specs.Jobs.{setting_for}
@@ -7,10 +9,10 @@ use Rattle.bundle_work.specs.Openings.{AreOpened, file_names}
 use Rattle.bundle_work.specs.Reading.{length_in, opened_lengths}
 use Rattle.bundle_work.proofs.Answered.{kit_onward, kit_same}
 use Rattle.bundle_work.proofs.Told.{opened_known}
-use Rattle.lone_worker.specs.Alone.{GoesOnOrEnds}
+use Rattle.lone_worker.specs.Alone.{GoesOnOrEnds, IsStopCounted}
 use Rattle.lone_worker.specs.declared.alone.AloneEnd.{AloneEnd}
-use Rattle.lone_worker.proofs.Counted.{rises_on}
-use Rattle.lone_worker.proofs.Rounds.{ended_from}
+use Rattle.lone_worker.proofs.Counted.{rises_on, stop_since}
+use Rattle.lone_worker.proofs.Rounds.{no_more, no_more_on, paused, round_ends}
 use Rattle.lone_worker.proofs.Leading.{in_after, run_none, run_onward}
 use Rattle.lone_worker.proofs.alone.work_alone.Goals as goal
 
@@ -33,10 +35,12 @@ rounds-init g c =
       same = record { plan = refl; files = refl; options = refl };
       free = c.requires.1.1.1.1.0;
       idle = c.requires.1.1.1.1.1.0;
+      slots = refl;
+      more = no_more c.args.most b;
       begun = inl refl;
       reading = c.in-Ok.ensures.reading known opened (subst (λ (p : Plan). AreOpened known opened (file_names p) c.as_slice-files.result.now) (sym c.requires.1.1.1.1.1.1.0) shown);
       lengths = c.in-Ok.ensures.lengths ∙ (λ k. opened_lengths (c.requires.1.1.1.1.1.1.0 k) (c.as_slice-files.ensures k)) ∙ c.requires.1.1.1.1.1.1.1.lengths;
-      counted = record { calls = omega arith; reads = omega arith };
+      counted = record { calls = omega arith; reads = omega arith; cause = tt };
       kept = kit_same g.F.Shelf.faults g.F.Shelf.strict g.S.Store.faults g.S.Store.files g.S.Store.opened c.args.kit.now.shelf c.args.kit.now.store;
       files = refl;
     }
@@ -66,7 +70,8 @@ returns-in-Some-clause-run g c = run_onward g.known c.args.book.now c.rounds.boo
 
 pub returns-in-Some-clause-ended : goal.returns-in-Some-clause-ended
 returns-in-Some-clause-ended g c =
-    ended_from c.args.book.now c.rounds.book c.round-end.new.book c.in-Some.end c.rounds.invariant.begun
+    let i = c.rounds.invariant in
+    round_ends c.args.most c.args.slot c.args.book.now c.rounds.book c.round-end.new.book c.in-Some.end i.begun i.slots (c.if-has_as_many.ensures.short refl)
     (subst (λ (e : Option AloneEnd). GoesOnOrEnds c.args.slot c.rounds.book e c.round-end.new.book) c.in-Some.is c.round-end.ensures.end)
 
 pub returns-in-Some-clause-counted : goal.returns-in-Some-clause-counted
@@ -82,6 +87,10 @@ returns-in-Some-clause-counted g c =
           c.is_sane.ensures.attempts.calls;
       reads = rises_on b.reads (read_faults c.args.kit.now.store) (read_faults c.rounds.kit.store) (read_faults c.round-end.new.kit.store) c.rounds.book.reads new.reads i.kept.reading.counts c.round-end.ensures.kept.reading.counts
           i.counted.reads fails.reads c.is_sane.ensures.attempts.reads;
+      cause = stop_since (observed_shelf g.F.Shelf.strict faults c.args.kit.now.shelf c.round-end.new.kit.shelf) (observed_shelf g.F.Shelf.strict faults c.rounds.kit.shelf c.round-end.new.kit.shelf)
+          (observed_store g.S.Store.files read_faults c.args.kit.now.store c.round-end.new.kit.store) (observed_store g.S.Store.files read_faults c.rounds.kit.store c.round-end.new.kit.store) (Some c.in-Some.end) i.kept.counts
+          refl i.kept.reading.counts refl
+          (subst (IsStopCounted (observed_shelf g.F.Shelf.strict faults c.rounds.kit.shelf c.round-end.new.kit.shelf) (observed_store g.S.Store.files read_faults c.rounds.kit.store c.round-end.new.kit.store)) c.in-Some.is fails.cause);
     }
 
 pub returns-in-Some-clause-kept : goal.returns-in-Some-clause-kept
@@ -102,7 +111,9 @@ rounds-preserved g c =
       run = run_onward g.known b c.rounds.book new i.run c.round-end.ensures.run;
       same = in_after (setting_for g.known b) g.known c.rounds.book new c.round-end.ensures.run i.same;
       free = next.free;
-      idle = next.idle;
+      idle = next.rest.idle;
+      slots = next.rest.slots ∙ i.slots;
+      more = no_more_on c.args.most b c.rounds.book new (c.if-has_as_many.ensures.short refl) next.commits;
       begun = inr next.running;
       reading = c.round-end.ensures.reading;
       lengths = ap (map length_in) c.round-end.ensures.readers ∙ i.lengths;
@@ -111,6 +122,7 @@ rounds-preserved g c =
             c.is_sane.ensures.attempts.calls;
         reads = rises_on b.reads (read_faults c.args.kit.now.store) (read_faults c.rounds.kit.store) (read_faults c.round-end.new.kit.store) c.rounds.book.reads new.reads i.kept.reading.counts c.round-end.ensures.kept.reading.counts
             i.counted.reads fails.reads c.is_sane.ensures.attempts.reads;
+        cause = tt;
       };
       kept = kit_onward g.F.Shelf.faults g.F.Shelf.strict g.S.Store.faults g.S.Store.files g.S.Store.opened c.args.kit.now.shelf c.rounds.kit.shelf c.round-end.new.kit.shelf c.args.kit.now.store c.rounds.kit.store
           c.round-end.new.kit.store i.kept c.round-end.ensures.kept;

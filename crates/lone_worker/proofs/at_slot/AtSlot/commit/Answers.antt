@@ -36,18 +36,11 @@ returns-in-Ok-clause-end g c =
     committed_round told b c.commit.new.self slot c.args.receipt made.0 c.requires.1.1.1.0 c.requires.1.1.1.1
     (c.rounds_are_bounded.ensures.commit told b c.commit.new.self slot c.is_sane.ensures (c.args.receipt, made.0, made.1) (goes_on_at b slot c.requires.1.1.0))
 
-pub returns-in-Ok-clause-calls : goal.returns-in-Ok-clause-calls
-returns-in-Ok-clause-calls g c =
+pub returns-in-Ok-clause-counts : goal.returns-in-Ok-clause-counts
+returns-in-Ok-clause-counts g c =
     let b = c.args.book.now in
     let slot = c.args.self.now.slot in
     let can = can_commit g.setting b slot (known_at b slot) c.requires.0.plan (known_where (λ known. CanCommitAs g.setting known c.args.receipt) (λ h. h) b slot c.is_sane.ensures.held c.requires.1.0) c.args.receipt
     c.requires.1.0 in
-    ap (λ (x : SeenBook). x.calls) (c.in-Ok.ensures.ok g.setting.known.told can.1).0.commit.is
-
-pub returns-in-Ok-clause-reads : goal.returns-in-Ok-clause-reads
-returns-in-Ok-clause-reads g c =
-    let b = c.args.book.now in
-    let slot = c.args.self.now.slot in
-    let can = can_commit g.setting b slot (known_at b slot) c.requires.0.plan (known_where (λ known. CanCommitAs g.setting known c.args.receipt) (λ h. h) b slot c.is_sane.ensures.held c.requires.1.0) c.args.receipt
-    c.requires.1.0 in
-    ap (λ (x : SeenBook). x.reads) (c.in-Ok.ensures.ok g.setting.known.told can.1).0.commit.is
+    let is = (c.in-Ok.ensures.ok g.setting.known.told can.1).0.commit.is in
+    record { calls = ap (λ (x : SeenBook). x.calls) is; reads = ap (λ (x : SeenBook). x.reads) is; unspent = tt }

@@ -1,12 +1,13 @@
 use mir.Syntax.{of_param}
-use Rattle.std.proofs.Common.{◌≤◌, ◌∙◌, rules, subst, arith}
+use Rattle.std.proofs.Common.{◌≤◌, ◌∙◌, Some, rules, subst, arith}
 use Rattle.beam_ports.specs.Observed.{observed_store}
 use Rattle.book_core.specs.Left.{rounds_left}
 use Rattle.chain_exec.specs.Causes.{observed_shelf}
 use Rattle.chain_exec.specs.declared.refusal.ExecRefusal.{ExecRefusal}
 use Rattle.known_jobs.specs.Jobs.{known_at}
 use Rattle.bundle_work.specs.Bundles.{IsJobRefused}
-use Rattle.lone_worker.proofs.Counted.{fails_none, fails_one}
+use Rattle.lone_worker.specs.declared.alone.AloneEnd.TheVariants as ends
+use Rattle.lone_worker.proofs.Counted.{fails_from, fails_none, fails_one}
 use Rattle.lone_worker.proofs.Leading.{claims_keep, in_after, run_onward}
 use Rattle.lone_worker.proofs.Rounds.{ends_from}
 use Rattle.lone_worker.proofs.at_slot.AtSlot.do_job.Goals as goal
@@ -53,15 +54,16 @@ returns-in-Ok-clause-end g c =
     let mid = c.work_job.new.pass in
     let keeps = claims_keep g.setting c.args.self.now.slot c.rounds_are_bounded.ensures.claim b mid c.in-Ok.ensures.claims in
     let most : rounds_left mid ≤ rounds_left b = omega (arith, keeps.rounds) in
-    ends_from c.args.self.now.slot b mid c.commit.new.book c.commit.result (keeps.stopped ∙ c.requires.1.1.1.1.1.0) most c.commit.ensures.end
+    ends_from c.args.self.now.slot b mid c.commit.new.book c.commit.result (keeps.stopped ∙ c.requires.1.1.1.1.1.0) keeps.slots keeps.commits most c.commit.ensures.end
 
 pub returns-in-Ok-clause-fails : goal.returns-in-Ok-clause-fails
 returns-in-Ok-clause-fails g c =
     let b = c.args.book.now in
     let mid = c.work_job.new.pass in
+    let shelf = observed_shelf g.F.Shelf.strict g.F.Shelf.faults c.args.kit.now.shelf c.work_job.new.kit.shelf in
+    let store = observed_store g.S.Store.files g.S.Store.faults c.args.kit.now.store c.work_job.new.kit.store in
     let keeps = claims_keep g.setting c.args.self.now.slot c.rounds_are_bounded.ensures.claim b mid c.in-Ok.ensures.claims in
-    fails_none (observed_shelf g.F.Shelf.strict g.F.Shelf.faults c.args.kit.now.shelf c.work_job.new.kit.shelf) (observed_store g.S.Store.files g.S.Store.faults c.args.kit.now.store c.work_job.new.kit.store) b c.commit.new.book
-    (c.commit.ensures.calls ∙ keeps.calls) (c.commit.ensures.reads ∙ keeps.reads)
+    fails_from shelf store b mid c.commit.new.book c.commit.result keeps.calls keeps.reads (fails_none shelf store mid c.commit.new.book c.commit.result c.commit.ensures.counts)
 
 pub give_back-requires : goal.give_back-requires
 give_back-requires g c =
@@ -86,7 +88,7 @@ returns-in-Err-Faulted-clause-end g c =
     let mid = c.work_job.new.pass in
     let keeps = claims_keep g.setting c.args.self.now.slot c.rounds_are_bounded.ensures.claim b mid c.in-Err-Faulted.ensures.claims in
     let most : rounds_left mid ≤ rounds_left b = omega (arith, keeps.rounds) in
-    ends_from c.args.self.now.slot b mid c.give_back.new.book c.give_back.result (keeps.stopped ∙ c.requires.1.1.1.1.1.0) most c.give_back.ensures.end
+    ends_from c.args.self.now.slot b mid c.give_back.new.book c.give_back.result (keeps.stopped ∙ c.requires.1.1.1.1.1.0) keeps.slots keeps.commits most c.give_back.ensures.end
 
 pub returns-in-Err-Faulted-clause-fails : goal.returns-in-Err-Faulted-clause-fails
 returns-in-Err-Faulted-clause-fails g c =
@@ -96,15 +98,21 @@ returns-in-Err-Faulted-clause-fails g c =
     let store = observed_store g.S.Store.files g.S.Store.faults c.args.kit.now.store c.work_job.new.kit.store in
     let keeps = claims_keep g.setting c.args.self.now.slot c.rounds_are_bounded.ensures.claim b mid c.in-Err-Faulted.ensures.claims in
     let refused = subst (λ (e : ExecRefusal). IsJobRefused g.setting shelf store (known_at mid c.args.self.now.slot) e) c.in-Err-Faulted.field-0-is c.in-Err-Faulted.ensures.refused in
-    fails_one shelf store b mid c.give_back.new.book c.in-Err-Faulted.at c.in-Err-Faulted.cause keeps.calls keeps.reads c.give_back.ensures.calls c.give_back.ensures.reads refused.0
+    fails_from shelf store b mid c.give_back.new.book c.give_back.result keeps.calls keeps.reads
+    (fails_one shelf store mid c.give_back.new.book c.in-Err-Faulted.at c.in-Err-Faulted.cause c.give_back.result c.give_back.ensures.counts refused.0)
 
 pub returns-in-Err-NoMemory-clause-run : goal.returns-in-Err-NoMemory-clause-run
 returns-in-Err-NoMemory-clause-run g c =
     (claims_keep g.setting c.args.self.now.slot c.rounds_are_bounded.ensures.claim c.args.book.now c.work_job.new.pass c.in-Err-NoMemory.ensures.claims).run
+
+pub returns-in-Err-NoMemory-clause-end : goal.returns-in-Err-NoMemory-clause-end
+returns-in-Err-NoMemory-clause-end g c =
+    (tt, (claims_keep g.setting c.args.self.now.slot c.rounds_are_bounded.ensures.claim c.args.book.now c.work_job.new.pass c.in-Err-NoMemory.ensures.claims).commits)
 
 pub returns-in-Err-NoMemory-clause-fails : goal.returns-in-Err-NoMemory-clause-fails
 returns-in-Err-NoMemory-clause-fails g c =
     let b = c.args.book.now in
     let mid = c.work_job.new.pass in
     let keeps = claims_keep g.setting c.args.self.now.slot c.rounds_are_bounded.ensures.claim b mid c.in-Err-NoMemory.ensures.claims in
-    fails_none (observed_shelf g.F.Shelf.strict g.F.Shelf.faults c.args.kit.now.shelf c.work_job.new.kit.shelf) (observed_store g.S.Store.files g.S.Store.faults c.args.kit.now.store c.work_job.new.kit.store) b mid keeps.calls keeps.reads
+    fails_none (observed_shelf g.F.Shelf.strict g.F.Shelf.faults c.args.kit.now.shelf c.work_job.new.kit.shelf) (observed_store g.S.Store.files g.S.Store.faults c.args.kit.now.store c.work_job.new.kit.store) b mid
+    (Some ends.NoMemory) (record { calls = keeps.calls; reads = keeps.reads; unspent = tt })
