@@ -3,3 +3,7 @@ pub mod Stopped
 pub mod SameLengths
 pub mod PlanRuns
 pub mod PlanEnds
+pub mod GoesOn
+pub mod OneKit
+pub mod Paused
+pub mod Resumed

@@ -100,3 +100,8 @@ pub record IsEndOfBook (b : SeenBook) (end : RunEnd) : Type 0 where
   pub of_book : IsOutcomeOf b outcome
   pub storable : All (λ pane. IsStorable pane.element.value) outcome.panes
   pub tells : IsStatusAfter b.stopped end.status
+
+-- or there was no memory, and nothing is
+pub record IsMemoryEnd (end : RunEnd) : Type 0 where
+  pub status : end.status ≡ status.NoMemory
+  pub none : end.outcome ≡ None

@@ -12,16 +12,16 @@ ghost use Rattle.bundle_work.specs.Kits.{EachBecomes};
 ghost use Rattle.bundle_work.specs.Openings.{AreOpened, file_names};
 ghost use Rattle.run_engine.specs.Kits.{RunsKit, observed_kits};
 ghost use Rattle.run_engine.specs.Openings.{AreOpenedByAll};
-ghost use Rattle.run_engine.specs.PlanRun.{AreFirstLengths, IsEndOfBook};
+ghost use Rattle.run_engine.specs.PlanRun.{AreFirstLengths};
 ghost use Rattle.bundle_work.specs.Reading.{opened_lengths};
-ghost use Rattle.run_engine.specs.PlanRun.{lengths_of_first, IsPlanEnd, IsStatusAfter};
+ghost use Rattle.run_engine.specs.PlanRun.{lengths_of_first, IsPlanEnd};
 ghost use Rattle.run_engine.specs.SetAside.{AtOk, ComesToItsEnd, HasDeadLetters};
 
-use crate::run_end::RunEnd;
+use crate::run_end::{RunEnd, end_of};
 use beam_ports::{Gate, Opened, Store};
-use beam_values::{FileLen, List, NoMemory, Options, StopCause};
+use beam_values::{FileLen, List, NoMemory, Options};
+use book_core::Book;
 use book_core::laws::{attempts_are_counted, honest_runs_are_runs};
-use book_core::{Book, look_at_panes};
 use bundle_work::{Kit, lengths_of, readers_of};
 use command_ends::Status;
 use dofn_traits::Shelf;
@@ -144,28 +144,4 @@ pub fn first_lengths(
     nodes_have_inputs_and_settings_of_their_kind();
     let readers = readers_of(alloc, graph.plan().nodes.as_slice(), files)?;
     lengths_of(alloc, readers.as_slice())
-}
-
-// The data of the book, and how its run ended.
-fn end_of(book: Book) -> Result<RunEnd, NoMemory>
-    ensures { IfOk result (IsEndOfBook book) }
-{
-    let outcome = book.outcome()?;
-    look_at_panes(outcome.panes.as_slice());
-    let status = status_of(&outcome.stopped)?;
-    Ok(RunEnd {
-        status,
-        outcome: Some(outcome),
-    })
-}
-
-// The status of a run whose book was stopped so, or wasn't.
-fn status_of(stopped: &Option<StopCause>) -> Result<Status, NoMemory>
-    ensures { IfOk result (IsStatusAfter stopped.now) }
-{
-    match stopped {
-        None => Ok(Status::Ok),
-        Some(StopCause::Spent(note)) => Ok(Status::WorkFault(*note)),
-        Some(StopCause::NoMemory) => Err(NoMemory),
-    }
 }
