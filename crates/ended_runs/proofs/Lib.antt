@@ -1,6 +1,7 @@
 mod Listed
 mod Ordered
 pub mod Stopped
+pub mod RunsOn
 pub mod Poisons
 pub mod Unpoisoned
 mod TakesUnpoisoned

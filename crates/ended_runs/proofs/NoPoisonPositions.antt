@@ -55,10 +55,9 @@ module _ (told : List FileText) (plan : Plan) (none : HasNoPoisonPosition told p
       clean_along (outputs_at plan item) (position_clean piece.node piece.item item at) piece.range.from (piece.range.to - piece.range.from)
 
 -- what a slot works is no poison then
-pub works_none : (known : Surroundings) (told : List FileText) (tells : known.told ≡ Some told) (strict : known.strict ≡ true) (b : SeenBook) → HasNoPoisonPosition told b.plan → WorksNoPoisonBeside b
-    → WorksNoPoison known told tells strict b
-works_none known told tells strict b none beside slot (live.Span piece attempted) works poison =
+pub works_none : (known : Surroundings) (told : List FileText) (tells : known.told ≡ Some told) (b : SeenBook) → HasNoPoisonPosition told b.plan → WorksNoPoisonBeside b → WorksNoPoison known b
+works_none known told tells b none beside slot (live.Span piece attempted) works poison =
     false≢true (sym (piece_clean told b.plan none piece (item_at (items told b.plan) piece.node piece.item) refl)
     ∙ subst (λ (t : Option (List FileText)). list_any is_poison (spread_of b.plan piece.range (item_at (items_told t b.plan) piece.node piece.item)) ≡ true) tells poison)
-works_none known told tells strict b none beside slot (live.Batch batch) works poison = beside slot (live.Batch batch) works poison
-works_none known told tells strict b none beside slot (live.Key turn) works poison = beside slot (live.Key turn) works poison
+works_none known told tells b none beside slot (live.Batch batch) works poison = beside slot (live.Batch batch) works poison
+works_none known told tells b none beside slot (live.Key turn) works poison = beside slot (live.Key turn) works poison

@@ -37,7 +37,7 @@ Finds known b = (note : FaultNote) → b.stopped ≡ Some (stop.Spent note) → 
 
 -- ---- a longer run
 
-honest_run_more : (known : Surroundings) (steps : List MadeStep) (b mid end : SeenBook) (made : MadeStep) → HonestRun known b steps mid
+pub honest_run_more : (known : Surroundings) (steps : List MadeStep) (b mid end : SeenBook) (made : MadeStep) → HonestRun known b steps mid
     → Step known.told mid made.slot made.action made.answer end → IsHonestAction known mid made.slot made.action → HonestRun known b (steps ++ made ∷ []) end
 honest_run_more known [] b mid end made run step honest =
     (end, subst (λ (x : SeenBook). Step known.told x made.slot made.action made.answer end) run step, subst (λ (x : SeenBook). IsHonestAction known x made.slot made.action) run honest, refl)

@@ -1,5 +1,5 @@
--- A run that works no poison has no failed call, if calls fail on poison alone: what stops it are reads.
-use Rattle.std.proofs.Common.{◌≡◌, inl, inr, ℕ, ◌+◌, ◌<◌, ◌≤◌, Bool, true, false, List, [], ◌∷◌, refl, sym, subst, ap, ◌∙◌, arith}
+-- A run of which no worked job's call fails has no failed call: what stops it are reads. So it is where no slot works poison, if calls fail on poison alone.
+use Rattle.std.proofs.Common.{◌≡◌, inl, inr, ℕ, ◌+◌, ◌<◌, ◌≤◌, Bool, true, false, List, [], refl, sym, subst, ap, ◌∙◌, arith}
 use Rattle.std.specs.Prelude.{Option, Some, None, ◌&&◌, nat_le}
 use Rattle.std.specs.List.{flat_map, list_any}
 use Rattle.std.proofs.lemmas.Bool.{false≢true}
@@ -23,19 +23,21 @@ use Rattle.stateful_core.specs.KeyWork.{key_outputs}
 use Rattle.stateful_core.specs.Taking.{change, with_job}
 use Rattle.book_core.specs.Book.{SeenBook, panes_of, piece_of}
 use Rattle.book_core.specs.Changes.{attempts_of, counted, ends_run, failed_where, given_back, is_broken, note_of, or_stopped, stopped_where, with_slot}
-use Rattle.book_core.specs.Facts.{AreAttemptsCounted, AreKept, IsBelowLimit, IsStopNoted}
+use Rattle.book_core.specs.Facts.{AreAttemptsCounted, IsBelowLimit, IsStopNoted}
 use Rattle.book_core.specs.Jobs.{Due, GivenBack, Oldest, Next, attempted_of, job_of, next_job, without_due}
-use Rattle.book_core.specs.Runs.{HonestRun, HonestlyReached, IsHonestAction, MadeStep}
+use Rattle.book_core.specs.Runs.{HonestRun, IsHonestAction, MadeStep}
+use Rattle.book_core.specs.Sane.{IsSane}
 use Rattle.book_core.specs.Steps.{Action, Enroll, Take, Claim, Split, Commit, Fail, Stop, Answer, Enrolled, TakenJob, Nothing, Finished, Stopped, Claimed, SplitAt, Committed, Noted, NoMemory, IsFresh, IsWorking, MayWorkOn, Step}
-use Rattle.book_core.specs.Work.{IsHonestCall, IsHonestRead, IsPoisonAttempt, IsPoisonJob, Surroundings, is_known, items_told}
+use Rattle.book_core.specs.Work.{IsHonest, IsHonestCall, IsHonestRead, IsPoisonAttempt, IsPoisonJob, Surroundings, is_known, items_told}
 use Rattle.book_core.specs.declared.live.Live.{Live}
 use Rattle.book_core.specs.declared.live.Live.TheVariants as live
 use Rattle.book_core.proofs.Taking.{take_cases}
-use Rattle.book_core.proofs.Reaching.{HasSamePlan, step_same}
 use Rattle.book_core.proofs.SaneAlways.{each_tried}
 use Rattle.book_core.proofs.Slotted.{All-append_right, All-flat_at}
+use Rattle.ended_runs.specs.RunsOn.{IsAtRest}
 use Rattle.ended_runs.proofs.Poisons.{any_at, first_is_poison}
-use Rattle.ended_runs.proofs.Stopped.{honest_more, none_by_memory, opening_reached}
+use Rattle.ended_runs.proofs.RunsOn.{IsOn, kept_on, on_after}
+use Rattle.ended_runs.proofs.Stopped.{none_by_memory}
 
 -- ---- what fails on poison is poison
 
@@ -69,9 +71,9 @@ Counts = ℕ × (ℕ × Option StopCause)
 abbrev counts_of : SeenBook → Counts
 counts_of b = (b.calls, (b.reads, b.stopped))
 
--- No call has failed, and what stopped the book failed no more often than reads did.
-abbrev AreReads : Counts → Type 0
-AreReads (calls, (reads, stopped)) = (calls ≡ 0) × ((note : FaultNote) → stopped ≡ Some (stop.Spent note) → (note.attempt ≤ reads) × (note.attempt ≤ 1000))
+-- No call has failed but so many before, and what stopped the book failed no more often than these and reads did.
+abbrev AreReads : ℕ → Counts → Type 0
+AreReads before (calls, (reads, stopped)) = (calls ≡ before) × ((note : FaultNote) → stopped ≡ Some (stop.Spent note) → (note.attempt ≤ before + reads) × (note.attempt ≤ 1000))
 
 -- a take changes nothing of the rest but what waits
 module _ {X : Type 0} (of : SeenBook → X) (b : SeenBook) (pending : (ps : List Piece) → of (record b { pending = ps }) ≡ of b)
@@ -90,8 +92,8 @@ read_counts b slot (live.Span piece attempted) at = refl
 read_counts b slot (live.Batch batch) at = refl
 read_counts b slot (live.Key turn) at = refl
 
-same_counts : (b new : SeenBook) → counts_of new ≡ counts_of b → AreReads (counts_of b) → AreReads (counts_of new)
-same_counts b new same reads = subst AreReads (sym same) reads
+same_counts : (before : ℕ) (b new : SeenBook) → counts_of new ≡ counts_of b → AreReads before (counts_of b) → AreReads before (counts_of new)
+same_counts before b new same reads = subst (AreReads before) (sym same) reads
 
 -- ---- a fail by a read
 
@@ -108,18 +110,19 @@ read_tries b job = by job
     by (live.Batch batch) = never (nat_le b.options.attempts (batch.attempts + 1))
     by (live.Key turn) = never (nat_le b.options.attempts (turn.attempts + 1))
 
-once_more : (attempts reads : ℕ) → attempts ≤ reads → attempts < 1000 → attempts + 1 ≤ raised reads
-once_more attempts reads most few = omega arith
+once_more : (before attempts reads : ℕ) → attempts ≤ before + reads → attempts < 1000 → attempts + 1 ≤ before + raised reads
+once_more before attempts reads most few = omega arith
 
-kept_under : (attempt reads : ℕ) → attempt ≤ reads → attempt ≤ 1000 → attempt ≤ raised reads
-kept_under attempt reads most few = omega arith
+kept_under : (before attempt reads : ℕ) → attempt ≤ before + reads → attempt ≤ 1000 → attempt ≤ before + raised reads
+kept_under before attempt reads most few = omega arith
 
-module _ (b : SeenBook) (slot at : ℕ) (job : Live) (may : MayWorkOn b slot job) (honest : IsHonestRead b.plan (job_of b.panes job) at) (kept : AreKept b) (h : AreReads (counts_of b)) where
+module _ (before : ℕ) (b : SeenBook) (slot at : ℕ) (job : Live) (may : MayWorkOn b slot job) (honest : IsHonestRead b.plan (job_of b.panes job) at) (sane : IsSane b)
+    (h : AreReads before (counts_of b)) where
   job_tried : (attempts_of job < b.options.attempts) × (attempts_of job ≤ b.calls + b.reads)
   job_tried = by job may.works may.fresh honest
     where
       counts : AreAttemptsCounted b
-      counts = kept.attempts
+      counts = sane.attempts
 
       by : (j : Live) → IsWorking b slot j → IsFresh j → IsHonestRead b.plan (job_of b.panes j) at → (attempts_of j < b.options.attempts) × (attempts_of j ≤ b.calls + b.reads)
       by (live.Span piece attempted) is fresh reads = (
@@ -141,84 +144,89 @@ module _ (b : SeenBook) (slot at : ℕ) (job : Live) (may : MayWorkOn b slot job
       by (live.Key turn) = refl
 
   few_tries : attempts_of job < 1000
-  few_tries = omega (arith, job_tried.0, kept.formed.allowed.attempts.1)
+  few_tries = omega (arith, job_tried.0, sane.formed.allowed.attempts.1)
 
-  still : (note : FaultNote) → b.stopped ≡ Some (stop.Spent note) → (note.attempt ≤ raised b.reads) × (note.attempt ≤ 1000)
-  still note is = let was = h.1 note is in (kept_under note.attempt b.reads was.0 was.1, was.1)
+  still : (note : FaultNote) → b.stopped ≡ Some (stop.Spent note) → (note.attempt ≤ before + raised b.reads) × (note.attempt ≤ 1000)
+  still note is = let was = h.1 note is in (kept_under before note.attempt b.reads was.0 was.1, was.1)
 
-  new_note : (note_of job at Read).attempt ≤ raised b.reads
-  new_note = subst (λ (n : ℕ). n ≤ raised b.reads) (sym own_attempt) (once_more (attempts_of job) b.reads (omega (arith, job_tried.1, h.0)) few_tries)
+  new_note : (note_of job at Read).attempt ≤ before + raised b.reads
+  new_note = subst (λ (n : ℕ). n ≤ before + raised b.reads) (sym own_attempt) (once_more before (attempts_of job) b.reads (omega (arith, job_tried.1, h.0)) few_tries)
 
   stopped_then : (kept : Option StopCause) → b.stopped ≡ kept → (note : FaultNote) → or_stopped kept (stop.Spent (note_of job at Read)) ≡ Some (stop.Spent note)
-      → (note.attempt ≤ raised b.reads) × (note.attempt ≤ 1000)
+      → (note.attempt ≤ before + raised b.reads) × (note.attempt ≤ 1000)
   stopped_then (Some cause) is note e = still note (is ∙ e)
   stopped_then None is note e =
       let same : note_of job at Read ≡ note = cc in (
-        subst (λ (n : FaultNote). n.attempt ≤ raised b.reads) same new_note,
+        subst (λ (n : FaultNote). n.attempt ≤ before + raised b.reads) same new_note,
         subst (λ (n : FaultNote). n.attempt ≤ 1000) same (omega (arith, own_attempt, few_tries)),
       )
 
-  read_fails : (spent : Bool) (x : SeenBook) → counts_of x ≡ (b.calls, (raised b.reads, b.stopped)) → AreReads (counts_of (stopped_where spent x (note_of job at Read)))
-  read_fails false x is = subst AreReads (sym is) (h.0, still)
+  read_fails : (spent : Bool) (x : SeenBook) → counts_of x ≡ (b.calls, (raised b.reads, b.stopped)) → AreReads before (counts_of (stopped_where spent x (note_of job at Read)))
+  read_fails false x is = subst (AreReads before) (sym is) (h.0, still)
   read_fails true x is =
-      subst AreReads (sym (ap (λ (t : Counts). (t.0, (t.1.0, or_stopped t.1.1 (stop.Spent (note_of job at Read))))) is)) (h.0, stopped_then b.stopped refl)
+      subst (AreReads before) (sym (ap (λ (t : Counts). (t.0, (t.1.0, or_stopped t.1.1 (stop.Spent (note_of job at Read))))) is)) (h.0, stopped_then b.stopped refl)
 
 -- ---- one step
 
-module _ (known : Surroundings) (told : List FileText) (tells : known.told ≡ Some told) (strict : known.strict ≡ true) where
-  -- no slot works a poison job
-  abbrev pub WorksNoPoison : SeenBook → Type 0
-  WorksNoPoison b = (slot : ℕ) (job : Live) → IsWorking b slot job → IsPoisonJob known.told b.plan (job_of b.panes job) → ⊥
+-- a call of a job that a slot works, as it fails honestly
+abbrev pub FailsCall : Surroundings → SeenBook → Live → ℕ → Type 0
+FailsCall known b job at = IsHonest known b.plan (job_of b.panes job) (attempted_of job) at Call
 
+-- no call fails of what a slot works
+abbrev pub FailsNoCall : Surroundings → SeenBook → Type 0
+FailsNoCall known b = (slot : ℕ) (job : Live) (at : ℕ) → IsWorking b slot job → FailsCall known b job at → ⊥
+
+module _ (known : Surroundings) (before : ℕ) where
   step_reads : (b new : SeenBook) (slot : ℕ) (action : Action) (answer : Answer) → Step known.told b slot action answer new → IsHonestAction known b slot action
-      → AreKept b → WorksNoPoison b → AreReads (counts_of b) → AreReads (counts_of new)
-  step_reads b new slot Enroll (Enrolled number) step honest kept never h = same_counts b new (ap counts_of step.2) h
-  step_reads b new slot Enroll NoMemory step honest kept never h = same_counts b new (ap counts_of step) h
-  step_reads b new slot Take (TakenJob job) step honest kept never h =
-      same_counts b new (ap counts_of step.is ∙ take_keeps counts_of b (λ ps. refl) (due_counts b) (λ cells. refl) step.next step.is_next) h
-  step_reads b new slot Take Nothing step honest kept never h = same_counts b new (ap counts_of step.4) h
-  step_reads b new slot Take Finished step honest kept never h = same_counts b new (ap counts_of step.4) h
-  step_reads b new slot Take Stopped step honest kept never h = same_counts b new (ap counts_of step.2) h
-  step_reads b new slot Take NoMemory step honest kept never h = same_counts b new (ap counts_of step.1) h
-  step_reads b new slot (Claim p) (Claimed granted) step honest kept never h = same_counts b new (ap counts_of step.is) h
-  step_reads b new slot (Split num den) (SplitAt (Some at)) step honest kept never h = same_counts b new (ap counts_of step.0.is) h
-  step_reads b new slot (Split num den) (SplitAt None) step honest kept never h = same_counts b new (ap counts_of step.1) h
-  step_reads b new slot (Split num den) NoMemory step honest kept never h = same_counts b new (ap counts_of step) h
-  step_reads b new slot Commit Committed step honest kept never h = same_counts b new (ap counts_of step.1.commit.is) h
-  step_reads b new slot Commit NoMemory step honest kept never h = same_counts b new (ap counts_of step.1) h
-  step_reads b new slot (Fail at Call) answer step honest kept never h = absurd (elim (honest step.job step.works.works) [
-    | inl loose ↦ absurd (false≢true (sym loose ∙ strict))
-    | inr called ↦ never slot step.job step.works.works (call_is_poison known told tells b.plan b.panes step.job at called)
-  ])
-  step_reads b new slot (Fail at Read) answer step honest kept never h =
-      subst (λ (x : SeenBook). AreReads (counts_of x)) (sym (step.is ∙ ap (λ (t : Bool). failed_where t b slot step.job at Read) (read_tries b step.job)))
-      (read_fails b slot at step.job step.works (honest step.job step.works.works) kept h (ends_run b step.job Read) (counted (given_back (with_slot b slot None) step.job at Read) Read) (read_counts b slot step.job at))
-  step_reads b new slot Stop Noted step honest kept never h =
-      subst (λ (x : SeenBook). AreReads (counts_of x)) (sym step) (h.0, λ note is. h.1 note (none_by_memory b.stopped note is))
-  step_reads b new slot _ _ step honest kept never h = absurd step
+      → IsSane b → FailsNoCall known b → AreReads before (counts_of b) → AreReads before (counts_of new)
+  step_reads b new slot Enroll (Enrolled number) step honest sane never h = same_counts before b new (ap counts_of step.2) h
+  step_reads b new slot Enroll NoMemory step honest sane never h = same_counts before b new (ap counts_of step) h
+  step_reads b new slot Take (TakenJob job) step honest sane never h =
+      same_counts before b new (ap counts_of step.is ∙ take_keeps counts_of b (λ ps. refl) (due_counts b) (λ cells. refl) step.next step.is_next) h
+  step_reads b new slot Take Nothing step honest sane never h = same_counts before b new (ap counts_of step.4) h
+  step_reads b new slot Take Finished step honest sane never h = same_counts before b new (ap counts_of step.4) h
+  step_reads b new slot Take Stopped step honest sane never h = same_counts before b new (ap counts_of step.2) h
+  step_reads b new slot Take NoMemory step honest sane never h = same_counts before b new (ap counts_of step.1) h
+  step_reads b new slot (Claim p) (Claimed granted) step honest sane never h = same_counts before b new (ap counts_of step.is) h
+  step_reads b new slot (Split num den) (SplitAt (Some at)) step honest sane never h = same_counts before b new (ap counts_of step.0.is) h
+  step_reads b new slot (Split num den) (SplitAt None) step honest sane never h = same_counts before b new (ap counts_of step.1) h
+  step_reads b new slot (Split num den) NoMemory step honest sane never h = same_counts before b new (ap counts_of step) h
+  step_reads b new slot Commit Committed step honest sane never h = same_counts before b new (ap counts_of step.1.commit.is) h
+  step_reads b new slot Commit NoMemory step honest sane never h = same_counts before b new (ap counts_of step.1) h
+  step_reads b new slot (Fail at Call) answer step honest sane never h = absurd (never slot step.job at step.works.works (honest step.job step.works.works))
+  step_reads b new slot (Fail at Read) answer step honest sane never h =
+      subst (λ (x : SeenBook). AreReads before (counts_of x)) (sym (step.is ∙ ap (λ (t : Bool). failed_where t b slot step.job at Read) (read_tries b step.job)))
+      (read_fails before b slot at step.job step.works (honest step.job step.works.works) sane h (ends_run b step.job Read) (counted (given_back (with_slot b slot None) step.job at Read) Read) (read_counts b slot step.job at))
+  step_reads b new slot Stop Noted step honest sane never h =
+      subst (λ (x : SeenBook). AreReads before (counts_of x)) (sym step) (h.0, λ note is. h.1 note (none_by_memory b.stopped note is))
+  step_reads b new slot _ _ step honest sane never h = absurd step
 
-  -- ---- all steps
+-- ---- all steps
 
-  module _ (kept : (b : SeenBook) → HonestlyReached known b → AreKept b) (end : SeenBook) (never : (b : SeenBook) → HonestlyReached known b → HasSamePlan end b → WorksNoPoison b) where
-    run_reads : (steps : List MadeStep) (b last : SeenBook) → HonestRun known b steps last → HonestlyReached known b → HasSamePlan end b → AreReads (counts_of b) → AreReads (counts_of last)
-    run_reads [] b last run reached same h = subst (λ (x : SeenBook). AreReads (counts_of x)) (sym run) h
-    run_reads (made ∷ later) b last run reached same h =
-        let onward = step_same known.told b run.0 made.slot made.action made.answer run.1 in
-        run_reads later run.0 last run.3 (honest_more known b run.0 made run.1 run.2 reached)
-        (record { plan = onward.plan ∙ same.plan; files = onward.files ∙ same.files; options = onward.options ∙ same.options })
-        (step_reads b run.0 made.slot made.action made.answer run.1 run.2 (kept b reached) (never b reached same) h)
+module _ (known : Surroundings) (first : SeenBook) (rest : IsAtRest first) (never : (b : SeenBook) → IsOn known first b → FailsNoCall known b)
+    (steps : List MadeStep) (b : SeenBook) (run : HonestRun known first steps b) where
+  counts_kept : AreReads first.calls (counts_of b)
+  counts_kept =
+      kept_on known first (λ (x : SeenBook). AreReads first.calls (counts_of x))
+      (λ x new slot action answer on step honest h. step_reads known first.calls x new slot action answer step honest on.sane (never x on) h)
+      rest.sane (refl, λ note is. absurd (let none : None ≡ Some (stop.Spent note) = sym rest.running ∙ is in cc)) steps b run
 
-    counts_kept : HonestlyReached known end → AreReads (counts_of end)
-    counts_kept reached =
-        let first = reached.opening.is in
-        let same = subst (HasSamePlan end) (sym first) (record { plan = refl; files = refl; options = refl }) in
-        let none : AreReads (counts_of reached.first) = subst (λ (x : SeenBook). AreReads (counts_of x)) (sym first) (refl, λ other e. absurd cc) in
-        run_reads reached.steps reached.first end reached.run (opening_reached known end reached.first reached.opening) same none
+  pub no_calls : b.calls ≡ first.calls
+  no_calls = counts_kept.0
 
-    pub no_calls : HonestlyReached known end → end.calls ≡ 0
-    no_calls reached = (counts_kept reached).0
+  pub attempts_by_reads : (note : FaultNote) → b.stopped ≡ Some (stop.Spent note) → b.options.attempts ≤ first.calls + b.reads
+  attempts_by_reads note is =
+      let noted : IsStopNoted b (Some (stop.Spent note)) = subst (IsStopNoted b) is (on_after known first rest.sane steps b run).sane.stop in
+      subst (λ (n : ℕ). n ≤ first.calls + b.reads) noted.0 (counts_kept.1 note is).0
 
-    pub fails_by_reads : (note : FaultNote) → HonestlyReached known end → end.stopped ≡ Some (stop.Spent note) → end.options.attempts ≤ end.reads
-    fails_by_reads note reached is =
-        let noted : IsStopNoted end (Some (stop.Spent note)) = subst (IsStopNoted end) is (kept end reached).stop in
-        subst (λ (n : ℕ). n ≤ end.reads) noted.0 ((counts_kept reached).1 note is).0
+-- ---- where calls fail on poison alone
+
+-- no slot works a poison job
+abbrev pub WorksNoPoison : Surroundings → SeenBook → Type 0
+WorksNoPoison known b = (slot : ℕ) (job : Live) → IsWorking b slot job → IsPoisonJob known.told b.plan (job_of b.panes job) → ⊥
+
+pub poison_alone : (known : Surroundings) (told : List FileText) (tells : known.told ≡ Some told) (strict : known.strict ≡ true) (b : SeenBook) → WorksNoPoison known b → FailsNoCall known b
+poison_alone known told tells strict b never slot job at works honest = elim honest [
+  | inl loose ↦ false≢true (sym loose ∙ strict)
+  | inr called ↦ never slot job works (call_is_poison known told tells b.plan b.panes job at called)
+]

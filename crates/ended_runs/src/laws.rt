@@ -8,8 +8,11 @@ ghost use Rattle.beam_values.specs.Cells.{cell_cmp, pane_cmp};
 ghost use Rattle.beam_values.specs.Nodes.{HasNoStatefulAbove};
 ghost use Rattle.beam_values.specs.declared.fault.FaultNote.{FaultNote};
 ghost use Rattle.beam_values.specs.declared.file_text.FileText.{FileText};
+ghost use Rattle.beam_values.specs.declared.options.Options.{Options};
 ghost use Rattle.beam_values.specs.declared.outcome.Outcome.{Outcome};
 ghost use Rattle.beam_values.specs.declared.outcome.StopCause.TheVariants as stop;
+ghost use Rattle.beam_values.specs.declared.piece.FileLen.{FileLen};
+ghost use Rattle.beam_values.specs.declared.plan.Plan.{Plan};
 ghost use Rattle.beam_model.specs.Account.{IsAccounted};
 ghost use Rattle.beam_model.specs.Covers.{IsCovered};
 ghost use Rattle.beam_model.specs.Estimators.{AreSoundAbove};
@@ -24,20 +27,25 @@ ghost use Rattle.beam_ports.specs.Observed.{WhereTold};
 ghost use Rattle.book_core.specs.Book.{SeenBook, sets_aside};
 ghost use Rattle.book_core.specs.Calls.{IsOutcomeOf};
 ghost use Rattle.book_core.specs.Changes.{dead_cmp, done_cmp};
-ghost use Rattle.book_core.specs.Runs.{AreTold, HonestlyReached, IsThrough, Reached};
+ghost use Rattle.book_core.specs.Runs.{AreTold, HonestRun, HonestlyReached, IsOpening, IsThrough};
+ghost use Rattle.book_core.specs.Runs.{MadeStep, Reached};
 ghost use Rattle.book_core.specs.Sane.{IsSane};
 ghost use Rattle.book_core.specs.Steps.{IsIdle};
+ghost use Rattle.book_core.specs.Stored.{IsSaneData, book_of};
 ghost use Rattle.book_core.specs.Work.{Surroundings};
+ghost use Rattle.book_core.specs.declared.data.BookData.{BookData};
 ghost use Rattle.ended_runs.specs.DeadLetters.{AreDeadNoted, AreDeadPoison, ArePoisonDead};
 ghost use Rattle.ended_runs.specs.DeadLetters.{HasNoPoisonPosition, IsPoisonDead, IsStoppedByRead};
 ghost use Rattle.ended_runs.specs.EndedRuns.{IsEndedRun};
+ghost use Rattle.ended_runs.specs.RunsOn.{FailsByReads, IsAtRest, IsStoppedByReadAfter};
+ghost use Rattle.ended_runs.specs.RunsOn.{TakesNoPoisonAfter, TakesNoPoisonBesideAfter};
 ghost use Rattle.ended_runs.specs.Sides.{AreSidesGivenWhere};
 ghost use Rattle.ended_runs.specs.Stops.{IsHonestStop};
 ghost use Rattle.ended_runs.specs.Storable.{ArePanesStorable};
 ghost use Rattle.ended_runs.specs.Unpoisoned.{TakesNoPoison, TakesNoPoisonBeside};
 
 use book_core::laws::{
-    attempts_are_counted, cells_are_kept, reached_books_are_kept, reached_books_are_partitioned,
+    attempts_are_counted, cells_are_kept, reached_books_are_partitioned,
     reached_books_are_well_formed, told_books_are_kept,
 };
 use pipeline_graph::laws::{
@@ -207,6 +215,23 @@ pub fn stops_are_honest()
     attempts_are_counted();
 }
 
+/// A book that a run is opened with is at rest, and so is one that sane data stands for, as a snapshot's.
+pub fn opened_and_stored_books_are_at_rest()
+    ensures opened { (plan : Plan) (files : List FileLen) (options : Options) (b : SeenBook)
+        → IsOpening plan files options b → IsAtRest b }
+    ensures stored { (plan : Plan) (d : BookData) → IsSaneData plan d → IsAtRest (book_of d) }
+{}
+
+/// Where a run goes on from a book at rest over told files, calls fail on poison alone and no poison is taken
+/// from then on, no further call fails. So it is given up only by reads, one of them after that book, and with
+/// the calls that failed before at least as many failed as a job has attempts. No run need have reached the
+/// book.
+pub fn runs_on_without_poison_fail_by_reads()
+    ensures { (known : Surroundings) (told : List FileText) (first b : SeenBook) (steps : List MadeStep)
+        → known.told ≡ Some told → known.strict ≡ true → IsAtRest first
+        → TakesNoPoisonAfter known first → HonestRun known first steps b → FailsByReads first b }
+{}
+
 /// Where the files are told and calls fail on poison alone, no call fails in a run that takes no poison.
 /// So it is given up only by reads, of which at least as many failed as a job has attempts.
 pub fn runs_without_poison_fail_by_reads()
@@ -218,7 +243,8 @@ pub fn runs_without_poison_fail_by_reads()
         → TakesNoPoison known b.plan b.options → HonestlyReached known b
         → b.stopped ≡ Some (stop.Spent note) → b.options.attempts ≤ b.reads }
 {
-    reached_books_are_kept();
+    opened_and_stored_books_are_at_rest();
+    runs_on_without_poison_fail_by_reads();
 }
 
 /// Work on each dead position failed as often as it may, the last time by a call, and each fail was counted,
@@ -248,6 +274,17 @@ pub fn dead_positions_are_poison()
         → IsOutcomeOf b o → All (IsPoisonDead told o.plan) o.dead }
 {}
 
+/// Where a run goes on from a book at rest, positions are set aside, calls fail on poison alone, and no batch
+/// and no key job that is taken from then on is poison, whatever the ranges are: what stops it by a fault is a
+/// read, and one was counted after that book. Pieces may be spent there, and jobs may have
+/// one attempt left.
+pub fn runs_on_that_set_aside_are_stopped_by_reads()
+    ensures { (known : Surroundings) (first b : SeenBook) (steps : List MadeStep)
+        → known.strict ≡ true → sets_aside first.plan ≡ true → IsAtRest first
+        → TakesNoPoisonBesideAfter known first → HonestRun known first steps b
+        → IsStoppedByReadAfter first b }
+{}
+
 /// Where positions are set aside, calls fail on poison alone, and no batch and no key job that is taken is
 /// poison, whatever the ranges are: what stops a run by a fault is a read, and one was counted.
 pub fn runs_that_set_aside_are_stopped_by_reads()
@@ -257,8 +294,19 @@ pub fn runs_that_set_aside_are_stopped_by_reads()
         → TakesNoPoisonBeside known b.plan b.options → HonestlyReached known b
         → IsStoppedByRead b }
 {
-    reached_books_are_kept();
+    opened_and_stored_books_are_at_rest();
+    runs_on_that_set_aside_are_stopped_by_reads();
 }
+
+/// Where a run goes on from a book at rest over told files, calls fail on poison alone, and neither a position
+/// nor a batch or a key job that is taken from then on is poison, no further call fails, and only reads give it
+/// up, as above. A piece that is spent there may be of a position that isn't poison: it is set aside as it is.
+pub fn runs_on_without_poison_positions_fail_by_reads()
+    ensures { (known : Surroundings) (told : List FileText) (first b : SeenBook) (steps : List MadeStep)
+        → known.told ≡ Some told → known.strict ≡ true → IsAtRest first
+        → HasNoPoisonPosition told first.plan → TakesNoPoisonBesideAfter known first
+        → HonestRun known first steps b → FailsByReads first b }
+{}
 
 /// Where the files are told, calls fail on poison alone, and neither a position nor a batch or a key job that
 /// is taken is poison, a run is given up only by reads, of which at least as many failed as a job has
@@ -270,5 +318,6 @@ pub fn runs_without_poison_positions_fail_by_reads()
         → HonestlyReached known b → b.stopped ≡ Some (stop.Spent note)
         → b.options.attempts ≤ b.reads }
 {
-    reached_books_are_kept();
+    opened_and_stored_books_are_at_rest();
+    runs_on_without_poison_positions_fail_by_reads();
 }

@@ -1,12 +1,13 @@
-use Rattle.book_core.specs.Book.{SeenBook}
-use Rattle.book_core.specs.Facts.{AreKept}
-use Rattle.book_core.specs.Runs.{HonestlyReached}
-use Rattle.book_core.proofs.AllKept.{honest_reached}
-use Rattle.ended_runs.proofs.StoppedByReads.{stopped_by_read}
-use Rattle.ended_runs.proofs.TakesUnpoisoned.{works_no_poison_beside}
+use Rattle.std.proofs.Common.{ap, ◌∙◌}
+use Rattle.book_core.specs.Book.{SeenBook, sets_aside}
+use Rattle.ended_runs.specs.Unpoisoned.{IsPoisonBeside}
+use Rattle.ended_runs.proofs.StoppedByReads.{read_from_opening}
+use Rattle.ended_runs.proofs.TakesUnpoisoned.{opened_takes_none}
 use Rattle.ended_runs.proofs.laws.runs_that_set_aside_are_stopped_by_reads.Goals as goal
 
 pub returns : goal.returns
 returns c known b strict aside lengths none reached =
-    let kept : (x : SeenBook) → HonestlyReached known x → AreKept x = λ x r. c.reached_books_are_kept.ensures known.told x (honest_reached known x r) in
-    stopped_by_read known strict b aside (works_no_poison_beside known kept b lengths none) reached
+    let opening = reached.opening in
+    read_from_opening b reached.first opening
+    (c.runs_on_that_set_aside_are_stopped_by_reads.ensures known reached.first b reached.steps strict (ap (λ (x : SeenBook). sets_aside x.plan) opening.is ∙ aside)
+    (c.opened_and_stored_books_are_at_rest.ensures.opened b.plan b.files b.options reached.first opening) (opened_takes_none IsPoisonBeside known b reached lengths none) reached.run)

@@ -1,18 +1,26 @@
+use Rattle.std.proofs.Common.{◌≡◌, true, List}
+use Rattle.std.specs.Prelude.{Some}
+use Rattle.beam_values.specs.declared.file_text.FileText.{FileText}
 use Rattle.book_core.specs.Book.{SeenBook}
-use Rattle.book_core.specs.Facts.{AreKept}
-use Rattle.book_core.specs.Runs.{HonestlyReached}
-use Rattle.book_core.specs.Work.{Surroundings}
-use Rattle.book_core.proofs.AllKept.{honest_reached}
-use Rattle.ended_runs.proofs.TakesUnpoisoned.{where_told, works_no_poison}
-use Rattle.ended_runs.proofs.Unpoisoned.{fails_by_reads, no_calls}
+use Rattle.book_core.specs.Runs.{AreTold, HonestlyReached}
+use Rattle.book_core.specs.Work.{IsPoisonJob, Surroundings}
+use Rattle.ended_runs.specs.RunsOn.{FailsByReads}
+use Rattle.ended_runs.specs.Unpoisoned.{TakesNoPoison}
+use Rattle.ended_runs.proofs.StoppedByReads.{attempts_from_opening, calls_from_opening}
+use Rattle.ended_runs.proofs.TakesUnpoisoned.{opened_takes_none, where_told}
 use Rattle.ended_runs.proofs.laws.runs_without_poison_fail_by_reads.Goals as goal
 
 pub returns : goal.returns
 returns c =
-    let kept : (known : Surroundings) (b : SeenBook) → HonestlyReached known b → AreKept b = λ known b reached. c.reached_books_are_kept.ensures known.told b (honest_reached known b reached) in
+    let fails : (known : Surroundings) (told : List FileText) (b : SeenBook) → known.told ≡ Some told → known.strict ≡ true → AreTold told b → TakesNoPoison known b.plan b.options
+    → (reached : HonestlyReached known b) → FailsByReads reached.first b =
+    λ known told b tells strict lengths none reached.
+    c.runs_on_without_poison_fail_by_reads.ensures known told reached.first b reached.steps tells strict
+    (c.opened_and_stored_books_are_at_rest.ensures.opened b.plan b.files b.options reached.first reached.opening)
+    (opened_takes_none (IsPoisonJob known.told) known b reached (where_told known told b tells lengths) none) reached.run in
     record {
       calls = λ known told b tells strict lengths none reached.
-          no_calls known told tells strict (kept known) b (works_no_poison known (kept known) b (where_told known told b tells lengths) told tells strict none) reached;
-      reads = λ known told b note tells strict lengths none reached is.
-          fails_by_reads known told tells strict (kept known) b (works_no_poison known (kept known) b (where_told known told b tells lengths) told tells strict none) note reached is;
+          calls_from_opening b reached.first reached.opening (fails known told b tells strict lengths none reached);
+      reads = λ known told b note tells strict lengths none reached.
+          attempts_from_opening b reached.first reached.opening (fails known told b tells strict lengths none reached) note;
     }
