@@ -4,6 +4,7 @@ pub mod SameLengths
 pub mod PlanRuns
 pub mod PlanEnds
 pub mod GoesOn
+pub mod SameItems
 pub mod OneKit
 pub mod Paused
 pub mod Resumed
